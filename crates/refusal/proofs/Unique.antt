@@ -1,0 +1,37 @@
+-- Two refusals with the same number and value are the same refusal, so a promise that settles both settles the refusal.
+-- The eighty-one pairs of cases need no telling apart: `from` makes the refusal out of its number and value. Assumes nothing.
+use mathlib.Core.Path.{_≡_, refl, sym, ap, _∙_}
+use mathlib.Core.List.{[], _∷_}
+use Prim.Native.Nat.{ℕ, pred}
+use lib.ListN.{getD}
+use Rattle.refusal.specs.declared.Refusal.{Refusal}
+use Rattle.refusal.specs.declared.Refusal.the-variants.{
+  Item,
+  Sample,
+  TooLong,
+  TooShort,
+  CampaignFull,
+  RowsUsedUp,
+  Room,
+  BrokenState,
+  Line,
+}
+use Rattle.refusal.specs.Numbers.{numberOf, valueOf}
+
+-- the refusal of a number and a value, from the table's rows in order
+abbrev from : ℕ → ℕ → Refusal
+from n v = getD (Item v ∷ Sample v ∷ TooLong ∷ TooShort ∷ CampaignFull ∷ RowsUsedUp ∷ Room v ∷ BrokenState ∷ []) (pred n) (Line v)
+
+from-own : (r : Refusal) → from (numberOf r) (valueOf r) ≡ r
+from-own (Item i) = refl
+from-own (Sample p) = refl
+from-own TooLong = refl
+from-own TooShort = refl
+from-own CampaignFull = refl
+from-own RowsUsedUp = refl
+from-own (Room k) = refl
+from-own BrokenState = refl
+from-own (Line l) = refl
+
+pub refusal-unique : (r s : Refusal) → numberOf r ≡ numberOf s → valueOf r ≡ valueOf s → r ≡ s
+refusal-unique r s n v = sym (from-own r) ∙ rw (n, v) (from-own s)

@@ -1,0 +1,38 @@
+-- Document 01, "Refusal numbers": the number of each refusal, and what is returned with it. Assumes nothing.
+use Prim.Native.Nat.{ℕ}
+use Rattle.refusal.specs.declared.Refusal.{Refusal}
+use Rattle.refusal.specs.declared.Refusal.the-variants.{
+  Item,
+  Sample,
+  TooLong,
+  TooShort,
+  CampaignFull,
+  RowsUsedUp,
+  Room,
+  BrokenState,
+  Line,
+}
+
+-- the column "No."
+abbrev pub numberOf : Refusal → ℕ
+numberOf (Item i) = 1
+numberOf (Sample p) = 2
+numberOf TooLong = 3
+numberOf TooShort = 4
+numberOf CampaignFull = 5
+numberOf RowsUsedUp = 6
+numberOf (Room k) = 7
+numberOf BrokenState = 8
+numberOf (Line l) = 9
+
+-- the column "Returns with it": item number, place, number needed, line number; 0 stands for nothing
+abbrev pub valueOf : Refusal → ℕ
+valueOf (Item i) = i
+valueOf (Sample p) = p
+valueOf TooLong = 0
+valueOf TooShort = 0
+valueOf CampaignFull = 0
+valueOf RowsUsedUp = 0
+valueOf (Room k) = k
+valueOf BrokenState = 0
+valueOf (Line l) = l

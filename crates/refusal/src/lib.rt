@@ -1,0 +1,59 @@
+// The refusals of document 01: a case for each of its refusal numbers, with what 01 returns beside the number.
+// An enum and no bare number, so that a refusal cannot be made without the value that belongs to it.
+ghost use mathlib.Core.Path.{_≡_};
+ghost use Rattle.refusal.specs.Numbers.{numberOf, valueOf};
+
+pub enum Refusal {
+    // 1: an opening item is outside its range; the lowest such item's number.
+    Item(u64),
+    // 2: a sample is outside its range; the first such place in the piece.
+    Sample(u64),
+    // 3: the timed length, or a sheet's exposure, would pass the longest record.
+    TooLong,
+    // 4: closing or listing before two timed samples; on a sheet, exposure 0.
+    TooShort,
+    // 5: the campaign has all the records it may have.
+    CampaignFull,
+    // 6: the campaign has as many failures as the table has rows.
+    RowsUsedUp,
+    // 7: the lent slice is too short; the number of places needed.
+    Room(u64),
+    // 8: a state that was handed in breaks a relation.
+    BrokenState,
+    // 9: a sheet line is malformed; its line number.
+    Line(u64),
+}
+
+// 01's number of a refusal.
+pub fn number(r: Refusal) -> u64
+    ensures { λ n. ⌜ n ≡ numberOf r ⌝ }
+{
+    match r {
+        Refusal::Item(_) => 1,
+        Refusal::Sample(_) => 2,
+        Refusal::TooLong => 3,
+        Refusal::TooShort => 4,
+        Refusal::CampaignFull => 5,
+        Refusal::RowsUsedUp => 6,
+        Refusal::Room(_) => 7,
+        Refusal::BrokenState => 8,
+        Refusal::Line(_) => 9,
+    }
+}
+
+// What 01 returns with the number; 0 where it returns nothing.
+pub fn carried(r: Refusal) -> u64
+    ensures { λ v. ⌜ v ≡ valueOf r ⌝ }
+{
+    match r {
+        Refusal::Item(item) => item,
+        Refusal::Sample(place) => place,
+        Refusal::Room(needed) => needed,
+        Refusal::Line(line) => line,
+        Refusal::TooLong => 0,
+        Refusal::TooShort => 0,
+        Refusal::CampaignFull => 0,
+        Refusal::RowsUsedUp => 0,
+        Refusal::BrokenState => 0,
+    }
+}

@@ -1,21 +1,11 @@
 -- Two refusals with the same number and value are the same refusal, so a promise that settles both settles the refusal.
 -- The eighty-one pairs of cases need no telling apart: `from` makes the refusal out of its number and value. Assumes nothing.
-use mathlib.Core.Path.{_≡_, refl, sym, ap, _∙_}
+use mathlib.Core.Path.{_≡_, refl, sym, _∙_}
 use mathlib.Core.List.{[], _∷_}
 use Prim.Native.Nat.{ℕ, pred}
 use lib.ListN.{getD}
 use Rattle.refusal.specs.declared.Refusal.{Refusal}
-use Rattle.refusal.specs.declared.Refusal.the-variants.{
-  Item,
-  Sample,
-  TooLong,
-  TooShort,
-  CampaignFull,
-  RowsUsedUp,
-  Room,
-  BrokenState,
-  Line,
-}
+use Rattle.refusal.specs.declared.Refusal.the-variants.{Item, Sample, TooLong, TooShort, CampaignFull, RowsUsedUp, Room, BrokenState, Line}
 use Rattle.refusal.specs.Numbers.{numberOf, valueOf}
 
 -- the refusal of a number and a value, from the table's rows in order
@@ -32,6 +22,13 @@ from-own RowsUsedUp = refl
 from-own (Room k) = refl
 from-own BrokenState = refl
 from-own (Line l) = refl
+
+-- the two functions' promises settle their answers
+pub number-unique : (r : Refusal) (n m : ℕ) → n ≡ numberOf r → m ≡ numberOf r → n ≡ m
+number-unique r n m p q = cc
+
+pub carried-unique : (r : Refusal) (v w : ℕ) → v ≡ valueOf r → w ≡ valueOf r → v ≡ w
+carried-unique r v w p q = cc
 
 pub refusal-unique : (r s : Refusal) → numberOf r ≡ numberOf s → valueOf r ≡ valueOf s → r ≡ s
 refusal-unique r s n v = sym (from-own r) ∙ rw (n, v) (from-own s)

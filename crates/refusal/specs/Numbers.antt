@@ -1,17 +1,7 @@
 -- Document 01, "Refusal numbers": the number of each refusal, and what is returned with it. Assumes nothing.
 use Prim.Native.Nat.{ℕ}
 use Rattle.refusal.specs.declared.Refusal.{Refusal}
-use Rattle.refusal.specs.declared.Refusal.the-variants.{
-  Item,
-  Sample,
-  TooLong,
-  TooShort,
-  CampaignFull,
-  RowsUsedUp,
-  Room,
-  BrokenState,
-  Line,
-}
+use Rattle.refusal.specs.declared.Refusal.the-variants.{Item, Sample, TooLong, TooShort, CampaignFull, RowsUsedUp, Room, BrokenState, Line}
 
 -- the column "No."
 abbrev pub numberOf : Refusal → ℕ

@@ -1,0 +1,33 @@
+-- `poisson::upper_row` meets its contract: the constant is the table of specs/, which the rule is proved of, and a number outside it has
+-- what `upper-met` says there. Assumes nothing.
+use mathlib.Core.Path.{subst, sym}
+use borrow.Author.Needs.{needs}
+use native.Mathlib.Omega.{arith}
+use Rattle.poisson.specs.Rows.{UpperRow}
+use Rattle.poisson.specs.Tables.{u, upperRows}
+use Rattle.poisson.proofs.Rows.{upper-met, row-at}
+use Rattle.poisson.proofs.upper_row.Statement.{statement}
+use Rattle.poisson.proofs.upper_row.Tie as tie
+
+returns : tie.Need-returns
+returns c = let m = upper-met (c .before .args .n) in rw (← m .before (c .if1 .taken)) m
+
+returns-2 : tie.Need-returns-2
+returns-2 c = let m = upper-met (c .before .before .args .n) in rw (← m .past (c .if2 .taken)) m
+
+sub-result : tie.Need-sub-result
+sub-result c = search needs
+
+mul-result : tie.Need-mul-result
+mul-result c = search needs
+
+array-read-result : tie.Need-array-read-result
+array-read-result c = search needs
+
+returns-3 : tie.Need-returns-3
+unfolding u upperRows
+returns-3 c = let n = c .before .before .args .n in subst (UpperRow n) (sym (row-at upperRows n (omega arith))) (upper-met n)
+
+pub upper-row-spec : {M : Type 1} → statement M
+upper-row-spec =
+    tie.close (tie.spec returns returns-2 sub-result mul-result array-read-result returns-3)

@@ -1,0 +1,5 @@
+pub mod Bools
+pub mod Relations
+pub mod Steps
+pub mod Turns
+pub mod Fed

@@ -57,3 +57,13 @@ taken r p t e =
       room = ltb-false (mostSamples (r .step) (r .ramp)) (r .n + length p) (o .2);
       end = o .3;
     }
+
+-- a sound state is never answered by refusal 8
+never : (b c : Bool) (k : ℕ) (s : Record) → cond b (Refused (Sample k)) (cond c (Refused TooLong) (Taken s)) ≡ Refused BrokenState → ⊥
+never true c k s e = let z : _≡_ {A = ℕ} 0 1 = cc in omega arith
+never false true k s e = let z : _≡_ {A = ℕ} 0 1 = cc in omega arith
+never false false k s e = let z : _≡_ {A = ℕ} 0 1 = cc in omega arith
+
+pub not-broken : (r : Record) (p : List ℤ) → sound r ≡ true → fed r p ≡ Refused BrokenState → ⊥
+unfolding fed
+not-broken r p s e = never (ltb (firstBad p) (length p)) (ltb (mostSamples (r .step) (r .ramp)) (r .n + length p)) (firstBad p) (foldl stepped r p) (rw s at e)

@@ -55,7 +55,7 @@ moved-kept r k x s i h l =
         inr (record { counted = f .counted; crossings = omega (arith, f .crossings); above = f .above; ordered = f .ordered; below = omega (arith, f .below) })
 
 -- `crossed`, over its two tests
-abbrev marked : Record → ℤ → Bool → Bool → Record
+abbrev pub marked : Record → ℤ → Bool → Bool → Record
 marked r x first counted =
     record {
       step = r .step;

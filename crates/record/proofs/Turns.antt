@@ -46,3 +46,9 @@ bad-within (x ∷ p) = go (sampleInRange x) (bad-within p)
     go : (b : Bool) → firstBad p ≤ length p → cond b (suc (firstBad p)) 0 ≤ suc (length p)
     go true h = omega arith
     go false h = omega arith
+
+-- where no sample of two pieces joined is bad, none of the first is
+pub good-left : (p q : List ℤ) → firstBad (p ++ q) ≡ length (p ++ q) → firstBad p ≡ length p
+unfolding firstBad
+good-left [] q h = refl
+good-left (x ∷ p) q h = let g = good-head x (p ++ q) h in rw (g .0) (ap suc (good-left p q (g .1)))

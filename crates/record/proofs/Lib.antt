@@ -1,0 +1,12 @@
+pub mod Bools
+pub mod Relations
+pub mod Steps
+pub mod Turns
+pub mod Fed
+pub mod Whole
+pub mod Cutting
+pub mod Fresh
+pub mod Places
+pub mod Times
+pub mod Theorems
+pub mod Unique

@@ -1,0 +1,144 @@
+-- The relations of a sound state as facts about numbers, and back. Assumes nothing.
+use Prim.Native.Nat.{ℕ, _+_, _-_, _≤_, _<_}
+use mathlib.Core.Path.{_≡_, refl, sym, ap, _∙_}
+use mathlib.Core.Bool.{Bool, true, false, cond, not, _&&_, _||_}
+use mathlib.Core.Logic.{_⊎_, inl, inr}
+use native.Mathlib.Omega.{arith}
+use native.Mathlib.Nat.{div-le-self}
+use lib.Dec.{eqb, leb, ltb}
+use lib.IntN.{natAbs}
+use borrow.Author.Tests.{leb-true, ltb-true, eqb-true, eqb-false, le-leb, lt-ltb, eq-eqb, ne-eqb, not-true}
+use Rattle.record.specs.declared.Record.{Record}
+use Rattle.record.specs.Limits.{itemOutside, within, stepInRange, rampInRange, levelInRange, decorrelationInRange, sampleInRange, mostSamples}
+use Rattle.record.specs.State.{sound, failed, itemsKept, lastKept, lengthKept, countsKept, figuresKept, failureKept, noneKept}
+use Rattle.record.proofs.Bools.{and-true, both-true, true≢false}
+
+pub record Items (D R a τ : ℕ) : Type 0 where
+  pub step-low : 1 ≤ D
+  pub step-high : D ≤ 10000
+  pub ramp : R ≤ 1000000
+  pub level-low : 1 ≤ a
+  pub level-high : a ≤ 1000000
+  pub decorrelation : τ ≤ 10000000
+
+none-outside : (a b c d : Bool) → _≡_ {A = ℕ} (cond (not a) 1 (cond (not b) 2 (cond (not c) 3 (cond (not d) 4 0)))) 0 → (a ≡ true) × (b ≡ true) × (c ≡ true) × (d ≡ true)
+none-outside true true true true e = (refl, refl, refl, refl)
+none-outside false b c d e = absurd (omega (arith, e))
+none-outside true false c d e = absurd (omega (arith, e))
+none-outside true true false d e = absurd (omega (arith, e))
+none-outside true true true false e = absurd (omega (arith, e))
+
+low : (l h x : ℕ) → within l h x ≡ true → l ≤ x
+low l h x e = leb-true l x (and-true (leb l x) (leb x h) e .0)
+
+high : (l h x : ℕ) → within l h x ≡ true → x ≤ h
+high l h x e = leb-true x h (and-true (leb l x) (leb x h) e .1)
+
+pub items : (D R a τ : ℕ) → itemOutside D R a τ ≡ 0 → Items D R a τ
+unfolding itemOutside
+items D R a τ e =
+    let i = none-outside (stepInRange D) (rampInRange R) (levelInRange a) (decorrelationInRange τ) e in
+    record {
+      step-low = low 1 10000 D (i .0);
+      step-high = high 1 10000 D (i .0);
+      ramp = high 0 1000000 R (i .1);
+      level-low = low 1 1000000 a (i .2);
+      level-high = high 1 1000000 a (i .2);
+      decorrelation = high 0 10000000 τ (i .3);
+    }
+
+pub record None (r : Record) : Type 0 where
+  pub first : r .first ≡ 0
+  pub crossings : r .crossings ≡ 0
+  pub counted : r .counted ≡ 0
+  pub latest : r .latest ≡ 0
+
+pub record Failure (r : Record) : Type 0 where
+  pub counted : 1 ≤ r .counted
+  pub crossings : r .crossings ≤ r .n - 1 - r .ramp
+  pub above : r .ramp < r .first
+  pub ordered : r .first ≤ r .latest
+  pub below : r .latest < r .n
+
+-- the relations, as facts
+pub record Kept (r : Record) : Type 0 where
+  pub outside : itemOutside (r .step) (r .ramp) (r .level) (r .decorrelation) ≡ 0
+  pub range : sampleInRange (r .last) ≡ true
+  pub fresh : r .n ≡ 0 → natAbs (r .last) ≡ 0
+  pub length : r .n ≤ mostSamples (r .step) (r .ramp)
+  pub counts : r .counted ≤ r .crossings
+  pub figures : None r ⊎ Failure r
+
+implied : (n m : ℕ) → (not (eqb n 0) || eqb m 0) ≡ true → n ≡ 0 → m ≡ 0
+implied n m e z = eqb-true m 0 (rw (eq-eqb n 0 z) at e)
+
+imply : (n m : ℕ) (b : Bool) → eqb n 0 ≡ b → (n ≡ 0 → m ≡ 0) → (not b || eqb m 0) ≡ true
+imply n m true e f = eq-eqb m 0 (f (eqb-true n 0 e))
+imply n m false e f = refl
+
+module _ (r : Record) where
+  none-from : eqb (r .first) 0 ≡ true → noneKept r ≡ true → None r
+  none-from z e =
+      let c = and-true (eqb (r .crossings) 0) (eqb (r .counted) 0 && eqb (r .latest) 0) e in
+      let d = and-true (eqb (r .counted) 0) (eqb (r .latest) 0) (c .1) in
+      record {
+        first = eqb-true (r .first) 0 z;
+        crossings = eqb-true (r .crossings) 0 (c .0);
+        counted = eqb-true (r .counted) 0 (d .0);
+        latest = eqb-true (r .latest) 0 (d .1);
+      }
+
+  failure-from : failureKept r ≡ true → Failure r
+  failure-from e =
+      let p = ltb (r .latest) (r .n) in
+      let q = leb (r .first) (r .latest) in
+      let s = ltb (r .ramp) (r .first) in
+      let t = leb (r .crossings) (r .n - 1 - r .ramp) in
+      let e₁ = and-true (leb 1 (r .counted)) (t && (s && (q && p))) e in
+      let e₂ = and-true t (s && (q && p)) (e₁ .1) in
+      let e₃ = and-true s (q && p) (e₂ .1) in
+      let e₄ = and-true q p (e₃ .1) in
+      record {
+        counted = leb-true 1 (r .counted) (e₁ .0);
+        crossings = leb-true (r .crossings) (r .n - 1 - r .ramp) (e₂ .0);
+        above = ltb-true (r .ramp) (r .first) (e₃ .0);
+        ordered = leb-true (r .first) (r .latest) (e₄ .0);
+        below = ltb-true (r .latest) (r .n) (e₄ .1);
+      }
+
+  figures-from : (b : Bool) → eqb (r .first) 0 ≡ b → cond (not b) (failureKept r) (noneKept r) ≡ true → None r ⊎ Failure r
+  figures-from true z e = inl (none-from z e)
+  figures-from false z e = inr (failure-from e)
+
+  pub kept-from : sound r ≡ true → Kept r
+  unfolding sound
+  kept-from e =
+      let e₁ = and-true (itemsKept r) (lastKept r && (lengthKept r && (countsKept r && figuresKept r))) e in
+      let e₂ = and-true (lastKept r) (lengthKept r && (countsKept r && figuresKept r)) (e₁ .1) in
+      let e₃ = and-true (lengthKept r) (countsKept r && figuresKept r) (e₂ .1) in
+      let e₄ = and-true (countsKept r) (figuresKept r) (e₃ .1) in
+      let l = and-true (sampleInRange (r .last)) (not (eqb (r .n) 0) || eqb (natAbs (r .last)) 0) (e₂ .0) in
+      record {
+        outside = eqb-true _ 0 (e₁ .0);
+        range = l .0;
+        fresh = implied (r .n) (natAbs (r .last)) (l .1);
+        length = leb-true _ _ (e₃ .0);
+        counts = leb-true _ _ (e₄ .0);
+        figures = figures-from (eqb (r .first) 0) refl (e₄ .1);
+      }
+
+  figures-kept : None r ⊎ Failure r → figuresKept r ≡ true
+  figures-kept (inl n) =
+      rw (eq-eqb (r .first) 0 (n .first)) (both-true (eq-eqb (r .crossings) 0 (n .crossings)) (both-true (eq-eqb (r .counted) 0 (n .counted)) (eq-eqb (r .latest) 0 (n .latest))))
+  figures-kept (inr f) =
+      rw (ne-eqb (r .first) 0 (λ z. omega (arith, f .above)))
+      (both-true (le-leb 1 (r .counted) (f .counted))
+      (both-true (le-leb (r .crossings) (r .n - 1 - r .ramp) (f .crossings))
+      (both-true (lt-ltb (r .ramp) (r .first) (f .above)) (both-true (le-leb (r .first) (r .latest) (f .ordered)) (lt-ltb (r .latest) (r .n) (f .below))))))
+
+  pub kept-sound : Kept r → sound r ≡ true
+  unfolding sound
+  kept-sound k =
+      both-true (eq-eqb _ 0 (k .outside))
+      (both-true (both-true (k .range) (imply (r .n) (natAbs (r .last)) (eqb (r .n) 0) refl (k .fresh)))
+      (both-true (le-leb (r .n) (mostSamples (r .step) (r .ramp)) (k .length)) (both-true (le-leb (r .counted) (r .crossings) (k .counts)) (figures-kept (k .figures)))))

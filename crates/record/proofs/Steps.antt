@@ -1,0 +1,130 @@
+-- What is kept by a step: a sound state is sound after a sample in range, while there is room for it. Assumes nothing.
+use Prim.Native.Nat.{ℕ, _+_, _-_, _≤_, _<_}
+use mathlib.Core.Path.{_≡_, refl}
+use mathlib.Core.Bool.{Bool, true, false, cond, not, _&&_, _||_}
+use mathlib.Core.Logic.{_⊎_, inl, inr}
+use native.Mathlib.Omega.{arith}
+use native.Mathlib.Nat.{div-le-self}
+use lib.Dec.{eqb, ltb}
+use lib.IntN.{ℤ}
+use borrow.Author.Tests.{eqb-true, eqb-false, ltb-true}
+use Rattle.largest.specs.Walk.{since}
+use Rattle.record.specs.declared.Record.{Record}
+use Rattle.record.specs.Limits.{sampleInRange, mostSamples}
+use Rattle.record.specs.Reading.{timeAt, rises}
+use Rattle.record.specs.State.{moved, counts, crossed, crosses, stepped, sound}
+use Rattle.record.proofs.Bools.{and-true}
+use Rattle.record.proofs.Relations.{Items, items, None, Failure, Kept, kept-from, kept-sound}
+
+pub items-of : {r : Record} → Kept r → Items (r .step) (r .ramp) (r .level) (r .decorrelation)
+items-of {r} k = items (r .step) (r .ramp) (r .level) (r .decorrelation) (k .outside)
+
+-- the longest record, in samples
+pub small : {r : Record} → Kept r → mostSamples (r .step) (r .ramp) ≤ 11000001
+small {r} k = omega (arith, div-le-self 10000000 (r .step), items-of k .ramp)
+
+-- a state with a crossing has a first failure
+pub failure : {r : Record} → Kept r → (r .crossings ≡ 0 → ⊥) → Failure r
+failure {r} k h = go (k .figures)
+  where
+    go : None r ⊎ Failure r → Failure r
+    go (inl n) = absurd (h (n .crossings))
+    go (inr f) = f
+
+pub crossings-below : {r : Record} → Kept r → r .crossings ≤ r .n
+crossings-below {r} k = go (k .figures)
+  where
+    go : None r ⊎ Failure r → r .crossings ≤ r .n
+    go (inl n) = omega (arith, n .crossings)
+    go (inr f) = omega (arith, f .crossings)
+
+pub moved-kept : (r : Record) (k : ℕ) (x : ℤ) → Kept r → sampleInRange x ≡ true → 1 ≤ k → r .n + k ≤ mostSamples (r .step) (r .ramp) → Kept (moved r k x)
+moved-kept r k x s i h l =
+    record {
+      outside = s .outside;
+      range = i;
+      fresh = λ z. absurd (omega arith);
+      length = l;
+      counts = s .counts;
+      figures = go (s .figures);
+    }
+  where
+    go : None r ⊎ Failure r → None (moved r k x) ⊎ Failure (moved r k x)
+    go (inl n) = inl (record { first = n .first; crossings = n .crossings; counted = n .counted; latest = n .latest })
+    go (inr f) =
+        inr (record { counted = f .counted; crossings = omega (arith, f .crossings); above = f .above; ordered = f .ordered; below = omega (arith, f .below) })
+
+-- `crossed`, over its two tests
+abbrev pub marked : Record → ℤ → Bool → Bool → Record
+marked r x first counted =
+    record {
+      step = r .step;
+      ramp = r .ramp;
+      level = r .level;
+      decorrelation = r .decorrelation;
+      n = r .n + 1;
+      last = x;
+      crossings = r .crossings + 1;
+      counted = cond counted (r .counted + 1) (r .counted);
+      first = cond first (r .n) (r .first);
+      latest = cond counted (r .n) (r .latest);
+    }
+
+module _ (r : Record) (x : ℤ) (s : Kept r) (h : r .ramp < r .n) where
+  marked-figures : (z b : Bool) → eqb (r .crossings) 0 ≡ z → Failure (marked r x z (z || b))
+  marked-figures true b e =
+      let c : r .crossings ≡ 0 = eqb-true _ _ e in
+      record { counted = omega arith; crossings = omega arith; above = h; ordered = omega arith; below = omega arith }
+  marked-figures false true e =
+      let f = failure s (eqb-false _ _ e) in
+      record { counted = omega arith; crossings = omega (arith, f .crossings); above = f .above; ordered = omega (arith, f .ordered, f .below); below = omega arith }
+  marked-figures false false e =
+      let f = failure s (eqb-false _ _ e) in
+      record { counted = f .counted; crossings = omega (arith, f .crossings); above = f .above; ordered = f .ordered; below = omega (arith, f .below) }
+
+  counts-more : (b : Bool) → cond b (r .counted + 1) (r .counted) ≤ r .crossings + 1
+  counts-more true = omega (arith, s .counts)
+  counts-more false = omega (arith, s .counts)
+
+  pub crossed-kept : sampleInRange x ≡ true → r .n < mostSamples (r .step) (r .ramp) → Kept (crossed r x)
+  crossed-kept i l =
+      record {
+        outside = s .outside;
+        range = i;
+        fresh = λ z. absurd (omega arith);
+        length = omega arith;
+        counts = counts-more (counts r);
+        figures = inr (marked-figures (eqb (r .crossings) 0) (since (timeAt (r .step) (r .ramp)) (r .decorrelation) (r .latest) (r .n)) refl);
+      }
+
+-- a crossing is after the ramp
+pub crosses-after : (r : Record) (x : ℤ) → crosses r x ≡ true → r .ramp < r .n
+crosses-after r x e = ltb-true (r .ramp) (r .n) (and-true (ltb (r .ramp) (r .n)) (rises (r .level) (r .last) x) e .0)
+
+pub stepped-sound : (r : Record) (x : ℤ) → sound r ≡ true → sampleInRange x ≡ true → r .n < mostSamples (r .step) (r .ramp) → sound (stepped r x) ≡ true
+unfolding stepped
+stepped-sound r x e i l = kept-sound (stepped r x) (go (crosses r x) refl)
+  where
+    k : Kept r
+    k = kept-from r e
+
+    go : (b : Bool) → crosses r x ≡ b → Kept (cond b (crossed r x) (moved r 1 x))
+    go true c = crossed-kept r x k (crosses-after r x c) i l
+    go false c = moved-kept r 1 x k i (omega arith) (omega arith)
+
+pub stepped-n : (r : Record) (x : ℤ) → stepped r x .n ≡ r .n + 1
+unfolding stepped
+stepped-n r x = go (crosses r x)
+  where
+    go : (b : Bool) → cond b (crossed r x) (moved r 1 x) .n ≡ r .n + 1
+    go true = refl
+    go false = refl
+
+-- the items, and so the bound on n, stay
+pub stepped-most : (r : Record) (x : ℤ) → mostSamples (stepped r x .step) (stepped r x .ramp) ≡ mostSamples (r .step) (r .ramp)
+unfolding stepped
+stepped-most r x = go (crosses r x)
+  where
+    go : (b : Bool) → mostSamples (cond b (crossed r x) (moved r 1 x) .step) (cond b (crossed r x) (moved r 1 x) .ramp) ≡ mostSamples (r .step) (r .ramp)
+    go true = refl
+    go false = refl

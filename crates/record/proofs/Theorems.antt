@@ -1,0 +1,74 @@
+-- What the entries add up to: the user's second demand for one record. D is the step, R the ramp, a the level, τ the decorrelation time.
+-- Assumes nothing.
+use Prim.Native.Nat.{ℕ}
+use mathlib.Core.Path.{_≡_, refl, sym, ap, _∙_}
+use mathlib.Core.Bool.{Bool, true, false, cond}
+use mathlib.Core.List.{List, [], _∷_, foldl}
+use native.Mathlib.Omega.{arith}
+use lib.ListN.{length}
+use lib.Dec.{eqb}
+use lib.IntN.{ℤ}
+use borrow.Author.Tests.{eqb-true}
+use Rattle.refusal.specs.declared.Refusal.the-variants.{Item, BrokenState}
+use Rattle.largest.specs.Choice.{Apart, Largest}
+use Rattle.largest.proofs.Walk.{walk-largest, walk-apart}
+use Rattle.record.specs.declared.Record.{Record}
+use Rattle.record.specs.declared.Answer.the-variants.{Taken, Refused}
+use Rattle.record.specs.Limits.{itemOutside}
+use Rattle.record.specs.Reading.{timeAt, crossesAt, crossings, counted, countedTimes}
+use Rattle.record.specs.State.{stateOf, stepped, sound}
+use Rattle.record.specs.Answers.{opened, fed, firstBad}
+use Rattle.record.specs.Pieces.{AllTaken, end, piece, joined}
+use Rattle.record.proofs.Relations.{kept-from}
+use Rattle.record.proofs.Fresh.{opened-taken, fresh-sound}
+use Rattle.record.proofs.Whole.{state}
+use Rattle.record.proofs.Fed.{taken, fed-taken, not-broken}
+use Rattle.record.proofs.Cutting.{run-sound, joins, splits}
+use Rattle.record.proofs.Places.{rising-passing, itself, apart-times}
+
+-- ---- what is handed out keeps the relations
+pub opened-sound : (D R a τ : ℕ) (s : Record) → opened D R a τ ≡ Taken s → sound s ≡ true
+opened-sound D R a τ s e = let o = opened-taken D R a τ s e in rw (← o .1) (fresh-sound D R a τ (o .0))
+
+pub fed-sound : (r : Record) (p : List ℤ) (t : Record) → fed r p ≡ Taken t → sound t ≡ true
+fed-sound r p t e = let m = taken r p t e in rw (← m .end) (run-sound r p (m .state) (m .good) (m .room))
+
+pub all-sound : {r t : Record} {ps : List (List ℤ)} → sound r ≡ true → AllTaken r ps t → sound t ≡ true
+all-sound s end = s
+all-sound s (piece {r = r} {s = u} {p = p} e f) = all-sound (fed-sound r p u e) f
+
+-- ---- an empty piece for a sound record is taken and changes nothing
+pub empty-taken : (r : Record) → sound r ≡ true → fed r [] ≡ Taken r
+unfolding firstBad
+empty-taken r s = fed-taken r [] s (omega arith) (omega (arith, kept-from r s .length))
+
+-- ---- pieces, each taken, cut anywhere: the joined list is taken as one piece and ends in the same state; and the other way round
+pub join-taken : {r t : Record} {ps : List (List ℤ)} → sound r ≡ true → AllTaken r ps t → fed r (joined ps) ≡ Taken t
+unfolding joined
+join-taken s (end {r = r}) = empty-taken r s
+join-taken s (piece {r = r} {s = u} {p = p} {ps = ps} e f) = joins r p (joined ps) e (join-taken (fed-sound r p u e) f)
+
+pub every-cutting : (r : Record) (ps : List (List ℤ)) (t : Record) → fed r (joined ps) ≡ Taken t → AllTaken r ps t
+unfolding joined
+every-cutting r [] t e = rw (taken r [] t e .end) end
+every-cutting r (p ∷ ps) t e = let h = splits r p (joined ps) e in piece (h .0) (every-cutting (foldl stepped r p) ps t (h .1))
+
+-- ---- the theorems on a record from its opening
+module _ (D R a τ : ℕ) (s : Record) (fresh : opened D R a τ ≡ Taken s) where
+  -- 1: pieces that are all taken end in the state of the joined list, whose figures are document 01's over that list
+  pub pieces-whole : {ps : List (List ℤ)} {t : Record} → AllTaken s ps t → t ≡ stateOf D R a τ (joined ps)
+  pieces-whole {ps} {t} f =
+      let e = taken s (joined ps) t (join-taken (opened-sound D R a τ s fresh) f) .end in
+      sym e ∙ rw (← opened-taken D R a τ s fresh .1) (state D R a τ (joined ps))
+
+  -- 2: and none of their states is ever answered by refusal 8
+  pub never-broken : {ps : List (List ℤ)} {t : Record} → AllTaken s ps t → (p : List ℤ) → fed t p ≡ Refused BrokenState → ⊥
+  never-broken {t = t} f p = not-broken t p (all-sound (opened-sound D R a τ s fresh) f)
+
+-- 3: the number counted is the size of the largest set; the listed times are pairwise at least τ apart
+pub counted-largest : (D R a τ : ℕ) (xs : List ℤ) → Largest (timeAt D R) τ (crossings R a xs) (stateOf D R a τ xs .counted)
+unfolding stateOf
+counted-largest D R a τ xs = walk-largest (timeAt D R) τ (crossings R a xs) (rising-passing D R (crossesAt R a xs) 0 (length xs))
+
+pub times-apart : (D R a τ : ℕ) (xs : List ℤ) → Apart itself τ (countedTimes D R a τ xs)
+times-apart D R a τ xs = apart-times (timeAt D R) τ (counted D R a τ xs) (walk-apart (timeAt D R) τ (crossings R a xs) (rising-passing D R (crossesAt R a xs) 0 (length xs)))

@@ -1,0 +1,38 @@
+-- What closing a record may rely on: a sound state with at least R + 2 samples has its full time, and its first failure's time where it
+-- failed, from 1 ms to the longest timed length. A place at most n - 1 is at most floor(10,000,000 / D) samples past R. Assumes nothing.
+use Prim.Native.Nat.{ℕ, _+_, _-_, _*_, _/_, _≤_, _<_}
+use mathlib.Core.Path.{_≡_, sym}
+use mathlib.Core.Bool.{true, false}
+use mathlib.Core.Logic.{_⊎_, inl, inr}
+use native.Mathlib.Nat.{mul-le-mul, div-mul-le-self}
+use native.Mathlib.Omega.{arith}
+use borrow.Author.Tests.{ltb-false, not-true, eq-eqb}
+use Rattle.record.specs.declared.Record.{Record}
+use Rattle.record.specs.Limits.{longestTime}
+use Rattle.record.specs.State.{sound, failed, firstTime, wholeTime, tooShort}
+use Rattle.record.proofs.Bools.{true≢false}
+use Rattle.record.proofs.Relations.{None, Failure, Kept, kept-from}
+use Rattle.record.proofs.Steps.{items-of}
+
+spanned : (k D : ℕ) → 1 ≤ k → 1 ≤ D → k ≤ longestTime / D → (1 ≤ k * D) × (k * D ≤ longestTime)
+spanned k D h d l =
+    (mul-le-mul {n₁ = 1} {m₁ = 1} {n₂ = k} {m₂ = D} h d, omega (arith, mul-le-mul {n₁ = k} {m₁ = D} {n₂ = longestTime / D} {m₂ = D} l (omega arith), div-mul-le-self longestTime D))
+
+module _ (r : Record) (s : sound r ≡ true) where
+  pub whole-time : tooShort r ≡ false → (1 ≤ wholeTime r) × (wholeTime r ≤ longestTime)
+  whole-time e =
+      let k = kept-from r s in
+      spanned (r .n - 1 - r .ramp) (r .step) (omega (arith, ltb-false (r .n) (r .ramp + 2) e)) (items-of k .step-low) (omega (arith, k .length))
+
+  pub failed-failure : failed r ≡ true → Failure r
+  failed-failure e = go (kept-from r s .figures)
+    where
+      go : None r ⊎ Failure r → Failure r
+      go (inl n) = absurd (true≢false (sym (rw (eq-eqb (r .first) 0 (n .first)) at e)))
+      go (inr f) = f
+
+  pub first-time : failed r ≡ true → (1 ≤ firstTime r) × (firstTime r ≤ longestTime)
+  first-time e =
+      let k = kept-from r s in
+      let f = failed-failure e in
+      spanned (r .first - r .ramp) (r .step) (omega (arith, f .above)) (items-of k .step-low) (omega (arith, k .length, f .ordered, f .below))

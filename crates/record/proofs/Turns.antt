@@ -1,0 +1,54 @@
+-- Walking over a piece: a turn of a loop takes the sample at i off what is left. Assumes nothing.
+use Prim.Native.Nat.{ℕ, suc, _+_, _≤_, _<_}
+use mathlib.Core.Path.{_≡_, refl, ap}
+use mathlib.Core.Bool.{Bool, true, false, cond}
+use mathlib.Core.List.{List, [], _∷_, _++_}
+use native.Mathlib.Numerals.{add-one}
+use native.Mathlib.Omega.{arith}
+use lib.ListN.{length, drop}
+use lib.Seq.{drop-cons}
+use lib.IntN.{ℤ, pos}
+use Rattle.record.specs.Limits.{sampleInRange}
+use Rattle.record.specs.Reading.{sampleAt}
+use Rattle.record.specs.Answers.{firstBad}
+
+-- what is left at i is the sample at i and what is left at i + 1
+pub turn {ℓ} : {A : Type ℓ} (f : List ℤ → A) (p : List ℤ) (i : ℕ) → i < length p → f (drop i p) ≡ f (sampleAt p i ∷ drop (i + 1) p)
+turn f p i h = ap f (rw (add-one, drop-cons p i (pos 0)))
+
+pub bad-in : (x : ℤ) (xs : List ℤ) → sampleInRange x ≡ true → firstBad (x ∷ xs) ≡ suc (firstBad xs)
+unfolding firstBad
+bad-in x xs e = rw e
+
+pub bad-out : (x : ℤ) (xs : List ℤ) → sampleInRange x ≡ false → firstBad (x ∷ xs) ≡ 0
+unfolding firstBad
+bad-out x xs e = rw e
+
+-- where no sample is bad, the first is not, and none of the others
+pub good-head : (x : ℤ) (xs : List ℤ) → firstBad (x ∷ xs) ≡ suc (length xs) → (sampleInRange x ≡ true) × (firstBad xs ≡ length xs)
+unfolding firstBad
+good-head x xs = go (sampleInRange x)
+  where
+    go : (b : Bool) → cond b (suc (firstBad xs)) 0 ≡ suc (length xs) → (b ≡ true) × (firstBad xs ≡ length xs)
+    go true e = (refl, omega arith)
+    go false e = absurd (omega arith)
+
+pub bad-append : (p q : List ℤ) → firstBad p ≡ length p → firstBad (p ++ q) ≡ length p + firstBad q
+unfolding firstBad
+bad-append [] q h = omega arith
+bad-append (x ∷ p) q h = let g = good-head x p h in rw (g .0) (omega (arith, bad-append p q (g .1)))
+
+pub bad-within : (p : List ℤ) → firstBad p ≤ length p
+unfolding firstBad
+bad-within [] = omega arith
+bad-within (x ∷ p) = go (sampleInRange x) (bad-within p)
+  where
+    go : (b : Bool) → firstBad p ≤ length p → cond b (suc (firstBad p)) 0 ≤ suc (length p)
+    go true h = omega arith
+    go false h = omega arith
+
+-- where no sample of two pieces joined is bad, none of the first is
+pub good-left : (p q : List ℤ) → firstBad (p ++ q) ≡ length (p ++ q) → firstBad p ≡ length p
+unfolding firstBad
+good-left [] q h = refl
+good-left (x ∷ p) q h = let g = good-head x (p ++ q) h in rw (g .0) (ap suc (good-left p q (g .1)))

@@ -1,0 +1,160 @@
+-- The state that the samples lead to one by one is the state of the whole list. From any state r, the samples ys with the crossings cs
+-- among them lead to `finish r ys cs` (`whole`, by induction on ys); the crossings met one by one (`placesFrom`) are those that pass the
+-- test on the whole list (`scan`). Assumes nothing.
+use Prim.Native.Nat.{ℕ, zero, suc, _+_, _-_, _*_, _≤_, _<_}
+use mathlib.Core.Path.{_≡_, refl, sym, ap, _∙_}
+use mathlib.Core.Bool.{Bool, true, false, cond, not, _&&_, _||_}
+use mathlib.Core.List.{List, [], _∷_, foldl}
+use native.Mathlib.Nat.{zero-add, add-zero}
+use native.Mathlib.Omega.{arith}
+use lib.ListN.{length, getD, drop}
+use lib.Seq.{getD-drop, drop-drop}
+use lib.IntN.{ℤ, pos}
+use lib.Dec.{ltb, eqb}
+use borrow.Author.Tests.{ne-eqb, ltb-true}
+use Rattle.largest.specs.Walk.{since, later, walk}
+use Rattle.record.specs.declared.Record.{Record}
+use Rattle.record.specs.Reading.{timeAt, sampleAt, rises, crossesAt, passing, crossings, firstOf, lastOf}
+use Rattle.record.specs.State.{stateOf, moved, counts, crossed, crosses, stepped}
+use Rattle.record.proofs.Bools.{true≢false}
+use Rattle.record.proofs.Steps.{marked}
+
+pub ext : (s t : Record) → s .step ≡ t .step → s .ramp ≡ t .ramp → s .level ≡ t .level → s .decorrelation ≡ t .decorrelation → s .n ≡ t .n → s .last ≡ t .last → s .crossings ≡ t .crossings → s .counted ≡ t .counted → s .first ≡ t .first → s .latest ≡ t .latest → s ≡ t
+ext s t a b c d e f g h j k =
+    λ i. record { step = a i; ramp = b i; level = c i; decorrelation = d i; n = e i; last = f i; crossings = g i; counted = h i; first = j i; latest = k i }
+
+-- the crossings among the samples that follow `before`, the first of which is sample i
+placesFrom : ℕ → ℕ → ℕ → ℤ → List ℤ → List ℕ
+placesFrom R a i before [] = []
+placesFrom R a i before (x ∷ xs) =
+    cond (ltb R i && rises a before x) (i ∷ placesFrom R a (i + 1) x xs) (placesFrom R a (i + 1) x xs)
+
+-- those of the crossings cs that are counted after the state r
+rest : Record → List ℕ → List ℕ
+rest r cs =
+    cond (eqb (r .crossings) 0)
+    (walk (timeAt (r .step) (r .ramp)) (r .decorrelation) cs)
+    (later (timeAt (r .step) (r .ramp)) (r .decorrelation) (r .latest) cs)
+
+-- the state r and then the samples ys with the crossings cs among them
+finish : Record → List ℤ → List ℕ → Record
+finish r ys cs =
+    record {
+      step = r .step;
+      ramp = r .ramp;
+      level = r .level;
+      decorrelation = r .decorrelation;
+      n = r .n + length ys;
+      last = lastOf (r .last) ys;
+      crossings = r .crossings + length cs;
+      counted = r .counted + length (rest r cs);
+      first = cond (eqb (r .crossings) 0) (firstOf (r .first) cs) (r .first);
+      latest = lastOf (r .latest) (rest r cs);
+    }
+
+same : {A : Type 0} (b : Bool) (x : A) → cond b x x ≡ x
+same true x = refl
+same false x = refl
+
+finish-nil : (r : Record) → r ≡ finish r [] []
+unfolding finish lastOf firstOf rest walk later
+finish-nil r =
+    let e : rest r [] ≡ [] = same (eqb (r .crossings) 0) [] in
+    ext r (finish r [] []) refl refl refl refl (sym (add-zero (r .n))) refl (sym (add-zero (r .crossings)))
+    (sym (ap (λ (l : List ℕ). r .counted + length l) e ∙ add-zero (r .counted)))
+    (sym (same (eqb (r .crossings) 0) (r .first)))
+    (sym (ap (lastOf (r .latest)) e))
+
+-- a crossing that is counted is the next of the counted ones, and one that is not is passed over
+far : {A : Type 0} (a b : Bool) (x y : A) → (a || b) ≡ true → cond a x (cond b x y) ≡ x
+far true b x y e = refl
+far false true x y e = refl
+far false false x y e = absurd (true≢false (sym e))
+
+near : {A : Type 0} (a b : Bool) (w x y : A) → (a || b) ≡ false → cond a x (cond b x y) ≡ cond a w y
+near true b w x y e = absurd (true≢false e)
+near false true w x y e = absurd (true≢false e)
+near false false w x y e = refl
+
+module _ (r : Record) (cs : List ℕ) where
+  rest-far : counts r ≡ true → rest r (r .n ∷ cs) ≡ r .n ∷ later (timeAt (r .step) (r .ramp)) (r .decorrelation) (r .n) cs
+  unfolding rest walk later
+  rest-far e = far (eqb (r .crossings) 0) (since (timeAt (r .step) (r .ramp)) (r .decorrelation) (r .latest) (r .n)) _ _ e
+
+  rest-near : counts r ≡ false → rest r (r .n ∷ cs) ≡ rest r cs
+  unfolding rest walk later
+  rest-near e = near (eqb (r .crossings) 0) (since (timeAt (r .step) (r .ramp)) (r .decorrelation) (r .latest) (r .n)) _ _ _ e
+
+not-first : (a b : Bool) → (a || b) ≡ false → a ≡ false
+not-first true b e = e
+not-first false b e = refl
+
+not-zero : (n : ℕ) → eqb (n + 1) 0 ≡ false
+not-zero n = ne-eqb (n + 1) 0 (λ e. omega arith)
+
+turn-marked : (r : Record) (y : ℤ) (ys : List ℤ) (cs : List ℕ) (b : Bool) → counts r ≡ b → finish (marked r y (eqb (r .crossings) 0) b) ys cs ≡ finish r (y ∷ ys) (r .n ∷ cs)
+unfolding finish rest lastOf firstOf
+turn-marked r y ys cs true e =
+    let s = marked r y (eqb (r .crossings) 0) true in
+    let z = rest-far r cs e in
+    let q : rest s cs ≡ later (timeAt (r .step) (r .ramp)) (r .decorrelation) (r .n) cs = rw not-zero in
+    ext (finish s ys cs) (finish r (y ∷ ys) (r .n ∷ cs)) refl refl refl refl (omega arith) refl (omega arith)
+    (omega (arith, ap length q, ap length z))
+    (rw not-zero)
+    (ap (lastOf (r .n)) q ∙ sym (ap (lastOf (r .latest)) z))
+turn-marked r y ys cs false e =
+    let s = marked r y (eqb (r .crossings) 0) false in
+    let f : eqb (r .crossings) 0 ≡ false = not-first (eqb (r .crossings) 0) _ e in
+    let z = rest-near r cs e in
+    let q : rest s cs ≡ rest r cs = rw (not-zero, f) in
+    ext (finish s ys cs) (finish r (y ∷ ys) (r .n ∷ cs)) refl refl refl refl (omega arith) refl (omega arith)
+    (omega (arith, ap length q, ap length z))
+    (rw (not-zero, f))
+    (ap (lastOf (r .latest)) (q ∙ sym z))
+
+turn : (r : Record) (y : ℤ) (ys : List ℤ) (cs : List ℕ) → finish (stepped r y) ys cs ≡ finish r (y ∷ ys) (cond (crosses r y) (r .n ∷ cs) cs)
+unfolding stepped finish rest lastOf
+turn r y ys cs = go (crosses r y)
+  where
+    go : (b : Bool) → finish (cond b (crossed r y) (moved r 1 y)) ys cs ≡ finish r (y ∷ ys) (cond b (r .n ∷ cs) cs)
+    go true = turn-marked r y ys cs (counts r) refl
+    go false = ext _ _ refl refl refl refl (omega arith) refl refl refl refl refl
+
+-- a step leaves the ramp and the level, and the next sample is compared with this one
+next-places : (r : Record) (y : ℤ) (ys : List ℤ) → placesFrom (stepped r y .ramp) (stepped r y .level) (stepped r y .n) (stepped r y .last) ys ≡ placesFrom (r .ramp) (r .level) (r .n + 1) y ys
+unfolding stepped
+next-places r y ys = go (crosses r y)
+  where
+    go : (b : Bool) → (let s = cond b (crossed r y) (moved r 1 y) in placesFrom (s .ramp) (s .level) (s .n) (s .last) ys) ≡ placesFrom (r .ramp) (r .level) (r .n + 1) y ys
+    go true = refl
+    go false = refl
+
+whole : (r : Record) (ys : List ℤ) → foldl stepped r ys ≡ finish r ys (placesFrom (r .ramp) (r .level) (r .n) (r .last) ys)
+unfolding placesFrom
+whole r [] = finish-nil r
+whole r (y ∷ ys) =
+    whole (stepped r y) ys ∙ ap (finish (stepped r y) ys) (next-places r y ys) ∙ turn r y ys (placesFrom (r .ramp) (r .level) (r .n + 1) y ys)
+
+-- what is tested one by one is what is tested on the whole list
+test-same : (b : Bool) (a : ℕ) (p q x y : ℤ) → (b ≡ true → p ≡ q) → x ≡ y → (b && rises a p x) ≡ (b && rises a q y)
+test-same false a p q x y h e = refl
+test-same true a p q x y h e = rw (h refl, e)
+
+module _ (R a : ℕ) (w : List ℤ) where
+  scan : (k : ℕ) (before : ℤ) (xs : List ℤ) → drop k w ≡ xs → (ltb R k ≡ true → before ≡ sampleAt w (k - 1)) → placesFrom R a k before xs ≡ passing (crossesAt R a w) k (length xs)
+  unfolding placesFrom passing
+  scan k before [] e h = refl
+  scan k before (x ∷ xs) e h =
+      let y : x ≡ sampleAt w k = sym (ap (λ (l : List ℤ). sampleAt l 0) e) ∙ getD-drop k w 0 (pos 0) ∙ ap (sampleAt w) (add-zero k) in
+      let d : drop (k + 1) w ≡ xs = sym (drop-drop 1 k w) ∙ ap (drop 1) e in
+      let i = scan (k + 1) x xs d (λ t. y ∙ ap (sampleAt w) (omega arith)) in
+      rw (i, test-same (ltb R k) a before (sampleAt w (k - 1)) x (sampleAt w k) h y)
+
+-- the samples one by one from a fresh record lead to the state of the list
+pub state : (D R a τ : ℕ) (xs : List ℤ) → foldl stepped (stateOf D R a τ []) xs ≡ stateOf D R a τ xs
+unfolding stateOf finish rest passing firstOf lastOf walk
+state D R a τ xs =
+    let e = scan R a xs 0 (pos 0) xs refl (λ t. absurd (omega (arith, ltb-true R 0 t))) in
+    whole (stateOf D R a τ []) xs
+    ∙ ap (finish (stateOf D R a τ []) xs) e
+    ∙ ext (finish (stateOf D R a τ []) xs (crossings R a xs)) (stateOf D R a τ xs) refl refl refl refl (zero-add _) refl (zero-add _) (zero-add _) refl refl

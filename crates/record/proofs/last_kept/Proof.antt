@@ -1,0 +1,29 @@
+-- `record::last_kept` meets its contract, which it follows word for word. Assumes nothing.
+use borrow.Author.Needs.{needs}
+use mir.Facts.{toZ-ofZ}
+use mir.Val.{SFits}
+use mir.Syntax.{w32}
+use Rattle.record.proofs.last_kept.Statement.{statement}
+use Rattle.record.proofs.last_kept.Tie as tie
+
+sample-in-range-requires : tie.Need-sample-in-range-requires
+sample-in-range-requires c κs = search needs
+
+magnitude-requires : tie.Need-magnitude-requires
+magnitude-requires c κs = search needs
+
+either-requires : tie.Need-either-requires
+either-requires c κs = search needs
+
+both-requires : tie.Need-both-requires
+both-requires c κs = search needs
+
+returns : tie.Need-returns
+returns c =
+    let f : SFits w32 (c .before .before .before .before .before .before .args .r .last) = search needs in
+    cc (toZ-ofZ f)
+
+pub last-kept-spec : {M : Type 1} → statement M
+last-kept-spec =
+    tie.close
+    (tie.spec sample-in-range-requires magnitude-requires either-requires both-requires returns)

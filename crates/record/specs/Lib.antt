@@ -1,0 +1,5 @@
+pub mod Limits
+pub mod Reading
+pub mod State
+pub mod Answers
+pub mod Pieces

@@ -1,0 +1,120 @@
+-- What is kept of a record between two pieces: the state of a list of samples, the state after one sample more, and document 01's
+-- relations for refusal 8. Assumes nothing.
+use Prim.Native.Nat.{ℕ, _+_, _-_}
+use mathlib.Core.Bool.{Bool, cond, not, _&&_, _||_}
+use mathlib.Core.List.{List, []}
+use lib.ListN.{length}
+use lib.Dec.{ltb, leb, eqb}
+use lib.IntN.{ℤ, pos, natAbs}
+use Rattle.largest.specs.Walk.{since}
+use Rattle.record.specs.declared.Record.{Record}
+use Rattle.record.specs.Limits.{itemOutside, sampleInRange, mostSamples}
+use Rattle.record.specs.Reading.{timeAt, rises, crossings, firstOf, lastOf, firstCrossing, counted, fullTime, tooFew}
+
+-- the state of the samples xs: "Reading a record", figure by figure
+unfoldable pub stateOf : ℕ → ℕ → ℕ → ℕ → List ℤ → Record
+stateOf D R a τ xs =
+    record {
+      step = D;
+      ramp = R;
+      level = a;
+      decorrelation = τ;
+      n = length xs;
+      last = lastOf (pos 0) xs;
+      crossings = length (crossings R a xs);
+      counted = length (counted D R a τ xs);
+      first = firstCrossing 0 R a xs;
+      latest = lastOf 0 (counted D R a τ xs);
+    }
+
+-- ---- one sample more: sample n, which is x
+-- k more samples without a crossing, the last of them x
+abbrev pub moved : Record → ℕ → ℤ → Record
+moved r k x =
+    record {
+      step = r .step;
+      ramp = r .ramp;
+      level = r .level;
+      decorrelation = r .decorrelation;
+      n = r .n + k;
+      last = x;
+      crossings = r .crossings;
+      counted = r .counted;
+      first = r .first;
+      latest = r .latest;
+    }
+
+-- a crossing at sample n is counted: it is the first, or its time is at least τ after the last counted one's
+abbrev pub counts : Record → Bool
+counts r = eqb (r .crossings) 0 || since (timeAt (r .step) (r .ramp)) (r .decorrelation) (r .latest) (r .n)
+
+-- a crossing at sample n
+abbrev pub crossed : Record → ℤ → Record
+crossed r x =
+    record {
+      step = r .step;
+      ramp = r .ramp;
+      level = r .level;
+      decorrelation = r .decorrelation;
+      n = r .n + 1;
+      last = x;
+      crossings = r .crossings + 1;
+      counted = cond (counts r) (r .counted + 1) (r .counted);
+      first = cond (eqb (r .crossings) 0) (r .n) (r .first);
+      latest = cond (counts r) (r .n) (r .latest);
+    }
+
+-- sample n crosses the level
+abbrev pub crosses : Record → ℤ → Bool
+crosses r x = ltb (r .ramp) (r .n) && rises (r .level) (r .last) x
+
+unfoldable pub stepped : Record → ℤ → Record
+stepped r x = cond (crosses r x) (crossed r x) (moved r 1 x)
+
+-- ---- "Relations for 8", the record's, sentence by sentence
+-- there is a first failure: its place is above R, so 0 stands for none
+abbrev pub failed : Record → Bool
+failed r = not (eqb (r .first) 0)
+
+-- items in range
+abbrev pub itemsKept : Record → Bool
+itemsKept r = eqb (itemOutside (r .step) (r .ramp) (r .level) (r .decorrelation)) 0
+
+-- the last sample kept in range, and 0 while n is 0
+abbrev pub lastKept : Record → Bool
+lastKept r = sampleInRange (r .last) && (not (eqb (r .n) 0) || eqb (natAbs (r .last)) 0)
+
+-- n within refusal 3's bound
+abbrev pub lengthKept : Record → Bool
+lengthKept r = leb (r .n) (mostSamples (r .step) (r .ramp))
+
+-- counted at most crossings
+abbrev pub countsKept : Record → Bool
+countsKept r = leb (r .counted) (r .crossings)
+
+-- without a first failure both are 0, and the last counted place, which has no meaning yet, holds 0
+abbrev pub noneKept : Record → Bool
+noneKept r = eqb (r .crossings) 0 && (eqb (r .counted) 0 && eqb (r .latest) 0)
+
+-- with one neither is 0; crossings at most n - 1 - R, its place above R and at most the last counted place, which is below n
+abbrev pub failureKept : Record → Bool
+failureKept r =
+    leb 1 (r .counted) && (leb (r .crossings) (r .n - 1 - r .ramp) && (ltb (r .ramp) (r .first) && (leb (r .first) (r .latest) && ltb (r .latest) (r .n))))
+
+abbrev pub figuresKept : Record → Bool
+figuresKept r = cond (failed r) (failureKept r) (noneKept r)
+
+-- the state keeps every relation
+unfoldable pub sound : Record → Bool
+sound r =
+    itemsKept r && (lastKept r && (lengthKept r && (countsKept r && figuresKept r)))
+
+-- ---- what closing a record reads off its state
+abbrev pub firstTime : Record → ℕ
+firstTime r = timeAt (r .step) (r .ramp) (r .first)
+
+abbrev pub wholeTime : Record → ℕ
+wholeTime r = fullTime (r .step) (r .ramp) (r .n)
+
+abbrev pub tooShort : Record → Bool
+tooShort r = tooFew (r .ramp) (r .n)

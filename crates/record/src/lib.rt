@@ -1,0 +1,307 @@
+// A record: one channel of samples at a fixed step, with a level, a ramp and a decorrelation time, whole or in pieces.
+// The state goes in by value and comes back in the answer, so a refusal leaves the caller's as it stood.
+ghost use mathlib.Core.Path.{_≡_};
+ghost use mathlib.Core.Bool.{true, cond, not, _&&_, _||_};
+ghost use mathlib.Core.List.{foldl};
+ghost use Prim.Native.Nat.{_+_, _-_, _*_, _≤_, _<_};
+ghost use lib.ListN.{length};
+ghost use Rattle.record.specs.Limits.{within, itemOutside, sampleInRange, mostSamples};
+ghost use Rattle.record.specs.Reading.{timeAt};
+ghost use Rattle.record.specs.State.{moved, counts, crossed, crosses, stepped, lastKept, noneKept, failureKept, figuresKept, sound};
+ghost use Rattle.record.specs.Answers.{opened, fed, firstBad};
+use refusal::Refusal;
+
+// Document 01, "Numbers a job may carry".
+pub const LONGEST_STEP: u64 = 10_000;
+
+pub const LONGEST_RAMP: u64 = 1_000_000;
+
+pub const HIGHEST_LEVEL: u64 = 1_000_000;
+
+pub const LONGEST_DECORRELATION: u64 = 10_000_000;
+
+pub const SAMPLE_LIMIT: u32 = 1_000_000;
+
+pub const LONGEST_TIME: u64 = 10_000_000;
+
+// The four items, how many samples came and the last of them, and the figures so far. `first` and `latest` are places of
+// samples; places without a meaning yet hold 0.
+pub struct Record {
+    pub step: u64,
+    pub ramp: u64,
+    pub level: u64,
+    pub decorrelation: u64,
+    pub n: u64,
+    pub last: i32,
+    pub crossings: u64,
+    pub counted: u64,
+    pub first: u64,
+    pub latest: u64,
+}
+
+pub enum Answer {
+    Taken(Record),
+    Refused(Refusal),
+}
+
+fn both(b: bool, c: bool) -> bool
+    ensures { λ r. ⌜ r ≡ (b && c) ⌝ }
+{
+    if b { c } else { false }
+}
+
+fn between(low: u64, high: u64, x: u64) -> bool
+    ensures { λ r. ⌜ r ≡ within low high x ⌝ }
+{
+    both(low <= x, x <= high)
+}
+
+fn either(b: bool, c: bool) -> bool
+    ensures { λ r. ⌜ r ≡ (b || c) ⌝ }
+{
+    if b { true } else { c }
+}
+
+fn pick(b: bool, x: u64, y: u64) -> u64
+    ensures { λ r. ⌜ r ≡ cond b x y ⌝ }
+{
+    if b { x } else { y }
+}
+
+// The number of the lowest item outside its range, 0 if there is none.
+fn item_outside(step: u64, ramp: u64, level: u64, decorrelation: u64) -> u64
+    ensures { λ r. ⌜ r ≡ itemOutside step ramp level decorrelation ⌝ }
+{
+    let fourth = pick(!between(0, LONGEST_DECORRELATION, decorrelation), 4, 0);
+    let third = pick(!between(1, HIGHEST_LEVEL, level), 3, fourth);
+    let second = pick(!between(0, LONGEST_RAMP, ramp), 2, third);
+    pick(!between(1, LONGEST_STEP, step), 1, second)
+}
+
+// The fresh record, or refusal 1 with the lowest item outside its range.
+pub fn open(step: u64, ramp: u64, level: u64, decorrelation: u64) -> Answer
+    ensures { λ r. ⌜ r ≡ opened step ramp level decorrelation ⌝ }
+{
+    let item = item_outside(step, ramp, level, decorrelation);
+    if item == 0 {
+        Answer::Taken(Record {
+            step: step,
+            ramp: ramp,
+            level: level,
+            decorrelation: decorrelation,
+            n: 0,
+            last: 0,
+            crossings: 0,
+            counted: 0,
+            first: 0,
+            latest: 0,
+        })
+    } else {
+        Answer::Refused(Refusal::Item(item))
+    }
+}
+
+// n - 1 - ramp, and 0 where there is no such number.
+fn spans(ramp: u64, n: u64) -> u64
+    ensures { λ r. ⌜ r ≡ n - 1 - ramp ⌝ }
+{
+    if ramp < n { n - 1 - ramp } else { 0 }
+}
+
+// The most samples that a record may have.
+fn most_samples(step: u64, ramp: u64) -> u64
+    requires { ⌜ (1 ≤ step) × (ramp ≤ 1000000) ⌝ }
+    ensures { λ r. ⌜ r ≡ mostSamples step ramp ⌝ }
+{
+    ramp + 1 + LONGEST_TIME / step
+}
+
+fn sample_in_range(x: i32) -> bool
+    ensures { λ r. ⌜ r ≡ sampleInRange x ⌝ }
+{
+    magnitude::magnitude(x) <= SAMPLE_LIMIT
+}
+
+fn last_kept(r: Record) -> bool
+    ensures { λ k. ⌜ k ≡ lastKept r ⌝ }
+{
+    let last = r.last;
+    both(
+        sample_in_range(last),
+        either(r.n != 0, magnitude::magnitude(last) == 0),
+    )
+}
+
+fn failure_kept(r: Record) -> bool
+    ensures { λ k. ⌜ k ≡ failureKept r ⌝ }
+{
+    both(
+        1 <= r.counted,
+        both(
+            r.crossings <= spans(r.ramp, r.n),
+            both(r.ramp < r.first, both(r.first <= r.latest, r.latest < r.n)),
+        ),
+    )
+}
+
+fn none_kept(r: Record) -> bool
+    ensures { λ k. ⌜ k ≡ noneKept r ⌝ }
+{
+    both(r.crossings == 0, both(r.counted == 0, r.latest == 0))
+}
+
+fn figures_kept(r: Record) -> bool
+    ensures { λ k. ⌜ k ≡ figuresKept r ⌝ }
+{
+    if r.first == 0 {
+        none_kept(r)
+    } else {
+        failure_kept(r)
+    }
+}
+
+// Whether a state keeps document 01's relations for refusal 8.
+pub fn sound(r: Record) -> bool
+    ensures { λ k. ⌜ k ≡ sound r ⌝ }
+{
+    if item_outside(r.step, r.ramp, r.level, r.decorrelation) != 0 {
+        return false;
+    }
+    both(
+        last_kept(r),
+        both(
+            r.n <= most_samples(r.step, r.ramp),
+            both(r.counted <= r.crossings, figures_kept(r)),
+        ),
+    )
+}
+
+// When the sample at a place stands, in ms.
+fn time_at(step: u64, ramp: u64, place: u64) -> u64
+    requires { ⌜ (step ≤ 10000) × (ramp ≤ place) × (place ≤ 20000000) ⌝ }
+    ensures { λ t. ⌜ (t ≡ timeAt step ramp place) × (t ≤ 200000000000) ⌝ }
+{
+    (place - ramp) * step
+}
+
+// Whether a crossing at sample n is counted.
+fn counts(r: Record) -> bool
+    requires { ⌜ (sound r ≡ true) × (r .ramp < r .n) ⌝ }
+    ensures { λ k. ⌜ k ≡ counts r ⌝ }
+{
+    if r.crossings == 0 {
+        return true;
+    }
+    time_at(r.step, r.ramp, r.latest) + r.decorrelation <= time_at(r.step, r.ramp, r.n)
+}
+
+// The state after a crossing at sample n, which is x.
+fn crossed(r: Record, x: i32) -> Record
+    requires { ⌜ (sound r ≡ true) × (r .ramp < r .n) ⌝ }
+    ensures { λ s. ⌜ s ≡ crossed r x ⌝ }
+{
+    let c = counts(r);
+    Record {
+        step: r.step,
+        ramp: r.ramp,
+        level: r.level,
+        decorrelation: r.decorrelation,
+        n: r.n + 1,
+        last: x,
+        crossings: r.crossings + 1,
+        counted: pick(c, r.counted + 1, r.counted),
+        first: pick(r.crossings == 0, r.n, r.first),
+        latest: pick(c, r.n, r.latest),
+    }
+}
+
+// The state after k more samples without a crossing, the last of them x.
+fn moved(r: Record, k: u64, x: i32) -> Record
+    requires { ⌜ r .n + k ≤ 20000000 ⌝ }
+    ensures { λ s. ⌜ s ≡ moved r k x ⌝ }
+{
+    Record {
+        step: r.step,
+        ramp: r.ramp,
+        level: r.level,
+        decorrelation: r.decorrelation,
+        n: r.n + k,
+        last: x,
+        crossings: r.crossings,
+        counted: r.counted,
+        first: r.first,
+        latest: r.latest,
+    }
+}
+
+// Whether sample n, which is x, crosses the level.
+fn crosses(r: Record, x: i32) -> bool
+    ensures { λ k. ⌜ k ≡ crosses r x ⌝ }
+{
+    let level = r.level;
+    let last = r.last;
+    both(
+        r.ramp < r.n,
+        both(!magnitude::above(level, last), magnitude::above(level, x)),
+    )
+}
+
+// The state after one sample more.
+fn step(r: Record, x: i32) -> Record
+    requires { ⌜ (sound r ≡ true) × (r .n < mostSamples (r .step) (r .ramp)) ⌝ }
+    ensures { λ s. ⌜ s ≡ stepped r x ⌝ }
+{
+    if crosses(r, x) {
+        crossed(r, x)
+    } else {
+        moved(r, 1, x)
+    }
+}
+
+// The place of the first sample outside its range, the piece's length if there is none.
+fn first_bad(piece: &[i32]) -> usize
+    ensures { λ r. ⌜ r ≡ firstBad (now (piece .entry)) ⌝ }
+{
+    let mut i = 0;
+    while i < piece.len() {
+        if !sample_in_range(piece[i]) {
+            return i;
+        }
+        i += 1;
+    }
+    i
+}
+
+// The state after a piece whose samples are in range and not too many.
+fn run(r: Record, piece: &[i32]) -> Record
+    requires { ⌜ (sound r ≡ true) × (firstBad (now piece) ≡ length (now piece)) × (r .n + length (now piece) ≤ mostSamples (r .step) (r .ramp)) ⌝ }
+    ensures { λ s. ⌜ s ≡ foldl stepped r (now (piece .entry)) ⌝ }
+{
+    let mut s = r;
+    let mut i = 0;
+    while i < piece.len() {
+        s = step(s, piece[i]);
+        i += 1;
+    }
+    s
+}
+
+impl Record {
+    // The record after the piece; or refusal 8, then 2 with the first bad place in the piece, then 3.
+    pub fn feed(self, piece: &[i32]) -> Answer
+        ensures { λ r. ⌜ r ≡ fed self (now (piece .entry)) ⌝ }
+    {
+        if !sound(self) {
+            return Answer::Refused(Refusal::BrokenState);
+        }
+        let bad = first_bad(piece);
+        if bad < piece.len() {
+            return Answer::Refused(Refusal::Sample(bad as u64));
+        }
+        let room = most_samples(self.step, self.ramp) - self.n;
+        if room < piece.len() as u64 {
+            return Answer::Refused(Refusal::TooLong);
+        }
+        Answer::Taken(run(self, piece))
+    }
+}

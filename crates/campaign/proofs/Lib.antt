@@ -1,0 +1,5 @@
+pub mod Answered
+pub mod Keeping
+pub mod Records
+pub mod Relations
+pub mod Unique

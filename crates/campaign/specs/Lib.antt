@@ -1,0 +1,5 @@
+pub mod Answers
+pub mod Figures
+pub mod Kept
+pub mod Records
+pub mod State

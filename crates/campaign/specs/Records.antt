@@ -1,0 +1,66 @@
+-- A campaign's figures over the whole list of its records, oldest first: document 000, section 4.2, with document 01 deciding. Assumes nothing.
+use mathlib.Core.Path.{_≡_}
+use mathlib.Core.Bool.{Bool, cond, false}
+use mathlib.Core.List.{List, [], _∷_}
+use Prim.Native.Nat.{ℕ, _+_}
+use lib.ListN.{length}
+use Rattle.record.specs.declared.Record.{Record}
+use Rattle.record.specs.State.{failed}
+use Rattle.campaign.specs.declared.Answer.the-variants.{Taken}
+use Rattle.campaign.specs.declared.Campaign.{Campaign}
+use Rattle.campaign.specs.Answers.{closing, entering, exposureOf}
+
+-- what a campaign reads of a record: whether it failed, and its duration
+pub record Outcome : Type 0 where
+  pub failed : Bool
+  pub time : ℕ
+
+abbrev pub outcome : Record → Outcome
+outcome r = record { failed = failed r; time = exposureOf r }
+
+-- n: how many records failed
+unfoldable pub failuresIn : List Outcome → ℕ
+failuresIn [] = 0
+failuresIn (o ∷ os) = cond (o .failed) 1 0 + failuresIn os
+
+-- the sum of the durations
+unfoldable pub exposureIn : List Outcome → ℕ
+exposureIn [] = 0
+exposureIn (o ∷ os) = o .time + exposureIn os
+
+-- the records but the last
+unfoldable pub butLast : List Outcome → List Outcome
+butLast [] = []
+butLast (o ∷ []) = []
+butLast (o ∷ (p ∷ os)) = o ∷ butLast (p ∷ os)
+
+-- n*: the failures before the last record, plus 1
+unfoldable pub censoredIn : List Outcome → ℕ
+censoredIn [] = 0
+censoredIn (o ∷ os) = failuresIn (butLast (o ∷ os)) + 1
+
+unfoldable pub lastFailed : List Outcome → Bool
+lastFailed [] = false
+lastFailed (o ∷ []) = o .failed
+lastFailed (o ∷ (p ∷ os)) = lastFailed (p ∷ os)
+
+-- the campaign of those records at the standard q
+unfoldable pub campaignOf : ℕ → List Outcome → Campaign
+campaignOf q os =
+    record {
+      standard = q;
+      records = length os;
+      failures = failuresIn os;
+      exposure = exposureIn os;
+      failed = lastFailed os;
+    }
+
+-- outcomes entered one after the other, all taken, lead from c to d
+pub data AllEntered : Campaign → List Outcome → Campaign → Type 0 where
+  none : {c : Campaign} → AllEntered c [] c
+  one : {c d e : Campaign} {o : Outcome} {os : List Outcome} → entering c (o .failed) (o .time) ≡ Taken d → AllEntered d os e → AllEntered c (o ∷ os) e
+
+-- records closed one after the other, all taken, lead from c to d
+pub data AllClosed : Campaign → List Record → Campaign → Type 0 where
+  none : {c : Campaign} → AllClosed c [] c
+  one : {c d e : Campaign} {r : Record} {rs : List Record} → closing r c ≡ Taken d → AllClosed d rs e → AllClosed c (r ∷ rs) e

@@ -1,0 +1,24 @@
+-- Laws of tests, for the proofs above: from a test that holds to its parts, and from an answer to the fact that it tests. Assumes nothing.
+use mathlib.Core.Path.{_≡_, subst, sym, _∙_}
+use mathlib.Core.Bool.{Bool, false, not, true, _||_}
+use lib.Dec.{T}
+use borrow.Author.Tests.{not-false, not-true}
+
+pub holds : {b : Bool} → b ≡ true → T b
+holds e = subst T (sym e) tt
+
+-- what `if !r` tells, where r answers a test b
+pub said-no : {r b : Bool} → r ≡ b → not r ≡ true → b ≡ false
+said-no {r} e n = sym e ∙ not-true r n
+
+pub said-yes : {r b : Bool} → r ≡ b → not r ≡ false → b ≡ true
+said-yes {r} e n = sym e ∙ not-false r n
+
+-- "a only if b"
+pub only-if : (a b : Bool) → T (not a || b) → T a → T b
+only-if true b t h = t
+only-if false b t h = absurd h
+
+pub only-if-i : (a b : Bool) → (T a → T b) → T (not a || b)
+only-if-i true b f = f tt
+only-if-i false b f = tt

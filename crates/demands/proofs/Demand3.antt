@@ -7,7 +7,7 @@
 -- that reject is tried first changes nothing. Assumes nothing.
 use mathlib.Core.Path.{_≡_, ap, refl, sym, _∙_}
 use mathlib.Core.Bool.{Bool, cond, false, not, true}
-use Prim.Native.Nat.{ℕ, zero, suc, _*_, _≤_, _<_, zero-le}
+use Prim.Native.Nat.{ℕ, zero, suc, _*_, _≤_, _<_}
 use native.Mathlib.Omega.{arith}
 use lib.Dec.{T, eqb, ltb→lt}
 use lib.Ieee.{Float}
@@ -15,7 +15,7 @@ use borrow.Author.Tests.{lt-ltb, ltb-true, ne-eqb}
 use Rattle.poisson.specs.Chances.{FewerRarely, OrMoreRarely}
 use Rattle.poisson.specs.Fractions.{Fraction, over}
 use Rattle.poisson.specs.Rows.{million, millionthLess, millionthMore}
-use Rattle.poisson.specs.Tables.{l, u}
+use Rattle.poisson.specs.Tables.{l}
 use Rattle.poisson.proofs.Exposure.{accept-only-if, accept-whenever, never-both, none-or-more, reject-only-if, reject-whenever}
 use Rattle.campaign.specs.declared.Campaign.{Campaign}
 use Rattle.campaign.specs.declared.Judged.the-variants.{Given}

@@ -3,6 +3,7 @@ use mathlib.Core.Path.{ap, _∙_}
 use lib.Ieee.{Float}
 use borrow.Author.Needs.{needs}
 use Rattle.campaign.specs.declared.Verdict.the-variants.{Accept, Continue, Reject}
+use Rattle.campaign.specs.Figures.{lowerRate}
 use Rattle.campaign.proofs.weigh.Statement.{statement}
 use Rattle.campaign.proofs.weigh.Tie as tie
 
@@ -31,7 +32,7 @@ upper-rate-requires-2 : tie.Need-upper-rate-requires-2
 upper-rate-requires-2 c κs = search needs
 
 returns-3 : tie.Need-returns-3
-returns-3 c = rw (← c .before .before .before .before .before .rejects .ensures, c .before .before .before .before .if1 .left, ← c .before .before .before .accepts .ensures, c .before .before .if2 .left) (ap (λ (x : Float). Continue x (c .upper-rate2 .result)) (c .before .lower-rate2 .ensures) ∙ ap (Continue _) (c .upper-rate2 .ensures))
+returns-3 c = rw (← c .before .before .before .before .before .rejects .ensures, c .before .before .before .before .if1 .left, ← c .before .before .before .accepts .ensures, c .before .before .if2 .left) (ap (λ (x : Float). Continue x (c .upper-rate2 .result)) (c .before .lower-rate2 .ensures) ∙ ap (Continue (lowerRate (c .before .before .before .before .before .before .args .c))) (c .upper-rate2 .ensures))
 
 pub weigh-spec : {M : Type 1} → statement M
 weigh-spec =

@@ -5,7 +5,10 @@ pub mod Turns
 pub mod Fed
 pub mod Whole
 pub mod Cutting
-pub mod Fresh
+pub mod Opening
+pub mod Noting
+pub mod Listing
+pub mod First
 pub mod Places
 pub mod Times
 pub mod Theorems

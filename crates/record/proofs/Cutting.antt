@@ -14,7 +14,7 @@ use Rattle.record.specs.Limits.{mostSamples}
 use Rattle.record.specs.State.{stepped, sound}
 use Rattle.record.specs.Answers.{firstBad, fed}
 use Rattle.record.proofs.Steps.{stepped-sound, stepped-n, stepped-most}
-use Rattle.record.proofs.Turns.{good-head, good-left, bad-append}
+use Rattle.record.proofs.Bad.{good-head, good-left, bad-append}
 use Rattle.record.proofs.Fed.{Meets, taken, fed-taken}
 
 run-n : (r : Record) (p : List ℤ) → foldl stepped r p .n ≡ r .n + length p

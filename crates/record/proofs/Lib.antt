@@ -1,7 +1,7 @@
 pub mod Bools
 pub mod Relations
 pub mod Steps
-pub mod Turns
+pub mod Bad
 pub mod Fed
 pub mod Whole
 pub mod Cutting

@@ -15,7 +15,7 @@ use Rattle.record.specs.Reading.{timeAt, passing, counted}
 use Rattle.record.specs.State.{stateOf, stepped, sound, timesFrom}
 use Rattle.record.specs.Answers.{firstBad}
 use Rattle.record.proofs.Relations.{items}
-use Rattle.record.proofs.Turns.{bad-within}
+use Rattle.record.proofs.Bad.{bad-within}
 use Rattle.record.proofs.Opening.{fresh-sound}
 use Rattle.record.proofs.Whole.{state}
 use Rattle.record.proofs.Noting.{times-whole}

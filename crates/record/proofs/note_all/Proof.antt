@@ -12,12 +12,13 @@ use lib.IntN.{ℤ}
 use mir.Syntax.{w32}
 use mir.Val.{toZ, ofZ}
 use mir.Facts.{toZ-ofZ}
+use Rattle.magnitude.proofs.Turn.{turn}
 use Rattle.record.specs.Limits.{mostSamples}
 use Rattle.record.specs.Reading.{sampleAt}
 use Rattle.record.specs.State.{noted, noting, timesFrom, stepped, sound}
 use Rattle.record.specs.Answers.{firstBad}
 use Rattle.record.proofs.Steps.{stepped-sound, stepped-n, stepped-most}
-use Rattle.record.proofs.Turns.{turn, good-head}
+use Rattle.record.proofs.Bad.{good-head}
 use Rattle.record.proofs.Noting.{noted-next, room-next, sets-next, noting-length}
 use Rattle.record.proofs.note_all.Statement.{statement}
 use Rattle.record.proofs.note_all.Tie as tie

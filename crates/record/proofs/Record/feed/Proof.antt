@@ -12,7 +12,7 @@ use Rattle.record.specs.State.{sound}
 use Rattle.record.specs.Answers.{firstBad}
 use Rattle.record.proofs.Relations.{kept-from}
 use Rattle.record.proofs.Steps.{items-of}
-use Rattle.record.proofs.Turns.{bad-within}
+use Rattle.record.proofs.Bad.{bad-within}
 use Rattle.record.proofs.Fed.{fed-broken, fed-bad, fed-long, fed-taken}
 use borrow.Author.Needs.{needs}
 use Rattle.record.proofs.Record.feed.Statement.{statement}

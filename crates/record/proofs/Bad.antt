@@ -1,20 +1,13 @@
--- Walking over a piece: a turn of a loop takes the sample at i off what is left. Assumes nothing.
-use Prim.Native.Nat.{ℕ, suc, _+_, _≤_, _<_}
+-- The first bad sample of a piece, taken apart and joined. Assumes nothing.
+use Prim.Native.Nat.{suc, _+_, _≤_}
 use mathlib.Core.Path.{_≡_, refl, ap}
 use mathlib.Core.Bool.{Bool, true, false, cond}
 use mathlib.Core.List.{List, [], _∷_, _++_}
-use native.Mathlib.Numerals.{add-one}
 use native.Mathlib.Omega.{arith}
-use lib.ListN.{length, drop}
-use lib.Seq.{drop-cons}
-use lib.IntN.{ℤ, pos}
+use lib.ListN.{length}
+use lib.IntN.{ℤ}
 use Rattle.record.specs.Limits.{sampleInRange}
-use Rattle.record.specs.Reading.{sampleAt}
 use Rattle.record.specs.Answers.{firstBad}
-
--- what is left at i is the sample at i and what is left at i + 1
-pub turn {ℓ} : {A : Type ℓ} (f : List ℤ → A) (p : List ℤ) (i : ℕ) → i < length p → f (drop i p) ≡ f (sampleAt p i ∷ drop (i + 1) p)
-turn f p i h = ap f (rw (add-one, drop-cons p i (pos 0)))
 
 pub bad-in : (x : ℤ) (xs : List ℤ) → sampleInRange x ≡ true → firstBad (x ∷ xs) ≡ suc (firstBad xs)
 unfolding firstBad

@@ -2,6 +2,8 @@ pub mod Bools
 pub mod Relations
 pub mod Steps
 pub mod Bad
+pub mod Quiet
+pub mod Blocks
 pub mod Fed
 pub mod Whole
 pub mod Cutting

@@ -17,11 +17,7 @@ use Rattle.record.specs.declared.Record.{Record}
 use Rattle.record.specs.Reading.{timeAt, sampleAt, rises, crossesAt, passing, crossings, firstOf, lastOf}
 use Rattle.record.specs.State.{stateOf, moved, counts, crossed, crosses, stepped}
 use Rattle.record.proofs.Bools.{true≢false}
-use Rattle.record.proofs.Steps.{marked}
-
-pub ext : (s t : Record) → s .step ≡ t .step → s .ramp ≡ t .ramp → s .level ≡ t .level → s .decorrelation ≡ t .decorrelation → s .n ≡ t .n → s .last ≡ t .last → s .crossings ≡ t .crossings → s .counted ≡ t .counted → s .first ≡ t .first → s .latest ≡ t .latest → s ≡ t
-ext s t a b c d e f g h j k =
-    λ i. record { step = a i; ramp = b i; level = c i; decorrelation = d i; n = e i; last = f i; crossings = g i; counted = h i; first = j i; latest = k i }
+use Rattle.record.proofs.Steps.{ext, marked}
 
 -- the crossings among the samples that follow `before`, the first of which is sample i
 unfoldable pub placesFrom : ℕ → ℕ → ℕ → ℤ → List ℤ → List ℕ

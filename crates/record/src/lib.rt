@@ -6,6 +6,7 @@ ghost use mathlib.Core.List.{foldl, []};
 ghost use Prim.Native.Nat.{_+_, _-_, _*_, _≤_, _<_};
 ghost use lib.ListN.{length};
 ghost use lib.Seq.{sets};
+ghost use Rattle.magnitude.specs.Peak.{peakOf};
 ghost use Rattle.record.specs.Limits.{within, itemOutside, sampleInRange, mostSamples};
 ghost use Rattle.record.specs.Reading.{timeAt, rises, firstCrossing};
 ghost use Rattle.record.specs.State.{stateOf, moved, counts, crossed, crosses, noted, noting, timesFrom, stepped, lastKept, noneKept, failureKept, figuresKept, sound};
@@ -24,6 +25,9 @@ pub const LONGEST_DECORRELATION: u64 = 10_000_000;
 pub const SAMPLE_LIMIT: u32 = 1_000_000;
 
 pub const LONGEST_TIME: u64 = 10_000_000;
+
+// The samples that are looked at together: few enough to stay near the processor, many enough to be worth it.
+const BLOCK: usize = 4_096;
 
 // The four items, how many samples came and the last of them, and the figures so far. `first` and `latest` are places of
 // samples; places without a meaning yet hold 0.
@@ -302,6 +306,48 @@ fn run(r: Record, piece: &[i32]) -> Record
     s
 }
 
+// The state after a block whose largest magnitude is `peak`, in range. At most the level, no sample of it crosses, and only n and the last
+// sample move.
+fn advance(r: Record, block: &[i32], peak: u32) -> Record
+    requires { ⌜ (sound r ≡ true) × (peak ≡ peakOf (now block)) × (peak ≤ 1000000) × (0 < length (now block)) × (r .n + length (now block) ≤ mostSamples (r .step) (r .ramp)) ⌝ }
+    ensures { λ s. ⌜ s ≡ foldl stepped r (now (block .entry)) ⌝ }
+{
+    if peak as u64 <= r.level {
+        let k = block.len();
+        return moved(r, k as u64, block[k - 1]);
+    }
+    run(r, block)
+}
+
+// Where the block that starts at i ends, of n samples.
+fn block_end(i: usize, n: usize) -> usize
+    requires { ⌜ i < n ⌝ }
+    ensures { λ e. ⌜ (i < e) × (e ≤ n) ⌝ }
+{
+    if n - i < BLOCK { n } else { i + BLOCK }
+}
+
+// The answer to a piece that there is room for, block by block, so that a quiet block is passed over at the speed of its peak.
+fn pass(r: Record, piece: &[i32]) -> Answer
+    requires { ⌜ (sound r ≡ true) × (r .n + length (now piece) ≤ mostSamples (r .step) (r .ramp)) ⌝ }
+    ensures { λ a. ⌜ a ≡ fed r (now (piece .entry)) ⌝ }
+{
+    let mut s = r;
+    let mut i = 0;
+    while i < piece.len() {
+        let end = block_end(i, piece.len());
+        let block = &piece[i..end];
+        let peak = magnitude::peak(block);
+        if SAMPLE_LIMIT < peak {
+            let bad = first_bad(block);
+            return Answer::Refused(Refusal::Sample((i + bad) as u64));
+        }
+        s = advance(s, block, peak);
+        i = end;
+    }
+    Answer::Taken(s)
+}
+
 impl Record {
     // The record after the piece; or refusal 8, then 2 with the first bad place in the piece, then 3.
     pub fn feed(self, piece: &[i32]) -> Answer
@@ -310,15 +356,15 @@ impl Record {
         if !sound(self) {
             return Answer::Refused(Refusal::BrokenState);
         }
+        let room = most_samples(self.step, self.ramp) - self.n;
+        if piece.len() as u64 <= room {
+            return pass(self, piece);
+        }
         let bad = first_bad(piece);
         if bad < piece.len() {
             return Answer::Refused(Refusal::Sample(bad as u64));
         }
-        let room = most_samples(self.step, self.ramp) - self.n;
-        if room < piece.len() as u64 {
-            return Answer::Refused(Refusal::TooLong);
-        }
-        Answer::Taken(run(self, piece))
+        Answer::Refused(Refusal::TooLong)
     }
 }
 

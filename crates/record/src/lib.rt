@@ -26,8 +26,8 @@ pub const SAMPLE_LIMIT: u32 = 1_000_000;
 
 pub const LONGEST_TIME: u64 = 10_000_000;
 
-// The samples that are looked at together: few enough to stay near the processor, many enough to be worth it.
-const BLOCK: usize = 4_096;
+// The samples that are looked at together: enough to be worth it, few enough that one above the level costs little.
+const BLOCK: usize = 256;
 
 // The four items, how many samples came and the last of them, and the figures so far. `first` and `latest` are places of
 // samples; places without a meaning yet hold 0.

@@ -1,1 +1,2 @@
 pub mod Above
+pub mod Peak

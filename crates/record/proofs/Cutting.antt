@@ -14,14 +14,14 @@ use Rattle.record.specs.Limits.{mostSamples}
 use Rattle.record.specs.State.{stepped, sound}
 use Rattle.record.specs.Answers.{firstBad, fed}
 use Rattle.record.proofs.Steps.{stepped-sound, stepped-n, stepped-most}
-use Rattle.record.proofs.Turns.{good-head, good-left, bad-append}
+use Rattle.record.proofs.Bad.{good-head, good-left, bad-append}
 use Rattle.record.proofs.Fed.{Meets, taken, fed-taken}
 
-run-n : (r : Record) (p : List ℤ) → foldl stepped r p .n ≡ r .n + length p
+pub run-n : (r : Record) (p : List ℤ) → foldl stepped r p .n ≡ r .n + length p
 run-n r [] = sym (add-zero (r .n))
 run-n r (x ∷ p) = omega (arith, run-n (stepped r x) p, stepped-n r x)
 
-run-most : (r : Record) (p : List ℤ) → mostSamples (foldl stepped r p .step) (foldl stepped r p .ramp) ≡ mostSamples (r .step) (r .ramp)
+pub run-most : (r : Record) (p : List ℤ) → mostSamples (foldl stepped r p .step) (foldl stepped r p .ramp) ≡ mostSamples (r .step) (r .ramp)
 run-most r [] = refl
 run-most r (x ∷ p) = run-most (stepped r x) p ∙ stepped-most r x
 

@@ -14,7 +14,7 @@ use Rattle.record.specs.declared.Answer.the-variants.{Taken, Refused}
 use Rattle.record.specs.Limits.{mostSamples}
 use Rattle.record.specs.State.{stepped, sound}
 use Rattle.record.specs.Answers.{firstBad, fed}
-use Rattle.record.proofs.Turns.{bad-within}
+use Rattle.record.proofs.Bad.{bad-within}
 
 module _ (r : Record) (p : List ℤ) where
   pub fed-broken : sound r ≡ false → fed r p ≡ Refused BrokenState

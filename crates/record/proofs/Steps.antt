@@ -16,6 +16,11 @@ use Rattle.record.specs.State.{moved, counts, crossed, crosses, stepped,
 use Rattle.record.proofs.Bools.{and-true}
 use Rattle.record.proofs.Relations.{Items, items, None, Failure, Kept, kept-from, kept-sound}
 
+-- states are equal figure by figure
+pub ext : (s t : Record) → s .step ≡ t .step → s .ramp ≡ t .ramp → s .level ≡ t .level → s .decorrelation ≡ t .decorrelation → s .n ≡ t .n → s .last ≡ t .last → s .crossings ≡ t .crossings → s .counted ≡ t .counted → s .first ≡ t .first → s .latest ≡ t .latest → s ≡ t
+ext s t a b c d e f g h j k =
+    λ i. record { step = a i; ramp = b i; level = c i; decorrelation = d i; n = e i; last = f i; crossings = g i; counted = h i; first = j i; latest = k i }
+
 pub items-of : {r : Record} → Kept r → Items (r .step) (r .ramp) (r .level) (r .decorrelation)
 items-of {r} k = items (r .step) (r .ramp) (r .level) (r .decorrelation) (k .outside)
 

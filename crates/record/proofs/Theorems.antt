@@ -1,6 +1,6 @@
 -- What the entries add up to: the user's second demand for one record. D is the step, R the ramp, a the level, τ the decorrelation time.
 -- Assumes nothing.
-use Prim.Native.Nat.{ℕ}
+use Prim.Native.Nat.{ℕ, _<_}
 use mathlib.Core.Path.{_≡_, refl, sym, ap, _∙_}
 use mathlib.Core.Bool.{Bool, true, false, cond}
 use mathlib.Core.List.{List, [], _∷_, foldl}
@@ -15,15 +15,16 @@ use Rattle.largest.proofs.Walk.{walk-largest, walk-apart}
 use Rattle.record.specs.declared.Record.{Record}
 use Rattle.record.specs.declared.Answer.the-variants.{Taken, Refused}
 use Rattle.record.specs.Limits.{itemOutside}
-use Rattle.record.specs.Reading.{timeAt, crossesAt, crossings, counted, countedTimes}
-use Rattle.record.specs.State.{stateOf, stepped, sound}
+use Rattle.record.specs.Reading.{timeAt, crossesAt, crossings, firstCrossing, counted, countedTimes}
+use Rattle.record.specs.State.{stateOf, stepped, sound, failed}
 use Rattle.record.specs.Answers.{opened, fed, firstBad}
 use Rattle.record.specs.Pieces.{AllTaken, end, piece, joined}
 use Rattle.record.proofs.Relations.{kept-from}
-use Rattle.record.proofs.Fresh.{opened-taken, fresh-sound}
+use Rattle.record.proofs.Opening.{opened-taken, fresh-sound}
 use Rattle.record.proofs.Whole.{state}
 use Rattle.record.proofs.Fed.{taken, fed-taken, not-broken}
 use Rattle.record.proofs.Cutting.{run-sound, joins, splits}
+use Rattle.record.proofs.First.{searched}
 use Rattle.record.proofs.Places.{rising-passing, itself, apart-times}
 
 -- ---- what is handed out keeps the relations
@@ -72,3 +73,13 @@ counted-largest D R a τ xs = walk-largest (timeAt D R) τ (crossings R a xs) (r
 
 pub times-apart : (D R a τ : ℕ) (xs : List ℤ) → Apart itself τ (countedTimes D R a τ xs)
 times-apart D R a τ xs = apart-times (timeAt D R) τ (counted D R a τ xs) (walk-apart (timeAt D R) τ (crossings R a xs) (rising-passing D R (crossesAt R a xs) 0 (length xs)))
+
+-- 4: the place found by the search over a whole record is its state's first failure, and a mark outside the record if that has none
+module _ (D R a τ : ℕ) (xs : List ℤ) where
+  pub search-found : failed (stateOf D R a τ xs) ≡ true → (firstCrossing (length xs) R a xs ≡ stateOf D R a τ xs .first) × (stateOf D R a τ xs .first < length xs)
+  unfolding stateOf
+  search-found = searched R a xs .0
+
+  pub search-none : failed (stateOf D R a τ xs) ≡ false → firstCrossing (length xs) R a xs ≡ length xs
+  unfolding stateOf
+  search-none = searched R a xs .1

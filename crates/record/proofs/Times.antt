@@ -14,9 +14,12 @@ use Rattle.record.proofs.Bools.{true≢false}
 use Rattle.record.proofs.Relations.{None, Failure, Kept, kept-from}
 use Rattle.record.proofs.Steps.{items-of}
 
+-- so many samples past R stand within the longest timed length
+pub in-time : (k D : ℕ) → k ≤ longestTime / D → k * D ≤ longestTime
+in-time k D l = omega (arith, mul-le-mul {n₁ = k} {m₁ = D} {n₂ = longestTime / D} {m₂ = D} l (omega arith), div-mul-le-self longestTime D)
+
 spanned : (k D : ℕ) → 1 ≤ k → 1 ≤ D → k ≤ longestTime / D → (1 ≤ k * D) × (k * D ≤ longestTime)
-spanned k D h d l =
-    (mul-le-mul {n₁ = 1} {m₁ = 1} {n₂ = k} {m₂ = D} h d, omega (arith, mul-le-mul {n₁ = k} {m₁ = D} {n₂ = longestTime / D} {m₂ = D} l (omega arith), div-mul-le-self longestTime D))
+spanned k D h d l = (mul-le-mul {n₁ = 1} {m₁ = 1} {n₂ = k} {m₂ = D} h d, in-time k D l)
 
 module _ (r : Record) (s : sound r ≡ true) where
   pub whole-time : tooShort r ≡ false → (1 ≤ wholeTime r) × (wholeTime r ≤ longestTime)

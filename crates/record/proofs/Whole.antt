@@ -17,20 +17,16 @@ use Rattle.record.specs.declared.Record.{Record}
 use Rattle.record.specs.Reading.{timeAt, sampleAt, rises, crossesAt, passing, crossings, firstOf, lastOf}
 use Rattle.record.specs.State.{stateOf, moved, counts, crossed, crosses, stepped}
 use Rattle.record.proofs.Bools.{true≢false}
-use Rattle.record.proofs.Steps.{marked}
-
-pub ext : (s t : Record) → s .step ≡ t .step → s .ramp ≡ t .ramp → s .level ≡ t .level → s .decorrelation ≡ t .decorrelation → s .n ≡ t .n → s .last ≡ t .last → s .crossings ≡ t .crossings → s .counted ≡ t .counted → s .first ≡ t .first → s .latest ≡ t .latest → s ≡ t
-ext s t a b c d e f g h j k =
-    λ i. record { step = a i; ramp = b i; level = c i; decorrelation = d i; n = e i; last = f i; crossings = g i; counted = h i; first = j i; latest = k i }
+use Rattle.record.proofs.Steps.{ext, marked}
 
 -- the crossings among the samples that follow `before`, the first of which is sample i
-placesFrom : ℕ → ℕ → ℕ → ℤ → List ℤ → List ℕ
+unfoldable pub placesFrom : ℕ → ℕ → ℕ → ℤ → List ℤ → List ℕ
 placesFrom R a i before [] = []
 placesFrom R a i before (x ∷ xs) =
     cond (ltb R i && rises a before x) (i ∷ placesFrom R a (i + 1) x xs) (placesFrom R a (i + 1) x xs)
 
 -- those of the crossings cs that are counted after the state r
-rest : Record → List ℕ → List ℕ
+unfoldable pub rest : Record → List ℕ → List ℕ
 rest r cs =
     cond (eqb (r .crossings) 0)
     (walk (timeAt (r .step) (r .ramp)) (r .decorrelation) cs)
@@ -56,10 +52,14 @@ same : {A : Type 0} (b : Bool) (x : A) → cond b x x ≡ x
 same true x = refl
 same false x = refl
 
+pub rest-nil : (r : Record) → rest r [] ≡ []
+unfolding rest walk later
+rest-nil r = same (eqb (r .crossings) 0) []
+
 finish-nil : (r : Record) → r ≡ finish r [] []
-unfolding finish lastOf firstOf rest walk later
+unfolding finish lastOf firstOf
 finish-nil r =
-    let e : rest r [] ≡ [] = same (eqb (r .crossings) 0) [] in
+    let e = rest-nil r in
     ext r (finish r [] []) refl refl refl refl (sym (add-zero (r .n))) refl (sym (add-zero (r .crossings)))
     (sym (ap (λ (l : List ℕ). r .counted + length l) e ∙ add-zero (r .counted)))
     (sym (same (eqb (r .crossings) 0) (r .first)))
@@ -77,11 +77,11 @@ near false true w x y e = absurd (true≢false e)
 near false false w x y e = refl
 
 module _ (r : Record) (cs : List ℕ) where
-  rest-far : counts r ≡ true → rest r (r .n ∷ cs) ≡ r .n ∷ later (timeAt (r .step) (r .ramp)) (r .decorrelation) (r .n) cs
+  pub rest-far : counts r ≡ true → rest r (r .n ∷ cs) ≡ r .n ∷ later (timeAt (r .step) (r .ramp)) (r .decorrelation) (r .n) cs
   unfolding rest walk later
   rest-far e = far (eqb (r .crossings) 0) (since (timeAt (r .step) (r .ramp)) (r .decorrelation) (r .latest) (r .n)) _ _ e
 
-  rest-near : counts r ≡ false → rest r (r .n ∷ cs) ≡ rest r cs
+  pub rest-near : counts r ≡ false → rest r (r .n ∷ cs) ≡ rest r cs
   unfolding rest walk later
   rest-near e = near (eqb (r .crossings) 0) (since (timeAt (r .step) (r .ramp)) (r .decorrelation) (r .latest) (r .n)) _ _ _ e
 
@@ -92,36 +92,42 @@ not-first false b e = refl
 not-zero : (n : ℕ) → eqb (n + 1) 0 ≡ false
 not-zero n = ne-eqb (n + 1) 0 (λ e. omega arith)
 
-turn-marked : (r : Record) (y : ℤ) (ys : List ℤ) (cs : List ℕ) (b : Bool) → counts r ≡ b → finish (marked r y (eqb (r .crossings) 0) b) ys cs ≡ finish r (y ∷ ys) (r .n ∷ cs)
-unfolding finish rest lastOf firstOf
-turn-marked r y ys cs true e =
-    let s = marked r y (eqb (r .crossings) 0) true in
-    let z = rest-far r cs e in
-    let q : rest s cs ≡ later (timeAt (r .step) (r .ramp)) (r .decorrelation) (r .n) cs = rw not-zero in
-    ext (finish s ys cs) (finish r (y ∷ ys) (r .n ∷ cs)) refl refl refl refl (omega arith) refl (omega arith)
-    (omega (arith, ap length q, ap length z))
-    (rw not-zero)
-    (ap (lastOf (r .n)) q ∙ sym (ap (lastOf (r .latest)) z))
-turn-marked r y ys cs false e =
-    let s = marked r y (eqb (r .crossings) 0) false in
-    let f : eqb (r .crossings) 0 ≡ false = not-first (eqb (r .crossings) 0) _ e in
-    let z = rest-near r cs e in
-    let q : rest s cs ≡ rest r cs = rw (not-zero, f) in
-    ext (finish s ys cs) (finish r (y ∷ ys) (r .n ∷ cs)) refl refl refl refl (omega arith) refl (omega arith)
-    (omega (arith, ap length q, ap length z))
-    (rw (not-zero, f))
-    (ap (lastOf (r .latest)) (q ∙ sym z))
+module _ (r : Record) (y : ℤ) (cs : List ℕ) where
+  -- after a crossing that is counted, or not, the walk goes on from it, or from the last counted one
+  pub marked-far : rest (marked r y (eqb (r .crossings) 0) true) cs ≡ later (timeAt (r .step) (r .ramp)) (r .decorrelation) (r .n) cs
+  unfolding rest
+  marked-far = rw not-zero
+
+  pub marked-near : counts r ≡ false → rest (marked r y (eqb (r .crossings) 0) false) cs ≡ rest r cs
+  unfolding rest
+  marked-near e = rw (not-zero, not-first (eqb (r .crossings) 0) _ e)
+
+  turn-marked : (ys : List ℤ) (b : Bool) → counts r ≡ b → finish (marked r y (eqb (r .crossings) 0) b) ys cs ≡ finish r (y ∷ ys) (r .n ∷ cs)
+  unfolding finish lastOf firstOf
+  turn-marked ys true e =
+      let z = rest-far r cs e in
+      ext (finish (marked r y (eqb (r .crossings) 0) true) ys cs) (finish r (y ∷ ys) (r .n ∷ cs)) refl refl refl refl (omega arith) refl (omega arith)
+      (omega (arith, ap length marked-far, ap length z))
+      (rw not-zero)
+      (ap (lastOf (r .n)) marked-far ∙ sym (ap (lastOf (r .latest)) z))
+  turn-marked ys false e =
+      let z = rest-near r cs e in
+      let q = marked-near e in
+      ext (finish (marked r y (eqb (r .crossings) 0) false) ys cs) (finish r (y ∷ ys) (r .n ∷ cs)) refl refl refl refl (omega arith) refl (omega arith)
+      (omega (arith, ap length q, ap length z))
+      (rw (not-zero, not-first (eqb (r .crossings) 0) _ e))
+      (ap (lastOf (r .latest)) (q ∙ sym z))
 
 turn : (r : Record) (y : ℤ) (ys : List ℤ) (cs : List ℕ) → finish (stepped r y) ys cs ≡ finish r (y ∷ ys) (cond (crosses r y) (r .n ∷ cs) cs)
 unfolding stepped finish rest lastOf
 turn r y ys cs = go (crosses r y)
   where
     go : (b : Bool) → finish (cond b (crossed r y) (moved r 1 y)) ys cs ≡ finish r (y ∷ ys) (cond b (r .n ∷ cs) cs)
-    go true = turn-marked r y ys cs (counts r) refl
+    go true = turn-marked r y cs ys (counts r) refl
     go false = ext _ _ refl refl refl refl (omega arith) refl refl refl refl refl
 
 -- a step leaves the ramp and the level, and the next sample is compared with this one
-next-places : (r : Record) (y : ℤ) (ys : List ℤ) → placesFrom (stepped r y .ramp) (stepped r y .level) (stepped r y .n) (stepped r y .last) ys ≡ placesFrom (r .ramp) (r .level) (r .n + 1) y ys
+pub next-places : (r : Record) (y : ℤ) (ys : List ℤ) → placesFrom (stepped r y .ramp) (stepped r y .level) (stepped r y .n) (stepped r y .last) ys ≡ placesFrom (r .ramp) (r .level) (r .n + 1) y ys
 unfolding stepped
 next-places r y ys = go (crosses r y)
   where
@@ -150,11 +156,14 @@ module _ (R a : ℕ) (w : List ℤ) where
       let i = scan (k + 1) x xs d (λ t. y ∙ ap (sampleAt w) (omega arith)) in
       rw (i, test-same (ltb R k) a before (sampleAt w (k - 1)) x (sampleAt w k) h y)
 
+-- the crossings met one by one from a fresh record are those of the list
+pub places-whole : (R a : ℕ) (xs : List ℤ) → placesFrom R a 0 (pos 0) xs ≡ crossings R a xs
+places-whole R a xs = scan R a xs 0 (pos 0) xs refl (λ t. absurd (omega (arith, ltb-true R 0 t)))
+
 -- the samples one by one from a fresh record lead to the state of the list
 pub state : (D R a τ : ℕ) (xs : List ℤ) → foldl stepped (stateOf D R a τ []) xs ≡ stateOf D R a τ xs
 unfolding stateOf finish rest passing firstOf lastOf walk
 state D R a τ xs =
-    let e = scan R a xs 0 (pos 0) xs refl (λ t. absurd (omega (arith, ltb-true R 0 t))) in
     whole (stateOf D R a τ []) xs
-    ∙ ap (finish (stateOf D R a τ []) xs) e
+    ∙ ap (finish (stateOf D R a τ []) xs) (places-whole R a xs)
     ∙ ext (finish (stateOf D R a τ []) xs (crossings R a xs)) (stateOf D R a τ xs) refl refl refl refl (zero-add _) refl (zero-add _) (zero-add _) refl refl

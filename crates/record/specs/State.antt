@@ -2,8 +2,8 @@
 -- relations for refusal 8. Assumes nothing.
 use Prim.Native.Nat.{ℕ, _+_, _-_}
 use mathlib.Core.Bool.{Bool, cond, not, _&&_, _||_}
-use mathlib.Core.List.{List, []}
-use lib.ListN.{length}
+use mathlib.Core.List.{List, [], _∷_}
+use lib.ListN.{length, set}
 use lib.Dec.{ltb, leb, eqb}
 use lib.IntN.{ℤ, pos, natAbs}
 use Rattle.largest.specs.Walk.{since}
@@ -70,6 +70,19 @@ crosses r x = ltb (r .ramp) (r .n) && rises (r .level) (r .last) x
 
 unfoldable pub stepped : Record → ℤ → Record
 stepped r x = cond (crosses r x) (crossed r x) (moved r 1 x)
+
+-- a failure is counted at sample n
+abbrev pub noted : Record → ℤ → Bool
+noted r x = crosses r x && counts r
+
+-- the times of the failures counted from the state r on
+unfoldable pub timesFrom : Record → List ℤ → List ℕ
+timesFrom r [] = []
+timesFrom r (x ∷ xs) = cond (noted r x) (timeAt (r .step) (r .ramp) (r .n) ∷ timesFrom (stepped r x) xs) (timesFrom (stepped r x) xs)
+
+-- a slice of times after sample n: a failure counted there has its time in the next place
+abbrev pub noting : Record → ℤ → List ℕ → List ℕ
+noting r x times = cond (noted r x) (set times (r .counted) (timeAt (r .step) (r .ramp) (r .n))) times
 
 -- ---- "Relations for 8", the record's, sentence by sentence
 -- there is a first failure: its place is above R, so 0 stands for none

@@ -2,13 +2,15 @@
 // The state goes in by value and comes back in the answer, so a refusal leaves the caller's as it stood.
 ghost use mathlib.Core.Path.{_≡_};
 ghost use mathlib.Core.Bool.{true, cond, not, _&&_, _||_};
-ghost use mathlib.Core.List.{foldl};
+ghost use mathlib.Core.List.{foldl, []};
 ghost use Prim.Native.Nat.{_+_, _-_, _*_, _≤_, _<_};
 ghost use lib.ListN.{length};
+ghost use lib.Seq.{sets};
+ghost use Rattle.magnitude.specs.Peak.{peakOf};
 ghost use Rattle.record.specs.Limits.{within, itemOutside, sampleInRange, mostSamples};
-ghost use Rattle.record.specs.Reading.{timeAt};
-ghost use Rattle.record.specs.State.{moved, counts, crossed, crosses, stepped, lastKept, noneKept, failureKept, figuresKept, sound};
-ghost use Rattle.record.specs.Answers.{opened, fed, firstBad};
+ghost use Rattle.record.specs.Reading.{timeAt, rises, firstCrossing};
+ghost use Rattle.record.specs.State.{stateOf, moved, counts, crossed, crosses, noted, noting, timesFrom, stepped, lastKept, noneKept, failureKept, figuresKept, sound};
+ghost use Rattle.record.specs.Answers.{opened, fed, firstBad, ListsTo};
 use refusal::Refusal;
 
 // Document 01, "Numbers a job may carry".
@@ -23,6 +25,9 @@ pub const LONGEST_DECORRELATION: u64 = 10_000_000;
 pub const SAMPLE_LIMIT: u32 = 1_000_000;
 
 pub const LONGEST_TIME: u64 = 10_000_000;
+
+// The samples that are looked at together: enough to be worth it, few enough that one above the level costs little.
+const BLOCK: usize = 256;
 
 // The four items, how many samples came and the last of them, and the figures so far. `first` and `latest` are places of
 // samples; places without a meaning yet hold 0.
@@ -41,6 +46,11 @@ pub struct Record {
 
 pub enum Answer {
     Taken(Record),
+    Refused(Refusal),
+}
+
+pub enum Listed {
+    Times(u64),
     Refused(Refusal),
 }
 
@@ -78,24 +88,31 @@ fn item_outside(step: u64, ramp: u64, level: u64, decorrelation: u64) -> u64
     pick(!between(1, LONGEST_STEP, step), 1, second)
 }
 
+// The state of no samples.
+fn fresh(step: u64, ramp: u64, level: u64, decorrelation: u64) -> Record
+    ensures { λ r. ⌜ r ≡ stateOf step ramp level decorrelation [] ⌝ }
+{
+    Record {
+        step,
+        ramp,
+        level,
+        decorrelation,
+        n: 0,
+        last: 0,
+        crossings: 0,
+        counted: 0,
+        first: 0,
+        latest: 0,
+    }
+}
+
 // The fresh record, or refusal 1 with the lowest item outside its range.
 pub fn open(step: u64, ramp: u64, level: u64, decorrelation: u64) -> Answer
     ensures { λ r. ⌜ r ≡ opened step ramp level decorrelation ⌝ }
 {
     let item = item_outside(step, ramp, level, decorrelation);
     if item == 0 {
-        Answer::Taken(Record {
-            step: step,
-            ramp: ramp,
-            level: level,
-            decorrelation: decorrelation,
-            n: 0,
-            last: 0,
-            crossings: 0,
-            counted: 0,
-            first: 0,
-            latest: 0,
-        })
+        Answer::Taken(fresh(step, ramp, level, decorrelation))
     } else {
         Answer::Refused(Refusal::Item(item))
     }
@@ -234,16 +251,19 @@ fn moved(r: Record, k: u64, x: i32) -> Record
     }
 }
 
+// Whether the level is crossed from x to y.
+fn rises(level: u64, x: i32, y: i32) -> bool
+    ensures { λ k. ⌜ k ≡ rises level x y ⌝ }
+{
+    both(!magnitude::above(level, x), magnitude::above(level, y))
+}
+
 // Whether sample n, which is x, crosses the level.
 fn crosses(r: Record, x: i32) -> bool
     ensures { λ k. ⌜ k ≡ crosses r x ⌝ }
 {
-    let level = r.level;
     let last = r.last;
-    both(
-        r.ramp < r.n,
-        both(!magnitude::above(level, last), magnitude::above(level, x)),
-    )
+    both(r.ramp < r.n, rises(r.level, last, x))
 }
 
 // The state after one sample more.
@@ -286,6 +306,48 @@ fn run(r: Record, piece: &[i32]) -> Record
     s
 }
 
+// The state after a block whose largest magnitude is `peak`, in range. At most the level, no sample of it crosses, and only n and the last
+// sample move.
+fn advance(r: Record, block: &[i32], peak: u32) -> Record
+    requires { ⌜ (sound r ≡ true) × (peak ≡ peakOf (now block)) × (peak ≤ 1000000) × (0 < length (now block)) × (r .n + length (now block) ≤ mostSamples (r .step) (r .ramp)) ⌝ }
+    ensures { λ s. ⌜ s ≡ foldl stepped r (now (block .entry)) ⌝ }
+{
+    if peak as u64 <= r.level {
+        let k = block.len();
+        return moved(r, k as u64, block[k - 1]);
+    }
+    run(r, block)
+}
+
+// Where the block that starts at i ends, of n samples.
+fn block_end(i: usize, n: usize) -> usize
+    requires { ⌜ i < n ⌝ }
+    ensures { λ e. ⌜ (i < e) × (e ≤ n) ⌝ }
+{
+    if n - i < BLOCK { n } else { i + BLOCK }
+}
+
+// The answer to a piece that there is room for, block by block, so that a quiet block is passed over at the speed of its peak.
+fn pass(r: Record, piece: &[i32]) -> Answer
+    requires { ⌜ (sound r ≡ true) × (r .n + length (now piece) ≤ mostSamples (r .step) (r .ramp)) ⌝ }
+    ensures { λ a. ⌜ a ≡ fed r (now (piece .entry)) ⌝ }
+{
+    let mut s = r;
+    let mut i = 0;
+    while i < piece.len() {
+        let end = block_end(i, piece.len());
+        let block = &piece[i..end];
+        let peak = magnitude::peak(block);
+        if SAMPLE_LIMIT < peak {
+            let bad = first_bad(block);
+            return Answer::Refused(Refusal::Sample((i + bad) as u64));
+        }
+        s = advance(s, block, peak);
+        i = end;
+    }
+    Answer::Taken(s)
+}
+
 impl Record {
     // The record after the piece; or refusal 8, then 2 with the first bad place in the piece, then 3.
     pub fn feed(self, piece: &[i32]) -> Answer
@@ -294,14 +356,98 @@ impl Record {
         if !sound(self) {
             return Answer::Refused(Refusal::BrokenState);
         }
+        let room = most_samples(self.step, self.ramp) - self.n;
+        if piece.len() as u64 <= room {
+            return pass(self, piece);
+        }
         let bad = first_bad(piece);
         if bad < piece.len() {
             return Answer::Refused(Refusal::Sample(bad as u64));
         }
-        let room = most_samples(self.step, self.ramp) - self.n;
-        if room < piece.len() as u64 {
-            return Answer::Refused(Refusal::TooLong);
-        }
-        Answer::Taken(run(self, piece))
+        Answer::Refused(Refusal::TooLong)
     }
+}
+
+// The place of the first crossing of a whole record; its length, which is no place in it, if there is none.
+pub fn first_crossing(samples: &[i32], ramp: u64, level: u64) -> usize
+    ensures { λ r. ⌜ r ≡ firstCrossing (length (now (samples .entry))) ramp level (now (samples .entry)) ⌝ }
+{
+    if samples.len() as u64 <= ramp {
+        return samples.len();
+    }
+    let mut i = ramp as usize + 1;
+    let place = loop {
+        if i >= samples.len() {
+            break samples.len();
+        }
+        if rises(level, samples[i - 1], samples[i]) {
+            break i;
+        }
+        i += 1;
+    };
+    place
+}
+
+// Puts the time of sample n, which is x, into the next place if a failure is counted there.
+fn note(r: Record, x: i32, times: &mut [u32])
+    requires { ⌜ (sound r ≡ true) × (r .n < mostSamples (r .step) (r .ramp)) × (noted r x ≡ true → r .counted < length (now times)) ⌝ }
+    ensures { λ u. ⌜ now (times .exit) ≡ noting r x (now (times .entry)) ⌝ }
+{
+    if !crosses(r, x) {
+        return;
+    }
+    if !counts(r) {
+        return;
+    }
+    let k = r.counted as usize;
+    times[k] = time_at(r.step, r.ramp, r.n) as u32;
+}
+
+// Puts the times of the failures counted in `samples`, from the state r on, into the places from the one after r's last.
+fn note_all(r: Record, samples: &[i32], times: &mut [u32])
+    requires { ⌜ (sound r ≡ true) × (firstBad (now samples) ≡ length (now samples)) × (r .n + length (now samples) ≤ mostSamples (r .step) (r .ramp)) × (r .counted + length (timesFrom r (now samples)) ≤ length (now times)) ⌝ }
+    ensures { λ u. ⌜ now (times .exit) ≡ sets (now (times .entry)) (r .counted) (timesFrom r (now (samples .entry))) ⌝ }
+{
+    let mut s = r;
+    let mut i = 0;
+    while i < samples.len() {
+        note(s, samples[i], times);
+        s = step(s, samples[i]);
+        i += 1;
+    }
+}
+
+// A whole record at once: the counted times, in order, from the start of `times`, whose rest stays, and their number; or refusal 1, 2, 3, 4
+// or 7 with the places needed, and `times` as it stood.
+pub fn list(
+    step: u64,
+    ramp: u64,
+    level: u64,
+    decorrelation: u64,
+    samples: &[i32],
+    times: &mut [u32],
+) -> Listed
+    ensures { λ r. ⌜ ListsTo step ramp level decorrelation (now (samples .entry)) (now (times .entry)) r (now (times .exit)) ⌝ }
+{
+    let item = item_outside(step, ramp, level, decorrelation);
+    if item != 0 {
+        return Listed::Refused(Refusal::Item(item));
+    }
+    let bad = first_bad(samples);
+    if bad < samples.len() {
+        return Listed::Refused(Refusal::Sample(bad as u64));
+    }
+    if most_samples(step, ramp) < samples.len() as u64 {
+        return Listed::Refused(Refusal::TooLong);
+    }
+    if (samples.len() as u64) < ramp + 2 {
+        return Listed::Refused(Refusal::TooShort);
+    }
+    let start = fresh(step, ramp, level, decorrelation);
+    let end = run(start, samples);
+    if (times.len() as u64) < end.counted {
+        return Listed::Refused(Refusal::Room(end.counted));
+    }
+    note_all(start, samples, times);
+    Listed::Times(end.counted)
 }

@@ -6,24 +6,16 @@ use mir.Syntax.{w32}
 use Rattle.record.proofs.crosses.Statement.{statement}
 use Rattle.record.proofs.crosses.Tie as tie
 
-above-requires : tie.Need-above-requires
-above-requires c κs = search needs
-
-above-requires-2 : tie.Need-above-requires-2
-above-requires-2 c κs = search needs
+rises-requires : tie.Need-rises-requires
+rises-requires c κs = search needs
 
 both-requires : tie.Need-both-requires
 both-requires c κs = search needs
 
-both-requires-2 : tie.Need-both-requires-2
-both-requires-2 c κs = search needs
-
 returns : tie.Need-returns
 returns c =
-    let r = c .before .before .before .before .before .before .args .r in
-    let f : SFits w32 (r .last) = search needs in
-    cc (toZ-ofZ f, toZ-ofZ (c .before .before .before .before .before .before .fits .x))
+    let f : SFits w32 (c .before .before .before .before .args .r .last) = search needs in
+    cc (toZ-ofZ f, toZ-ofZ (c .before .before .before .before .fits .x))
 
 pub crosses-spec : {M : Type 1} → statement M
-crosses-spec =
-    tie.close (tie.spec above-requires above-requires-2 both-requires both-requires-2 returns)
+crosses-spec = tie.close (tie.spec rises-requires both-requires returns)

@@ -11,10 +11,11 @@ use lib.ListN.{length, drop, drop-of-length-le}
 use mir.Val.{SFits}
 use mir.Syntax.{w32}
 use mir.Facts.{toZ-ofZ}
+use Rattle.magnitude.proofs.Turn.{turn}
 use Rattle.record.specs.Limits.{sampleInRange}
 use Rattle.record.specs.Reading.{sampleAt}
 use Rattle.record.specs.Answers.{firstBad}
-use Rattle.record.proofs.Turns.{turn, bad-in, bad-out}
+use Rattle.record.proofs.Bad.{bad-in, bad-out}
 use Rattle.record.proofs.first_bad.Statement.{statement}
 use Rattle.record.proofs.first_bad.Tie as tie
 

@@ -1,0 +1,55 @@
+-- `record::advance` meets its contract: a quiet block moves only n and the last sample (`quiet-run`); another is run sample by sample. Assumes
+-- nothing.
+use borrow.Author.Needs.{needs}
+use Prim.Native.Nat.{_-_}
+use mathlib.Core.Path.{sym, ap, _∙_}
+use native.Mathlib.Omega.{arith}
+use lib.ListN.{length}
+use mir.Val.{SFits}
+use mir.Syntax.{w32}
+use mir.Facts.{toZ-ofZ}
+use Rattle.record.specs.Reading.{sampleAt}
+use Rattle.record.specs.State.{moved}
+use Rattle.record.proofs.Relations.{kept-from}
+use Rattle.record.proofs.Steps.{small}
+use Rattle.record.proofs.Bad.{peak-good}
+use Rattle.record.proofs.Quiet.{quiet-run}
+use Rattle.record.proofs.advance.Statement.{statement}
+use Rattle.record.proofs.advance.Tie as tie
+
+sub-moved : tie.Need-sub-moved
+sub-moved c = search needs
+
+mul-moved : tie.Need-mul-moved
+mul-moved c = search needs
+
+shared-slice-copy-out-moved : tie.Need-shared-slice-copy-out-moved
+shared-slice-copy-out-moved c = search needs
+
+moved-requires : tie.Need-moved-requires
+moved-requires c κs = omega (arith, small (kept-from (c .before .before .before .args .r) (c .before .before .before .pre .0)))
+
+returns : tie.Need-returns
+returns c =
+    let r = c .before .before .before .before .args .r in
+    let p = c .before .before .before .before .args .block .now in
+    let f : SFits w32 (sampleAt p (length p - 1)) = search needs in
+    c .moved .ensures ∙ ap (moved r (length p)) (toZ-ofZ f) ∙ sym (quiet-run r p (omega arith) (omega arith))
+
+run-requires : tie.Need-run-requires
+run-requires c κs = (c .before .before .pre .0, peak-good (c .before .before .args .block .now) (omega arith), omega arith)
+
+returns-2 : tie.Need-returns-2
+returns-2 c = search needs
+
+pub advance-spec : {M : Type 1} → statement M
+advance-spec =
+    tie.close
+    (tie.spec
+    sub-moved
+    mul-moved
+    shared-slice-copy-out-moved
+    moved-requires
+    returns
+    run-requires
+    returns-2)

@@ -1,0 +1,10 @@
+-- Every marked case is right: antt computes the definitions over the whole table. Assumes nothing.
+use mathlib.Core.Path.{_≡_, refl}
+use mathlib.Core.Bool.{true}
+use Rattle.largest.specs.Walk.{later, walk}
+use Rattle.record.specs.Reading.{passing}
+use Rattle.slate_cases.specs.Slate.{same, right, allRight, slate}
+
+pub shown : allRight slate ≡ true
+unfolding same right allRight slate passing walk later
+shown = refl

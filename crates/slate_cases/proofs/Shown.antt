@@ -2,9 +2,11 @@
 use mathlib.Core.Path.{_≡_, refl}
 use mathlib.Core.Bool.{true}
 use Rattle.largest.specs.Walk.{later, walk}
+use Rattle.poisson.specs.Tables.{l, lowerRows, u, upperRows}
 use Rattle.record.specs.Reading.{passing}
+use Rattle.campaign.specs.State.{censored}
 use Rattle.slate_cases.specs.Slate.{same, right, allRight, slate}
 
 pub shown : allRight slate ≡ true
-unfolding same right allRight slate passing walk later
+unfolding same right allRight slate passing walk later u l upperRows lowerRows censored
 shown = refl

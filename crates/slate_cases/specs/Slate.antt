@@ -5,6 +5,11 @@ use mathlib.Core.List.{List, [], _∷_, map}
 use lib.ListN.{length}
 use lib.Dec.{eqb}
 use lib.IntN.{ℤ, pos, negsuc}
+use Rattle.poisson.specs.Tables.{l, u}
+use Rattle.campaign.specs.declared.Campaign.{Campaign}
+use Rattle.campaign.specs.declared.Verdict.{Verdict}
+use Rattle.campaign.specs.declared.Verdict.the-variants.{Accept, Continue, NoRecord, Reject}
+use Rattle.campaign.specs.Figures.{verdictOf}
 use Rattle.record.specs.Reading.{timeAt, crossings, countedTimes, fullTime}
 
 -- a marked case
@@ -12,6 +17,10 @@ pub data Row : Type 0 where
   -- samples read by a step D, a ramp R, a level a and a decorrelation time τ: the times of the crossings, the times of the counted failures,
   -- and the full time
   reading : (D R a τ : ℕ) → List ℤ → List ℕ → List ℕ → ℕ → Row
+  -- the upper and the lower row of a count
+  bounds : (n upper lower : ℕ) → Row
+  -- the verdict of a campaign, by its letter
+  weighing : Campaign → ℕ → Row
 
 unfoldable pub same : List ℕ → List ℕ → Bool
 same [] [] = true
@@ -19,10 +28,19 @@ same [] (y ∷ ys) = false
 same (x ∷ xs) [] = false
 same (x ∷ xs) (y ∷ ys) = eqb x y && same xs ys
 
+-- A, R or C; E where there is no record
+abbrev pub letterOf : Verdict → ℕ
+letterOf (Accept r) = 65
+letterOf (Reject r) = 82
+letterOf (Continue r s) = 67
+letterOf NoRecord = 69
+
 -- what a row says is so by the definitions
 unfoldable pub right : Row → Bool
 right (reading D R a τ xs crossed counted full) =
     same (map (timeAt D R) (crossings R a xs)) crossed && (same (countedTimes D R a τ xs) counted && eqb (fullTime D R (length xs)) full)
+right (bounds n upper lower) = eqb (u n) upper && eqb (l n) lower
+right (weighing c letter) = eqb (letterOf (verdictOf c)) letter
 
 unfoldable pub allRight : List Row → Bool
 allRight [] = true
@@ -31,7 +49,11 @@ allRight (r ∷ rs) = right r && allRight rs
 abbrev pub bobbing : List ℤ
 bobbing = pos 0 ∷ pos 41000 ∷ pos 39000 ∷ pos 41000 ∷ pos 39000 ∷ pos 41000 ∷ pos 0 ∷ []
 
--- A to H
+-- q = 7,200,000; M records of which the last failed or not, N failures, T ms
+abbrev pub at : ℕ → ℕ → Bool → ℕ → Campaign
+at M N f T = record { standard = 7200000; records = M; failures = N; exposure = T; failed = f }
+
+-- A to K
 unfoldable pub slate : List Row
 slate =
     reading 500 0 40000 2000 bobbing (500 ∷ 1500 ∷ 2500 ∷ []) (500 ∷ 2500 ∷ []) 3000
@@ -42,4 +64,9 @@ slate =
     ∷ reading 500 0 40000 2000 (pos 41000 ∷ pos 0 ∷ negsuc 40999 ∷ []) (1000 ∷ []) (1000 ∷ []) 1000
     ∷ reading 500 0 40000 2000 (pos 0 ∷ pos 41000 ∷ negsuc 40999 ∷ []) (500 ∷ []) (500 ∷ []) 1000
     ∷ reading 500 2 40000 2000 (pos 0 ∷ pos 41000 ∷ pos 41000 ∷ pos 0 ∷ pos 41000 ∷ []) (1000 ∷ []) (1000 ∷ []) 1000
+    ∷ bounds 1 3688880 25317
+    ∷ weighing (at 3 0 false 26559936) 67
+    ∷ weighing (at 3 0 false 26559937) 65
+    ∷ weighing (at 1 1 true 182282) 82
+    ∷ weighing (at 1 1 true 182283) 67
     ∷ []

@@ -1,0 +1,224 @@
+-- Demand 1: whatever is handed in, each public entry answers or refuses by a number of document 01, under exactly the stated condition, and a refusal
+-- leaves everything as it stood.
+--
+-- Each entry has its tests in document 01's order, a test being a condition and the refusal that it gives. The statement is that the entry's answer is
+-- what the tests decide: the refusal of the first test that holds, or the answer proper if none does (`Decides`, which says so without the definition).
+-- A record or a campaign goes in by value and a refusal hands none out, so the caller's stays; of the one slice that is lent, a refusal leaves every
+-- place as it was (`kept`). The proof goes through the cases of the tests. Assumes nothing.
+use mathlib.Core.Path.{_≡_, refl, sym, _∙_}
+use mathlib.Core.Bool.{Bool, cond, false, not, true}
+use mathlib.Core.List.{List, [], _∷_, foldl}
+use Prim.Native.Nat.{ℕ, _+_}
+use native.Mathlib.Omega.{arith}
+use lib.Dec.{eqb, ltb}
+use lib.IntN.{ℤ}
+use lib.ListN.{length}
+use Rattle.refusal.specs.declared.Refusal.{Refusal}
+use Rattle.refusal.specs.declared.Refusal.the-variants.{BrokenState, CampaignFull, Item, Room, RowsUsedUp, Sample, TooLong, TooShort}
+use Rattle.poisson.specs.Rows.{rows}
+use Rattle.record.specs.declared.Answer.the-variants.{Refused, Taken}
+use Rattle.record.specs.declared.Listed.the-variants as listing
+use Rattle.record.specs.declared.Record.{Record}
+use Rattle.record.specs.Answers.{ListsTo, fed, firstBad, listed, opened, written}
+use Rattle.record.specs.Limits.{decorrelationInRange, itemOutside, levelInRange, longestTime, mostSamples, rampInRange, stepInRange}
+use Rattle.record.specs.Reading.{counted, tooFew}
+use Rattle.record.specs.State.{failed, sound, stateOf, stepped, tooShort}
+use Rattle.campaign.specs.declared.Answer.the-variants as campaigned
+use Rattle.campaign.specs.declared.Campaign.{Campaign}
+use Rattle.campaign.specs.declared.Counted.the-variants as counting
+use Rattle.campaign.specs.declared.Judged.the-variants as judging
+use Rattle.campaign.specs.declared.Rated.the-variants as rating
+use Rattle.campaign.specs.Answers as campaigns
+use Rattle.campaign.specs.Answers.{closing, entering, exposureOf}
+use Rattle.campaign.specs.Figures.{ratesOf, verdictOf}
+use Rattle.campaign.specs.State.{censored, empty, entered, mostRecords, standardInRange}
+use Rattle.campaign.specs.State as campaigning
+
+-- ---- the statement
+-- a condition, and the refusal that it gives
+pub record Test : Type 0 where
+  pub holds : Bool
+  pub gives : Refusal
+
+infix 90 _gives_
+abbrev pub _gives_ : Bool → Refusal → Test
+b gives r = record { holds = b; gives = r }
+
+-- the refusal r is that of the first test that holds
+pub data First : List Test → Refusal → Type 0 where
+  here : {t : Test} {ts : List Test} → t .holds ≡ true → First (t ∷ ts) (t .gives)
+  later : {t : Test} {ts : List Test} {r : Refusal} → t .holds ≡ false → First ts r → First (t ∷ ts) r
+
+-- no test holds
+pub data None : List Test → Type 0 where
+  end : None []
+  not-it : {t : Test} {ts : List Test} → t .holds ≡ false → None ts → None (t ∷ ts)
+
+-- the answer x is what the tests decide: it is the refusal r exactly if r is that of the first test that holds, and `proper` if none does
+pub record Decides {A : Type 0} (refused : Refusal → A) (ts : List Test) (proper x : A) : Type 0 where
+  pub refuses : (r : Refusal) → First ts r → x ≡ refused r
+  pub only-then : (r : Refusal) → x ≡ refused r → First ts r
+  pub answers : None ts → x ≡ proper
+
+-- items 1 to 4
+abbrev pub itemTests : ℕ → ℕ → ℕ → ℕ → List Test → List Test
+itemTests D R a τ ts =
+    not (stepInRange D) gives Item 1
+    ∷ (not (rampInRange R) gives Item 2
+    ∷ (not (levelInRange a) gives Item 3
+    ∷ (not (decorrelationInRange τ) gives Item 4
+    ∷ ts)))
+
+-- the samples, the timed length, too few samples, and the room for the counted times
+abbrev pub listTests : ℕ → ℕ → ℕ → ℕ → List ℤ → ℕ → List Test
+listTests D R a τ xs places =
+    ltb (firstBad xs) (length xs) gives Sample (firstBad xs)
+    ∷ (ltb (mostSamples D R) (length xs) gives TooLong
+    ∷ (tooFew R (length xs) gives TooShort
+    ∷ (ltb places (length (counted D R a τ xs)) gives Room (length (counted D R a τ xs))
+    ∷ [])))
+
+-- "Order", entry by entry
+pub record Demand1 : Type 0 where
+  -- opening 1
+  pub open-record : (D R a τ : ℕ) → Decides Refused (itemTests D R a τ []) (Taken (stateOf D R a τ [])) (opened D R a τ)
+  pub open-campaign : (q : ℕ) → Decides campaigned.Refused (not (standardInRange q) gives Item 5 ∷ []) (campaigned.Taken (empty q)) (campaigns.opened q)
+  -- a piece 8, 2, 3
+  pub feed :
+      (r : Record) (p : List ℤ)
+      → Decides Refused
+      (not (sound r) gives BrokenState
+      ∷ (ltb (firstBad p) (length p) gives Sample (firstBad p)
+      ∷ (ltb (mostSamples (r .step) (r .ramp)) (r .n + length p) gives TooLong
+      ∷ [])))
+      (Taken (foldl stepped r p))
+      (fed r p)
+  -- closing 8, 4, 5, 6
+  pub close :
+      (r : Record) (c : Campaign)
+      → Decides campaigned.Refused
+      (not (sound r) gives BrokenState
+      ∷ (not (campaigning.sound c) gives BrokenState
+      ∷ (tooShort r gives TooShort
+      ∷ (eqb (c .records) mostRecords gives CampaignFull
+      ∷ (eqb (c .failures) rows gives RowsUsedUp
+      ∷ [])))))
+      (campaigned.Taken (entered c (failed r) (exposureOf r)))
+      (closing r c)
+  -- entering as on a sheet: 8, then exposure 0 gives 4, above 10,000,000 gives 3, then 5, 6
+  pub enter :
+      (c : Campaign) (f : Bool) (t : ℕ)
+      → Decides campaigned.Refused
+      (not (campaigning.sound c) gives BrokenState
+      ∷ (eqb t 0 gives TooShort
+      ∷ (ltb longestTime t gives TooLong
+      ∷ (eqb (c .records) mostRecords gives CampaignFull
+      ∷ (eqb (c .failures) rows gives RowsUsedUp
+      ∷ [])))))
+      (campaigned.Taken (entered c f t))
+      (entering c f t)
+  -- listing 1, 2, 3, 4, 7; and a refusal leaves the slice as it stood
+  pub list :
+      (D R a τ : ℕ) (xs : List ℤ) (places : ℕ)
+      → Decides listing.Refused (itemTests D R a τ (listTests D R a τ xs places)) (listing.Times (length (counted D R a τ xs))) (listed D R a τ xs places)
+  pub kept : (D R a τ : ℕ) (xs : List ℤ) (before after : List ℕ) (r : Refusal) → ListsTo D R a τ xs before (listing.Refused r) after → after ≡ before
+  -- verdict, rates and the censored count 8
+  pub verdict : (c : Campaign) → Decides judging.Refused (not (campaigning.sound c) gives BrokenState ∷ []) (judging.Given (verdictOf c)) (campaigns.judging c)
+  pub rates :
+      (c : Campaign)
+      → Decides rating.Refused (not (campaigning.sound c) gives BrokenState ∷ []) (rating.Given (not (eqb (c .records) 0)) (ratesOf c)) (campaigns.rating c)
+  pub censored : (c : Campaign) → Decides counting.Refused (not (campaigning.sound c) gives BrokenState ∷ []) (counting.Count (censored c)) (campaigns.counting c)
+
+-- ---- the proof
+-- what the tests decide, computed
+decide : {A : Type 0} → (Refusal → A) → List Test → A → A
+decide refused [] x = x
+decide refused (t ∷ ts) x = cond (t .holds) (refused (t .gives)) (decide refused ts x)
+
+module _ {A : Type 0} (refused : Refusal → A) (proper : A) (own : (r s : Refusal) → refused r ≡ refused s → r ≡ s) (apart : (r : Refusal) → ¬ (proper ≡ refused r)) where
+  refuses : (ts : List Test) (r : Refusal) → First ts r → decide refused ts proper ≡ refused r
+  unfolding decide
+  refuses (t ∷ ts) r (here h) = rw h
+  refuses (t ∷ ts) r (later h f) = rw h (refuses ts r f)
+
+  only-then : (ts : List Test) (r : Refusal) → decide refused ts proper ≡ refused r → First ts r
+  unfolding decide
+  only-then [] r e = absurd (apart r e)
+  only-then (t ∷ ts) r e = go (t .holds) refl (only-then ts r) e
+    where
+      go : (b : Bool) → t .holds ≡ b → (decide refused ts proper ≡ refused r → First ts r) → cond b (refused (t .gives)) (decide refused ts proper) ≡ refused r → First (t ∷ ts) r
+      go true h rest e = rw (← own (t .gives) r e) (here h)
+      go false h rest e = later h (rest e)
+
+  answers : (ts : List Test) → None ts → decide refused ts proper ≡ proper
+  unfolding decide
+  answers [] end = refl
+  answers (t ∷ ts) (not-it h n) = rw h (answers ts n)
+
+  decided : (ts : List Test) (x : A) → x ≡ decide refused ts proper → Decides refused ts proper x
+  decided ts x e =
+      record {
+        refuses = λ r f. e ∙ refuses ts r f;
+        only-then = λ r d. only-then ts r (sym e ∙ d);
+        answers = λ n. e ∙ answers ts n;
+      }
+
+-- an item's number and the tests of the four items
+first-item : {A : Type 0} (refused : Refusal → A) (ts : List Test) (x : A) (a b c d : Bool) → (n : ℕ) → n ≡ cond (not a) 1 (cond (not b) 2 (cond (not c) 3 (cond (not d) 4 0)))
+    → cond (not (eqb n 0)) (refused (Item n)) (decide refused ts x)
+    ≡ decide refused (not a gives Item 1 ∷ (not b gives Item 2 ∷ (not c gives Item 3 ∷ (not d gives Item 4 ∷ ts)))) x
+unfolding decide
+first-item refused ts x false b c d n e = rw e
+first-item refused ts x true false c d n e = rw e
+first-item refused ts x true true false d n e = rw e
+first-item refused ts x true true true false n e = rw e
+first-item refused ts x true true true true n e = rw e
+
+swapped : {A : Type 0} (b : Bool) (x y : A) → cond b x y ≡ cond (not b) y x
+swapped true x y = refl
+swapped false x y = refl
+
+module _ (r s : Refusal) where
+  own-record : Refused r ≡ Refused s → r ≡ s
+  own-record e = cc
+
+  own-list : listing.Refused r ≡ listing.Refused s → r ≡ s
+  own-list e = cc
+
+  own-campaign : campaigned.Refused r ≡ campaigned.Refused s → r ≡ s
+  own-campaign e = cc
+
+  own-verdict : judging.Refused r ≡ judging.Refused s → r ≡ s
+  own-verdict e = cc
+
+  own-rates : rating.Refused r ≡ rating.Refused s → r ≡ s
+  own-rates e = cc
+
+  own-count : counting.Refused r ≡ counting.Refused s → r ≡ s
+  own-count e = cc
+
+-- two numbers that are not equal, from two cases of an answer that are
+no : _≡_ {A = ℕ} 0 1 → ⊥
+no e = omega arith
+
+pub demand-1 : Demand1
+unfolding decide opened fed listed itemOutside written closing entering campaigns.judging campaigns.rating campaigns.counting
+demand-1 =
+    record {
+      open-record =
+          λ D R a τ.
+          decided Refused (Taken (stateOf D R a τ [])) own-record (λ r e. no (cc)) (itemTests D R a τ []) (opened D R a τ)
+          (swapped (eqb (itemOutside D R a τ) 0) _ _ ∙ first-item Refused [] (Taken (stateOf D R a τ [])) (stepInRange D) (rampInRange R) (levelInRange a) (decorrelationInRange τ) (itemOutside D R a τ) refl);
+      open-campaign = λ q. decided campaigned.Refused (campaigned.Taken (empty q)) own-campaign (λ r e. no (cc)) _ (campaigns.opened q) (swapped (standardInRange q) _ _);
+      feed = λ r p. decided Refused (Taken (foldl stepped r p)) own-record (λ f e. no (cc)) _ (fed r p) refl;
+      close = λ r c. decided campaigned.Refused (campaigned.Taken (entered c (failed r) (exposureOf r))) own-campaign (λ f e. no (cc)) _ (closing r c) refl;
+      enter = λ c f t. decided campaigned.Refused (campaigned.Taken (entered c f t)) own-campaign (λ r e. no (cc)) _ (entering c f t) refl;
+      list =
+          λ D R a τ xs places.
+          decided listing.Refused (listing.Times (length (counted D R a τ xs))) own-list (λ r e. no (cc)) _ (listed D R a τ xs places)
+          (first-item listing.Refused (listTests D R a τ xs places) (listing.Times (length (counted D R a τ xs))) (stepInRange D) (rampInRange R) (levelInRange a) (decorrelationInRange τ) (itemOutside D R a τ) refl);
+      kept = λ D R a τ xs before after r p. p .leaves;
+      verdict = λ c. decided judging.Refused (judging.Given (verdictOf c)) own-verdict (λ r e. no (cc)) _ (campaigns.judging c) (swapped (campaigning.sound c) _ _);
+      rates = λ c. decided rating.Refused (rating.Given (not (eqb (c .records) 0)) (ratesOf c)) own-rates (λ r e. no (cc)) _ (campaigns.rating c) (swapped (campaigning.sound c) _ _);
+      censored = λ c. decided counting.Refused (counting.Count (censored c)) own-count (λ r e. no (cc)) _ (campaigns.counting c) (swapped (campaigning.sound c) _ _);
+    }

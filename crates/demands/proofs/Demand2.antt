@@ -1,0 +1,71 @@
+-- Demand 2: a record's figures are document 01's over its whole list of samples, however it was cut into pieces; the counted failures are a largest set
+-- of crossings pairwise at least the decorrelation time apart; and a campaign's figures are document 000's over its list of records.
+--
+-- D is the step, R the ramp, a the level and τ the decorrelation time. The proof gathers what the crates `record` and `campaign` show. Assumes nothing.
+use mathlib.Core.Path.{_≡_}
+use mathlib.Core.Bool.{false, true}
+use mathlib.Core.List.{List, map}
+use Prim.Native.Nat.{ℕ, _<_}
+use lib.IntN.{ℤ}
+use lib.ListN.{length}
+use Rattle.refusal.specs.declared.Refusal.the-variants.{BrokenState}
+use Rattle.largest.specs.Choice.{Apart, Largest}
+use Rattle.record.specs.declared.Answer.the-variants.{Refused, Taken}
+use Rattle.record.specs.declared.Record.{Record}
+use Rattle.record.specs.Answers.{fed, opened}
+use Rattle.record.specs.Pieces.{AllTaken, joined}
+use Rattle.record.specs.Reading.{countedTimes, crossings, firstCrossing, timeAt}
+use Rattle.record.specs.State.{failed, stateOf}
+use Rattle.record.proofs.Places.{itself}
+use Rattle.record.proofs.Theorems.{counted-largest, every-cutting, join-taken, never-broken, opened-sound, pieces-whole, search-found, search-none, times-apart}
+use Rattle.campaign.specs.declared.Campaign.{Campaign}
+use Rattle.campaign.specs.Answers as campaigns
+use Rattle.campaign.specs.declared.Answer.the-variants as campaigned
+use Rattle.campaign.specs.Records.{AllClosed, campaignOf, censoredIn, outcome}
+use Rattle.campaign.specs.State.{censored}
+use Rattle.campaign.proofs.Records.{censored-grown, grown-by-closing}
+
+-- ---- the statement
+-- a record opened as s and fed the pieces ps, each taken, up to the state t; xs is the joined record
+pub record ReadsWhole (D R a τ : ℕ) (s t : Record) (ps : List (List ℤ)) (xs : List ℤ) : Type 0 where
+  -- crossings, counted failures, first failure, last counted place, n and the last sample are those of the joined record
+  pub figures : t ≡ stateOf D R a τ xs
+  -- no choice of crossings pairwise τ apart is larger than the number counted, and some choice is as large
+  pub largest : Largest (timeAt D R) τ (crossings R a xs) (t .counted)
+  -- any other cutting of the joined record is taken too, and ends in the same state
+  pub cuttings : (qs : List (List ℤ)) → joined qs ≡ xs → AllTaken s qs t
+  -- the state is never refused as broken
+  pub unbroken : (p : List ℤ) → ¬ (fed t p ≡ Refused BrokenState)
+
+pub record Demand2 : Type 0 where
+  pub pieces : (D R a τ : ℕ) (s t : Record) (ps : List (List ℤ)) → opened D R a τ ≡ Taken s → AllTaken s ps t → ReadsWhole D R a τ s t ps (joined ps)
+  -- the listed times are pairwise τ apart
+  pub times : (D R a τ : ℕ) (xs : List ℤ) → Apart itself τ (countedTimes D R a τ xs)
+  -- the search finds the state's first failure, or the length of the record where there is none
+  pub found : (D R a τ : ℕ) (xs : List ℤ) → failed (stateOf D R a τ xs) ≡ true → (firstCrossing (length xs) R a xs ≡ stateOf D R a τ xs .first) × (stateOf D R a τ xs .first < length xs)
+  pub missed : (D R a τ : ℕ) (xs : List ℤ) → failed (stateOf D R a τ xs) ≡ false → firstCrossing (length xs) R a xs ≡ length xs
+  -- records closed one after the other: the campaign's figures over the list of them, and its censored count by document 000's recurrence
+  pub campaign : (q : ℕ) (c d : Campaign) (rs : List Record) → campaigns.opened q ≡ campaigned.Taken c → AllClosed c rs d → d ≡ campaignOf q (map outcome rs)
+  pub censored : (q : ℕ) (c d : Campaign) (rs : List Record) → campaigns.opened q ≡ campaigned.Taken c → AllClosed c rs d → censored d ≡ censoredIn (map outcome rs)
+
+-- ---- the proof
+whole : (D R a τ : ℕ) (s t : Record) (ps : List (List ℤ)) → opened D R a τ ≡ Taken s → AllTaken s ps t → ReadsWhole D R a τ s t ps (joined ps)
+whole D R a τ s t ps e f =
+    let figures = pieces-whole D R a τ s e f in
+    record {
+      figures = figures;
+      largest = rw figures (counted-largest D R a τ (joined ps));
+      cuttings = λ qs j. every-cutting s qs t (rw j (join-taken (opened-sound D R a τ s e) f));
+      unbroken = never-broken D R a τ s e f;
+    }
+
+pub demand-2 : Demand2
+demand-2 =
+    record {
+      pieces = whole;
+      times = times-apart;
+      found = search-found;
+      missed = search-none;
+      campaign = grown-by-closing;
+      censored = λ q c d rs e a. rw (grown-by-closing q c d rs e a) (censored-grown q (map outcome rs));
+    }

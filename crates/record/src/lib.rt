@@ -232,10 +232,10 @@ fn crossed(r: Record, x: i32) -> Record
     }
 }
 
-// The state after k more samples without a crossing, the last of them x.
-fn moved(r: Record, k: u64, x: i32) -> Record
+// The state after k more samples without a crossing, of which the last is given.
+fn moved(r: Record, k: u64, last: i32) -> Record
     requires { ⌜ r .n + k ≤ 20000000 ⌝ }
-    ensures { λ s. ⌜ s ≡ moved r k x ⌝ }
+    ensures { λ s. ⌜ s ≡ moved r k last ⌝ }
 {
     Record {
         step: r.step,
@@ -243,7 +243,7 @@ fn moved(r: Record, k: u64, x: i32) -> Record
         level: r.level,
         decorrelation: r.decorrelation,
         n: r.n + k,
-        last: x,
+        last,
         crossings: r.crossings,
         counted: r.counted,
         first: r.first,

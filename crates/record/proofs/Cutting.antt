@@ -11,11 +11,12 @@ use lib.IntN.{ℤ}
 use Rattle.record.specs.declared.Record.{Record}
 use Rattle.record.specs.declared.Answer.the-variants.{Taken}
 use Rattle.record.specs.Limits.{mostSamples}
-use Rattle.record.specs.State.{stepped, sound}
+use Rattle.record.specs.State.{sound}
+use Rattle.record.specs.Step.{stepped}
 use Rattle.record.specs.Answers.{firstBad, fed}
 use Rattle.record.proofs.Steps.{stepped-sound, stepped-n, stepped-most}
 use Rattle.record.proofs.Bad.{good-head, good-left, bad-append}
-use Rattle.record.proofs.Fed.{Meets, taken, fed-taken}
+use Rattle.record.proofs.Fed.{taken, fed-taken}
 
 pub run-n : (r : Record) (p : List ℤ) → foldl stepped r p .n ≡ r .n + length p
 run-n r [] = sym (add-zero (r .n))

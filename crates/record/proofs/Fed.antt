@@ -12,7 +12,8 @@ use Rattle.refusal.specs.declared.Refusal.the-variants.{Sample, TooLong, Broken
 use Rattle.record.specs.declared.Record.{Record}
 use Rattle.record.specs.declared.Answer.the-variants.{Taken, Refused}
 use Rattle.record.specs.Limits.{mostSamples}
-use Rattle.record.specs.State.{stepped, sound}
+use Rattle.record.specs.State.{sound}
+use Rattle.record.specs.Step.{stepped}
 use Rattle.record.specs.Answers.{firstBad, fed}
 use Rattle.record.proofs.Bad.{bad-within}
 

@@ -1,10 +1,10 @@
 -- The answers to a listing, one law for each: what is answered, and what the slice holds then. Assumes nothing.
 use Prim.Native.Nat.{ℕ, _+_, _≤_, _<_}
-use mathlib.Core.Path.{_≡_, refl, sym, ap, _∙_}
-use mathlib.Core.List.{List, [], foldl}
+use mathlib.Core.Path.{_≡_, refl, ap, _∙_}
+use mathlib.Core.List.{List, []}
 use native.Mathlib.Nat.{zero-add}
 use native.Mathlib.Omega.{arith}
-use lib.ListN.{length, drop, length-map}
+use lib.ListN.{length, length-map}
 use lib.Seq.{sets, sets-eq}
 use lib.IntN.{ℤ}
 use borrow.Author.Tests.{eq-eqb, ne-eqb, lt-ltb, le-ltb}
@@ -12,7 +12,8 @@ use Rattle.refusal.specs.declared.Refusal.the-variants.{Item, Sample, TooLong, 
 use Rattle.record.specs.declared.Listed.the-variants.{Times, Refused}
 use Rattle.record.specs.Limits.{itemOutside, mostSamples}
 use Rattle.record.specs.Reading.{timeAt, counted, countedTimes}
-use Rattle.record.specs.State.{stateOf, timesFrom}
+use Rattle.record.specs.State.{stateOf}
+use Rattle.record.specs.Step.{timesFrom}
 use Rattle.record.specs.Answers.{firstBad, listed, written, ListsTo}
 use Rattle.record.proofs.Noting.{times-whole}
 

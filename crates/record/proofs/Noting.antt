@@ -1,6 +1,6 @@
 -- The times noted one by one, from a fresh record on, are those of the counted failures; and a slice is written by them place by place.
 -- Assumes nothing.
-use Prim.Native.Nat.{ℕ, suc, _+_, _<_}
+use Prim.Native.Nat.{ℕ, _+_}
 use mathlib.Core.Path.{_≡_, refl, sym, ap, _∙_}
 use mathlib.Core.Bool.{Bool, true, false, cond, _&&_}
 use mathlib.Core.List.{List, [], _∷_, map}
@@ -9,11 +9,12 @@ use native.Mathlib.Omega.{arith}
 use lib.ListN.{length, set, length-set}
 use lib.Seq.{sets}
 use lib.Dec.{eqb}
-use lib.IntN.{ℤ, pos}
+use lib.IntN.{ℤ}
 use Rattle.largest.specs.Walk.{walk}
 use Rattle.record.specs.declared.Record.{Record}
 use Rattle.record.specs.Reading.{timeAt, passing, firstOf, lastOf, counted, countedTimes}
-use Rattle.record.specs.State.{stateOf, moved, counts, crossed, crosses, noted, noting, timesFrom, stepped}
+use Rattle.record.specs.State.{stateOf}
+use Rattle.record.specs.Step.{moved, counts, crosses, noted, noting, timesFrom, stepped}
 use Rattle.record.proofs.Steps.{marked}
 use Rattle.record.proofs.Whole.{placesFrom, rest, rest-nil, rest-far, rest-near, marked-far, marked-near, next-places, places-whole}
 

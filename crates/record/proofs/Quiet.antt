@@ -1,5 +1,5 @@
 -- Samples at most the level: no crossing stands at any of them, so only n and the last sample move. Assumes nothing.
-use Prim.Native.Nat.{ℕ, suc, _+_, _-_, _≤_, _<_}
+use Prim.Native.Nat.{suc, _-_, _≤_, _<_}
 use mathlib.Core.Path.{_≡_, refl, sym, ap, _∙_}
 use mathlib.Core.Bool.{Bool, true, false, not, _&&_}
 use mathlib.Core.List.{List, [], _∷_, foldl}
@@ -14,7 +14,7 @@ use Rattle.magnitude.specs.Peak.{peakOf}
 use Rattle.magnitude.proofs.Largest.{first-within}
 use Rattle.record.specs.declared.Record.{Record}
 use Rattle.record.specs.Reading.{sampleAt, lastOf}
-use Rattle.record.specs.State.{moved, crosses, stepped}
+use Rattle.record.specs.Step.{moved, stepped}
 use Rattle.record.proofs.Steps.{ext}
 
 and-false : (a b : Bool) → (a && (b && false)) ≡ false

@@ -1,17 +1,16 @@
 -- The relations of a sound state as facts about numbers, and back. Assumes nothing.
-use Prim.Native.Nat.{ℕ, _+_, _-_, _≤_, _<_}
-use mathlib.Core.Path.{_≡_, refl, sym, ap, _∙_}
+use Prim.Native.Nat.{ℕ, _-_, _≤_, _<_}
+use mathlib.Core.Path.{_≡_, refl}
 use mathlib.Core.Bool.{Bool, true, false, cond, not, _&&_, _||_}
 use mathlib.Core.Logic.{_⊎_, inl, inr}
 use native.Mathlib.Omega.{arith}
-use native.Mathlib.Nat.{div-le-self}
 use lib.Dec.{eqb, leb, ltb}
 use lib.IntN.{natAbs}
-use borrow.Author.Tests.{leb-true, ltb-true, eqb-true, eqb-false, le-leb, lt-ltb, eq-eqb, ne-eqb, not-true}
+use borrow.Author.Tests.{leb-true, ltb-true, eqb-true, le-leb, lt-ltb, eq-eqb, ne-eqb}
 use Rattle.record.specs.declared.Record.{Record}
 use Rattle.record.specs.Limits.{itemOutside, within, stepInRange, rampInRange, levelInRange, decorrelationInRange, sampleInRange, mostSamples}
-use Rattle.record.specs.State.{sound, failed, itemsKept, lastKept, lengthKept, countsKept, figuresKept, failureKept, noneKept}
-use Rattle.record.proofs.Bools.{and-true, both-true, true≢false}
+use Rattle.record.specs.State.{sound, itemsKept, lastKept, lengthKept, countsKept, figuresKept, failureKept, noneKept}
+use Rattle.record.proofs.Bools.{and-true, both-true}
 
 pub record Items (D R a τ : ℕ) : Type 0 where
   pub step-low : 1 ≤ D

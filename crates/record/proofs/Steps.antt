@@ -1,7 +1,7 @@
 -- What is kept by a step: a sound state is sound after a sample in range, while there is room for it. Assumes nothing.
 use Prim.Native.Nat.{ℕ, _+_, _-_, _≤_, _<_}
 use mathlib.Core.Path.{_≡_, refl}
-use mathlib.Core.Bool.{Bool, true, false, cond, not, _&&_, _||_}
+use mathlib.Core.Bool.{Bool, true, false, cond, _||_}
 use mathlib.Core.Logic.{_⊎_, inl, inr}
 use native.Mathlib.Omega.{arith}
 use native.Mathlib.Nat.{div-le-self}
@@ -12,7 +12,8 @@ use Rattle.largest.specs.Walk.{since}
 use Rattle.record.specs.declared.Record.{Record}
 use Rattle.record.specs.Limits.{sampleInRange, mostSamples}
 use Rattle.record.specs.Reading.{timeAt, rises}
-use Rattle.record.specs.State.{moved, counts, crossed, crosses, stepped, sound}
+use Rattle.record.specs.State.{sound}
+use Rattle.record.specs.Step.{moved, counts, crossed, crosses, stepped}
 use Rattle.record.proofs.Bools.{and-true}
 use Rattle.record.proofs.Relations.{Items, items, None, Failure, Kept, kept-from, kept-sound}
 

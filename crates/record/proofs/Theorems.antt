@@ -1,22 +1,20 @@
 -- What the entries add up to: the user's second demand for one record. D is the step, R the ramp, a the level, τ the decorrelation time.
 -- Assumes nothing.
 use Prim.Native.Nat.{ℕ, _<_}
-use mathlib.Core.Path.{_≡_, refl, sym, ap, _∙_}
-use mathlib.Core.Bool.{Bool, true, false, cond}
+use mathlib.Core.Path.{_≡_, sym, _∙_}
+use mathlib.Core.Bool.{true, false}
 use mathlib.Core.List.{List, [], _∷_, foldl}
 use native.Mathlib.Omega.{arith}
 use lib.ListN.{length}
-use lib.Dec.{eqb}
 use lib.IntN.{ℤ}
-use borrow.Author.Tests.{eqb-true}
-use Rattle.refusal.specs.declared.Refusal.the-variants.{Item, BrokenState}
+use Rattle.refusal.specs.declared.Refusal.the-variants.{BrokenState}
 use Rattle.largest.specs.Choice.{Apart, Largest}
 use Rattle.largest.proofs.Walk.{walk-largest, walk-apart}
 use Rattle.record.specs.declared.Record.{Record}
 use Rattle.record.specs.declared.Answer.the-variants.{Taken, Refused}
-use Rattle.record.specs.Limits.{itemOutside}
 use Rattle.record.specs.Reading.{timeAt, crossesAt, crossings, firstCrossing, counted, countedTimes}
-use Rattle.record.specs.State.{stateOf, stepped, sound, failed}
+use Rattle.record.specs.State.{stateOf, sound, failed}
+use Rattle.record.specs.Step.{stepped}
 use Rattle.record.specs.Answers.{opened, fed, firstBad}
 use Rattle.record.specs.Pieces.{AllTaken, end, piece, joined}
 use Rattle.record.proofs.Relations.{kept-from}

@@ -1,17 +1,17 @@
 -- What closing a record may rely on: a sound state with at least R + 2 samples has its full time, and its first failure's time where it
 -- failed, from 1 ms to the longest timed length. A place at most n - 1 is at most floor(10,000,000 / D) samples past R. Assumes nothing.
-use Prim.Native.Nat.{ℕ, _+_, _-_, _*_, _/_, _≤_, _<_}
+use Prim.Native.Nat.{ℕ, _+_, _-_, _*_, _/_, _≤_}
 use mathlib.Core.Path.{_≡_, sym}
 use mathlib.Core.Bool.{true, false}
 use mathlib.Core.Logic.{_⊎_, inl, inr}
 use native.Mathlib.Nat.{mul-le-mul, div-mul-le-self}
 use native.Mathlib.Omega.{arith}
-use borrow.Author.Tests.{ltb-false, not-true, eq-eqb}
+use borrow.Author.Tests.{ltb-false, eq-eqb}
 use Rattle.record.specs.declared.Record.{Record}
 use Rattle.record.specs.Limits.{longestTime}
 use Rattle.record.specs.State.{sound, failed, firstTime, wholeTime, tooShort}
 use Rattle.record.proofs.Bools.{true≢false}
-use Rattle.record.proofs.Relations.{None, Failure, Kept, kept-from}
+use Rattle.record.proofs.Relations.{None, Failure, kept-from}
 use Rattle.record.proofs.Steps.{items-of}
 
 -- so many samples past R stand within the longest timed length

@@ -1,13 +1,13 @@
 -- The state that the samples lead to one by one is the state of the whole list. From any state r, the samples ys with the crossings cs
 -- among them lead to `finish r ys cs` (`whole`, by induction on ys); the crossings met one by one (`placesFrom`) are those that pass the
 -- test on the whole list (`scan`). Assumes nothing.
-use Prim.Native.Nat.{ℕ, zero, suc, _+_, _-_, _*_, _≤_, _<_}
+use Prim.Native.Nat.{ℕ, _+_, _-_}
 use mathlib.Core.Path.{_≡_, refl, sym, ap, _∙_}
-use mathlib.Core.Bool.{Bool, true, false, cond, not, _&&_, _||_}
+use mathlib.Core.Bool.{Bool, true, false, cond, _&&_, _||_}
 use mathlib.Core.List.{List, [], _∷_, foldl}
 use native.Mathlib.Nat.{zero-add, add-zero}
 use native.Mathlib.Omega.{arith}
-use lib.ListN.{length, getD, drop}
+use lib.ListN.{length, drop}
 use lib.Seq.{getD-drop, drop-drop}
 use lib.IntN.{ℤ, pos}
 use lib.Dec.{ltb, eqb}
@@ -15,7 +15,8 @@ use borrow.Author.Tests.{ne-eqb, ltb-true}
 use Rattle.largest.specs.Walk.{since, later, walk}
 use Rattle.record.specs.declared.Record.{Record}
 use Rattle.record.specs.Reading.{timeAt, sampleAt, rises, crossesAt, passing, crossings, firstOf, lastOf}
-use Rattle.record.specs.State.{stateOf, moved, counts, crossed, crosses, stepped}
+use Rattle.record.specs.State.{stateOf}
+use Rattle.record.specs.Step.{moved, counts, crossed, crosses, stepped}
 use Rattle.record.proofs.Bools.{true≢false}
 use Rattle.record.proofs.Steps.{ext, marked}
 

@@ -1,7 +1,7 @@
 -- What each entry answers: document 01, "Refusal numbers", in its order of refusals. Assumes nothing.
 use Prim.Native.Nat.{ℕ, suc, _+_}
 use mathlib.Core.Path.{_≡_}
-use mathlib.Core.Bool.{Bool, cond, not}
+use mathlib.Core.Bool.{cond, not}
 use mathlib.Core.List.{List, [], _∷_, _++_, foldl}
 use lib.ListN.{length, drop}
 use lib.Dec.{ltb, eqb}
@@ -14,7 +14,8 @@ use Rattle.record.specs.declared.Listed.{Listed}
 use Rattle.record.specs.declared.Listed.the-variants.{Times, Refused as Declined}
 use Rattle.record.specs.Limits.{itemOutside, sampleInRange, mostSamples}
 use Rattle.record.specs.Reading.{counted, countedTimes, tooFew}
-use Rattle.record.specs.State.{stateOf, stepped, sound}
+use Rattle.record.specs.State.{stateOf, sound}
+use Rattle.record.specs.Step.{stepped}
 
 -- the place of the first sample outside its range; the length where there is none
 unfoldable pub firstBad : List ℤ → ℕ

@@ -1,7 +1,7 @@
 // A record: one channel of samples at a fixed step, with a level, a ramp and a decorrelation time, whole or in pieces.
 // The state goes in by value and comes back in the answer, so a refusal leaves the caller's as it stood.
 ghost use mathlib.Core.Path.{_≡_};
-ghost use mathlib.Core.Bool.{true, cond, not, _&&_, _||_};
+ghost use mathlib.Core.Bool.{true, cond, _&&_, _||_};
 ghost use mathlib.Core.List.{foldl, []};
 ghost use Prim.Native.Nat.{_+_, _-_, _*_, _≤_, _<_};
 ghost use lib.ListN.{length};
@@ -9,7 +9,8 @@ ghost use lib.Seq.{sets};
 ghost use Rattle.magnitude.specs.Peak.{peakOf};
 ghost use Rattle.record.specs.Limits.{within, itemOutside, sampleInRange, mostSamples};
 ghost use Rattle.record.specs.Reading.{timeAt, rises, firstCrossing};
-ghost use Rattle.record.specs.State.{stateOf, moved, counts, crossed, crosses, noted, noting, timesFrom, stepped, lastKept, noneKept, failureKept, figuresKept, sound};
+ghost use Rattle.record.specs.State.{stateOf, lastKept, noneKept, failureKept, figuresKept, sound};
+ghost use Rattle.record.specs.Step.{moved, counts, crossed, crosses, noted, noting, timesFrom, stepped};
 ghost use Rattle.record.specs.Answers.{opened, fed, firstBad, ListsTo};
 use refusal::Refusal;
 

@@ -1,6 +1,6 @@
 -- `magnitude::peak` meets its contract. The invariant: the larger of what was found so far and the peak of what is left is the peak of all.
 -- The measure is what is left. Assumes nothing.
-use Prim.Native.Nat.{_+_, _-_, _≤_, _<_, max}
+use Prim.Native.Nat.{_-_, _≤_, max}
 use mathlib.Core.Path.{_≡_, sym, ap, _∙_}
 use mathlib.Core.List.{List, []}
 use native.Mathlib.Nat.{zero-max, max-zero}

@@ -9,7 +9,7 @@ use mir.Val.{SFits}
 use mir.Syntax.{w32}
 use mir.Facts.{toZ-ofZ}
 use Rattle.record.specs.Reading.{sampleAt}
-use Rattle.record.specs.State.{moved}
+use Rattle.record.specs.Step.{moved}
 use Rattle.record.proofs.Relations.{kept-from}
 use Rattle.record.proofs.Steps.{small}
 use Rattle.record.proofs.Bad.{peak-good}

@@ -1,6 +1,6 @@
 -- `record::first_bad` meets its contract. The invariant: the i samples passed are in range, so the first bad place is i and the first bad
 -- place of what is left. The measure is what is left. Assumes nothing.
-use Prim.Native.Nat.{ℕ, _+_, _≤_, _<_, _-_}
+use Prim.Native.Nat.{_+_, _≤_, _-_}
 use mathlib.Core.Path.{_≡_, sym, ap, _∙_}
 use mathlib.Core.Bool.{true, false}
 use native.Mathlib.Nat.{zero-add}

@@ -1,7 +1,7 @@
 -- `record::list` meets its contract: each answer is the law of `Listing` whose tests held on the way to it. The number of times is the count of
 -- the state that the whole record leads to. Assumes nothing.
 use borrow.Author.Needs.{needs}
-use Prim.Native.Nat.{_+_, _≤_, _<_}
+use Prim.Native.Nat.{_+_, _≤_}
 use mathlib.Core.Path.{_≡_, sym, ap, _∙_}
 use mathlib.Core.Bool.{true}
 use mathlib.Core.List.{[], foldl}
@@ -12,7 +12,8 @@ use Rattle.largest.specs.Walk.{walk}
 use Rattle.record.specs.declared.Record.{Record}
 use Rattle.record.specs.Limits.{itemOutside, mostSamples}
 use Rattle.record.specs.Reading.{timeAt, passing, counted}
-use Rattle.record.specs.State.{stateOf, stepped, sound, timesFrom}
+use Rattle.record.specs.State.{stateOf, sound}
+use Rattle.record.specs.Step.{stepped, timesFrom}
 use Rattle.record.specs.Answers.{firstBad}
 use Rattle.record.proofs.Relations.{items}
 use Rattle.record.proofs.Bad.{bad-within}

@@ -11,7 +11,8 @@ use lib.ListN.{length, take, drop, drop-of-length-le}
 use Rattle.refusal.specs.declared.Refusal.the-variants.{Sample}
 use Rattle.record.specs.declared.Answer.the-variants.{Taken, Refused}
 use Rattle.record.specs.Limits.{mostSamples}
-use Rattle.record.specs.State.{stepped, sound}
+use Rattle.record.specs.State.{sound}
+use Rattle.record.specs.Step.{stepped}
 use Rattle.record.specs.Answers.{firstBad}
 use Rattle.record.proofs.Bad.{bad-append, bad-left, peak-good, peak-bad}
 use Rattle.record.proofs.Blocks.{block-length, block-cut}

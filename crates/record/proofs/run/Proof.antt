@@ -11,7 +11,8 @@ use mir.Facts.{toZ-ofZ}
 use Rattle.magnitude.proofs.Turn.{turn}
 use Rattle.record.specs.Limits.{mostSamples}
 use Rattle.record.specs.Reading.{sampleAt}
-use Rattle.record.specs.State.{stepped, sound}
+use Rattle.record.specs.State.{sound}
+use Rattle.record.specs.Step.{stepped}
 use Rattle.record.specs.Answers.{firstBad}
 use Rattle.record.proofs.Steps.{stepped-sound, stepped-n, stepped-most}
 use Rattle.record.proofs.Bad.{good-head}

@@ -3,7 +3,7 @@ use borrow.Author.Needs.{needs}
 use mathlib.Core.Path.{sym, ap, _∙_}
 use mir.Facts.{toZ-ofZ}
 use native.Mathlib.Omega.{arith}
-use Rattle.record.specs.State.{crosses, stepped}
+use Rattle.record.specs.Step.{crosses, stepped}
 use Rattle.record.proofs.Relations.{kept-from}
 use Rattle.record.proofs.Steps.{small, crosses-after}
 use Rattle.record.proofs.step.Statement.{statement}

@@ -22,7 +22,8 @@ use Rattle.record.specs.declared.Record.{Record}
 use Rattle.record.specs.Answers.{ListsTo, fed, firstBad, listed, opened, written}
 use Rattle.record.specs.Limits.{decorrelationInRange, itemOutside, levelInRange, longestTime, mostSamples, rampInRange, stepInRange}
 use Rattle.record.specs.Reading.{counted, tooFew}
-use Rattle.record.specs.State.{failed, sound, stateOf, stepped, tooShort}
+use Rattle.record.specs.State.{failed, sound, stateOf, tooShort}
+use Rattle.record.specs.Step.{stepped}
 use Rattle.campaign.specs.declared.Answer.the-variants as campaigned
 use Rattle.campaign.specs.declared.Campaign.{Campaign}
 use Rattle.campaign.specs.declared.Counted.the-variants as counting

@@ -9,7 +9,7 @@ use lib.Dec.{ltb, eqb}
 use lib.IntN.{ℤ}
 use borrow.Author.Tests.{ltb-true, ltb-false, le-ltb, eqb-true, not-false}
 use Rattle.record.specs.Reading.{sampleAt, rises, crossesAt, passing, crossings, firstOf}
-use Rattle.record.proofs.Bools.{true≢false, and-true}
+use Rattle.truth.proofs.Laws.{true≢false, and-true}
 
 -- no crossing stands in the ramp, nor at its first timed sample
 pub ramp-none : (R a : ℕ) (xs : List ℤ) (k : ℕ) → k ≤ R → crossesAt R a xs k ≡ false

@@ -1,4 +1,3 @@
-pub mod Bools
 pub mod Relations
 pub mod Steps
 pub mod Bad

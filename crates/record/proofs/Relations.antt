@@ -10,7 +10,7 @@ use borrow.Author.Tests.{leb-true, ltb-true, eqb-true, le-leb, lt-ltb, eq-eqb, n
 use Rattle.record.specs.declared.Record.{Record}
 use Rattle.record.specs.Limits.{itemOutside, within, stepInRange, rampInRange, levelInRange, decorrelationInRange, sampleInRange, mostSamples}
 use Rattle.record.specs.State.{sound, itemsKept, lastKept, lengthKept, countsKept, figuresKept, failureKept, noneKept}
-use Rattle.record.proofs.Bools.{and-true, both-true}
+use Rattle.truth.proofs.Laws.{and-true, both-true}
 
 pub record Items (D R a τ : ℕ) : Type 0 where
   pub step-low : 1 ≤ D

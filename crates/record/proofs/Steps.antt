@@ -14,7 +14,7 @@ use Rattle.record.specs.Limits.{sampleInRange, mostSamples}
 use Rattle.record.specs.Reading.{timeAt, rises}
 use Rattle.record.specs.State.{sound}
 use Rattle.record.specs.Step.{moved, counts, crossed, crosses, stepped}
-use Rattle.record.proofs.Bools.{and-true}
+use Rattle.truth.proofs.Laws.{and-true}
 use Rattle.record.proofs.Relations.{Items, items, None, Failure, Kept, kept-from, kept-sound}
 
 -- states are equal figure by figure

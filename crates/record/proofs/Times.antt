@@ -10,7 +10,7 @@ use borrow.Author.Tests.{ltb-false, eq-eqb}
 use Rattle.record.specs.declared.Record.{Record}
 use Rattle.record.specs.Limits.{longestTime}
 use Rattle.record.specs.State.{sound, failed, firstTime, wholeTime, tooShort}
-use Rattle.record.proofs.Bools.{true≢false}
+use Rattle.truth.proofs.Laws.{true≢false}
 use Rattle.record.proofs.Relations.{None, Failure, kept-from}
 use Rattle.record.proofs.Steps.{items-of}
 

@@ -17,7 +17,7 @@ use Rattle.record.specs.declared.Record.{Record}
 use Rattle.record.specs.Reading.{timeAt, sampleAt, rises, crossesAt, passing, crossings, firstOf, lastOf}
 use Rattle.record.specs.State.{stateOf}
 use Rattle.record.specs.Step.{moved, counts, crossed, crosses, stepped}
-use Rattle.record.proofs.Bools.{true≢false}
+use Rattle.truth.proofs.Laws.{true≢false}
 use Rattle.record.proofs.Steps.{ext, marked}
 
 -- the crossings among the samples that follow `before`, the first of which is sample i

@@ -1,7 +1,7 @@
 // A record: one channel of samples at a fixed step, with a level, a ramp and a decorrelation time, whole or in pieces.
 // The state goes in by value and comes back in the answer, so a refusal leaves the caller's as it stood.
 ghost use mathlib.Core.Path.{_≡_};
-ghost use mathlib.Core.Bool.{true, cond, _&&_, _||_};
+ghost use mathlib.Core.Bool.{true};
 ghost use mathlib.Core.List.{foldl, []};
 ghost use Prim.Native.Nat.{_+_, _-_, _*_, _≤_, _<_};
 ghost use lib.ListN.{length};
@@ -55,38 +55,20 @@ pub enum Listed {
     Refused(Refusal),
 }
 
-fn both(b: bool, c: bool) -> bool
-    ensures { λ r. ⌜ r ≡ (b && c) ⌝ }
-{
-    if b { c } else { false }
-}
-
 fn between(low: u64, high: u64, x: u64) -> bool
     ensures { λ r. ⌜ r ≡ within low high x ⌝ }
 {
-    both(low <= x, x <= high)
-}
-
-fn either(b: bool, c: bool) -> bool
-    ensures { λ r. ⌜ r ≡ (b || c) ⌝ }
-{
-    if b { true } else { c }
-}
-
-fn pick(b: bool, x: u64, y: u64) -> u64
-    ensures { λ r. ⌜ r ≡ cond b x y ⌝ }
-{
-    if b { x } else { y }
+    truth::both(low <= x, x <= high)
 }
 
 // The number of the lowest item outside its range, 0 if there is none.
 fn item_outside(step: u64, ramp: u64, level: u64, decorrelation: u64) -> u64
     ensures { λ r. ⌜ r ≡ itemOutside step ramp level decorrelation ⌝ }
 {
-    let fourth = pick(!between(0, LONGEST_DECORRELATION, decorrelation), 4, 0);
-    let third = pick(!between(1, HIGHEST_LEVEL, level), 3, fourth);
-    let second = pick(!between(0, LONGEST_RAMP, ramp), 2, third);
-    pick(!between(1, LONGEST_STEP, step), 1, second)
+    let fourth = truth::pick(!between(0, LONGEST_DECORRELATION, decorrelation), 4, 0);
+    let third = truth::pick(!between(1, HIGHEST_LEVEL, level), 3, fourth);
+    let second = truth::pick(!between(0, LONGEST_RAMP, ramp), 2, third);
+    truth::pick(!between(1, LONGEST_STEP, step), 1, second)
 }
 
 // The state of no samples.
@@ -144,20 +126,23 @@ fn last_kept(r: Record) -> bool
     ensures { λ k. ⌜ k ≡ lastKept r ⌝ }
 {
     let last = r.last;
-    both(
+    truth::both(
         sample_in_range(last),
-        either(r.n != 0, magnitude::magnitude(last) == 0),
+        truth::either(r.n != 0, magnitude::magnitude(last) == 0),
     )
 }
 
 fn failure_kept(r: Record) -> bool
     ensures { λ k. ⌜ k ≡ failureKept r ⌝ }
 {
-    both(
+    truth::both(
         1 <= r.counted,
-        both(
+        truth::both(
             r.crossings <= spans(r.ramp, r.n),
-            both(r.ramp < r.first, both(r.first <= r.latest, r.latest < r.n)),
+            truth::both(
+                r.ramp < r.first,
+                truth::both(r.first <= r.latest, r.latest < r.n),
+            ),
         ),
     )
 }
@@ -165,7 +150,7 @@ fn failure_kept(r: Record) -> bool
 fn none_kept(r: Record) -> bool
     ensures { λ k. ⌜ k ≡ noneKept r ⌝ }
 {
-    both(r.crossings == 0, both(r.counted == 0, r.latest == 0))
+    truth::both(r.crossings == 0, truth::both(r.counted == 0, r.latest == 0))
 }
 
 fn figures_kept(r: Record) -> bool
@@ -185,11 +170,11 @@ pub fn sound(r: Record) -> bool
     if item_outside(r.step, r.ramp, r.level, r.decorrelation) != 0 {
         return false;
     }
-    both(
+    truth::both(
         last_kept(r),
-        both(
+        truth::both(
             r.n <= most_samples(r.step, r.ramp),
-            both(r.counted <= r.crossings, figures_kept(r)),
+            truth::both(r.counted <= r.crossings, figures_kept(r)),
         ),
     )
 }
@@ -227,9 +212,9 @@ fn crossed(r: Record, x: i32) -> Record
         n: r.n + 1,
         last: x,
         crossings: r.crossings + 1,
-        counted: pick(c, r.counted + 1, r.counted),
-        first: pick(r.crossings == 0, r.n, r.first),
-        latest: pick(c, r.n, r.latest),
+        counted: truth::pick(c, r.counted + 1, r.counted),
+        first: truth::pick(r.crossings == 0, r.n, r.first),
+        latest: truth::pick(c, r.n, r.latest),
     }
 }
 
@@ -256,7 +241,7 @@ fn moved(r: Record, k: u64, last: i32) -> Record
 fn rises(level: u64, x: i32, y: i32) -> bool
     ensures { λ k. ⌜ k ≡ rises level x y ⌝ }
 {
-    both(!magnitude::above(level, x), magnitude::above(level, y))
+    truth::both(!magnitude::above(level, x), magnitude::above(level, y))
 }
 
 // Whether sample n, which is x, crosses the level.
@@ -264,7 +249,7 @@ fn crosses(r: Record, x: i32) -> bool
     ensures { λ k. ⌜ k ≡ crosses r x ⌝ }
 {
     let last = r.last;
-    both(r.ramp < r.n, rises(r.level, last, x))
+    truth::both(r.ramp < r.n, rises(r.level, last, x))
 }
 
 // The state after one sample more.

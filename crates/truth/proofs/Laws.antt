@@ -1,11 +1,21 @@
 -- Laws of tests, for the proofs above: from a test that holds to its parts, and from an answer to the fact that it tests. Assumes nothing.
 use mathlib.Core.Path.{_≡_, refl, subst, sym, _∙_}
-use mathlib.Core.Bool.{Bool, false, not, true, _||_}
+use mathlib.Core.Bool.{Bool, false, not, true, _&&_, _||_}
 use lib.Dec.{T}
 use borrow.Author.Tests.{not-false, not-true}
 
 pub holds : {b : Bool} → b ≡ true → T b
 holds e = subst T (sym e) tt
+
+pub true≢false : true ≡ false → ⊥
+true≢false e = subst T e tt
+
+pub and-true : (a b : Bool) → (a && b) ≡ true → (a ≡ true) × (b ≡ true)
+and-true true b e = (refl, e)
+and-true false b e = absurd (true≢false (sym e))
+
+pub both-true : {a b : Bool} → a ≡ true → b ≡ true → (a && b) ≡ true
+both-true d e = rw (d, e)
 
 pub no : (b : Bool) → ¬ T b → b ≡ false
 no true f = absurd (f tt)

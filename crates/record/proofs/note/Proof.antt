@@ -8,7 +8,7 @@ use native.Mathlib.Omega.{arith}
 use borrow.Author.Tests.{not-true, not-false}
 use mir.Facts.{toZ-ofZ}
 use Rattle.record.specs.Step.{crosses, noted}
-use Rattle.record.proofs.Bools.{both-true}
+use Rattle.truth.proofs.Laws.{both-true}
 use Rattle.record.proofs.Relations.{kept-from}
 use Rattle.record.proofs.Steps.{items-of, small, crosses-after}
 use Rattle.record.proofs.Times.{in-time}

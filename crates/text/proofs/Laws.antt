@@ -63,6 +63,10 @@ module _ (out : List ℕ) (at : ℕ) (text : List ℕ) where
   unfolding placeAfter
   after-short h = rw (lt-leb _ _ h)
 
+-- a text of one byte is one store
+pub laid-one : (out : List ℕ) (at b : ℕ) → at < length out → laid out at (b ∷ []) ≡ set out at b
+laid-one out at b h = rw (laid-last out at [] b (omega arith), laid-none, add-zero)
+
 -- a writer's turn over the first i bytes of a text: the last of them is stored, and the ones before it are left
 pub laid-turn : (out : List ℕ) (at : ℕ) (text : List ℕ) (i : ℕ) → 0 < i → i ≤ length text → at + length text ≤ length out
     → laid (set out (at + (i - 1)) (getD text (i - 1) 0)) at (take (i - 1) text) ≡ laid out at (take i text)

@@ -1,12 +1,11 @@
 -- `text::write_byte` meets its contract: a text of one byte is laid by one store. Assumes nothing.
 use Prim.Native.Nat.{_+_, _<_, _≤_}
 use mathlib.Core.List.{[], _∷_}
-use native.Mathlib.Nat.{add-zero}
 use native.Mathlib.Omega.{arith}
 use lib.ListN.{length}
 use denote.Ref.{now}
 use borrow.Author.Needs.{needs}
-use Rattle.text.proofs.Laws.{written-fits, written-short, after-fits, after-short, laid-none, laid-last}
+use Rattle.text.proofs.Laws.{written-fits, written-short, after-fits, after-short, laid-one}
 use Rattle.text.proofs.write_byte.Statement.{statement}
 use Rattle.text.proofs.write_byte.Tie as tie
 
@@ -34,9 +33,7 @@ returns-2 c =
       rw (after-fits (now (a .out)) (a .at) (a .b ∷ []) room),
       rw (
         written-fits (now (a .out)) (a .at) (a .b ∷ []) room,
-        laid-last (now (a .out)) (a .at) [] (a .b) (omega arith),
-        laid-none,
-        add-zero,
+        laid-one (now (a .out)) (a .at) (a .b) (omega arith),
       ),
     )
 

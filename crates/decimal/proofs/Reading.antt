@@ -1,9 +1,9 @@
 -- Laws of a field's reading. The reader takes the digits that a text starts with, 12 at most, and looks at what comes after them: either
 -- the field ends there, and is those digits, or the byte there makes it no number, being no digit or the 13th. Assumes nothing.
-use mathlib.Core.Path.{_≡_, refl, sym, ap, _∙_}
-use mathlib.Core.Bool.{Bool, true, false, cond, not, _&&_, _||_, and-false, false≢true, true≢false}
-use mathlib.Core.List.{List, [], _∷_, _++_, append-assoc}
-use Prim.Native.Nat.{ℕ, zero, suc, _+_, _-_, _^_, _≤_, _<_, min}
+use mathlib.Core.Path.{_≡_, refl, _∙_}
+use mathlib.Core.Bool.{Bool, true, false, cond, not, _&&_, and-false, true≢false}
+use mathlib.Core.List.{List, [], _∷_}
+use Prim.Native.Nat.{ℕ, zero, suc, _+_, _-_, _≤_, _<_, min}
 use native.Mathlib.Nat.{add-zero, not-suc-le-zero}
 use native.Mathlib.Numerals.{add-one}
 use native.Mathlib.Omega.{arith}
@@ -11,18 +11,14 @@ use lib.Dec.{leb, ltb, eqb, leb·suc-suc}
 use lib.ListN.{length, getD, drop, length-drop, drop-of-length-le}
 use lib.Seq.{drop-cons, drop-drop, getD-drop}
 use borrow.Author.Tests.{lt-leb, le-leb, ne-eqb}
-use Rattle.decimal.specs.Decimal.{zeroByte, longest, isDigit, allDigits, leadingZero, leadingDigits, isNumber, valueOf, digitsOf}
+use Rattle.text.proofs.Cases.{by-order, by-test}
+use Rattle.decimal.specs.Decimal.{zeroByte, longest, isDigit, allDigits, leadingDigits, isNumber, valueOf}
 use Rattle.decimal.specs.Field.{isEnd, endsHere, fieldOf, readAs, fieldAt}
-use Rattle.decimal.specs.declared.Field.{Field}
 use Rattle.decimal.specs.declared.Field.the-variants.{Number, Bad}
-use Rattle.decimal.proofs.Text.{either-side, both-true, digit-range}
+use Rattle.decimal.proofs.Text.{digit-range}
 
-digit-no-end : (b : ℕ) → isDigit b ≡ true → isEnd b ≡ false
+pub digit-no-end : (b : ℕ) → isDigit b ≡ true → isEnd b ≡ false
 digit-no-end b d = let range = digit-range b d in rw (ne-eqb b 9 (λ e. omega arith), ne-eqb b 10 (λ e. omega arith))
-
-by-test : (t : Bool) {P : Type 0} → (t ≡ true → P) → (t ≡ false → P) → P
-by-test true f g = f refl
-by-test false f g = g refl
 
 -- the digits that a text starts with are digits, and no more than were asked for
 pub leading-all : (n : ℕ) (text : List ℕ) → allDigits (leadingDigits n text) ≡ true
@@ -90,20 +86,23 @@ module _ (s : List ℕ) (at : ℕ) where
   pub run-within : 1 ≤ length run → at < length s
   run-within h = omega (arith, leading-within longest (drop at s), length-drop at s)
 
-  pub read-bad : endsHere (drop (at + length run) s) ≡ false → fieldAt s at ≡ Bad
+  pub read-bad : (end : ℕ) → end ≡ at + length run → endsHere (drop end s) ≡ false → fieldAt s at ≡ Bad
   unfolding fieldAt readAs isNumber
-  read-bad e = rw (without (allDigits (fieldOf (drop at s))) _ _ _ (field-goes-on longest (drop at s) (rw drop-drop e)))
+  read-bad end e goes-on =
+      rw (without (allDigits (fieldOf (drop at s))) _ _ _ (field-goes-on longest (drop at s) (rw (drop-drop, ← e) goes-on)))
 
-  pub read-ended : endsHere (drop (at + length run) s) ≡ true
-      → fieldAt s at ≡ cond (leb 1 (length run) && not (ltb 1 (length run) && eqb (getD s at 0) zeroByte)) (Number (valueOf run) (at + length run)) Bad
+  pub read-ended : (value end : ℕ) → value ≡ valueOf run → end ≡ at + length run → endsHere (drop end s) ≡ true
+      → fieldAt s at ≡ cond (leb 1 (length run) && not (ltb 1 (length run) && eqb (getD s at 0) zeroByte)) (Number value end) Bad
   unfolding fieldAt readAs isNumber
-  read-ended e =
+  read-ended value end v e ends =
       rw (
-        field-ends longest (drop at s) (rw drop-drop e),
+        v,
+        e,
+        field-ends longest (drop at s) (rw (drop-drop, ← e) ends),
         leading-all longest (drop at s),
         le-leb (length run) longest (leading-few longest (drop at s)),
       )
-      (either-side (length run) 1 (λ l. rw (lt-leb 1 (length run) l)) (λ l. rw (leading-first longest (drop at s) l, getD-drop, add-zero)))
+      (by-order (length run) 1 (λ l. rw (lt-leb 1 (length run) l)) (λ l. rw (leading-first longest (drop at s) l, getD-drop, add-zero)))
 
 -- one turn of the run of digits: what is left of it at i, of 12 from `at` on
 module _ (s : List ℕ) (at i : ℕ) where
@@ -127,6 +126,6 @@ module _ (s : List ℕ) (at i : ℕ) where
   pub left-none : min (length s) (at + longest) ≤ i → left ≡ []
   unfolding leadingDigits
   left-none h =
-      either-side i (length s)
+      by-order i (length s)
       (λ l. let e : at + longest - i ≡ 0 = omega arith in rw e)
       (λ l. rw (drop-of-length-le s l) (of-nothing (at + longest - i)))

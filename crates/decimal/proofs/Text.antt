@@ -1,35 +1,20 @@
 -- Laws of a number's decimal text. `digits-one` and `digits-more` are its definition without the count of steps, and `by-digits` is
 -- induction along it, from v / 10 to v; the laws after them go by those three. Assumes nothing.
-use mathlib.Core.Path.{_≡_, refl, sym, ap, _∙_}
-use mathlib.Core.Bool.{Bool, true, false, _&&_, and-assoc, and-false, false≢true}
+use mathlib.Core.Path.{_≡_, refl, sym, _∙_}
+use mathlib.Core.Bool.{true, false, _&&_, and-assoc, and-false}
 use mathlib.Core.List.{List, [], _∷_, _++_, foldl, foldl-append, append-assoc, append-nil}
 use Prim.Native.Nat.{ℕ, zero, suc, _+_, _-_, _*_, _/_, _%_, _^_, _≤_, _<_}
-use native.Mathlib.Nat.{lt-of-lt-of-le, zero-add, div-lt-self, div-add-mod', mod-lt, not-suc-le-zero, add-zero, div-eq-of-lt, mod-eq-of-lt, mul-add-div-right, mul-add-mod-self-right, le-div-iff-mul-le, div-lt-iff-lt-mul, pow-suc, pow-le-pow-right}
+use native.Mathlib.Nat.{lt-of-lt-of-le, zero-add, not-suc-le-zero, add-zero, mod-eq-of-lt, pow-suc, pow-le-pow-right}
 use native.Mathlib.Numerals.{add-one}
-use native.Mathlib.Decide.{decLt}
 use native.Mathlib.Omega.{arith}
-use lib.Dec.{ltb, leb, eqb}
+use lib.Dec.{ltb, leb}
 use lib.ListN.{length, getD, length-append, List·getD-append}
-use borrow.Author.Tests.{lt-ltb, le-ltb, le-leb, lt-leb, ne-eqb, leb-true, ltb-true, eqb-false, not-true}
+use borrow.Author.Tests.{lt-ltb, le-ltb, le-leb, ne-eqb, leb-true, ltb-true, eqb-false, not-true}
+use Rattle.text.proofs.Cases.{by-order, both-true}
 use Rattle.decimal.specs.Decimal.{zeroByte, longest, isDigit, allDigits, leadingZero, isNumber, push, valueOf, digitsWithin, digitsOf}
-
-pub either-side : (n k : ℕ) {P : Type 0} → (n < k → P) → (k ≤ n → P) → P
-either-side n k {P} below above = split (decLt n k)
-  where
-    split : Dec (n < k) → P
-    split (yes l) = below l
-    split (no l) = above (omega arith)
-
-pub both-true : (a b : Bool) → (a && b) ≡ true → (a ≡ true) × (b ≡ true)
-both-true true b e = (refl, e)
-both-true false b e = absurd (false≢true e)
 
 abbrev lastDigit : ℕ → List ℕ
 lastDigit v = (zeroByte + v % 10) ∷ []
-
--- dividing by ten leaves less
-less : (v : ℕ) → 10 ≤ v → v / 10 < v
-less v h = div-lt-self (omega arith) (omega arith)
 
 within-one : (n v : ℕ) → v < 10 → digitsWithin (suc n) v ≡ lastDigit v
 unfolding digitsWithin
@@ -41,12 +26,12 @@ within-more n v h = rw (le-ltb v 10 h)
 
 -- any number of steps above v is enough
 enough : (n m v : ℕ) → v < n → v < m → digitsWithin n v ≡ digitsWithin m v
-enough zero m v h k = absurd (not-suc-le-zero h)
-enough (suc n) zero v h k = absurd (not-suc-le-zero k)
+enough zero m v h k = absurd (omega arith)
+enough (suc n) zero v h k = absurd (omega arith)
 enough (suc n) (suc m) v h k =
-    either-side v 10
+    by-order v 10
     (λ l. rw (within-one n v l, within-one m v l))
-    (λ l. rw (within-more n v l, within-more m v l, enough n m (v / 10) (omega (arith, less v l)) (omega (arith, less v l))))
+    (λ l. rw (within-more n v l, within-more m v l, enough n m (v / 10) (omega arith) (omega arith)))
 
 pub digits-one : (v : ℕ) → v < 10 → digitsOf v ≡ lastDigit v
 unfolding digitsOf
@@ -54,7 +39,7 @@ digits-one v h = within-one v v h
 
 pub digits-more : (v : ℕ) → 10 ≤ v → digitsOf v ≡ digitsOf (v / 10) ++ lastDigit v
 unfolding digitsOf
-digits-more v h = rw (within-more v v h, enough v (suc (v / 10)) (v / 10) (less v h) (omega arith))
+digits-more v h = rw (within-more v v h, enough v (suc (v / 10)) (v / 10) (omega arith) (omega arith))
 
 pub length-more : (v : ℕ) → 10 ≤ v → length (digitsOf v) ≡ length (digitsOf (v / 10)) + 1
 length-more v h = rw (digits-more v h, length-append)
@@ -63,8 +48,8 @@ pub by-digits : (P : ℕ → Type 0) → ((v : ℕ) → v < 10 → P v) → ((v 
 by-digits P one more v = go (suc v) v (omega arith)
   where
     go : (n v : ℕ) → v < n → P v
-    go zero v h = absurd (not-suc-le-zero h)
-    go (suc n) v h = either-side v 10 (one v) (λ l. more v l (go n (v / 10) (omega (arith, less v l))))
+    go zero v h = absurd (omega arith)
+    go (suc n) v h = by-order v 10 (one v) (λ l. more v l (go n (v / 10) (omega arith)))
 
 pub value-last : (text : List ℕ) (b : ℕ) → valueOf (text ++ (b ∷ [])) ≡ push (valueOf text) b
 unfolding valueOf
@@ -75,8 +60,8 @@ pub value-digits : (v : ℕ) → valueOf (digitsOf v) ≡ v
 unfolding valueOf
 value-digits =
     by-digits (λ v. valueOf (digitsOf v) ≡ v)
-    (λ v h. rw (digits-one v h) (omega (arith, mod-lt v {m = 10} (omega arith), div-add-mod' v 10)))
-    (λ v h e. rw (digits-more v h, value-last, e) (omega (arith, div-add-mod' v 10)))
+    (λ v h. rw (digits-one v h) (omega arith))
+    (λ v h e. rw (digits-more v h, value-last, e) (omega arith))
 
 -- it is all digits
 digit-byte : (d : ℕ) → d < 10 → isDigit (zeroByte + d) ≡ true
@@ -91,8 +76,8 @@ pub all-digits : (v : ℕ) → allDigits (digitsOf v) ≡ true
 unfolding allDigits
 all-digits =
     by-digits (λ v. allDigits (digitsOf v) ≡ true)
-    (λ v h. rw (digits-one v h, digit-byte (v % 10) (mod-lt v {m = 10} (omega arith))))
-    (λ v h e. rw (digits-more v h, all-append, e, digit-byte (v % 10) (mod-lt v {m = 10} (omega arith))))
+    (λ v h. rw (digits-one v h, digit-byte (v % 10) (omega arith)))
+    (λ v h e. rw (digits-more v h, all-append, e, digit-byte (v % 10) (omega arith)))
 
 -- it has a digit for each power of ten that the number reaches, and one at least
 pub digits-some : (v : ℕ) → 1 ≤ length (digitsOf v)
@@ -106,26 +91,26 @@ digits-above zero v h = digits-some v
 digits-above (suc k) v h =
     let reach : 10 ^ k * 10 ≤ v = rw pow-suc at h in
     let some : 1 ≤ 10 ^ k = pow-le-pow-right {n = 10} (omega arith) {i = 0} {j = k} (omega arith) in
-    rw (digits-more v (omega arith), length-append) (omega (arith, digits-above k (v / 10) (le-div-iff-mul-le {k = 10} (omega arith) .1 reach)))
+    rw (digits-more v (omega arith), length-append) (omega (arith, digits-above k (v / 10) (omega arith)))
 
 pub digits-below : (k v : ℕ) → v < 10 ^ suc k → length (digitsOf v) ≤ suc k
 digits-below zero v h = rw (digits-one v h) (omega arith)
 digits-below (suc k) v h =
     let reach : v < 10 ^ suc k * 10 = rw pow-suc at h in
-    either-side v 10
+    by-order v 10
     (λ l. rw (digits-one v l) (omega arith))
-    (λ l. rw (digits-more v l, length-append) (omega (arith, digits-below k (v / 10) (div-lt-iff-lt-mul {k = 10} (omega arith) .1 reach))))
+    (λ l. rw (digits-more v l, length-append) (omega (arith, digits-below k (v / 10) (omega arith))))
 
 -- the first digit is 0 for 0 alone
 pub digits-first : (v : ℕ) → 1 ≤ v → zeroByte < getD (digitsOf v) 0 0
 digits-first =
     by-digits (λ v. 1 ≤ v → zeroByte < getD (digitsOf v) 0 0)
-    (λ v h some. rw (digits-one v h) (omega (arith, mod-eq-of-lt h)))
-    (λ v h e some. rw (digits-more v h, List·getD-append (digitsOf (v / 10)) (lastDigit v) 0 0 (digits-some (v / 10))) (e (le-div-iff-mul-le {k = 10} (omega arith) .1 (omega arith))))
+    (λ v h some. rw (digits-one v h) (omega arith))
+    (λ v h e some. rw (digits-more v h, List·getD-append (digitsOf (v / 10)) (lastDigit v) 0 0 (digits-some (v / 10))) (e (omega arith)))
 
 pub no-leading-zero : (v : ℕ) → leadingZero (digitsOf v) ≡ false
 no-leading-zero v =
-    either-side v 1
+    by-order v 1
     (λ l. rw (digits-one v (omega arith)))
     (λ l. rw (ne-eqb (getD (digitsOf v) 0 0) zeroByte (λ e. omega (arith, digits-first v l)), and-false))
 
@@ -151,8 +136,8 @@ digits-push : (v b : ℕ) → 1 ≤ v → isDigit b ≡ true → digitsOf (push 
 digits-push v b some d =
     let (low, high) = digit-range b d in
     let small : b - zeroByte < 10 = omega arith in
-    let whole : push v b / 10 ≡ v = mul-add-div-right {m = 10} (omega arith) v (b - zeroByte) ∙ rw (div-eq-of-lt small, add-zero) in
-    let digit : push v b % 10 ≡ b - zeroByte = mul-add-mod-self-right v 10 (b - zeroByte) ∙ mod-eq-of-lt small in
+    let whole : push v b / 10 ≡ v = omega arith in
+    let digit : push v b % 10 ≡ b - zeroByte = omega arith in
     let byte : zeroByte + (b - zeroByte) ≡ b = omega arith in
     rw (digits-more (push v b) (omega arith), whole, digit, byte)
 

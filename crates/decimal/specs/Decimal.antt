@@ -1,6 +1,6 @@
 -- Document 01, "The job sheet": numbers in text. A text is a list of bytes. Assumes nothing.
 use Prim.Native.Nat.{ℕ, zero, suc, _+_, _-_, _*_, _/_, _%_}
-use mathlib.Core.Bool.{Bool, true, false, cond, not, _&&_}
+use mathlib.Core.Bool.{Bool, true, cond, not, _&&_}
 use mathlib.Core.List.{List, [], _∷_, _++_, foldl}
 use lib.ListN.{length, getD}
 use lib.Dec.{leb, ltb, eqb}
@@ -48,6 +48,10 @@ valueOf text = foldl push 0 text
 unfoldable pub digitsWithin : ℕ → ℕ → List ℕ
 digitsWithin zero v = []
 digitsWithin (suc n) v = cond (ltb v 10) [] (digitsWithin n (v / 10)) ++ ((zeroByte + v % 10) ∷ [])
+
+-- the most digits of a number that 64 bits hold
+abbrev pub widest : ℕ
+widest = 20
 
 -- the decimal text of a number
 unfoldable pub digitsOf : ℕ → List ℕ

@@ -8,9 +8,15 @@ use Rattle.decimal.specs.Decimal.{isNumber, valueOf}
 use Rattle.decimal.specs.declared.Field.{Field}
 use Rattle.decimal.specs.declared.Field.the-variants.{Number, Bad}
 
--- the byte ends a field: tab or LF
+abbrev pub tab : ℕ
+tab = 9
+
+abbrev pub lineFeed : ℕ
+lineFeed = 10
+
+-- the byte ends a field
 abbrev pub isEnd : ℕ → Bool
-isEnd b = eqb b 9 || eqb b 10
+isEnd b = eqb b tab || eqb b lineFeed
 
 -- the text is at the end of a field: at a byte that ends one, or nothing is left
 unfoldable pub endsHere : List ℕ → Bool

@@ -4,8 +4,8 @@ ghost use mathlib.Core.Path.{_≡_};
 ghost use Prim.Native.Nat.{_+_, _%_, _≤_, min};
 ghost use lib.ListN.{length, drop};
 ghost use Rattle.text.specs.Write.{written, placeAfter};
-ghost use Rattle.decimal.specs.Decimal.{zeroByte, longest, isDigit, leadingDigits, valueOf, digitsOf};
-ghost use Rattle.decimal.specs.Field.{isEnd, endsHere, fieldAt};
+ghost use Rattle.decimal.specs.Decimal.{zeroByte, longest, isDigit, leadingDigits, valueOf, digitsOf, widest};
+ghost use Rattle.decimal.specs.Field.{endsHere, fieldAt};
 
 // The byte of the digit 0.
 const ZERO: u8 = 48;
@@ -115,7 +115,7 @@ fn ended(s: &[u8], at: usize) -> bool
 // How many digits the decimal text of `v` has.
 pub fn digits(v: u64) -> usize
     ensures { λ r. ⌜ r ≡ length (digitsOf v) ⌝ }
-    ensures { λ r. ⌜ r ≤ 20 ⌝ }
+    ensures { λ r. ⌜ r ≤ widest ⌝ }
 {
     let tens = v / 10;
     let mut count: usize = 1;

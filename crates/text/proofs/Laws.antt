@@ -3,13 +3,13 @@
 use mathlib.Core.Path.{_≡_}
 use mathlib.Core.List.{List, [], _∷_, _++_, append-assoc}
 use Prim.Native.Nat.{ℕ, zero, suc, _+_, _-_, _≤_, _<_}
-use native.Mathlib.Nat.{add-zero, add-suc, add-assoc, not-suc-le-zero}
+use native.Mathlib.Nat.{add-zero, add-suc, add-assoc}
 use native.Mathlib.Numerals.{add-one, sub-one}
-use native.Mathlib.Decide.{decLe}
 use native.Mathlib.Omega.{arith}
 use lib.ListN.{length, getD, take, drop, set, length-append, length-drop, take-append-drop}
 use lib.Seq.{length-take-le, take-at, take-suc, drop-at, drop-drop, take-set-le, set-split}
 use borrow.Author.Tests.{le-leb, lt-leb}
+use Rattle.text.proofs.Cases.{by-order}
 use Rattle.text.specs.Write.{laid, written, placeAfter}
 
 pub laid-none : (out : List ℕ) (at : ℕ) → laid out at [] ≡ out
@@ -70,18 +70,17 @@ laid-one out at b h = rw (laid-last out at [] b (omega arith), laid-none, add-ze
 -- a writer's turn over the first i bytes of a text: the last of them is stored, and the ones before it are left
 pub laid-turn : (out : List ℕ) (at : ℕ) (text : List ℕ) (i : ℕ) → 0 < i → i ≤ length text → at + length text ≤ length out
     → laid (set out (at + (i - 1)) (getD text (i - 1) 0)) at (take (i - 1) text) ≡ laid out at (take i text)
-laid-turn out at text zero some in-text room = absurd (not-suc-le-zero some)
+laid-turn out at text zero some in-text room = absurd (omega arith)
 laid-turn out at text (suc j) some in-text room =
     let n : length (take j text) ≡ j = length-take-le j text (omega arith) in
     rw (sub-one, take-suc text j 0 in-text, laid-last out at (take j text) (getD text j 0) (omega arith), n)
 
 -- writing never changes how many bytes there are
 pub length-written : (out : List ℕ) (at : ℕ) (text : List ℕ) → length (written out at text) ≡ length out
-length-written out at text = split (decLe (at + length text) (length out))
-  where
-    split : Dec (at + length text ≤ length out) → length (written out at text) ≡ length out
-    split (yes h) = rw (written-fits out at text h) (length-laid out at text h)
-    split (no h) = rw (written-short out at text (omega arith))
+length-written out at text =
+    by-order (length out) (at + length text)
+    (λ short. rw (written-short out at text short))
+    (λ room. rw (written-fits out at text room) (length-laid out at text room))
 
 -- one text written after another is both written as one
 module _ (out : List ℕ) (at : ℕ) (text more : List ℕ) (room : at + length (text ++ more) ≤ length out) where

@@ -1,7 +1,7 @@
 -- Two answers that a promise allows are the same answer, with the same bytes left. Assumes nothing.
 use mathlib.Core.Path.{_≡_}
 use mathlib.Core.Bool.{Bool}
-use mathlib.Core.List.{List, [], _∷_}
+use mathlib.Core.List.{List}
 use Prim.Native.Nat.{ℕ, _+_}
 use lib.Dec.{leb}
 use Rattle.text.specs.Write.{written, placeAfter}

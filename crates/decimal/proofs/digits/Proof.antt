@@ -1,12 +1,11 @@
 -- `decimal::digits` meets its contract. The invariant of its loop: ten times the power is ten to the count, and the text has at least that
 -- many digits. A turn is made where v reaches the next power; comparing with v / 10 keeps the product from wrapping. The measure is how
 -- far the power is below v / 10 and falls, since the power grows. Assumes nothing.
-use mathlib.Core.Path.{_≡_, refl, sym, ap, _∙_}
-use Prim.Native.Nat.{suc, _+_, _-_, _*_, _/_, _^_, _≤_, _<_}
-use native.Mathlib.Nat.{le-antisymm, le-div-iff-mul-le, div-lt-iff-lt-mul, pow-suc}
+use mathlib.Core.Path.{_≡_, refl}
+use Prim.Native.Nat.{suc, _+_, _-_, _*_, _^_, _≤_}
+use native.Mathlib.Nat.{pow-suc}
 use native.Mathlib.Numerals.{add-one}
 use native.Mathlib.Omega.{arith}
-use borrow.Author.Needs.{needs}
 use lib.ListN.{length}
 use Rattle.decimal.specs.Decimal.{digitsOf}
 use Rattle.decimal.proofs.Text.{digits-some, digits-above, digits-below}
@@ -24,7 +23,7 @@ loop-holds : tie.Need-loop-holds Inv-loop μ-loop
 loop-holds c = (omega arith, (omega arith, (refl, digits-some (c .args .v))))
 
 mul-power : tie.Need-mul-power Inv-loop μ-loop
-mul-power c = omega (arith, le-div-iff-mul-le {k = 10} (omega arith) .0 (c .loop-test .taken))
+mul-power c = omega arith
 
 add-count : tie.Need-add-count Inv-loop μ-loop
 add-count c = omega (arith, digits-below 19 (c .before .before .args .v) (omega arith))
@@ -36,16 +35,14 @@ loop-again : tie.Need-loop-again Inv-loop μ-loop
 loop-again c =
     let l = c .before .loop in
     let v = c .before .before .args .v in
-    let reach : 10 ^ l .count ≤ v = rw (← l .inv .1 .1 .0) (le-div-iff-mul-le {k = 10} (omega arith) .0 (c .loop-test .taken)) in
-    (omega arith, (omega arith, (rw (add-one, pow-suc, l .inv .1 .1 .0), omega (arith, digits-above (l .count) v reach))))
+    (omega arith, (omega arith, (rw (add-one, pow-suc, l .inv .1 .1 .0), omega (arith, digits-above (l .count) v (omega arith)))))
 
 returns : tie.Need-returns Inv-loop μ-loop
 returns c =
     let l = c .before .loop in
     let v = c .before .before .args .v in
-    let past : v < 10 ^ l .count = rw (← l .inv .1 .1 .0) (div-lt-iff-lt-mul {k = 10} (omega arith) .0 (c .loop-test .left)) in
-    let e : l .count ≡ suc (l .count - 1) = omega arith in
-    let few : length (digitsOf v) ≤ l .count = rw e (digits-below (l .count - 1) v (rw (← e) past)) in
+    let e : suc (l .count - 1) ≡ l .count = omega arith in
+    let few : length (digitsOf v) ≤ l .count = rw e at (digits-below (l .count - 1) v (rw e (omega arith))) in
     (omega arith, omega (arith, digits-below 19 v (omega arith)))
 
 pub digits-spec : {M : Type 1} → statement M

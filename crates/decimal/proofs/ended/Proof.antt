@@ -1,9 +1,7 @@
 -- `decimal::ended` meets its contract: past the end nothing is left, and before it the byte decides. Assumes nothing.
-use Prim.Native.Nat.{suc}
-use mathlib.Core.List.{_∷_}
 use borrow.Author.Needs.{needs}
 use borrow.Author.Tests.{eq-eqb, ne-eqb}
-use lib.ListN.{getD, drop, drop-of-length-le}
+use lib.ListN.{getD, drop-of-length-le}
 use lib.Seq.{drop-cons}
 use denote.Ref.{now}
 use Rattle.decimal.specs.Field.{endsHere}

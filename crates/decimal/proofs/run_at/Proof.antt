@@ -1,7 +1,7 @@
 -- `decimal::run_at` meets its contract. The invariant of its loop: the value, with the digits pushed that are left at i, is the value of
 -- the whole run; their number, from i on, ends where the run ends; and the value is below ten to the digits passed, so that no sum
 -- wraps. What is left of the way to `stop`, the measure, falls by one. Assumes nothing.
-use mathlib.Core.Path.{_≡_, refl, sym, ap, _∙_}
+use mathlib.Core.Path.{_≡_, sym, _∙_}
 use mathlib.Core.Bool.{true}
 use mathlib.Core.List.{List, [], _∷_, foldl}
 use Prim.Native.Nat.{ℕ, _+_, _-_, _^_, _≤_, _<_}
@@ -9,9 +9,9 @@ use native.Mathlib.Nat.{lt-of-lt-of-le, pow-le-pow-right}
 use native.Mathlib.Omega.{arith}
 use borrow.Author.Needs.{needs}
 use borrow.Author.Tests.{not-true, not-false}
-use lib.ListN.{length, getD, drop}
+use lib.ListN.{length, getD}
 use denote.Ref.{now}
-use Rattle.decimal.specs.Decimal.{longest, isDigit, push, leadingDigits, valueOf}
+use Rattle.decimal.specs.Decimal.{longest, isDigit, push, valueOf}
 use Rattle.decimal.proofs.Text.{digit-range, push-below}
 use Rattle.decimal.proofs.Reading.{run, left, left-digit, left-other, left-none}
 use Rattle.decimal.proofs.run_at.Statement.{statement}

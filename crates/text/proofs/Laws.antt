@@ -1,6 +1,6 @@
 -- Laws of writing a text, for the writers here and above. A writer stores from the text's end to its front: `laid-last` takes the last
--- byte off, and `laid-none` says that nothing is left to do. `written-join` is for texts that are written one after another. Assumes nothing.
-use mathlib.Core.Path.{_≡_}
+-- byte off, and `laid-none` says that nothing is left to do. `wrote-then` is for texts that are written one after another. Assumes nothing.
+use mathlib.Core.Path.{_≡_, _∙_}
 use mathlib.Core.List.{List, [], _∷_, _++_, append-assoc}
 use Prim.Native.Nat.{ℕ, zero, suc, _+_, _-_, _≤_, _<_}
 use native.Mathlib.Nat.{add-zero, add-suc, add-assoc}
@@ -11,6 +11,10 @@ use lib.Seq.{length-take-le, take-at, take-suc, drop-at, drop-drop, take-set-le,
 use borrow.Author.Tests.{le-leb, lt-leb}
 use Rattle.text.proofs.Cases.{by-order}
 use Rattle.text.specs.Write.{laid, written, placeAfter}
+
+-- the promise of a writer: the place that it answers and the bytes that it leaves
+abbrev pub Wrote : List ℕ → ℕ → List ℕ → List ℕ → ℕ → Type 0
+Wrote out at text later next = (next ≡ placeAfter out at text) × (later ≡ written out at text)
 
 pub laid-none : (out : List ℕ) (at : ℕ) → laid out at [] ≡ out
 unfolding laid
@@ -51,7 +55,7 @@ module _ (out : List ℕ) (at : ℕ) (text : List ℕ) where
   unfolding written
   written-fits h = rw (le-leb _ _ h)
 
-  pub written-short : length out < at + length text → written out at text ≡ out
+  written-short : length out < at + length text → written out at text ≡ out
   unfolding written
   written-short h = rw (lt-leb _ _ h)
 
@@ -59,9 +63,17 @@ module _ (out : List ℕ) (at : ℕ) (text : List ℕ) where
   unfolding placeAfter
   after-fits h = rw (le-leb _ _ h)
 
-  pub after-short : length out < at + length text → placeAfter out at text ≡ at
+  after-short : length out < at + length text → placeAfter out at text ≡ at
   unfolding placeAfter
   after-short h = rw (lt-leb _ _ h)
+
+-- a writer's two ends: it has laid the text, or it had no room
+pub wrote-laid : (out : List ℕ) (at : ℕ) (text : List ℕ) (later : List ℕ) (next : ℕ)
+    → at + length text ≤ length out → later ≡ laid out at text → next ≡ at + length text → Wrote out at text later next
+wrote-laid out at text later next room e f = (rw (after-fits out at text room) f, rw (written-fits out at text room) e)
+
+pub wrote-short : (out : List ℕ) (at : ℕ) (text : List ℕ) → length out < at + length text → Wrote out at text out at
+wrote-short out at text short = (rw (after-short out at text short), rw (written-short out at text short))
 
 -- a text of one byte is one store
 pub laid-one : (out : List ℕ) (at b : ℕ) → at < length out → laid out at (b ∷ []) ≡ set out at b
@@ -84,24 +96,28 @@ length-written out at text =
 
 -- one text written after another is both written as one
 module _ (out : List ℕ) (at : ℕ) (text more : List ℕ) (room : at + length (text ++ more) ≤ length out) where
-  pub written-join : written (written out at text) (placeAfter out at text) more ≡ written out at (text ++ more)
+  within : at + length text + length more ≤ length out
+  within = rw (length-append, ← add-assoc) at room
+
+  written-join : written (written out at text) (placeAfter out at text) more ≡ written out at (text ++ more)
   written-join =
-      let r : at + (length text + length more) ≤ length out = rw length-append at room in
       rw (
-        written-fits out at text (omega arith),
-        after-fits out at text (omega arith),
-        written-fits (laid out at text) (at + length text) more (rw (length-laid out at text (omega arith)) (omega arith)),
+        written-fits out at text (omega (arith, within)),
+        after-fits out at text (omega (arith, within)),
+        written-fits (laid out at text) (at + length text) more (rw (length-laid out at text (omega (arith, within))) within),
         written-fits out at (text ++ more) room,
       )
-      (laid-join out at text more (omega arith))
+      (laid-join out at text more (omega (arith, within)))
 
-  pub after-join : placeAfter (written out at text) (placeAfter out at text) more ≡ placeAfter out at (text ++ more)
+  after-join : placeAfter (written out at text) (placeAfter out at text) more ≡ placeAfter out at (text ++ more)
   after-join =
-      let r : at + (length text + length more) ≤ length out = rw length-append at room in
       rw (
-        after-fits out at text (omega arith),
-        after-fits (written out at text) (at + length text) more (rw length-written (omega arith)),
+        after-fits out at text (omega (arith, within)),
+        after-fits (written out at text) (at + length text) more (rw length-written within),
         after-fits out at (text ++ more) room,
         length-append,
         add-assoc,
       )
+
+  pub wrote-then : {middle later : List ℕ} {here next : ℕ} → Wrote out at text middle here → Wrote middle here more later next → Wrote out at (text ++ more) later next
+  wrote-then (e, f) (g, h) = ((rw (e, f) at g) ∙ after-join, (rw (e, f) at h) ∙ written-join)

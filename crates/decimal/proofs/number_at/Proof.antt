@@ -3,7 +3,7 @@
 use mathlib.Core.Path.{_≡_, sym, _∙_}
 use mathlib.Core.Bool.{cond, not, _&&_}
 use mathlib.Core.List.{List}
-use Prim.Native.Nat.{ℕ, _+_, _-_}
+use Prim.Native.Nat.{ℕ, _+_, _<_}
 use native.Mathlib.Omega.{arith}
 use borrow.Author.Needs.{needs}
 use borrow.Author.Tests.{le-leb, lt-leb, lt-ltb, le-ltb, eq-eqb, ne-eqb, not-true, not-false}
@@ -57,11 +57,11 @@ module _ (c : tie.Else1) where
   none : End ≡ At → Bad ≡ fieldAt S At
   none h = rw (by-run, lt-leb 1 (length (run S At)) (omega (arith, end)))
 
-  one : End - At ≡ 1 → Number Value End ≡ fieldAt S At
+  one : End ≡ At + 1 → Number Value End ≡ fieldAt S At
   one h = rw (by-run, le-leb 1 (length (run S At)) (omega (arith, end)), le-ltb 1 (length (run S At)) (omega (arith, end)))
 
-  more : (End ≡ At → ⊥) → (End - At ≡ 1 → ⊥) → fieldAt S At ≡ cond (not (eqb (getD S At 0) zeroByte)) (Number Value End) Bad
-  more h k = rw (by-run, le-leb 1 (length (run S At)) (omega (arith, end)), lt-ltb 1 (length (run S At)) (omega (arith, end)))
+  more : At + 1 < End → fieldAt S At ≡ cond (not (eqb (getD S At 0) zeroByte)) (Number Value End) Bad
+  more h = rw (by-run, le-leb 1 (length (run S At)) (omega (arith, end)), lt-ltb 1 (length (run S At)) (omega (arith, end)))
 
 returns-2 : tie.Need-returns-2
 returns-2 c = none (c .before) (c .if2 .taken)
@@ -70,7 +70,7 @@ sub-if3 : tie.Need-sub-if3
 sub-if3 c = search needs
 
 returns-3 : tie.Need-returns-3
-returns-3 c = one (c .before .before) (c .if3 .taken)
+returns-3 c = one (c .before .before) (omega arith)
 
 shared-slice-read-if4 : tie.Need-shared-slice-read-if4
 shared-slice-read-if4 c = let d = c .before .before .before in run-within (S d) (At d) (omega (arith, end d))
@@ -78,12 +78,12 @@ shared-slice-read-if4 c = let d = c .before .before .before in run-within (S d) 
 returns-4 : tie.Need-returns-4
 returns-4 c =
     let d = c .before .before .before .before in
-    rw (more d (c .before .before .before .if2 .left) (c .before .before .if3 .left), eq-eqb (getD (S d) (At d) 0) zeroByte (c .if4 .taken))
+    rw (more d (omega arith), eq-eqb (getD (S d) (At d) 0) zeroByte (c .if4 .taken))
 
 returns-5 : tie.Need-returns-5
 returns-5 c =
     let d = c .before .before .before .before in
-    rw (more d (c .before .before .before .if2 .left) (c .before .before .if3 .left), ne-eqb (getD (S d) (At d) 0) zeroByte (c .if4 .left))
+    rw (more d (omega arith), ne-eqb (getD (S d) (At d) 0) zeroByte (c .if4 .left))
 
 pub number-at-spec : {M : Type 1} → statement M
 number-at-spec =

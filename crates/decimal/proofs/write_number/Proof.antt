@@ -10,7 +10,7 @@ use borrow.Author.Tests.{leb-true, leb-false, not-true, not-false}
 use lib.ListN.{length, set, length-set}
 use denote.Ref.{now}
 use Rattle.text.specs.Write.{laid}
-use Rattle.text.proofs.Laws.{written-fits, written-short, after-fits, after-short, laid-one, laid-last}
+use Rattle.text.proofs.Laws.{wrote-laid, wrote-short, laid-one, laid-last}
 use Rattle.decimal.specs.Decimal.{zeroByte, digitsOf}
 use Rattle.decimal.proofs.Text.{digits-one, digits-more, digits-some, length-more}
 use Rattle.decimal.proofs.write_number.Statement.{statement}
@@ -44,12 +44,9 @@ has-room-requires c κs = search needs
 returns : tie.Need-returns Inv-loop μ-loop
 returns c =
     let a = c .before .before .before .before .args in
-    let count = c .before .before .digits .result in
-    let no-room : length (now (a .out)) < a .at + count = leb-false (a .at + count) (length (now (a .out))) (sym (c .before .has-room .ensures) ∙ not-true (c .before .has-room .result) (c .if1 .taken)) in
-    let short : length (now (a .out)) < a .at + length (digitsOf (a .v)) = omega arith in (
-      rw (after-short (now (a .out)) (a .at) (digitsOf (a .v)) short),
-      rw (written-short (now (a .out)) (a .at) (digitsOf (a .v)) short),
-    )
+    let n = a .at + c .before .before .digits .result in
+    let no-room = leb-false n (length (now (a .out))) (sym (c .before .has-room .ensures) ∙ not-true (c .before .has-room .result) (c .if1 .taken)) in
+    wrote-short (now (a .out)) (a .at) (digitsOf (a .v)) (omega arith)
 
 room : (c : tie.Else1 Inv-loop μ-loop) → c .before .before .before .before .args .at + c .before .before .digits .result ≤ length (now (c .before .before .before .before .args .out))
 room c =
@@ -110,11 +107,9 @@ returns-2 c =
     let l = c .before .before .loop in
     let count = c .before .before .before .before .before .digits in
     let some = digits-some (a .v) in
-    let fits : a .at + length (digitsOf (a .v)) ≤ length (now (a .out)) = l .inv .0 in (
-      rw (after-fits (now (a .out)) (a .at) (digitsOf (a .v)) fits) (omega arith),
-      rw (written-fits (now (a .out)) (a .at) (digitsOf (a .v)) fits)
-          (last (l .out) (a .at) (l .rest) (c .last-digit2 .result) (omega arith) (omega arith) (c .last-digit2 .ensures) ∙ l .inv .1 .1 .1 .1),
-    )
+    wrote-laid (now (a .out)) (a .at) (digitsOf (a .v)) (set (l .out) (a .at) (c .last-digit2 .result)) (a .at + count .result) (l .inv .0)
+    (last (l .out) (a .at) (l .rest) (c .last-digit2 .result) (omega arith) (omega arith) (c .last-digit2 .ensures) ∙ l .inv .1 .1 .1 .1)
+    (omega arith)
 
 pub write-number-spec : {M : Type 1} → statement M
 write-number-spec =

@@ -1,21 +1,19 @@
 -- `text::write_byte` meets its contract: a text of one byte is laid by one store. Assumes nothing.
-use Prim.Native.Nat.{_+_, _<_, _≤_}
+use mathlib.Core.Path.{refl, sym}
+use Prim.Native.Nat.{_+_}
 use mathlib.Core.List.{[], _∷_}
 use native.Mathlib.Omega.{arith}
-use lib.ListN.{length}
+use lib.ListN.{set}
 use denote.Ref.{now}
 use borrow.Author.Needs.{needs}
-use Rattle.text.proofs.Laws.{written-fits, written-short, after-fits, after-short, laid-one}
+use Rattle.text.proofs.Laws.{wrote-laid, wrote-short, laid-one}
 use Rattle.text.proofs.write_byte.Statement.{statement}
 use Rattle.text.proofs.write_byte.Tie as tie
 
 returns : tie.Need-returns
 returns c =
     let a = c .before .args in
-    let short : length (now (a .out)) < a .at + 1 = omega arith in (
-      rw (after-short (now (a .out)) (a .at) (a .b ∷ []) short),
-      rw (written-short (now (a .out)) (a .at) (a .b ∷ []) short),
-    )
+    wrote-short (now (a .out)) (a .at) (a .b ∷ []) (omega arith)
 
 slice-write-out : tie.Need-slice-write-out
 slice-write-out c = search needs
@@ -29,13 +27,8 @@ same-length c = search needs
 returns-2 : tie.Need-returns-2
 returns-2 c =
     let a = c .before .args in
-    let room : a .at + 1 ≤ length (now (a .out)) = omega arith in (
-      rw (after-fits (now (a .out)) (a .at) (a .b ∷ []) room),
-      rw (
-        written-fits (now (a .out)) (a .at) (a .b ∷ []) room,
-        laid-one (now (a .out)) (a .at) (a .b) (omega arith),
-      ),
-    )
+    let out = now (a .out) in
+    wrote-laid out (a .at) (a .b ∷ []) (set out (a .at) (a .b)) (a .at + 1) (omega arith) (sym (laid-one out (a .at) (a .b) (omega arith))) refl
 
 pub write-byte-spec : {M : Type 1} → statement M
 write-byte-spec = tie.close (tie.spec returns slice-write-out add-result same-length returns-2)

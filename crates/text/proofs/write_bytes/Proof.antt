@@ -2,7 +2,7 @@
 -- now gives what laying all of them over `out` as it was gives. A turn stores the last of those left; i, the measure, falls by one.
 -- Assumes nothing.
 use mathlib.Core.Path.{_≡_, refl, sym, _∙_}
-use Prim.Native.Nat.{_+_, _<_, _≤_}
+use Prim.Native.Nat.{_+_, _≤_}
 use native.Mathlib.Omega.{arith}
 use borrow.Author.Needs.{needs}
 use borrow.Author.Tests.{leb-true, leb-false, not-true, not-false}
@@ -10,7 +10,7 @@ use lib.ListN.{length, take, length-set}
 use lib.Seq.{take-length}
 use denote.Ref.{now}
 use Rattle.text.specs.Write.{laid}
-use Rattle.text.proofs.Laws.{written-fits, written-short, after-fits, after-short, laid-none, laid-turn}
+use Rattle.text.proofs.Laws.{wrote-laid, wrote-short, laid-none, laid-turn}
 use Rattle.text.proofs.write_bytes.Statement.{statement}
 use Rattle.text.proofs.write_bytes.Tie as tie
 
@@ -27,15 +27,16 @@ has-room-requires c κs = search needs
 returns : tie.Need-returns Inv-loop μ-loop
 returns c =
     let a = c .before .before .before .before .args in
-    let short : length (now (a .out)) < a .at + length (now (a .bytes)) = leb-false (a .at + length (now (a .bytes))) (length (now (a .out))) (sym (c .before .has-room .ensures) ∙ not-true (c .before .has-room .result) (c .if1 .taken)) in (
-      rw (after-short (now (a .out)) (a .at) (now (a .bytes)) short),
-      rw (written-short (now (a .out)) (a .at) (now (a .bytes)) short),
-    )
+    let n = a .at + length (now (a .bytes)) in
+    wrote-short (now (a .out)) (a .at) (now (a .bytes))
+    (leb-false n (length (now (a .out))) (sym (c .before .has-room .ensures) ∙ not-true (c .before .has-room .result) (c .if1 .taken)))
 
 loop-holds : tie.Need-loop-holds Inv-loop μ-loop
 loop-holds c =
     let a = c .before .before .before .before .args in
-    (leb-true (a .at + length (now (a .bytes))) (length (now (a .out))) (sym (c .before .has-room .ensures) ∙ not-false (c .before .has-room .result) (c .if1 .left)), (omega arith, (refl, rw take-length)))
+    let n = a .at + length (now (a .bytes)) in
+    let room = leb-true n (length (now (a .out))) (sym (c .before .has-room .ensures) ∙ not-false (c .before .has-room .result) (c .if1 .left)) in
+    (room, (omega arith, (refl, rw take-length)))
 
 sub-i : tie.Need-sub-i Inv-loop μ-loop
 sub-i c = search needs
@@ -77,11 +78,9 @@ returns-2 c =
     let a = c .before .before .before .before .before .before .args in
     let l = c .before .loop in
     let none : l .i ≡ 0 = omega arith in
-    let room : a .at + length (now (a .bytes)) ≤ length (now (a .out)) = omega arith in (
-      rw (after-fits (now (a .out)) (a .at) (now (a .bytes)) room),
-      rw (written-fits (now (a .out)) (a .at) (now (a .bytes)) room)
-          (sym (laid-none (l .out) (a .at)) ∙ (rw none at (l .inv .1 .1 .1))),
-    )
+    wrote-laid (now (a .out)) (a .at) (now (a .bytes)) (l .out) (a .at + length (now (a .bytes))) (l .inv .0)
+    (sym (laid-none (l .out) (a .at)) ∙ (rw none at (l .inv .1 .1 .1)))
+    refl
 
 pub write-bytes-spec : {M : Type 1} → statement M
 write-bytes-spec =

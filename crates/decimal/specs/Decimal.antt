@@ -44,15 +44,15 @@ push v b = v * 10 + (b - zeroByte)
 unfoldable pub valueOf : List ℕ → ℕ
 valueOf text = foldl push 0 text
 
--- the digits of v, for which n steps are enough: those of v / 10, and then the last
+-- the digits of v, for which n steps are enough: below ten none but the last, else those of v / 10 before it
 unfoldable pub digitsWithin : ℕ → ℕ → List ℕ
 digitsWithin zero v = []
-digitsWithin (suc n) v = cond (ltb v 10) [] (digitsWithin n (v / 10)) ++ ((zeroByte + v % 10) ∷ [])
-
--- the most digits of a number that 64 bits hold
-abbrev pub widest : ℕ
-widest = 20
+digitsWithin (suc n) v = cond (ltb v 10) (λ w. []) (digitsWithin n) (v / 10) ++ ((zeroByte + v % 10) ∷ [])
 
 -- the decimal text of a number
 unfoldable pub digitsOf : ℕ → List ℕ
 digitsOf v = digitsWithin (suc v) v
+
+-- the most digits of a number that 64 bits hold
+abbrev pub widest : ℕ
+widest = 20

@@ -1,8 +1,8 @@
 -- Document 01, "The job sheet": what one line of a sheet says. A line is its bytes, the LF with them. Assumes nothing.
-use Prim.Native.Nat.{ℕ, _+_}
+use Prim.Native.Nat.{ℕ, _+_, _-_}
 use mathlib.Core.Bool.{Bool, true, false, cond, _&&_}
 use mathlib.Core.List.{List, [], _∷_}
-use lib.ListN.{length, drop}
+use lib.ListN.{length, drop, getD}
 use lib.Dec.{eqb, leb}
 use Rattle.refusal.specs.declared.Refusal.the-variants.{BrokenState, Line}
 use Rattle.decimal.specs.declared.Field.{Field}
@@ -57,9 +57,15 @@ abbrev pub outcome : ℕ → Answer → Step
 outcome line (Taken c) = Next (Open c)
 outcome line (Refused r) = Stop line r
 
--- at most 64 bytes; what makes the whole line is up to the fields
+-- a line is ended by LF and has at most 64 bytes with it; what it says is up to its fields
+abbrev pub endsLine : List ℕ → Bool
+endsLine line = eqb (getD line (length line - 1) 0) lineFeed
+
+abbrev pub isLine : List ℕ → Bool
+isLine line = leb (length line) longestLine && endsLine line
+
 abbrev pub ofLine : ℕ → List ℕ → Step → Step
-ofLine number line step = cond (leb (length line) longestLine) step (malformed number)
+ofLine number line step = cond (isLine line) step (malformed number)
 
 -- ---- line 1: the word standard, then q; then refusal 1
 abbrev pub standardWord : List ℕ

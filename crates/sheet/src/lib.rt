@@ -2,11 +2,17 @@
 // about it. The reading's state goes in by value and comes back in the answer; the line number follows from the campaign's records.
 ghost use mathlib.Core.Path.{_≡_};
 ghost use mathlib.Core.Bool.{true};
-ghost use lib.Dec.{T};
-ghost use Rattle.campaign.specs.State.{sound};
-ghost use Rattle.sheet.specs.Line.{begins, fieldThen, outcome, standardLine, recordLine, stepping};
+ghost use Prim.Native.Nat.{_+_, _≤_};
+ghost use lib.ListN.{length};
+ghost use Rattle.text.specs.Write.{written, placeAfter};
+ghost use Rattle.campaign.specs.State.{censored, sound};
+ghost use Rattle.sheet.specs.Line.{isLine, begins, fieldThen, outcome, standardLine, recordLine, stepping};
+ghost use Rattle.sheet.specs.Written.{fieldText, letterFor, recordText, recordLeft, recordWriting, refusedText, writing};
 use campaign::Answer;
 use campaign::Campaign;
+use campaign::Counted;
+use campaign::Judged;
+use campaign::Verdict;
 use decimal::Field;
 use refusal::Refusal;
 
@@ -30,6 +36,42 @@ pub enum Step {
     Next(Sheet),
     // The line's number, and its refusal.
     Stop(u64, Refusal),
+}
+
+// What a piece of a sheet comes to.
+pub enum Reading {
+    // The whole sheet was read.
+    Read(Campaign),
+    // The number of the first bad line, and its refusal.
+    Stopped(u64, Refusal),
+    // Where the reading stands, and how many bytes at the piece's end are left unread.
+    Waiting(Sheet, usize),
+}
+
+// What a run over a piece comes to, and the bytes that it wrote.
+pub enum Run {
+    Came(Reading, usize),
+    Refused(Refusal),
+}
+
+// The place after the text that was written.
+pub enum Written {
+    Upto(usize),
+    Refused(Refusal),
+}
+
+// Whether `text` is ended by LF and no longer than a line may be.
+fn is_line(text: &[u8]) -> bool
+    ensures { λ r. ⌜ r ≡ isLine (now (text .entry)) ⌝ }
+{
+    let n = text.len();
+    if n == 0 {
+        return false;
+    }
+    if n > LONGEST_LINE {
+        return false;
+    }
+    text[n - 1] == LF
 }
 
 // Whether `text` starts with `word`.
@@ -69,7 +111,7 @@ fn field_then(end: u8, text: &[u8], at: usize) -> Field
 fn standard_line(text: &[u8]) -> Step
     ensures { λ r. ⌜ r ≡ standardLine (now (text .entry)) ⌝ }
 {
-    if text.len() > LONGEST_LINE {
+    if !is_line(text) {
         return Step::Stop(1, Refusal::Line(1));
     }
     if !begins(text, b"standard\t") {
@@ -86,11 +128,11 @@ fn standard_line(text: &[u8]) -> Step
 
 // A later line, of the campaign's next record.
 fn record_line(c: Campaign, text: &[u8]) -> Step
-    requires { ⌜ T (sound c) ⌝ }
+    requires { ⌜ sound c ≡ true ⌝ }
     ensures { λ r. ⌜ r ≡ recordLine c (now (text .entry)) ⌝ }
 {
     let line = c.records + 2;
-    if text.len() > LONGEST_LINE {
+    if !is_line(text) {
         return Step::Stop(line, Refusal::Line(line));
     }
     let Field::Number(number, second) = field_then(TAB, text, 0) else {
@@ -136,4 +178,114 @@ impl Sheet {
             }
         }
     }
+}
+
+// Writes `v` and the byte `end` into `out` from `at` on.
+fn put_field(v: u64, end: u8, out: &mut [u8], at: usize) -> usize
+    requires { ⌜ at + length (fieldText v end) ≤ length (now out) ⌝ }
+    ensures { λ r. ⌜ r ≡ placeAfter (now (out .entry)) at (fieldText v end) ⌝ }
+    ensures { λ _. ⌜ now (out .exit) ≡ written (now (out .entry)) at (fieldText v end) ⌝ }
+{
+    let next = decimal::write_number(v, out, at);
+    text::write_byte(end, out, next)
+}
+
+// The letter of the verdict on a campaign that keeps its relations.
+fn letter(c: Campaign) -> u8
+    requires { ⌜ sound c ≡ true ⌝ }
+    ensures { λ r. ⌜ r ≡ letterFor c ⌝ }
+{
+    let Judged::Given(v) = c.verdict() else {
+        return 0;
+    };
+    match v {
+        Verdict::Accept(_) => b'A',
+        Verdict::Reject(_) => b'R',
+        Verdict::Continue(_, _) => b'C',
+        Verdict::NoRecord => 0,
+    }
+}
+
+// N* of a campaign that keeps its relations.
+fn censored(c: Campaign) -> u64
+    requires { ⌜ sound c ≡ true ⌝ }
+    ensures { λ r. ⌜ r ≡ censored c ⌝ }
+{
+    let Counted::Count(n) = c.censored() else {
+        return 0;
+    };
+    n
+}
+
+// The bytes of a record's line.
+fn record_length(c: Campaign) -> usize
+    requires { ⌜ sound c ≡ true ⌝ }
+    ensures { λ r. ⌜ r ≡ length (recordText c) ⌝ }
+{
+    if c.records == 0 {
+        return 0;
+    }
+    decimal::digits(c.records)
+        + decimal::digits(c.failures)
+        + decimal::digits(censored(c))
+        + decimal::digits(c.exposure)
+        + 6
+}
+
+// Writes a record's line where it has room.
+fn put_record(c: Campaign, out: &mut [u8], at: usize) -> usize
+    requires { ⌜ (sound c ≡ true) × (at + length (recordText c) ≤ length (now out)) ⌝ }
+    ensures { λ r. ⌜ r ≡ placeAfter (now (out .entry)) at (recordText c) ⌝ }
+    ensures { λ _. ⌜ now (out .exit) ≡ written (now (out .entry)) at (recordText c) ⌝ }
+{
+    if c.records == 0 {
+        return at;
+    }
+    let censors = censored(c);
+    let verdict = letter(c);
+    let second = put_field(c.records, TAB, out, at);
+    let third = put_field(c.failures, TAB, out, second);
+    let fourth = put_field(censors, TAB, out, third);
+    let fifth = put_field(c.exposure, TAB, out, fourth);
+    let end = text::write_byte(verdict, out, fifth);
+    text::write_byte(LF, out, end)
+}
+
+// Writes the line of the campaign's last record into `out` from `at` on: number, N, N*, T and A, R or C; without a record nothing. Or refusal 8; 7
+// with the bytes needed.
+pub fn write_record(c: Campaign, out: &mut [u8], at: usize) -> Written
+    ensures { λ r. ⌜ r ≡ recordWriting c (now (out .entry)) at ⌝ }
+    ensures { λ _. ⌜ now (out .exit) ≡ recordLeft c (now (out .entry)) at ⌝ }
+{
+    if !campaign::sound(c) {
+        return Written::Refused(Refusal::BrokenState);
+    }
+    let needed = record_length(c);
+    if !text::has_room(out.len(), at, needed) {
+        return Written::Refused(Refusal::Room(needed as u64));
+    }
+    Written::Upto(put_record(c, out, at))
+}
+
+// Writes the refused line where it has room.
+fn put_refused(line: u64, r: Refusal, out: &mut [u8], at: usize) -> usize
+    requires { ⌜ at + length (refusedText line r) ≤ length (now out) ⌝ }
+    ensures { λ n. ⌜ n ≡ placeAfter (now (out .entry)) at (refusedText line r) ⌝ }
+    ensures { λ _. ⌜ now (out .exit) ≡ written (now (out .entry)) at (refusedText line r) ⌝ }
+{
+    let number = text::write_bytes(b"refused\t", out, at);
+    let reason = put_field(line, TAB, out, number);
+    put_field(refusal::number(r), LF, out, reason)
+}
+
+// Writes the refused line into `out` from `at` on: refused, the line's number, the refusal's. Or refusal 7 with the bytes needed.
+pub fn write_refused(line: u64, r: Refusal, out: &mut [u8], at: usize) -> Written
+    ensures { λ w. ⌜ w ≡ writing (now (out .entry)) at (refusedText line r) ⌝ }
+    ensures { λ _. ⌜ now (out .exit) ≡ written (now (out .entry)) at (refusedText line r) ⌝ }
+{
+    let needed = decimal::digits(line) + decimal::digits(refusal::number(r)) + 10;
+    if !text::has_room(out.len(), at, needed) {
+        return Written::Refused(Refusal::Room(needed as u64));
+    }
+    Written::Upto(put_refused(line, r, out, at))
 }

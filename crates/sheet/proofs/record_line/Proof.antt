@@ -3,41 +3,41 @@
 use native.Mathlib.Omega.{arith}
 use mathlib.Core.Path.{_≡_, sym, ap, _∙_}
 use mathlib.Core.Bool.{true}
-use lib.Dec.{leb}
-use lib.ListN.{length}
-use borrow.Author.Tests.{le-leb, lt-leb}
 use denote.Ref.{now}
-use Rattle.truth.proofs.Laws.{said-no, said-yes}
+use Rattle.truth.proofs.Laws.{holds, said-no, said-yes}
 use Rattle.campaign.proofs.Relations.{kept-from}
 use Rattle.decimal.specs.Field.{tab, lineFeed}
 use Rattle.decimal.specs.declared.Field.the-variants.{Number}
-use Rattle.sheet.specs.Line.{longestLine, fieldThen, isRecord, lineAfter, outcome, recordLine}
+use Rattle.sheet.specs.Line.{isLine, fieldThen, isRecord, lineAfter, outcome, recordLine}
 use borrow.Author.Needs.{needs}
 use Rattle.sheet.proofs.record_line.Statement.{statement}
 use Rattle.sheet.proofs.record_line.Tie as tie
 
 -- what is known past each test and each field
-within : (c : tie.Else1) → leb (length (now (c .before .before .before .args .text))) longestLine ≡ true
-within c = le-leb _ longestLine (c .if1 .left)
+within : (c : tie.Else1) → isLine (now (c .before .before .before .before .args .text)) ≡ true
+within c = said-yes (c .before .is-line .ensures) (c .if1 .left)
 
-first : (c : tie.After-known-told) → fieldThen tab (now (c .before .before .before .before .before .before .before .args .text)) 0 ≡ Number (c .before .number .given .0 .0) (c .before .number .given .0 .1 .0)
+first : (c : tie.After-known-told) → fieldThen tab (now (c .before .before .before .before .before .before .before .before .args .text)) 0 ≡ Number (c .before .number .given .0 .0) (c .before .number .given .0 .1 .0)
 first c = sym (c .before .before .before .field-then .ensures) ∙ c .before .number .given .1
 
-second : (c : tie.After-known-told2) → fieldThen tab (now (c .before .before .before .before .before .before .before .before .before .before .before .args .text)) (c .before .before .before .before .before .number .given .0 .1 .0) ≡ Number (c .before .flag .given .0 .0) (c .before .flag .given .0 .1 .0)
+second : (c : tie.After-known-told2) → fieldThen tab (now (c .before .before .before .before .before .before .before .before .before .before .before .before .args .text)) (c .before .before .before .before .before .number .given .0 .1 .0) ≡ Number (c .before .flag .given .0 .0) (c .before .flag .given .0 .1 .0)
 second c = sym (c .before .before .before .field-then2 .ensures) ∙ c .before .flag .given .1
 
-third : (c : tie.After-known-told3) → fieldThen lineFeed (now (c .before .before .before .before .before .before .before .before .before .before .before .before .before .before .before .args .text)) (c .before .before .before .before .before .flag .given .0 .1 .0) ≡ Number (c .before .exposure .given .0 .0) (c .before .exposure .given .0 .1 .0)
+third : (c : tie.After-known-told3) → fieldThen lineFeed (now (c .before .before .before .before .before .before .before .before .before .before .before .before .before .before .before .before .args .text)) (c .before .before .before .before .before .flag .given .0 .1 .0) ≡ Number (c .before .exposure .given .0 .0) (c .before .exposure .given .0 .1 .0)
 third c = sym (c .before .before .before .field-then3 .ensures) ∙ c .before .exposure .given .1
 
-tests : (c : tie.After-both2) → isRecord (c .before .before .before .before .before .before .before .before .before .before .before .before .before .before .before .before .before .before .args .c) (now (c .before .before .before .before .before .before .before .before .before .before .before .before .before .before .before .before .before .before .args .text)) (c .before .before .before .before .before .before .before .before .before .before .before .before .number .given .0 .0) (c .before .before .before .before .before .before .before .before .flag .given .0 .0) (c .before .before .before .before .exposure .given .0 .1 .0) ≡ c .both2 .result
+tests : (c : tie.After-both2) → isRecord (c .before .before .before .before .before .before .before .before .before .before .before .before .before .before .before .before .before .before .before .args .c) (now (c .before .before .before .before .before .before .before .before .before .before .before .before .before .before .before .before .before .before .before .args .text)) (c .before .before .before .before .before .before .before .before .before .before .before .before .number .given .0 .0) (c .before .before .before .before .before .before .before .before .flag .given .0 .0) (c .before .before .before .before .exposure .given .0 .1 .0) ≡ c .both2 .result
 tests c = cc
 
 add-line : tie.Need-add-line
-add-line c = omega (arith, kept-from (c .before .before .args .c) (c .before .before .pre) .records)
+add-line c = omega (arith, kept-from (c .before .before .args .c) (holds (c .before .before .pre)) .records)
+
+is-line-requires : tie.Need-is-line-requires
+is-line-requires c κs = search needs
 
 returns : tie.Need-returns
 unfolding recordLine
-returns c = rw (lt-leb (length (now (c .before .before .before .args .text))) longestLine (c .if1 .taken))
+returns c = rw (said-no (c .before .is-line .ensures) (c .if1 .taken))
 
 field-then-requires : tie.Need-field-then-requires
 field-then-requires c κs = search needs
@@ -79,7 +79,7 @@ unfolding recordLine
 returns-4 c = let s = c .before .before .before in let f = s .before .before .before .before in rw (within (f .before .before .before .before), first f, second s, sym (c .before .before .field-then3 .ensures) ∙ c .enum-told3 .given .1)
 
 add-both : tie.Need-add-both
-add-both c = omega (arith, kept-from (c .before .before .before .before .before .before .before .before .before .before .before .before .before .before .before .before .args .c) (c .before .before .before .before .before .before .before .before .before .before .before .before .before .before .before .before .pre) .records)
+add-both c = omega (arith, kept-from (c .before .before .before .before .before .before .before .before .before .before .before .before .before .before .before .before .before .args .c) (holds (c .before .before .before .before .before .before .before .before .before .before .before .before .before .before .before .before .before .pre)) .records)
 
 both-requires : tie.Need-both-requires
 both-requires c κs = search needs
@@ -99,13 +99,14 @@ outcome-requires c κs = search needs
 
 returns-6 : tie.Need-returns-6
 unfolding recordLine
-returns-6 c = let b = c .before .before .before in let t = b .before .before .before in let s = t .before .before .before .before in let f = s .before .before .before .before in let start = f .before .before .before .before .before .before .before in rw (within (f .before .before .before .before), first f, second s, third t, said-yes (sym (tests b)) (c .before .before .if2 .left)) (c .outcome .ensures ∙ ap (outcome (lineAfter (start .args .c))) (c .before .enter .ensures))
+returns-6 c = let b = c .before .before .before in let t = b .before .before .before in let s = t .before .before .before .before in let f = s .before .before .before .before in let start = f .before .before .before .before .before .before .before .before in rw (within (f .before .before .before .before), first f, second s, third t, said-yes (sym (tests b)) (c .before .before .if2 .left)) (c .outcome .ensures ∙ ap (outcome (lineAfter (start .args .c))) (c .before .enter .ensures))
 
 pub record-line-spec : {M : Type 1} → statement M
 record-line-spec =
     tie.close
     (tie.spec
     add-line
+    is-line-requires
     returns
     field-then-requires
     enum-known-number

@@ -1,5 +1,5 @@
 -- `Sheet::line` meets its contract: line 1 or a later one, by where the reading stands. Assumes nothing.
-use Rattle.truth.proofs.Laws.{holds, said-no, said-yes}
+use Rattle.truth.proofs.Laws.{said-no, said-yes}
 use Rattle.sheet.specs.Line.{stepping}
 use borrow.Author.Needs.{needs}
 use Rattle.sheet.proofs.Sheet.line.Statement.{statement}
@@ -22,7 +22,7 @@ unfolding stepping
 returns c = rw (c .before .before .before .self .given .1, said-no (c .before .sound .ensures) (c .if1 .taken))
 
 record-line-requires : tie.Need-record-line-requires
-record-line-requires c κs = holds (said-yes (c .before .sound .ensures) (c .if1 .left))
+record-line-requires c κs = said-yes (c .before .sound .ensures) (c .if1 .left)
 
 returns-2 : tie.Need-returns-2
 unfolding stepping

@@ -38,31 +38,38 @@ pub record Account : Type 0 where
 abbrev pub prefixed : List ℕ → Account → Account
 prefixed text a = record { text = text ++ a .text; end = a .end }
 
--- the record that a line entered is written; the first bad line ends the reading
+-- at the first refusal the program writes the refused line and stops
+abbrev pub endText : Reading → List ℕ
+endText (Stopped line r) = refusedText line r
+endText (Read c) = []
+endText (Waiting s left) = []
+
+abbrev pub ended : Reading → Account
+ended r = record { text = endText r; end = r }
+
+-- for each record that a line enters its line is written
 abbrev pub textOf : Sheet → List ℕ
 textOf Fresh = []
 textOf (Open c) = recordText c
 
 abbrev pub afterStep : Step → (Sheet → Account) → Account
 afterStep (Next s) go = prefixed (textOf s) (go s)
-afterStep (Stop line r) go = record { text = refusedText line r; end = Stopped line r }
+afterStep (Stop line r) go = ended (Stopped line r)
 
--- after the last line: an absent line 1 is refusal 9; where more may follow, the reading waits
-abbrev pub finished : Bool → Sheet → Account
-finished true s = record { text = []; end = Waiting s 0 }
-finished false Fresh = record { text = refusedText 1 (Line 1); end = Stopped 1 (Line 1) }
-finished false (Open c) = record { text = []; end = Read c }
+-- behind the last line: an absent line 1 is refusal 9; where more may follow the reading waits
+abbrev pub lastOf : Bool → Sheet → Reading
+lastOf true s = Waiting s 0
+lastOf false Fresh = Stopped 1 (Line 1)
+lastOf false (Open c) = Read c
 
--- where more may follow, a line without its LF waits for it, with its bytes unread, unless it has as many bytes as a line may have already
+-- where more may follow, a line without its LF waits for it, its bytes unread; not one that is as long as a line may be without it
 abbrev pub waits : Bool → List ℕ → Bool
 waits more line = more && (not (endsLine line) && ltb (length line) longestLine)
 
 -- the lines one by one, from where the reading stands; `more`: more of the text may follow
 unfoldable pub reading : Bool → List (List ℕ) → Sheet → Account
-reading more [] s = finished more s
-reading more (line ∷ lines) s =
-    cond (waits more line) (record { text = []; end = Waiting s (length line) })
-    (afterStep (stepping s line) (reading more lines))
+reading more [] s = ended (lastOf more s)
+reading more (line ∷ lines) s = cond (waits more line) (ended (Waiting s (length line))) (afterStep (stepping s line) (reading more lines))
 
 -- THE MEANING OF A TEXT
 unfoldable pub meaning : List ℕ → Account

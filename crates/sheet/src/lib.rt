@@ -2,11 +2,13 @@
 // about it. The reading's state goes in by value and comes back in the answer; the line number follows from the campaign's records.
 ghost use mathlib.Core.Path.{_≡_};
 ghost use mathlib.Core.Bool.{true};
-ghost use Prim.Native.Nat.{_+_, _≤_};
-ghost use lib.ListN.{length};
+ghost use Prim.Native.Nat.{_+_, _≤_, _<_, min};
+ghost use lib.ListN.{length, drop};
 ghost use Rattle.text.specs.Write.{written, placeAfter};
 ghost use Rattle.campaign.specs.State.{censored, sound};
-ghost use Rattle.sheet.specs.Line.{isLine, begins, fieldThen, outcome, standardLine, recordLine, stepping};
+ghost use Rattle.sheet.specs.Line.{longestLine, isLine, begins, fieldThen, outcome, standardLine, recordLine, stepping};
+ghost use Rattle.sheet.specs.Sheet.{waits};
+ghost use Rattle.sheet.specs.Cut.{cut, found};
 ghost use Rattle.sheet.specs.Written.{fieldText, letterFor, recordText, recordLeft, recordWriting, refusedText, writing};
 use campaign::Answer;
 use campaign::Campaign;
@@ -52,6 +54,16 @@ pub enum Reading {
 pub enum Run {
     Came(Reading, usize),
     Refused(Refusal),
+}
+
+// What a reader finds at a place of a text.
+enum Found {
+    // A line that was taken, and the place behind it.
+    Taken(Sheet, usize),
+    // The bytes of a line that waits for its LF.
+    Waits(usize),
+    // A bad line's number, and its refusal.
+    Bad(u64, Refusal),
 }
 
 // The place after the text that was written.
@@ -288,4 +300,63 @@ pub fn write_refused(line: u64, r: Refusal, out: &mut [u8], at: usize) -> Writte
         return Written::Refused(Refusal::Room(needed as u64));
     }
     Written::Upto(put_refused(line, r, out, at))
+}
+
+// The furthest that a line from `at` on can reach in `len` bytes.
+fn furthest(len: usize, at: usize) -> usize
+    requires { ⌜ at ≤ len ⌝ }
+    ensures { λ r. ⌜ r ≡ min len (at + longestLine) ⌝ }
+{
+    if len - at < LONGEST_LINE {
+        return len;
+    }
+    at + LONGEST_LINE
+}
+
+// Where the line of `text` that starts at `at` ends, or has as many bytes as a line may have.
+fn line_end(text: &[u8], at: usize) -> usize
+    requires { ⌜ at ≤ length (now text) ⌝ }
+    ensures { λ r. ⌜ r ≡ at + cut longestLine (drop at (now (text .entry))) ⌝ }
+{
+    let stop = furthest(text.len(), at);
+    let mut i = at;
+    while i < stop {
+        if text[i] == LF {
+            return i + 1;
+        }
+        i += 1;
+    }
+    i
+}
+
+// Whether a line waits for its LF.
+fn waits(more: bool, line: &[u8]) -> bool
+    ensures { λ r. ⌜ r ≡ waits more (now (line .entry)) ⌝ }
+{
+    let n = line.len();
+    if !more {
+        return false;
+    }
+    if LONGEST_LINE <= n {
+        return false;
+    }
+    if n == 0 {
+        return true;
+    }
+    line[n - 1] != LF
+}
+
+// What stands at `at`, which is inside `text`.
+fn find(s: Sheet, text: &[u8], at: usize, more: bool) -> Found
+    requires { ⌜ at < length (now text) ⌝ }
+    ensures { λ r. ⌜ r ≡ found more (now (text .entry)) at s ⌝ }
+{
+    let end = line_end(text, at);
+    if waits(more, &text[at..end]) {
+        return Found::Waits(end - at);
+    }
+    match s.line(&text[at..end]) {
+        Step::Next(t) => Found::Taken(t, end),
+        Step::Stop(line, r) => Found::Bad(line, r),
+    }
 }

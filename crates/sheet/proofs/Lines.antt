@@ -2,14 +2,14 @@
 -- or, where that is longer, its first 64 bytes. A longer line is refused either way, so the reading is the same (`reading-turn`).
 -- Assumes nothing.
 use Prim.Native.Nat.{ℕ, zero, suc, _+_, _-_, _≤_, _<_, min}
-use mathlib.Core.Path.{_≡_, refl, sym, ap, _∙_}
-use mathlib.Core.Bool.{Bool, true, false, cond, not, _&&_, and-false}
-use mathlib.Core.List.{List, [], _∷_, _++_}
+use mathlib.Core.Path.{_≡_, refl, ap}
+use mathlib.Core.Bool.{Bool, true, false, cond, not, and-false}
+use mathlib.Core.List.{List, [], _∷_}
 use mathlib.Core.Logic.{_⊎_, inl, inr, ⊎-elim}
 use native.Mathlib.Numerals.{add-one, unary-clauses}
 use native.Mathlib.Nat.{add-zero}
 use native.Mathlib.Omega.{arith}
-use lib.Dec.{eqb, leb, ltb}
+use lib.Dec.{eqb, leb}
 use lib.ListN.{length, getD, take, drop, length-drop, drop-of-length-le}
 use lib.Seq.{drop-cons, length-take-le}
 use borrow.Author.Tests.{lt-leb, le-ltb}
@@ -23,7 +23,7 @@ use Rattle.sheet.specs.declared.Reading.the-variants.{Waiting}
 use Rattle.sheet.specs.declared.Step.{Step}
 use Rattle.sheet.specs.declared.Step.the-variants.{Stop}
 use Rattle.sheet.specs.Line.{longestLine, endsLine, isLine, lineAfter, malformed, recordLine, standardLine, stepping}
-use Rattle.sheet.specs.Sheet.{Account, startLine, linesOf, ended, afterStep, waits, reading}
+use Rattle.sheet.specs.Sheet.{Account, linesOf, ended, afterStep, waits, reading}
 use Rattle.sheet.specs.Cut.{cut, firstLine}
 
 -- a byte in front of a line keeps its end
@@ -90,11 +90,16 @@ first-of (suc n) b (c ∷ text) =
     (λ e. inl (rw e))
     (λ e. ⊎-elim (λ w. inl (whole-on n b (c ∷ text) e w)) (λ l. inr (long-on n b (c ∷ text) e l)) (first-of n c text))
 
-cut-within : (n : ℕ) (text : List ℕ) → cut n text ≤ length text
+pub cut-within : (n : ℕ) (text : List ℕ) → cut n text ≤ length text
 unfolding cut
 cut-within zero text = omega arith
 cut-within (suc n) [] = omega arith
 cut-within (suc n) (b ∷ text) = by-test (eqb b lineFeed) (λ e. rw e (omega arith)) (λ e. rw e (omega (arith, cut-within n text)))
+
+pub cut-some : (n : ℕ) (text : List ℕ) → 0 < length text → 0 < cut (suc n) text
+unfolding cut
+cut-some n [] h = absurd (omega arith)
+cut-some n (b ∷ text) h = by-test (eqb b lineFeed) (λ e. rw e (omega arith)) (λ e. rw e (omega arith))
 
 -- the search for the LF of a line at `at`, come to i: what it finds there, and where it gives up
 module _ (text : List ℕ) (at i : ℕ) where

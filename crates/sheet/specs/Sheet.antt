@@ -10,8 +10,8 @@ use Rattle.decimal.specs.Field.{lineFeed}
 use Rattle.campaign.specs.State.{sound}
 use Rattle.sheet.specs.declared.Reading.{Reading}
 use Rattle.sheet.specs.declared.Reading.the-variants.{Read, Stopped, Waiting}
-use Rattle.sheet.specs.declared.Run.{Run}
-use Rattle.sheet.specs.declared.Run.the-variants.{Came, Refused}
+use Rattle.sheet.specs.declared.Ran.{Ran}
+use Rattle.sheet.specs.declared.Ran.the-variants.{Came, Refused}
 use Rattle.sheet.specs.declared.Sheet.{Sheet}
 use Rattle.sheet.specs.declared.Sheet.the-variants.{Fresh, Open}
 use Rattle.sheet.specs.declared.Step.{Step}
@@ -88,7 +88,7 @@ abbrev pub roomFor : ℕ → ℕ
 roomFor n = min (5 * n + 32) 18446744073709551615
 
 -- a run writes what its lines give: 8, 7; a refusal leaves the lent bytes as they were
-unfoldable pub running : Bool → List ℕ → Sheet → List ℕ → Run
+unfoldable pub running : Bool → List ℕ → Sheet → List ℕ → Ran
 running more text s out =
     cond (soundSheet s)
     (cond (leb (roomFor (length text)) (length out))

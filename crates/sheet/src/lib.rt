@@ -7,7 +7,7 @@ ghost use lib.ListN.{length, drop};
 ghost use Rattle.text.specs.Write.{written, placeAfter};
 ghost use Rattle.campaign.specs.State.{censored, sound};
 ghost use Rattle.sheet.specs.Line.{longestLine, isLine, begins, fieldThen, outcome, standardLine, recordLine, stepping};
-ghost use Rattle.sheet.specs.Sheet.{waits};
+ghost use Rattle.sheet.specs.Sheet.{endText, lastOf, readingEnd, roomFor, runLeft, running, soundSheet, textOf, waits};
 ghost use Rattle.sheet.specs.Cut.{cut, found};
 ghost use Rattle.sheet.specs.Written.{fieldText, letterFor, recordText, recordLeft, recordWriting, refusedText, writing};
 use campaign::Answer;
@@ -24,6 +24,9 @@ const LF: u8 = 10;
 
 // The most bytes of a line, with its LF.
 const LONGEST_LINE: usize = 64;
+
+// The most bytes of text for which a run's room is a number of 64 bits.
+const MOST_WITH_ROOM: usize = 3_689_348_814_741_910_316;
 
 // Where the reading of a sheet stands.
 pub enum Sheet {
@@ -51,7 +54,7 @@ pub enum Reading {
 }
 
 // What a run over a piece comes to, and the bytes that it wrote.
-pub enum Run {
+pub enum Ran {
     Came(Reading, usize),
     Refused(Refusal),
 }
@@ -359,4 +362,127 @@ fn find(s: Sheet, text: &[u8], at: usize, more: bool) -> Found
         Step::Next(t) => Found::Taken(t, end),
         Step::Stop(line, r) => Found::Bad(line, r),
     }
+}
+
+// What a reading comes to behind the last line.
+fn last(s: Sheet, more: bool) -> Reading
+    ensures { λ r. ⌜ r ≡ lastOf more s ⌝ }
+{
+    if more {
+        return Reading::Waiting(s, 0);
+    }
+    match s {
+        Sheet::Fresh => Reading::Stopped(1, Refusal::Line(1)),
+        Sheet::Open(c) => Reading::Read(c),
+    }
+}
+
+// Whether the reading stands at a campaign that keeps its relations.
+fn sound(s: Sheet) -> bool
+    ensures { λ r. ⌜ r ≡ soundSheet s ⌝ }
+{
+    match s {
+        Sheet::Fresh => true,
+        Sheet::Open(c) => campaign::sound(c),
+    }
+}
+
+// Reads the lines of `text` from where the reading stands; `more`: more of the sheet may follow. Ends in the campaign, in the first bad line's number
+// and refusal, or waiting for more. A broken campaign is refusal 8.
+pub fn read(s: Sheet, text: &[u8], more: bool) -> Reading
+    ensures { λ r. ⌜ r ≡ readingEnd more (now (text .entry)) s ⌝ }
+{
+    if !sound(s) {
+        return Reading::Stopped(0, Refusal::BrokenState);
+    }
+    let mut sheet = s;
+    let mut at = 0;
+    while at < text.len() {
+        match find(sheet, text, at, more) {
+            Found::Taken(t, next) => {
+                sheet = t;
+                at = next;
+            }
+            Found::Waits(left) => {
+                return Reading::Waiting(sheet, left);
+            }
+            Found::Bad(line, r) => {
+                return Reading::Stopped(line, r);
+            }
+        }
+    }
+    last(sheet, more)
+}
+
+// The bytes that a run over `n` bytes of text asks for.
+fn room_for(n: usize) -> u64
+    ensures { λ r. ⌜ r ≡ roomFor n ⌝ }
+{
+    if n > MOST_WITH_ROOM {
+        return u64::MAX;
+    }
+    (n as u64) * 5 + 32
+}
+
+// Writes what a line that was taken gives, where it has room.
+fn put_sheet(s: Sheet, out: &mut [u8], at: usize) -> usize
+    requires { ⌜ (soundSheet s ≡ true) × (at + length (textOf s) ≤ length (now out)) ⌝ }
+    ensures { λ r. ⌜ r ≡ placeAfter (now (out .entry)) at (textOf s) ⌝ }
+    ensures { λ _. ⌜ now (out .exit) ≡ written (now (out .entry)) at (textOf s) ⌝ }
+{
+    let Sheet::Open(c) = s else {
+        return at;
+    };
+    put_record(c, out, at)
+}
+
+// Writes what the end of a reading gives, where it has room.
+fn put_end(end: Reading, out: &mut [u8], at: usize) -> usize
+    requires { ⌜ at + length (endText end) ≤ length (now out) ⌝ }
+    ensures { λ r. ⌜ r ≡ placeAfter (now (out .entry)) at (endText end) ⌝ }
+    ensures { λ _. ⌜ now (out .exit) ≡ written (now (out .entry)) at (endText end) ⌝ }
+{
+    match end {
+        Reading::Read(_) => at,
+        Reading::Stopped(line, r) => put_refused(line, r, out, at),
+        Reading::Waiting(_, _) => at,
+    }
+}
+
+// Reads the lines of `text` as `read` does, and writes into `out`, from its start, what the program writes for them. Answers what the reading came to
+// and the bytes that it wrote; or refusal 8; 7 with the bytes that it asks for, which are enough for any text of this length.
+pub fn run(s: Sheet, text: &[u8], more: bool, out: &mut [u8]) -> Ran
+    ensures { λ r. ⌜ r ≡ running more (now (text .entry)) s (now (out .entry)) ⌝ }
+    ensures { λ _. ⌜ now (out .exit) ≡ runLeft more (now (text .entry)) s (now (out .entry)) ⌝ }
+{
+    if !sound(s) {
+        return Ran::Refused(Refusal::BrokenState);
+    }
+    let needed = room_for(text.len());
+    if (out.len() as u64) < needed {
+        return Ran::Refused(Refusal::Room(needed));
+    }
+    let mut sheet = s;
+    let mut at = 0;
+    let mut put = 0;
+    while at < text.len() {
+        match find(sheet, text, at, more) {
+            Found::Taken(t, next) => {
+                put = put_sheet(t, out, put);
+                sheet = t;
+                at = next;
+            }
+            Found::Waits(left) => {
+                let end = put_end(Reading::Waiting(sheet, left), out, put);
+                return Ran::Came(Reading::Waiting(sheet, left), end);
+            }
+            Found::Bad(line, r) => {
+                let end = put_end(Reading::Stopped(line, r), out, put);
+                return Ran::Came(Reading::Stopped(line, r), end);
+            }
+        }
+    }
+    let came = last(sheet, more);
+    let end = put_end(came, out, put);
+    Ran::Came(came, end)
 }

@@ -1,11 +1,15 @@
 -- Laws of tests, for the proofs above: from a test that holds to its parts, and from an answer to the fact that it tests. Assumes nothing.
-use mathlib.Core.Path.{_≡_, subst, sym, _∙_}
+use mathlib.Core.Path.{_≡_, refl, subst, sym, _∙_}
 use mathlib.Core.Bool.{Bool, false, not, true, _||_}
 use lib.Dec.{T}
 use borrow.Author.Tests.{not-false, not-true}
 
 pub holds : {b : Bool} → b ≡ true → T b
 holds e = subst T (sym e) tt
+
+pub is-true : (b : Bool) → T b → b ≡ true
+is-true true t = refl
+is-true false t = absurd t
 
 -- what `if !r` tells, where r answers a test b
 pub said-no : {r b : Bool} → r ≡ b → not r ≡ true → b ≡ false

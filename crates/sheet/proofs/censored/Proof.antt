@@ -1,5 +1,5 @@
 -- `sheet::censored` meets its contract: of a state that keeps its relations the campaign answers the count. Assumes nothing.
-use Rattle.sheet.proofs.Sound.{has-count, count-not-refused}
+use Rattle.sheet.proofs.Given.{has-count, count-not-refused}
 use borrow.Author.Needs.{needs}
 use Rattle.sheet.proofs.censored.Statement.{statement}
 use Rattle.sheet.proofs.censored.Tie as tie

@@ -1,8 +1,6 @@
 -- `sheet::find` meets its contract: the part that it hands over is the first line of what stands at `at`. Assumes nothing.
-use Prim.Native.Nat.{_+_, _-_}
-use mathlib.Core.Path.{_≡_, sym, ap, _∙_}
+use mathlib.Core.Path.{sym, ap, _∙_}
 use native.Mathlib.Omega.{arith}
-use lib.ListN.{length}
 use denote.Ref.{now}
 use Rattle.sheet.specs.Line.{stepping}
 use Rattle.sheet.specs.Sheet.{waits}
@@ -11,71 +9,51 @@ use Rattle.sheet.proofs.Lines.{end-within, part-length, part-end, part-
 use borrow.Author.Needs.{needs}
 use Rattle.sheet.proofs.find.Statement.{statement}
 use Rattle.sheet.proofs.find.Tie as tie
-use Rattle.sheet.proofs.find.Reads as reads
-use Rattle.sheet.proofs.find.Lts as lts
-use Rattle.sheet.proofs.Sheet.line.Reads as line-reads
-use Rattle.sheet.proofs.line_end.Reads as line-end-reads
-use Rattle.sheet.proofs.waits.Reads as waits-reads
 
--- src/lib.rt:354:9
 line-end-requires : tie.Need-line-end-requires
 line-end-requires c κs = search needs
 
--- src/lib.rt:355:20
 sub-waits : tie.Need-sub-waits
 sub-waits c = search needs
 
--- src/lib.rt:355:20
 part-waits-start : tie.Need-part-waits-start
 part-waits-start c = search needs
 
--- src/lib.rt:355:20
 part-waits-end : tie.Need-part-waits-end
 part-waits-end c = end-within (now (c .before .before .args .text)) (c .before .before .args .at) (c .line-end .result) (c .line-end .ensures) (omega arith)
 
--- src/lib.rt:355:8
 waits-requires : tie.Need-waits-requires
 waits-requires c κs = search needs
 
--- src/lib.rt:356:29
 sub-t14 : tie.Need-sub-t14
 sub-t14 c = search needs
 
--- src/lib.rt:356:9
 returns : tie.Need-returns
 unfolding found
 returns c = rw (sym (c .before .waits .ensures ∙ ap (waits (c .before .before .before .before .before .args .more)) (part-first (now (c .before .before .before .before .before .args .text)) (c .before .before .before .before .before .args .at) (c .before .before .before .line-end .result) (c .before .before .before .line-end .ensures))) ∙ c .if1 .taken, part-length (now (c .before .before .before .before .before .args .text)) (c .before .before .before .before .before .args .at) (c .before .before .before .line-end .result) (c .before .before .before .line-end .ensures))
 
--- src/lib.rt:358:18
 sub-line : tie.Need-sub-line
 sub-line c = search needs
 
--- src/lib.rt:358:18
 part-line-start : tie.Need-part-line-start
 part-line-start c = search needs
 
--- src/lib.rt:358:18
 part-line-end : tie.Need-part-line-end
 part-line-end c = end-within (now (c .before .before .before .before .before .args .text)) (c .before .before .before .before .before .args .at) (c .before .before .before .line-end .result) (c .before .before .before .line-end .ensures) (omega arith)
 
--- src/lib.rt:358:11
 line-requires : tie.Need-line-requires
 line-requires c κs = search needs
 
--- src/lib.rt:359:20
 enum-known-t : tie.Need-enum-known-t
 enum-known-t c = search needs
 
--- src/lib.rt:360:20
 enum-known-line : tie.Need-enum-known-line
 enum-known-line c = search needs
 
--- src/lib.rt:350:1
 returns-2 : tie.Need-returns-2
 unfolding found
 returns-2 c = rw (sym (c .before .before .before .before .before .before .waits .ensures ∙ ap (waits (c .before .before .before .before .before .before .before .before .before .before .args .more)) (part-first (now (c .before .before .before .before .before .before .before .before .before .before .args .text)) (c .before .before .before .before .before .before .before .before .before .before .args .at) (c .before .before .before .before .before .before .before .before .line-end .result) (c .before .before .before .before .before .before .before .before .line-end .ensures))) ∙ c .before .before .before .before .before .if1 .left, sym (c .before .before .before .line .ensures ∙ ap (stepping (c .before .before .before .before .before .before .before .before .before .before .args .s)) (part-first (now (c .before .before .before .before .before .before .before .before .before .before .args .text)) (c .before .before .before .before .before .before .before .before .before .before .args .at) (c .before .before .before .before .before .before .before .before .line-end .result) (c .before .before .before .before .before .before .before .before .line-end .ensures))) ∙ c .before .t .given .1, ← part-end (now (c .before .before .before .before .before .before .before .before .before .before .args .text)) (c .before .before .before .before .before .before .before .before .before .before .args .at) (c .before .before .before .before .before .before .before .before .line-end .result) (c .before .before .before .before .before .before .before .before .line-end .ensures))
 
--- src/lib.rt:350:1
 returns-3 : tie.Need-returns-3
 unfolding found
 returns-3 c = rw (sym (c .before .before .before .before .before .before .waits .ensures ∙ ap (waits (c .before .before .before .before .before .before .before .before .before .before .args .more)) (part-first (now (c .before .before .before .before .before .before .before .before .before .before .args .text)) (c .before .before .before .before .before .before .before .before .before .before .args .at) (c .before .before .before .before .before .before .before .before .line-end .result) (c .before .before .before .before .before .before .before .before .line-end .ensures))) ∙ c .before .before .before .before .before .if1 .left, sym (c .before .before .before .line .ensures ∙ ap (stepping (c .before .before .before .before .before .before .before .before .before .before .args .s)) (part-first (now (c .before .before .before .before .before .before .before .before .before .before .args .text)) (c .before .before .before .before .before .before .before .before .before .before .args .at) (c .before .before .before .before .before .before .before .before .line-end .result) (c .before .before .before .before .before .before .before .before .line-end .ensures))) ∙ c .before .line2 .given .1)

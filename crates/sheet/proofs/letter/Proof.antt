@@ -2,7 +2,7 @@
 use mathlib.Core.Path.{_≡_}
 use Rattle.campaign.specs.Figures.{verdictOf}
 use Rattle.sheet.specs.Written.{letterFor}
-use Rattle.sheet.proofs.Sound.{has-verdict, not-refused}
+use Rattle.sheet.proofs.Given.{has-verdict, not-refused}
 use borrow.Author.Needs.{needs}
 use Rattle.sheet.proofs.letter.Statement.{statement}
 use Rattle.sheet.proofs.letter.Tie as tie

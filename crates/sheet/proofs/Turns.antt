@@ -1,18 +1,21 @@
 -- A reader's turn, by what it finds: the reading of what stands at a place is that of what stands behind the line, or it ends. Assumes nothing.
 use Prim.Native.Nat.{ℕ, _+_, _-_, _*_, _^_, _≤_, _<_}
 use mathlib.Core.Path.{_≡_, refl, ap, _∙_}
-use mathlib.Core.Bool.{Bool, true, false, cond}
+use mathlib.Core.Bool.{Bool, true, false, cond, not, _&&_}
 use mathlib.Core.List.{List}
 use native.Mathlib.Omega.{arith}
+use lib.Dec.{ltb}
 use lib.ListN.{length, drop, length-drop}
 use lib.Seq.{drop-drop}
+use borrow.Author.Tests.{ltb-true}
+use Rattle.text.proofs.Cases.{both-true}
 use Rattle.refusal.specs.declared.Refusal.{Refusal}
 use Rattle.sheet.specs.declared.Found.the-variants.{Taken, Waits, Bad}
 use Rattle.sheet.specs.declared.Reading.the-variants.{Stopped, Waiting}
 use Rattle.sheet.specs.declared.Sheet.{Sheet}
 use Rattle.sheet.specs.declared.Step.{Step}
 use Rattle.sheet.specs.declared.Step.the-variants.{Next, Stop}
-use Rattle.sheet.specs.Line.{longestLine, stepping}
+use Rattle.sheet.specs.Line.{endsLine, longestLine, stepping}
 use Rattle.sheet.specs.Sheet.{Account, linesOf, prefixed, ended, afterStep, textOf, waits, reading, soundSheet}
 use Rattle.sheet.specs.Cut.{firstLine, foundAt, found}
 use Rattle.sheet.proofs.Lines.{cut-within, cut-some, length-first, reading-turn}
@@ -84,12 +87,17 @@ module _ (more : Bool) (text : List ℕ) (at : ℕ) (s : Sheet) where
               few = omega (arith, led .few);
             }
 
-    pub found-waits : {n : ℕ} → found more text at s ≡ Waits n → here ≡ ended (Waiting s n)
+    pub found-waits : {n : ℕ} → found more text at s ≡ Waits n → (here ≡ ended (Waiting s n)) × (n ≤ length text) × (n < longestLine)
     unfolding found
     found-waits {n} e = go (waits more part) (stepping s part) refl refl e
       where
-        go : (w : Bool) (step : Step) → waits more part ≡ w → stepping s part ≡ step → cond w (Waits (length part)) (foundAt (at + length part) step) ≡ Waits n → here ≡ ended (Waiting s n)
-        go true step w f e = let n′ : length part ≡ n = cc (e) in turn ∙ rw (w, n′)
+        go : (w : Bool) (step : Step) → waits more part ≡ w → stepping s part ≡ step → cond w (Waits (length part)) (foundAt (at + length part) step) ≡ Waits n
+            → (here ≡ ended (Waiting s n)) × (n ≤ length text) × (n < longestLine)
+        go true step w f e =
+            let bytes : length part ≡ n = cc (e) in
+            let open-line = both-true more (not (endsLine part) && ltb (length part) longestLine) w .1 in
+            let short = ltb-true (length part) longestLine (both-true (not (endsLine part)) (ltb (length part) longestLine) open-line .1) in
+            (turn ∙ rw (w, bytes), omega (arith, ends), omega arith)
         go false (Stop l r) w f e = absurd (not-waits′ e)
         go false (Next u) w f e = absurd (not-waits e)
 

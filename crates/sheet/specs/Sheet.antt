@@ -98,3 +98,17 @@ running more text s out =
 
 unfoldable pub runLeft : Bool → List ℕ → Sheet → List ℕ → List ℕ
 runLeft more text s out = cond (soundSheet s && leb (roomFor (length text)) (length out)) (written out 0 (reading more (linesOf text) s .text)) out
+
+-- what a caller counts with: the bytes that a run wrote, and those that it left unread
+abbrev pub putBy : Ran → ℕ
+putBy (Came end put) = put
+putBy (Refused r) = 0
+
+abbrev pub leftIn : Reading → ℕ
+leftIn (Waiting s left) = left
+leftIn (Read c) = 0
+leftIn (Stopped line r) = 0
+
+abbrev pub leftBy : Ran → ℕ
+leftBy (Came end put) = leftIn end
+leftBy (Refused r) = 0

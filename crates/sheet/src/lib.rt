@@ -7,7 +7,7 @@ ghost use lib.ListN.{length, drop};
 ghost use Rattle.text.specs.Write.{written, placeAfter};
 ghost use Rattle.campaign.specs.State.{censored, sound};
 ghost use Rattle.sheet.specs.Line.{longestLine, isLine, begins, fieldThen, outcome, standardLine, recordLine, stepping};
-ghost use Rattle.sheet.specs.Sheet.{endText, lastOf, readingEnd, roomFor, runLeft, running, soundSheet, textOf, waits};
+ghost use Rattle.sheet.specs.Sheet.{endText, lastOf, leftBy, putBy, readingEnd, roomFor, runLeft, running, soundSheet, textOf, waits};
 ghost use Rattle.sheet.specs.Cut.{cut, found};
 ghost use Rattle.sheet.specs.Written.{fieldText, letterFor, recordText, recordLeft, recordWriting, refusedText, writing};
 use campaign::Answer;
@@ -454,6 +454,8 @@ fn put_end(end: Reading, out: &mut [u8], at: usize) -> usize
 pub fn run(s: Sheet, text: &[u8], more: bool, out: &mut [u8]) -> Ran
     ensures { λ r. ⌜ r ≡ running more (now (text .entry)) s (now (out .entry)) ⌝ }
     ensures { λ _. ⌜ now (out .exit) ≡ runLeft more (now (text .entry)) s (now (out .entry)) ⌝ }
+    ensures { λ r. ⌜ putBy r ≤ length (now (out .entry)) ⌝ }
+    ensures { λ r. ⌜ (leftBy r ≤ length (now (text .entry))) × (leftBy r < longestLine) ⌝ }
 {
     if !sound(s) {
         return Ran::Refused(Refusal::BrokenState);

@@ -47,7 +47,7 @@ enum-known-left c = search needs
 
 returns-2 : tie.Need-returns-2 Inv-loop μ-loop
 unfolding readingEnd
-returns-2 c = rw (said-yes (c .before .before .before .before .before .before .before .sound .ensures) (c .before .before .before .before .before .before .if1 .left)) (whole-end (c .before .before .before .before .before .loop .inv .1) (found-waits (c .before .before .before .before .before .before .before .before .before .args .more) (now (c .before .before .before .before .before .before .before .before .before .args .text)) (c .before .before .before .before .before .loop .at) (c .before .before .before .before .before .loop .sheet) (omega arith) (sym (c .before .before .before .find .ensures) ∙ c .before .left .given .1)))
+returns-2 c = rw (said-yes (c .before .before .before .before .before .before .before .sound .ensures) (c .before .before .before .before .before .before .if1 .left)) (whole-end (c .before .before .before .before .before .loop .inv .1) (found-waits (c .before .before .before .before .before .before .before .before .before .args .more) (now (c .before .before .before .before .before .before .before .before .before .args .text)) (c .before .before .before .before .before .loop .at) (c .before .before .before .before .before .loop .sheet) (omega arith) (sym (c .before .before .before .find .ensures) ∙ c .before .left .given .1) .0))
 
 enum-known-line : tie.Need-enum-known-line Inv-loop μ-loop
 enum-known-line c = search needs

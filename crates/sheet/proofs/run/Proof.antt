@@ -1,19 +1,16 @@
 -- `sheet::run` meets its contract. The invariant is `Running`: what the lines gave stands at the start of the lent bytes, and the rest has its room. What
 -- is left of the text falls with each line. Assumes nothing.
-use Prim.Native.Nat.{_-_, _≤_, _<_}
-use mathlib.Core.Path.{refl, sym, ap, _∙_}
+use Prim.Native.Nat.{_-_}
+use mathlib.Core.Path.{sym, ap, _∙_}
 use native.Mathlib.Omega.{arith}
 use borrow.Author.Needs.{needs}
-use borrow.Author.Tests.{le-leb, lt-leb}
 use lib.ListN.{length}
 use denote.Ref.{now}
 use Rattle.truth.proofs.Laws.{said-no, said-yes}
-use Rattle.refusal.specs.declared.Refusal.the-variants.{Room}
-use Rattle.sheet.specs.declared.Ran.the-variants.{Refused}
 use Rattle.sheet.specs.declared.Reading.the-variants.{Stopped, Waiting}
-use Rattle.sheet.specs.Sheet.{ended, lastOf, roomFor, running, runLeft}
+use Rattle.sheet.specs.Sheet.{ended, lastOf}
 use Rattle.sheet.proofs.Along.{along-last}
-use Rattle.sheet.proofs.Running.{Running, running-start, running-next, running-end, running-length, line-room, end-room, last-few}
+use Rattle.sheet.proofs.Running.{Running, running-start, running-next, running-length, line-room, end-room, last-ending, stopped-ending, waiting-ending, run-broken, run-short, run-came}
 use Rattle.sheet.proofs.Steps.{refused-few}
 use Rattle.sheet.proofs.Turns.{found-taken, found-waits, found-bad}
 use Rattle.sheet.proofs.run.Statement.{statement}
@@ -29,15 +26,13 @@ sound-requires : tie.Need-sound-requires Inv-loop μ-loop
 sound-requires c κs = search needs
 
 returns : tie.Need-returns Inv-loop μ-loop
-unfolding running runLeft
-returns c = rw (said-no (c .before .sound .ensures) (c .if1 .taken)) (refl, refl)
+returns c = run-broken (c .before .before .before .before .args .more) (now (c .before .before .before .before .args .text)) (c .before .before .before .before .args .s) (now (c .before .before .before .before .args .out)) (said-no (c .before .sound .ensures) (c .if1 .taken))
 
 room-for-requires : tie.Need-room-for-requires Inv-loop μ-loop
 room-for-requires c κs = search needs
 
 returns-2 : tie.Need-returns-2 Inv-loop μ-loop
-unfolding running runLeft
-returns-2 c = let l : length (now (c .before .before .before .before .before .before .args .out)) < roomFor (length (now (c .before .before .before .before .before .before .args .text))) = omega (arith, c .before .room-for .ensures) in rw (said-yes (c .before .before .before .sound .ensures) (c .before .before .if1 .left), lt-leb _ _ l) (ap (λ n. Refused (Room n)) (c .before .room-for .ensures), refl)
+returns-2 c = run-short (c .before .before .before .before .before .before .args .more) (now (c .before .before .before .before .before .before .args .text)) (c .before .before .before .before .before .before .args .s) (now (c .before .before .before .before .before .before .args .out)) (said-yes (c .before .before .before .sound .ensures) (c .before .before .if1 .left)) (c .before .room-for .ensures) (c .if2 .taken)
 
 loop-holds : tie.Need-loop-holds Inv-loop μ-loop
 loop-holds c = running-start (c .before .before .before .before .before .before .args .more) (now (c .before .before .before .before .before .before .args .text)) (c .before .before .before .before .before .before .args .s) (now (c .before .before .before .before .before .before .args .out)) (said-yes (c .before .before .before .sound .ensures) (c .before .before .if1 .left)) (omega (arith, c .before .room-for .ensures))
@@ -67,8 +62,7 @@ same-length : tie.Need-same-length Inv-loop μ-loop
 same-length c = c .before .before .put-end .kept .1 .0 ∙ running-length (c .before .before .before .before .before .before .before .before .before .loop .inv)
 
 returns-3 : tie.Need-returns-3 Inv-loop μ-loop
-unfolding running runLeft
-returns-3 c = let l : roomFor (length (now (c .before .before .before .before .before .before .before .before .before .before .before .before .before .before .before .before .args .text))) ≤ length (now (c .before .before .before .before .before .before .before .before .before .before .before .before .before .before .before .before .args .out)) = omega (arith, c .before .before .before .before .before .before .before .before .before .before .before .room-for .ensures) in rw (said-yes (c .before .before .before .before .before .before .before .before .before .before .before .before .before .sound .ensures) (c .before .before .before .before .before .before .before .before .before .before .before .before .if1 .left), le-leb _ _ l) (running-end (c .before .before .before .before .before .before .before .before .before .loop .inv) (found-waits (c .before .before .before .before .before .before .before .before .before .before .before .before .before .before .before .before .args .more) (now (c .before .before .before .before .before .before .before .before .before .before .before .before .before .before .before .before .args .text)) (c .before .before .before .before .before .before .before .before .before .loop .at) (c .before .before .before .before .before .before .before .before .before .loop .sheet) (omega arith) (sym (c .before .before .before .before .before .before .before .find .ensures) ∙ c .before .before .before .before .before .left .given .1)) (omega arith) (c .before .before .put-end .ensures))
+returns-3 c = let w = found-waits (c .before .before .before .before .before .before .before .before .before .before .before .before .before .before .before .before .args .more) (now (c .before .before .before .before .before .before .before .before .before .before .before .before .before .before .before .before .args .text)) (c .before .before .before .before .before .before .before .before .before .loop .at) (c .before .before .before .before .before .before .before .before .before .loop .sheet) (omega arith) (sym (c .before .before .before .before .before .before .before .find .ensures) ∙ c .before .before .before .before .before .left .given .1) in run-came (c .before .before .before .before .before .before .before .before .before .loop .inv) (said-yes (c .before .before .before .before .before .before .before .before .before .before .before .before .before .sound .ensures) (c .before .before .before .before .before .before .before .before .before .before .before .before .if1 .left)) (w .0) (waiting-ending (now (c .before .before .before .before .before .before .before .before .before .before .before .before .before .before .before .before .args .text)) (w .1) (w .2)) (c .before .before .put-end .ensures)
 
 enum-known-line : tie.Need-enum-known-line Inv-loop μ-loop
 enum-known-line c = search needs
@@ -80,21 +74,19 @@ same-length-2 : tie.Need-same-length-2 Inv-loop μ-loop
 same-length-2 c = c .before .before .put-end2 .kept .1 .0 ∙ running-length (c .before .before .before .before .before .before .before .before .before .loop .inv)
 
 returns-4 : tie.Need-returns-4 Inv-loop μ-loop
-unfolding running runLeft
-returns-4 c = let l : roomFor (length (now (c .before .before .before .before .before .before .before .before .before .before .before .before .before .before .before .before .args .text))) ≤ length (now (c .before .before .before .before .before .before .before .before .before .before .before .before .before .before .before .before .args .out)) = omega (arith, c .before .before .before .before .before .before .before .before .before .before .before .room-for .ensures) in rw (said-yes (c .before .before .before .before .before .before .before .before .before .before .before .before .before .sound .ensures) (c .before .before .before .before .before .before .before .before .before .before .before .before .if1 .left), le-leb _ _ l) (let bad = found-bad (c .before .before .before .before .before .before .before .before .before .before .before .before .before .before .before .before .args .more) (now (c .before .before .before .before .before .before .before .before .before .before .before .before .before .before .before .before .args .text)) (c .before .before .before .before .before .before .before .before .before .loop .at) (c .before .before .before .before .before .before .before .before .before .loop .sheet) (omega arith) (c .before .before .before .before .before .before .before .before .before .loop .inv .along .sound) (sym (c .before .before .before .before .before .before .before .find .ensures) ∙ c .before .before .before .before .before .line .given .1) in running-end (c .before .before .before .before .before .before .before .before .before .loop .inv) (bad .0) (refused-few _ _ (bad .1)) (c .before .before .put-end2 .ensures))
+returns-4 c = let b = found-bad (c .before .before .before .before .before .before .before .before .before .before .before .before .before .before .before .before .args .more) (now (c .before .before .before .before .before .before .before .before .before .before .before .before .before .before .before .before .args .text)) (c .before .before .before .before .before .before .before .before .before .loop .at) (c .before .before .before .before .before .before .before .before .before .loop .sheet) (omega arith) (c .before .before .before .before .before .before .before .before .before .loop .inv .along .sound) (sym (c .before .before .before .before .before .before .before .find .ensures) ∙ c .before .before .before .before .before .line .given .1) in run-came (c .before .before .before .before .before .before .before .before .before .loop .inv) (said-yes (c .before .before .before .before .before .before .before .before .before .before .before .before .before .sound .ensures) (c .before .before .before .before .before .before .before .before .before .before .before .before .if1 .left)) (b .0) (stopped-ending (now (c .before .before .before .before .before .before .before .before .before .before .before .before .before .before .before .before .args .text)) (b .1)) (c .before .before .put-end2 .ensures)
 
 last-requires : tie.Need-last-requires Inv-loop μ-loop
 last-requires c κs = search needs
 
 put-end-requires-3 : tie.Need-put-end-requires-3 Inv-loop μ-loop
-put-end-requires-3 c κs = rw (c .before .last .ensures) (end-room (c .before .before .before .loop .inv) (lastOf (c .before .before .before .before .before .before .before .before .before .before .args .more) (c .before .before .before .loop .sheet)) (last-few (c .before .before .before .before .before .before .before .before .before .before .args .more) (c .before .before .before .loop .sheet)))
+put-end-requires-3 c κs = rw (c .before .last .ensures) (end-room (c .before .before .before .loop .inv) (lastOf (c .before .before .before .before .before .before .before .before .before .before .args .more) (c .before .before .before .loop .sheet)) (last-ending (c .before .before .before .before .before .before .before .before .before .before .args .more) (now (c .before .before .before .before .before .before .before .before .before .before .args .text)) (c .before .before .before .loop .sheet) .few))
 
 same-length-3 : tie.Need-same-length-3 Inv-loop μ-loop
 same-length-3 c = c .before .before .put-end3 .kept .1 .0 ∙ running-length (c .before .before .before .before .before .before .loop .inv)
 
 returns-5 : tie.Need-returns-5 Inv-loop μ-loop
-unfolding running runLeft
-returns-5 c = let l : roomFor (length (now (c .before .before .before .before .before .before .before .before .before .before .before .before .before .args .text))) ≤ length (now (c .before .before .before .before .before .before .before .before .before .before .before .before .before .args .out)) = omega (arith, c .before .before .before .before .before .before .before .before .room-for .ensures) in rw (said-yes (c .before .before .before .before .before .before .before .before .before .before .sound .ensures) (c .before .before .before .before .before .before .before .before .before .if1 .left), le-leb _ _ l) (running-end (c .before .before .before .before .before .before .loop .inv) (along-last (c .before .before .before .before .before .before .loop .inv .along) (omega arith) ∙ ap ended (sym (c .before .before .before .before .last .ensures))) (rw (c .before .before .before .before .last .ensures) (last-few (c .before .before .before .before .before .before .before .before .before .before .before .before .before .args .more) (c .before .before .before .before .before .before .loop .sheet))) (c .before .before .put-end3 .ensures))
+returns-5 c = run-came (c .before .before .before .before .before .before .loop .inv) (said-yes (c .before .before .before .before .before .before .before .before .before .before .sound .ensures) (c .before .before .before .before .before .before .before .before .before .if1 .left)) (along-last (c .before .before .before .before .before .before .loop .inv .along) (omega arith) ∙ ap ended (sym (c .before .before .before .before .last .ensures))) (rw (c .before .before .before .before .last .ensures) (last-ending (c .before .before .before .before .before .before .before .before .before .before .before .before .before .args .more) (now (c .before .before .before .before .before .before .before .before .before .before .before .before .before .args .text)) (c .before .before .before .before .before .before .loop .sheet))) (c .before .before .put-end3 .ensures)
 
 pub run-spec : {M : Type 1} → statement M
 run-spec =

@@ -1,8 +1,11 @@
 // The clerk's program: a job sheet from standard input, and for each record of it a line to standard output, at the first refusal the refused line.
 // It reads what there is, works through the lines that are complete, writes what they give, and only then reads again, so that a line typed by hand is
 // answered at once. What the lines give is `sheet::run`'s promise; here bytes are only carried to it and from it.
-ghost use Prim.Native.Nat.{_+_, _≤_};
-ghost use lib.ListN.{length};
+ghost use mathlib.Core.Path.{_≡_};
+ghost use Prim.Native.Nat.{_+_, _≤_, _<_};
+ghost use lib.ListN.{length, take, drop};
+ghost use Rattle.sheet.specs.Line.{longestLine};
+ghost use Rattle.tally.specs.Kept.{keptBy};
 use libc::STDIN_FILENO;
 use libc::STDOUT_FILENO;
 use sheet::Ran;
@@ -10,7 +13,7 @@ use sheet::Reading;
 use sheet::Sheet;
 
 // What a turn of the loop comes to: where the reading stands, with the bytes of a line begun; or the end.
-enum Turn {
+enum After {
     On(Sheet, usize),
     Over,
 }
@@ -18,6 +21,7 @@ enum Turn {
 // Moves `count` bytes of `text` from `from` on to its start.
 fn keep(text: &mut [u8], from: usize, count: usize)
     requires { ⌜ from + count ≤ length (now text) ⌝ }
+    ensures { λ _. ⌜ take count (now (text .exit)) ≡ take count (drop from (now (text .entry))) ⌝ }
 {
     let mut i = 0;
     while i < count {
@@ -26,44 +30,53 @@ fn keep(text: &mut [u8], from: usize, count: usize)
     }
 }
 
-// Reads once behind the `kept` bytes of a line begun, and writes what the complete lines give.
-fn turn(s: Sheet, text: &mut [u8], kept: usize, out: &mut [u8]) -> Turn
+// Works through the lines of the first `end` bytes of `text`, and writes what they give; a line begun goes to the start of `text`.
+fn work(s: Sheet, text: &mut [u8], end: usize, more: bool, out: &mut [u8]) -> After
+    requires { ⌜ end ≤ length (now text) ⌝ }
+    ensures { λ r. ⌜ keptBy r < longestLine ⌝ }
+{
+    let Ran::Came(reading, put) = sheet::run(s, &text[..end], more, out) else {
+        return After::Over;
+    };
+    if !io::write_all(STDOUT_FILENO, &out[..put]) {
+        os::fail(b"standard output");
+        return After::Over;
+    }
+    let Reading::Waiting(t, left) = reading else {
+        return After::Over;
+    };
+    keep(text, end - left, left);
+    After::On(t, left)
+}
+
+// Reads once, behind the `kept` bytes of a line begun.
+fn turn(s: Sheet, text: &mut [u8], kept: usize, out: &mut [u8]) -> After
     requires { ⌜ kept ≤ length (now text) ⌝ }
+    ensures { λ r. ⌜ keptBy r < longestLine ⌝ }
 {
     let got = libc::read(STDIN_FILENO, &mut text[kept..]);
     if got < 0 {
         os::fail(b"standard input");
-        return Turn::Over;
+        return After::Over;
     }
-    let end = kept + io::count(got, &text[kept..]);
-    let Ran::Came(reading, put) = sheet::run(s, &text[..end], got > 0, out) else {
-        return Turn::Over;
-    };
-    if !io::write_all(STDOUT_FILENO, &out[..put]) {
-        os::fail(b"standard output");
-        return Turn::Over;
-    }
-    let Reading::Waiting(t, left) = reading else {
-        return Turn::Over;
-    };
-    keep(text, end - left, left);
-    Turn::On(t, left)
+    let more = io::count(got, &text[kept..]);
+    work(s, text, kept + more, more > 0, out)
 }
 
 // A proved loop has to end, and nothing says that the input does; so it counts its turns down, from a number that no run uses up.
 fn serve(text: &mut [u8], out: &mut [u8])
-    requires { ⌜ 64 ≤ length (now text) ⌝ }
+    requires { ⌜ longestLine ≤ length (now text) ⌝ }
 {
     let mut sheet = Sheet::Fresh;
     let mut kept = 0;
     let mut turns = u64::MAX;
     while turns > 0 {
         match turn(sheet, text, kept, out) {
-            Turn::On(t, left) => {
+            After::On(t, left) => {
                 sheet = t;
                 kept = left;
             }
-            Turn::Over => {
+            After::Over => {
                 return;
             }
         }

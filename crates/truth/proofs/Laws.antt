@@ -21,6 +21,10 @@ pub no : (b : Bool) → ¬ T b → b ≡ false
 no true f = absurd (f tt)
 no false f = refl
 
+pub is-true : (b : Bool) → T b → b ≡ true
+is-true true t = refl
+is-true false t = absurd t
+
 -- what `if !r` tells, where r answers a test b
 pub said-no : {r b : Bool} → r ≡ b → not r ≡ true → b ≡ false
 said-no {r} e n = sym e ∙ not-true r n

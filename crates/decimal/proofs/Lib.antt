@@ -1,0 +1,5 @@
+pub mod Text
+pub mod Reading
+pub mod Back
+pub mod Unique
+pub mod Examples

@@ -1,0 +1,155 @@
+// Numbers in text, by document 01, "The job sheet": decimal, 1 to 12 digits, no leading zero but for 0 itself.
+// The reader makes one pass over a field's bytes and divides nothing; the writer stores a number's digits from the last to the first.
+ghost use mathlib.Core.Path.{_≡_};
+ghost use Prim.Native.Nat.{_+_, _%_, _≤_, min};
+ghost use lib.ListN.{length, drop};
+ghost use Rattle.text.specs.Write.{written, placeAfter};
+ghost use Rattle.decimal.specs.Decimal.{zeroByte, longest, isDigit, leadingDigits, valueOf, digitsOf, widest};
+ghost use Rattle.decimal.specs.Field.{endsHere, fieldAt};
+
+// The byte of the digit 0.
+const ZERO: u8 = 48;
+
+const TAB: u8 = 9;
+
+const LF: u8 = 10;
+
+// The most digits of a number.
+const LONGEST: usize = 12;
+
+// What a field reads as.
+pub enum Field {
+    // A number, and the place of the byte that ended the field.
+    Number(u64, usize),
+    // Anything else.
+    Bad,
+}
+
+// Reads the field of `s` that starts at `at` and goes up to the next tab or LF, or to the end of `s`.
+pub fn number_at(s: &[u8], at: usize) -> Field
+    ensures { λ r. ⌜ r ≡ fieldAt (now (s .entry)) at ⌝ }
+{
+    let run = run_at(s, at);
+    let end = run.end;
+    if !ended(s, end) {
+        return Field::Bad;
+    }
+    if end == at {
+        return Field::Bad;
+    }
+    if end - at == 1 {
+        return Field::Number(run.value, end);
+    }
+    if s[at] == ZERO {
+        return Field::Bad;
+    }
+    Field::Number(run.value, end)
+}
+
+// The digits that stand at a place, at most LONGEST of them: what they are worth, and the place after them.
+struct Run {
+    value: u64,
+    end: usize,
+}
+
+fn run_at(s: &[u8], at: usize) -> Run
+    ensures { λ r. ⌜ r .value ≡ valueOf (leadingDigits longest (drop at (now (s .entry)))) ⌝ }
+    ensures { λ r. ⌜ r .end ≡ at + length (leadingDigits longest (drop at (now (s .entry)))) ⌝ }
+{
+    let stop = last_place(s.len(), at);
+    let mut value: u64 = 0;
+    let mut i = at;
+    while i < stop {
+        let b = s[i];
+        if !is_digit(b) {
+            return Run {
+                value: value,
+                end: i,
+            };
+        }
+        value = value * 10 + ((b - ZERO) as u64);
+        i += 1;
+    }
+    Run {
+        value: value,
+        end: i,
+    }
+}
+
+// Where the digits from `at` on end at the latest, in `len` bytes.
+fn last_place(len: usize, at: usize) -> usize
+    ensures { λ r. ⌜ r ≡ min len (at + longest) ⌝ }
+{
+    if len <= at {
+        return len;
+    }
+    if len - at < LONGEST {
+        return len;
+    }
+    at + LONGEST
+}
+
+fn is_digit(b: u8) -> bool
+    ensures { λ r. ⌜ r ≡ isDigit b ⌝ }
+{
+    if b < ZERO {
+        return false;
+    }
+    b < ZERO + 10
+}
+
+// Whether a field that comes to `at` ends there.
+fn ended(s: &[u8], at: usize) -> bool
+    ensures { λ r. ⌜ r ≡ endsHere (drop at (now (s .entry))) ⌝ }
+{
+    if s.len() <= at {
+        return true;
+    }
+    let b = s[at];
+    if b == TAB {
+        return true;
+    }
+    b == LF
+}
+
+// How many digits the decimal text of `v` has.
+pub fn digits(v: u64) -> usize
+    ensures { λ r. ⌜ r ≡ length (digitsOf v) ⌝ }
+    ensures { λ r. ⌜ r ≤ widest ⌝ }
+{
+    let tens = v / 10;
+    let mut count: usize = 1;
+    let mut power: u64 = 1;
+    while power <= tens {
+        power = power * 10;
+        count += 1;
+    }
+    count
+}
+
+// Writes the decimal text of `v` into `out` from `at` on. Answers the place after it, or `at` where it has no room and `out` is kept.
+pub fn write_number(v: u64, out: &mut [u8], at: usize) -> usize
+    ensures { λ r. ⌜ r ≡ placeAfter (now (out .entry)) at (digitsOf v) ⌝ }
+    ensures { λ _. ⌜ now (out .exit) ≡ written (now (out .entry)) at (digitsOf v) ⌝ }
+{
+    let count = digits(v);
+    if !text::has_room(out.len(), at, count) {
+        return at;
+    }
+    let mut rest = v;
+    let mut i = at + count;
+    while 10 <= rest {
+        i -= 1;
+        out[i] = last_digit(rest);
+        rest = rest / 10;
+    }
+    out[at] = last_digit(rest);
+    at + count
+}
+
+// The byte of the last digit of `v`.
+fn last_digit(v: u64) -> u8
+    ensures { λ r. ⌜ r ≡ zeroByte + v % 10 ⌝ }
+{
+    ZERO + ((v % 10) as u8)
+}

@@ -1,0 +1,10 @@
+pub mod Along
+pub mod Entries
+pub mod Fields
+pub mod Given
+pub mod Lines
+pub mod Room
+pub mod Running
+pub mod Steps
+pub mod Turns
+pub mod Unique

@@ -1,0 +1,61 @@
+-- `sheet::write_refused` meets its contract: the word and its tab are eight bytes, and each number has one behind it. Assumes nothing.
+use Prim.Native.Nat.{_+_}
+use mathlib.Core.Path.{_≡_, ap}
+use native.Mathlib.Omega.{arith}
+use lib.ListN.{length, length-append}
+use denote.Ref.{now}
+use Rattle.decimal.specs.Decimal.{digitsOf}
+use Rattle.sheet.specs.Written.{fieldText, refusedText}
+use Rattle.sheet.proofs.Room.{has-room, no-room, upto}
+use borrow.Author.Needs.{needs}
+use Rattle.sheet.proofs.write_refused.Statement.{statement}
+use Rattle.sheet.proofs.write_refused.Tie as tie
+
+needed : (c : tie.After-digits2) → c .before .before .digits .result + c .digits2 .result + 10 ≡ length (refusedText (c .before .before .before .before .args .line) (c .before .before .before .before .args .r))
+unfolding refusedText fieldText
+needed c = simp length-append (omega (arith, c .before .before .digits .ensures .0, c .digits2 .ensures .0, ap (λ n. length (digitsOf n)) (c .before .number .ensures)))
+
+digits-requires : tie.Need-digits-requires
+digits-requires c κs = search needs
+
+number-requires : tie.Need-number-requires
+number-requires c κs = search needs
+
+digits-requires-2 : tie.Need-digits-requires-2
+digits-requires-2 c κs = search needs
+
+add-needed : tie.Need-add-needed
+add-needed c = search needs
+
+add-needed-2 : tie.Need-add-needed-2
+add-needed-2 c = search needs
+
+has-room-requires : tie.Need-has-room-requires
+has-room-requires c κs = search needs
+
+returns : tie.Need-returns
+returns c = no-room (now (c .before .before .before .before .before .before .args .out)) (c .before .before .before .before .before .before .args .at) (refusedText (c .before .before .before .before .before .before .args .line) (c .before .before .before .before .before .before .args .r)) (c .before .has-room .ensures) (needed (c .before .before)) (c .if1 .taken)
+
+put-refused-requires : tie.Need-put-refused-requires
+put-refused-requires c κs = has-room (now (c .before .before .before .before .before .before .before .args .out)) (c .before .before .before .before .before .before .before .args .at) (refusedText (c .before .before .before .before .before .before .before .args .line) (c .before .before .before .before .before .before .before .args .r)) (c .before .before .has-room .ensures) (needed (c .before .before .before)) (c .before .if1 .left)
+
+same-length : tie.Need-same-length
+same-length c = search needs
+
+returns-2 : tie.Need-returns-2
+returns-2 c = upto (now (c .before .before .before .before .before .before .before .before .before .before .args .out)) (c .before .before .before .before .before .before .before .before .before .before .args .at) (refusedText (c .before .before .before .before .before .before .before .before .before .before .args .line) (c .before .before .before .before .before .before .before .before .before .before .args .r)) (c .before .before .before .before .before .has-room .ensures) (needed (c .before .before .before .before .before .before)) (c .before .before .before .before .if1 .left) (c .before .before .put-refused .ensures)
+
+pub write-refused-spec : {M : Type 1} → statement M
+write-refused-spec =
+    tie.close
+    (tie.spec
+    digits-requires
+    number-requires
+    digits-requires-2
+    add-needed
+    add-needed-2
+    has-room-requires
+    returns
+    put-refused-requires
+    same-length
+    returns-2)

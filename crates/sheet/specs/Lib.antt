@@ -1,0 +1,4 @@
+pub mod Line
+pub mod Written
+pub mod Sheet
+pub mod Cut

@@ -1,0 +1,114 @@
+-- Document 01, "The job sheet": what a text means, from its bytes: what the program writes, and what the reading ends in. Assumes nothing.
+use Prim.Native.Nat.{ℕ, _+_, _*_, min}
+use mathlib.Core.Bool.{Bool, true, false, cond, not, _&&_}
+use mathlib.Core.List.{List, [], _∷_, _++_}
+use lib.ListN.{length}
+use lib.Dec.{eqb, leb, ltb}
+use Rattle.refusal.specs.declared.Refusal.the-variants.{BrokenState, Line, Room}
+use Rattle.text.specs.Write.{written}
+use Rattle.decimal.specs.Field.{lineFeed}
+use Rattle.campaign.specs.State.{sound}
+use Rattle.sheet.specs.declared.Reading.{Reading}
+use Rattle.sheet.specs.declared.Reading.the-variants.{Read, Stopped, Waiting}
+use Rattle.sheet.specs.declared.Ran.{Ran}
+use Rattle.sheet.specs.declared.Ran.the-variants.{Came, Refused}
+use Rattle.sheet.specs.declared.Sheet.{Sheet}
+use Rattle.sheet.specs.declared.Sheet.the-variants.{Fresh, Open}
+use Rattle.sheet.specs.declared.Step.{Step}
+use Rattle.sheet.specs.declared.Step.the-variants.{Next, Stop}
+use Rattle.sheet.specs.Line.{endsLine, longestLine, stepping}
+use Rattle.sheet.specs.Written.{recordText, refusedText}
+
+-- ---- the lines of a text: each goes up to an LF and has it; what stands behind the last LF is a line too, without one
+abbrev pub startLine : ℕ → List (List ℕ) → List (List ℕ)
+startLine b [] = (b ∷ []) ∷ []
+startLine b (line ∷ lines) = (b ∷ line) ∷ lines
+
+unfoldable pub linesOf : List ℕ → List (List ℕ)
+linesOf [] = []
+linesOf (b ∷ text) = cond (eqb b lineFeed) ((b ∷ []) ∷ linesOf text) (startLine b (linesOf text))
+
+-- ---- what a text comes to
+-- what is written, and what the reading ends in
+pub record Account : Type 0 where
+  pub text : List ℕ
+  pub end : Reading
+
+-- something written before
+abbrev pub prefixed : List ℕ → Account → Account
+prefixed text a = record { text = text ++ a .text; end = a .end }
+
+-- at the first refusal the program writes the refused line and stops
+abbrev pub endText : Reading → List ℕ
+endText (Stopped line r) = refusedText line r
+endText (Read c) = []
+endText (Waiting s left) = []
+
+abbrev pub ended : Reading → Account
+ended r = record { text = endText r; end = r }
+
+-- for each record that a line enters its line is written
+abbrev pub textOf : Sheet → List ℕ
+textOf Fresh = []
+textOf (Open c) = recordText c
+
+abbrev pub afterStep : Step → (Sheet → Account) → Account
+afterStep (Next s) go = prefixed (textOf s) (go s)
+afterStep (Stop line r) go = ended (Stopped line r)
+
+-- behind the last line: an absent line 1 is refusal 9; where more may follow the reading waits
+abbrev pub lastOf : Bool → Sheet → Reading
+lastOf true s = Waiting s 0
+lastOf false Fresh = Stopped 1 (Line 1)
+lastOf false (Open c) = Read c
+
+-- where more may follow, a line without its LF waits for it, its bytes unread; not one that is as long as a line may be without it
+abbrev pub waits : Bool → List ℕ → Bool
+waits more line = more && (not (endsLine line) && ltb (length line) longestLine)
+
+-- the lines one by one, from where the reading stands; `more`: more of the text may follow
+unfoldable pub reading : Bool → List (List ℕ) → Sheet → Account
+reading more [] s = ended (lastOf more s)
+reading more (line ∷ lines) s = cond (waits more line) (ended (Waiting s (length line))) (afterStep (stepping s line) (reading more lines))
+
+-- THE MEANING OF A TEXT
+unfoldable pub meaning : List ℕ → Account
+meaning text = reading false (linesOf text) Fresh
+
+-- ---- what the readers of a lent text answer; a campaign that was never handed out is refusal 8
+abbrev pub soundSheet : Sheet → Bool
+soundSheet Fresh = true
+soundSheet (Open c) = sound c
+
+unfoldable pub readingEnd : Bool → List ℕ → Sheet → Reading
+readingEnd more text s = cond (soundSheet s) (reading more (linesOf text) s .end) (Stopped 0 BrokenState)
+
+-- the bytes that a run over a text of n bytes asks for: five for each, and what the refused line needs; as far as 64 bits hold the number
+abbrev pub roomFor : ℕ → ℕ
+roomFor n = min (5 * n + 32) 18446744073709551615
+
+-- a run writes what its lines give: 8, 7; a refusal leaves the lent bytes as they were
+unfoldable pub running : Bool → List ℕ → Sheet → List ℕ → Ran
+running more text s out =
+    cond (soundSheet s)
+    (cond (leb (roomFor (length text)) (length out))
+    (Came (reading more (linesOf text) s .end) (length (reading more (linesOf text) s .text)))
+    (Refused (Room (roomFor (length text)))))
+    (Refused BrokenState)
+
+unfoldable pub runLeft : Bool → List ℕ → Sheet → List ℕ → List ℕ
+runLeft more text s out = cond (soundSheet s && leb (roomFor (length text)) (length out)) (written out 0 (reading more (linesOf text) s .text)) out
+
+-- what a caller counts with: the bytes that a run wrote, and those that it left unread
+abbrev pub putBy : Ran → ℕ
+putBy (Came end put) = put
+putBy (Refused r) = 0
+
+abbrev pub leftIn : Reading → ℕ
+leftIn (Waiting s left) = left
+leftIn (Read c) = 0
+leftIn (Stopped line r) = 0
+
+abbrev pub leftBy : Ran → ℕ
+leftBy (Came end put) = leftIn end
+leftBy (Refused r) = 0

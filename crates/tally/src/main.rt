@@ -1,0 +1,92 @@
+// The clerk's program: a job sheet from standard input, and for each record of it a line to standard output, at the first refusal the refused line.
+// It reads what there is, works through the lines that are complete, writes what they give, and only then reads again, so that a line typed by hand is
+// answered at once. What the lines give is `sheet::run`'s promise; here bytes are only carried to it and from it.
+ghost use mathlib.Core.Path.{_≡_};
+ghost use Prim.Native.Nat.{_+_, _≤_, _<_};
+ghost use lib.ListN.{length, take, drop};
+ghost use Rattle.sheet.specs.Line.{longestLine};
+ghost use Rattle.tally.specs.Kept.{keptBy};
+use libc::STDIN_FILENO;
+use libc::STDOUT_FILENO;
+use sheet::Ran;
+use sheet::Reading;
+use sheet::Sheet;
+
+// What a turn of the loop comes to: where the reading stands, with the bytes of a line begun; or the end.
+enum After {
+    On(Sheet, usize),
+    Over,
+}
+
+// Moves `count` bytes of `text` from `from` on to its start.
+fn keep(text: &mut [u8], from: usize, count: usize)
+    requires { ⌜ from + count ≤ length (now text) ⌝ }
+    ensures { λ _. ⌜ take count (now (text .exit)) ≡ take count (drop from (now (text .entry))) ⌝ }
+{
+    let mut i = 0;
+    while i < count {
+        text[i] = text[from + i];
+        i += 1;
+    }
+}
+
+// Works through the lines of the first `end` bytes of `text`, and writes what they give; a line begun goes to the start of `text`.
+fn work(s: Sheet, text: &mut [u8], end: usize, more: bool, out: &mut [u8]) -> After
+    requires { ⌜ end ≤ length (now text) ⌝ }
+    ensures { λ r. ⌜ keptBy r < longestLine ⌝ }
+{
+    let Ran::Came(reading, put) = sheet::run(s, &text[..end], more, out) else {
+        return After::Over;
+    };
+    if !io::write_all(STDOUT_FILENO, &out[..put]) {
+        os::fail(b"standard output");
+        return After::Over;
+    }
+    let Reading::Waiting(t, left) = reading else {
+        return After::Over;
+    };
+    keep(text, end - left, left);
+    After::On(t, left)
+}
+
+// Reads once, behind the `kept` bytes of a line begun.
+fn turn(s: Sheet, text: &mut [u8], kept: usize, out: &mut [u8]) -> After
+    requires { ⌜ kept ≤ length (now text) ⌝ }
+    ensures { λ r. ⌜ keptBy r < longestLine ⌝ }
+{
+    let got = libc::read(STDIN_FILENO, &mut text[kept..]);
+    if got < 0 {
+        os::fail(b"standard input");
+        return After::Over;
+    }
+    let more = io::count(got, &text[kept..]);
+    work(s, text, kept + more, more > 0, out)
+}
+
+// A proved loop has to end, and nothing says that the input does; so it counts its turns down, from a number that no run uses up.
+fn serve(text: &mut [u8], out: &mut [u8])
+    requires { ⌜ longestLine ≤ length (now text) ⌝ }
+{
+    let mut sheet = Sheet::Fresh;
+    let mut kept = 0;
+    let mut turns = u64::MAX;
+    while turns > 0 {
+        match turn(sheet, text, kept, out) {
+            After::On(t, left) => {
+                sheet = t;
+                kept = left;
+            }
+            After::Over => {
+                return;
+            }
+        }
+        turns -= 1;
+    }
+}
+
+// `out` has what `sheet::run` asks for over `text`: five bytes for each, and 32.
+fn main() {
+    let mut text = [0u8; 16384];
+    let mut out = [0u8; 81952];
+    serve(&mut text, &mut out);
+}

@@ -1,0 +1,102 @@
+-- `text::write_bytes` meets its contract. The invariant of its loop: laying the bytes that are left, the first i, over what `out` holds
+-- now gives what laying all of them over `out` as it was gives. A turn stores the last of those left; i, the measure, falls by one.
+-- Assumes nothing.
+use mathlib.Core.Path.{_≡_, refl, sym, _∙_}
+use Prim.Native.Nat.{_+_, _≤_}
+use native.Mathlib.Omega.{arith}
+use borrow.Author.Needs.{needs}
+use borrow.Author.Tests.{leb-true, leb-false, not-true, not-false}
+use lib.ListN.{length, take, length-set}
+use lib.Seq.{take-length}
+use denote.Ref.{now}
+use Rattle.text.specs.Write.{laid}
+use Rattle.text.proofs.Laws.{wrote-laid, wrote-short, laid-none, laid-turn}
+use Rattle.text.proofs.write_bytes.Statement.{statement}
+use Rattle.text.proofs.write_bytes.Tie as tie
+
+abbrev Inv-loop : tie.InvT-loop
+Inv-loop bytes out₀ at i₀ out i =
+    (at + length bytes ≤ length out₀) × ((i ≤ length bytes) × ((length out ≡ length out₀) × (laid out at (take i bytes) ≡ laid out₀ at bytes)))
+
+abbrev μ-loop : tie.MeasureT-loop
+μ-loop bytes out₀ at i₀ out i = i
+
+has-room-requires : tie.Need-has-room-requires Inv-loop μ-loop
+has-room-requires c κs = search needs
+
+returns : tie.Need-returns Inv-loop μ-loop
+returns c =
+    let a = c .before .before .before .before .args in
+    let n = a .at + length (now (a .bytes)) in
+    wrote-short (now (a .out)) (a .at) (now (a .bytes))
+    (leb-false n (length (now (a .out))) (sym (c .before .has-room .ensures) ∙ not-true (c .before .has-room .result) (c .if1 .taken)))
+
+loop-holds : tie.Need-loop-holds Inv-loop μ-loop
+loop-holds c =
+    let a = c .before .before .before .before .args in
+    let n = a .at + length (now (a .bytes)) in
+    let room = leb-true n (length (now (a .out))) (sym (c .before .has-room .ensures) ∙ not-false (c .before .has-room .result) (c .if1 .left)) in
+    (room, (omega arith, (refl, rw take-length)))
+
+sub-i : tie.Need-sub-i Inv-loop μ-loop
+sub-i c = search needs
+
+shared-slice-read-out : tie.Need-shared-slice-read-out Inv-loop μ-loop
+shared-slice-read-out c = search needs
+
+add-out : tie.Need-add-out Inv-loop μ-loop
+add-out c = omega arith
+
+slice-write-out : tie.Need-slice-write-out Inv-loop μ-loop
+slice-write-out c = omega arith
+
+loop-less : tie.Need-loop-less Inv-loop μ-loop
+loop-less c = search needs
+
+loop-again : tie.Need-loop-again Inv-loop μ-loop
+loop-again c =
+    let l = c .before .before .loop in
+    let a = c .before .before .before .before .before .before .before .args in (
+      omega arith,
+      (
+        omega arith,
+        (
+          rw length-set (omega arith),
+          laid-turn (l .out) (a .at) (now (a .bytes)) (l .i) (omega arith) (omega arith) (omega arith) ∙ l .inv .1 .1 .1,
+        ),
+      ),
+    )
+
+add-result : tie.Need-add-result Inv-loop μ-loop
+add-result c = omega arith
+
+same-length : tie.Need-same-length Inv-loop μ-loop
+same-length c = search needs
+
+returns-2 : tie.Need-returns-2 Inv-loop μ-loop
+returns-2 c =
+    let a = c .before .before .before .before .before .before .args in
+    let l = c .before .loop in
+    let none : l .i ≡ 0 = omega arith in
+    wrote-laid (now (a .out)) (a .at) (now (a .bytes)) (l .out) (a .at + length (now (a .bytes))) (l .inv .0)
+    (sym (laid-none (l .out) (a .at)) ∙ (rw none at (l .inv .1 .1 .1)))
+    refl
+
+pub write-bytes-spec : {M : Type 1} → statement M
+write-bytes-spec =
+    tie.close
+    (tie.spec
+    Inv-loop
+    μ-loop
+    has-room-requires
+    returns
+    loop-holds
+    sub-i
+    shared-slice-read-out
+    add-out
+    slice-write-out
+    loop-less
+    loop-again
+    add-result
+    same-length
+    returns-2)

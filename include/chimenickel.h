@@ -38,16 +38,16 @@
  * Levels and samples are in thousandths of a degree or in mm/s2, times in ms, rates in failures a second. Items 1 to 4 are a record's first four
  * numbers, item 5 is the standard.
  *
- * Example (examples/c/campaign.c, which CI compiles and runs): a campaign of two records at one failure in 7,200,000 ms.
+ * Example: the start of examples/c/campaign.c, which CI compiles and runs. A roll that crosses 40 degrees, fed in two pieces, is closed into a
+ * campaign at one failure in two hours; the verdict then is CHIM_REJECT.
  *
- *   uint64_t record[CHIM_RECORD_NUMBERS], campaign[CHIM_CAMPAIGN_NUMBERS], carried;
+ *   uint64_t campaign[CHIM_CAMPAIGN_NUMBERS], record[CHIM_RECORD_NUMBERS], carried;
  *   chim_campaign_open(7200000, campaign, CHIM_CAMPAIGN_NUMBERS, &carried);
  *   chim_record_open(500, 0, 40000, 2000, record, CHIM_RECORD_NUMBERS, &carried);
  *   const int32_t roll[] = {0, 41000, 39000, 41000, 39000, 41000, 0};
- *   chim_record_feed(record, CHIM_RECORD_NUMBERS, roll, 7, &carried);
+ *   chim_record_feed(record, CHIM_RECORD_NUMBERS, roll, 3, &carried);
+ *   chim_record_feed(record, CHIM_RECORD_NUMBERS, roll + 3, 4, &carried);
  *   chim_campaign_close(record, CHIM_RECORD_NUMBERS, campaign, CHIM_CAMPAIGN_NUMBERS, &carried);
- *   double lower, upper;
- *   chim_campaign_verdict(campaign, CHIM_CAMPAIGN_NUMBERS, &lower, &upper, &carried);    carried is CHIM_REJECT
  */
 #ifndef CHIMENICKEL_H
 #define CHIMENICKEL_H

@@ -3,19 +3,21 @@ use Prim.Native.Nat.{ℕ}
 use mathlib.Core.Path.{_≡_, refl}
 use mathlib.Core.Bool.{Bool, cond, false, true}
 use mathlib.Core.List.{List}
-use borrow.Author.Tests.{eqb-true, le-leb, leb-true}
+use borrow.Author.Tests.{eq-eqb, eqb-true, le-leb, leb-true}
 use lib.Dec.{T, leb}
 use lib.IntN.{ℤ}
 use lib.ListN.{length}
 use Rattle.record.proofs.Bools.{and-true, true≢false}
-use Rattle.record.proofs.Fed.{taken}
+use Rattle.record.proofs.Fed.{fed-broken, taken}
 use Rattle.record.proofs.Relations.{kept-from}
+use Rattle.record.proofs.Theorems.{fed-sound, opened-sound}
 use Rattle.record.specs.Answers as reading
 use Rattle.record.specs.Limits.{itemOutside}
 use Rattle.record.specs.State as state
 use Rattle.record.specs.declared.Answer.{Answer as Reading}
 use Rattle.record.specs.declared.Answer.the-variants as read
 use Rattle.record.specs.declared.Record.{Record}
+use Rattle.refusal.specs.declared.Refusal.the-variants.{BrokenState}
 use Rattle.campaign.proofs.Answered.{closed-from, entered-from}
 use Rattle.campaign.specs.Answers.{closing, entering}
 use Rattle.campaign.specs.State.{sound}
@@ -23,7 +25,7 @@ use Rattle.campaign.specs.declared.Answer.{Answer}
 use Rattle.campaign.specs.declared.Answer.the-variants.{Taken}
 use Rattle.campaign.specs.declared.Campaign.{Campaign}
 use Rattle.capi.specs.Numbers.{campaignAt, campaignNumbers, campaignOf, codeOf, flag, highestCode, isCampaign, isRecord, noCampaign, ofCampaign, ofRecord, recordNumbers, recordOf}
-use Rattle.capi.specs.Told.{campaignTold, recordTold}
+use Rattle.capi.specs.Told.{campaignTold, recordFed, recordOpened, recordTold, refused}
 use Rattle.capi.proofs.Codes.{code-high, read-back}
 
 -- ---- other numbers
@@ -34,6 +36,11 @@ other-record s e = rw e
 pub other-campaign : (s : List ℕ) → isCampaign s ≡ false → sound (campaignOf s) ≡ false
 unfolding campaignOf sound
 other-campaign s e = rw e
+
+-- so they are refused by 8 and stay
+pub other-fed : (s : List ℕ) (p : List ℤ) → isRecord s ≡ false → recordFed s p ≡ refused BrokenState s
+unfolding recordTold
+other-fed s p e = rw (fed-broken (recordOf s) p (other-record s e))
 
 is-record : (s : List ℕ) (b : Bool) → isRecord s ≡ b → state.sound (recordOf s) ≡ true → b ≡ true
 is-record s true e h = refl
@@ -80,3 +87,10 @@ record-left a s r e h = rw e (record-back r h)
 pub campaign-left : (a : Answer) (s : List ℕ) (c : Campaign) → a ≡ Taken c → campaignOf (campaignTold a s .lent) ≡ c
 unfolding campaignTold
 campaign-left a s c e = rw e (campaign-back c)
+
+pub opened-left : (D R a τ : ℕ) (s : List ℕ) (r : Record) → length s ≡ recordNumbers → reading.opened D R a τ ≡ read.Taken r → recordOf (recordOpened D R a τ s .lent) ≡ r
+unfolding recordOpened
+opened-left D R a τ s r l e = rw (eq-eqb (length s) recordNumbers l) (record-left (reading.opened D R a τ) s r e (opened-sound D R a τ r e))
+
+pub fed-left : (s : List ℕ) (p : List ℤ) (r : Record) → reading.fed (recordOf s) p ≡ read.Taken r → recordOf (recordFed s p .lent) ≡ r
+fed-left s p r e = record-left (reading.fed (recordOf s) p) s r e (fed-sound (recordOf s) p r e)

@@ -1,6 +1,6 @@
 -- What each C function leaves: the number that it answers, what it carries, and the later contents of whatever it may write, from the answers that the
--- crates below give to the states that the arrays hold. 0 is answered for an entry that is taken, document 01's number for one that is refused; a
--- refusal leaves every lent array as it stood. Assumes nothing.
+-- crates below give to the states that the arrays hold. 0 is answered for an entry that is taken, and for one that is refused the number of document 01,
+-- "Refusal numbers"; a refusal leaves every lent array as it stood. Assumes nothing.
 use Prim.Native.Nat.{ℕ}
 use mathlib.Core.Bool.{cond}
 use mathlib.Core.List.{List}
@@ -105,7 +105,7 @@ pub record Judgement : Type 0 where
 abbrev pub judgement : ℕ → ℕ → Float → Float → Judgement
 judgement n v x y = record { number = n; carried = v; lower = x; upper = y }
 
--- a rate that the verdict does not carry is 0
+-- "The campaign": accept carries the upper rate, reject the lower, continue both; a rate that the verdict does not carry is 0
 unfoldable pub verdictTold : Verdict → Judgement
 verdictTold NoRecord = judgement 0 0 zero64 zero64
 verdictTold (Accept y) = judgement 0 1 zero64 y
@@ -119,7 +119,7 @@ judgedTold (judged.Refused f) x y = judgement (numberOf f) (valueOf f) x y
 abbrev pub campaignJudged : List ℕ → Float → Float → Judgement
 campaignJudged s x y = judgedTold (judging (campaignOf s)) x y
 
--- the number, 1 if there is a record and else 0, and three lent rates afterwards
+-- the number, 1 if there is a record and else 0, which is 01's "no record" without a number, and three lent rates afterwards
 pub record Rating : Type 0 where
   pub number : ℕ
   pub carried : ℕ

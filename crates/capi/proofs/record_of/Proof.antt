@@ -3,7 +3,7 @@ use mir.Facts.{toZ-ofZ}
 use mir.Syntax.{w32}
 use mir.Val.{SFits}
 use borrow.Author.Tests.{eq-eqb, ne-eqb, le-leb, lt-leb}
-use Rattle.capi.specs.Numbers.{recordOf}
+use Rattle.capi.specs.Numbers.{highestCode, recordNumbers, recordOf}
 use borrow.Author.Needs.{needs}
 use Rattle.capi.proofs.record_of.Statement.{statement}
 use Rattle.capi.proofs.record_of.Tie as tie
@@ -13,7 +13,7 @@ no-record-requires c κs = search needs
 
 returns : tie.Need-returns
 unfolding recordOf
-returns c = rw (ne-eqb _ _ (c .before .if1 .taken), c .no-record .ensures)
+returns c = rw (ne-eqb _ recordNumbers (c .before .if1 .taken), c .no-record .ensures)
 
 shared-slice-read-if2 : tie.Need-shared-slice-read-if2
 shared-slice-read-if2 c = search needs
@@ -23,7 +23,7 @@ no-record-requires-2 c κs = search needs
 
 returns-2 : tie.Need-returns-2
 unfolding recordOf
-returns-2 c = rw (eq-eqb _ _ (c .before .before .before .if1 .left), lt-leb _ _ (c .before .if2 .taken), c .no-record2 .ensures)
+returns-2 c = rw (eq-eqb _ recordNumbers (c .before .before .before .if1 .left), lt-leb _ highestCode (c .before .if2 .taken), c .no-record2 .ensures)
 
 shared-slice-read-t5 : tie.Need-shared-slice-read-t5
 shared-slice-read-t5 c = search needs
@@ -62,7 +62,7 @@ returns-3 : tie.Need-returns-3
 unfolding recordOf
 returns-3 c =
     let f : SFits w32 (c .before .before .before .before .sample-of .result) = search needs in
-    rw (eq-eqb _ _ (c .before .before .before .before .before .before .before .before .before .before .before .before .before .if1 .left), le-leb _ _ (c .before .before .before .before .before .before .before .before .before .before .before .if2 .left)) (cc (toZ-ofZ f))
+    rw (eq-eqb _ recordNumbers (c .before .before .before .before .before .before .before .before .before .before .before .before .before .if1 .left), le-leb _ highestCode (c .before .before .before .before .before .before .before .before .before .before .before .if2 .left)) (cc (toZ-ofZ f))
 
 pub record-of-spec : {M : Type 1} → statement M
 record-of-spec =

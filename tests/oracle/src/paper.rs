@@ -1,4 +1,4 @@
-// Document 01 read once more, in plain Rust: nothing here was taken from the proved code. Where 01 speaks of a whole record, so does this: it keeps
+// Document 01 read once more, in plain Rust, sharing no line with the proved code. Where 01 speaks of a whole record, so does this: it keeps
 // every sample and looks back at all of them. Only `fed` goes sample by sample, since a state that was handed in has no samples to look back at.
 
 /// A refusal number and what is returned with it.

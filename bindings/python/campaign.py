@@ -1,0 +1,34 @@
+"""A campaign at one failure in two hours: a roll that crosses 40 degrees, then quiet records by their exposure. It prints what examples/c/campaign.c
+prints."""
+
+from chimenickel import Campaign, Case, Record, Refusal, counted_times
+
+
+def show(campaign):
+    case, lower, upper = campaign.verdict()
+    says = {
+        Case.NO_RECORD: lambda: "no record",
+        Case.ACCEPT: lambda: f"accept, at most {upper:.9f} per second",
+        Case.REJECT: lambda: f"reject, at least {lower:.9f} per second",
+        Case.CONTINUE: lambda: f"continue, {lower:.9f} to {upper:.9f} per second",
+    }
+    print(f"M = {campaign.records}, N = {campaign.failures}, T = {campaign.exposure} ms: {says[case]()}")
+
+
+items = dict(step=500, ramp=0, level=40_000, decorrelation=2_000)
+roll = [0, 41_000, 39_000, 41_000, 39_000, 41_000, 0]
+campaign = Campaign(7_200_000)
+record = Record(**items)
+record.feed(roll[:3])
+record.feed(roll[3:])
+campaign.close(record)
+show(campaign)
+for i in range(25):
+    campaign.enter(False, 1_800_000)
+    if i in (9, 24):
+        show(campaign)
+try:
+    record.feed([0, 2_000_000])
+except Refusal as refusal:
+    print(f"refused: {refusal.number} ({refusal.carried})")
+print("counted times:", *counted_times(**items, samples=roll), "ms")

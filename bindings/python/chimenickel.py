@@ -1,0 +1,247 @@
+"""Failures in ship-stability campaigns, counted by a proved library (include/chimenickel.h), by ctypes alone.
+
+A Record is one channel of roll or acceleration, fed whole or in pieces; a Campaign closes records and gives the verdict. Samples and levels are in
+thousandths of a degree or in mm/s2, times in ms, rates in failures a second. What the library cannot take raises Refusal, and then nothing has
+changed. A number that is no 64-bit whole number, or a sample that is no 32-bit one, raises OverflowError before the library is asked.
+
+The library is looked for in the folder that CHIMENICKEL_LIB names, or else where bin/build-lib writes it.
+"""
+
+import ctypes
+import enum
+import os
+import pathlib
+from array import array
+from typing import NamedTuple, Optional
+
+_folder = os.environ.get("CHIMENICKEL_LIB") or pathlib.Path(__file__).resolve().parents[2] / "target" / "lib"
+_lib = ctypes.CDLL(str(pathlib.Path(_folder) / "libchimenickel.so"))
+
+_u64 = ctypes.c_uint64
+_numbers = ctypes.POINTER(ctypes.c_uint64)
+_samples = ctypes.POINTER(ctypes.c_int32)
+_times = ctypes.POINTER(ctypes.c_uint32)
+_rate = ctypes.POINTER(ctypes.c_double)
+_size = ctypes.c_size_t
+
+for _name, _result, _parameters in [
+    ("chim_record_open", _u64, [_u64, _u64, _u64, _u64, _numbers, _size, _numbers]),
+    ("chim_record_feed", _u64, [_numbers, _size, _samples, _size, _numbers]),
+    ("chim_record_first_crossing", _size, [_samples, _size, _u64, _u64]),
+    ("chim_record_list", _u64, [_u64, _u64, _u64, _u64, _samples, _size, _times, _size, _numbers]),
+    ("chim_campaign_open", _u64, [_u64, _numbers, _size, _numbers]),
+    ("chim_campaign_close", _u64, [_numbers, _size, _numbers, _size, _numbers]),
+    ("chim_campaign_enter", _u64, [_numbers, _size, _u64, _u64, _numbers]),
+    ("chim_campaign_censored", _u64, [_numbers, _size, _numbers]),
+    ("chim_campaign_verdict", _u64, [_numbers, _size, _rate, _rate, _numbers]),
+    ("chim_campaign_rates", _u64, [_numbers, _size, _rate, _rate, _rate, _numbers]),
+    ("chim_upper_row", ctypes.c_uint32, [_u64]),
+    ("chim_lower_row", ctypes.c_uint32, [_u64]),
+]:
+    _function = getattr(_lib, _name)
+    _function.restype, _function.argtypes = _result, _parameters
+
+
+class Refusal(Exception):
+    """Why nothing was done: the refusal's number, from 1 to 8, and what it carries."""
+
+    MEANINGS = {
+        1: "opening item {} is outside its range",
+        2: "the sample at place {} is outside its range",
+        3: "the timed length or the exposure would pass 10,000,000 ms",
+        4: "there are fewer than two timed samples, or the exposure is 0",
+        5: "the campaign has 100,000 records",
+        6: "the campaign has 64 failures",
+        7: "{} places are needed",
+        8: "the numbers are no state",
+    }
+
+    def __init__(self, number, carried):
+        super().__init__(f"refusal {number}: " + self.MEANINGS[number].format(carried))
+        self.number = number
+        self.carried = carried
+
+
+def _number(x):
+    if not 0 <= x < 1 << 64:
+        raise OverflowError(f"{x} is no 64-bit number")
+    return x
+
+
+def _ask(function, *arguments):
+    """What the call carries; a Refusal if it refuses."""
+    carried = _u64()
+    number = function(*arguments, ctypes.byref(carried))
+    if number:
+        raise Refusal(number, carried.value)
+    return carried.value
+
+
+def _slice(samples):
+    """A pointer and a length. An array of 32-bit numbers is copied at once, anything else number by number."""
+    try:
+        view = memoryview(samples)
+        whole = array("i")
+        if view.format == "i":
+            whole.frombytes(view.tobytes())
+        else:
+            whole.extend(samples)
+    except TypeError:
+        whole = array("i", samples)
+    return (ctypes.c_int32 * max(len(whole), 1)).from_buffer(whole or array("i", [0])), len(whole)
+
+
+class _State:
+    LENGTH = 0
+
+    def __init__(self, numbers):
+        if len(numbers) != self.LENGTH:
+            raise Refusal(8, 0)
+        self._state = (_u64 * self.LENGTH)(*map(_number, numbers))
+
+    @classmethod
+    def from_numbers(cls, numbers):
+        """A stored state; numbers that are no state are refused at their first use."""
+        state = cls.__new__(cls)
+        _State.__init__(state, numbers)
+        return state
+
+    @property
+    def numbers(self):
+        """The state, to be stored."""
+        return list(self._state)
+
+
+class Record(_State):
+    """One channel of samples, so far. The step is 1 to 10,000 ms, the ramp 0 to 1,000,000 samples, the level 1 to 1,000,000, the decorrelation time 0 to
+    10,000,000 ms."""
+
+    LENGTH = 10
+
+    def __init__(self, step, ramp, level, decorrelation):
+        super().__init__([0] * self.LENGTH)
+        _ask(_lib.chim_record_open, *map(_number, (step, ramp, level, decorrelation)), self._state, self.LENGTH)
+
+    def feed(self, piece):
+        """The next piece. Cut anywhere, the pieces of a record lead to the state of the whole."""
+        _ask(_lib.chim_record_feed, self._state, self.LENGTH, *_slice(piece))
+
+    @property
+    def samples(self):
+        return self._state[4]
+
+    @property
+    def crossings(self):
+        return self._state[6]
+
+    @property
+    def counted(self):
+        """The failures counted apart."""
+        return self._state[7]
+
+    @property
+    def first(self):
+        """The place of the first crossing, or None."""
+        return self._state[8] or None
+
+
+def first_crossing(samples, ramp, level):
+    """The place of the first crossing of a whole record, or None."""
+    xs, n = _slice(samples)
+    place = _lib.chim_record_first_crossing(xs, n, _number(ramp), _number(level))
+    return place if place < n else None
+
+
+def counted_times(step, ramp, level, decorrelation, samples):
+    """The counted times of a whole record."""
+    xs, n = _slice(samples)
+    items = tuple(map(_number, (step, ramp, level, decorrelation)))
+    places = 0
+    while True:
+        times = (ctypes.c_uint32 * max(places, 1))()
+        try:
+            return times[: _ask(_lib.chim_record_list, *items, xs, n, times, places)]
+        except Refusal as refusal:
+            if refusal.number != 7:
+                raise
+            places = refusal.carried
+
+
+class Case(enum.IntEnum):
+    NO_RECORD = 0
+    ACCEPT = 1
+    REJECT = 2
+    CONTINUE = 3
+
+
+class Verdict(NamedTuple):
+    """Accept carries the upper rate, reject the lower, continue both."""
+
+    case: Case
+    lower: Optional[float]
+    upper: Optional[float]
+
+
+class Rates(NamedTuple):
+    estimate: float
+    lower: float
+    upper: float
+
+
+class Campaign(_State):
+    """Many records, at the standard of one failure in so many ms, 1 to 100,000,000,000."""
+
+    LENGTH = 5
+
+    def __init__(self, standard):
+        super().__init__([0] * self.LENGTH)
+        _ask(_lib.chim_campaign_open, _number(standard), self._state, self.LENGTH)
+
+    def close(self, record):
+        """Enters a record."""
+        _ask(_lib.chim_campaign_close, record._state, record.LENGTH, self._state, self.LENGTH)
+
+    def enter(self, failed, exposure):
+        """Enters a record by whether it failed and its exposure, 1 to 10,000,000 ms."""
+        _ask(_lib.chim_campaign_enter, self._state, self.LENGTH, int(bool(failed)), _number(exposure))
+
+    @property
+    def records(self):
+        return self._state[1]
+
+    @property
+    def failures(self):
+        return self._state[2]
+
+    @property
+    def exposure(self):
+        return self._state[3]
+
+    def censored(self):
+        """The censored count N*."""
+        return _ask(_lib.chim_campaign_censored, self._state, self.LENGTH)
+
+    def verdict(self):
+        lower, upper = ctypes.c_double(), ctypes.c_double()
+        case = Case(_ask(_lib.chim_campaign_verdict, self._state, self.LENGTH, ctypes.byref(lower), ctypes.byref(upper)))
+        return Verdict(
+            case,
+            lower.value if case in (Case.REJECT, Case.CONTINUE) else None,
+            upper.value if case in (Case.ACCEPT, Case.CONTINUE) else None,
+        )
+
+    def rates(self):
+        """The estimate and its 95% bounds; None while there is no record."""
+        rates = [ctypes.c_double() for _ in range(3)]
+        some = _ask(_lib.chim_campaign_rates, self._state, self.LENGTH, *map(ctypes.byref, rates))
+        return Rates(*(rate.value for rate in rates)) if some else None
+
+
+def upper_row(n):
+    """Upper row n in millionths of an expected failure, from 1 to 64; 0 for any other n."""
+    return _lib.chim_upper_row(_number(n))
+
+
+def lower_row(n):
+    """Lower row n in millionths of an expected failure, from 1 to 64; 0 for any other n."""
+    return _lib.chim_lower_row(_number(n))

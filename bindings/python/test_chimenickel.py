@@ -1,0 +1,74 @@
+"""python3 -m unittest test_chimenickel, after bin/build-lib."""
+
+import unittest
+from array import array
+
+from chimenickel import Campaign, Case, Record, Refusal, counted_times, first_crossing, lower_row, upper_row
+
+ITEMS = (500, 0, 40_000, 2_000)
+ROLL = [0, 41_000, 39_000, 41_000, 39_000, 41_000, 0]
+
+
+def fed(samples):
+    record = Record(*ITEMS)
+    record.feed(samples)
+    return record
+
+
+class Records(unittest.TestCase):
+    def refused(self, number, carried, call, *arguments):
+        with self.assertRaises(Refusal) as caught:
+            call(*arguments)
+        self.assertEqual((caught.exception.number, caught.exception.carried), (number, carried))
+
+    def test_every_cut_leads_to_the_whole(self):
+        whole = fed(array("i", ROLL))
+        self.assertEqual((whole.samples, whole.crossings, whole.counted, whole.first), (7, 3, 2, 1))
+        for cut in range(len(ROLL) + 1):
+            record = fed(ROLL[:cut])
+            record.feed(ROLL[cut:])
+            self.assertEqual(record.numbers, whole.numbers)
+
+    def test_a_refusal_leaves_the_record(self):
+        record = fed(ROLL)
+        before = record.numbers
+        self.refused(2, 2, record.feed, [0, 0, 1_000_001])
+        self.assertRaises(OverflowError, record.feed, [1 << 31])
+        self.assertEqual(record.numbers, before)
+
+    def test_items(self):
+        self.refused(1, 3, Record, 500, 0, 0, 1 << 63)
+        self.refused(1, 5, Campaign, 0)
+        self.assertRaises(OverflowError, Record, -1, 0, 1, 0)
+
+    def test_times(self):
+        self.assertEqual(counted_times(*ITEMS, ROLL), [500, 2_500])
+        self.assertEqual(counted_times(*ITEMS, [0, 0]), [])
+        self.refused(4, 0, counted_times, *ITEMS, ROLL[:1])
+        self.assertEqual((first_crossing(ROLL, 0, 40_000), first_crossing(ROLL, 0, 41_000), first_crossing([], 0, 1)), (1, None, None))
+
+    def test_the_marked_verdicts(self):
+        campaign = Campaign(7_200_000)
+        self.assertEqual((campaign.verdict().case, campaign.rates(), campaign.censored()), (Case.NO_RECORD, None, 0))
+        campaign.enter(True, 182_282)
+        self.assertEqual(campaign.verdict().case, Case.REJECT)
+        campaign = Campaign(7_200_000)
+        for exposure in (8_853_312, 8_853_312, 8_853_313):
+            campaign.enter(False, exposure)
+        self.assertEqual((campaign.records, campaign.failures, campaign.exposure, campaign.censored()), (3, 0, 26_559_937, 1))
+        self.assertEqual(campaign.verdict().case, Case.ACCEPT)
+        self.assertEqual(campaign.rates().upper, campaign.verdict().upper)
+        self.refused(3, 0, campaign.enter, False, 10_000_001)
+
+    def test_numbers_that_are_no_state(self):
+        self.refused(8, 0, Record.from_numbers, [0] * 9)
+        self.refused(8, 0, Record.from_numbers([(1 << 64) - 1] * 10).feed, [])
+        self.refused(8, 0, Campaign.from_numbers([1, 1, 1, 1, 2]).verdict)
+        self.assertEqual(Record.from_numbers(fed(ROLL).numbers).numbers, fed(ROLL).numbers)
+
+    def test_rows(self):
+        self.assertEqual((upper_row(1), lower_row(1), upper_row(0), lower_row(65)), (3_688_880, 25_317, 0, 0))
+
+
+if __name__ == "__main__":
+    unittest.main()

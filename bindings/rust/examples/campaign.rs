@@ -1,0 +1,40 @@
+//! A campaign at one failure in two hours: a roll that crosses 40 degrees, then quiet records by their exposure. It prints what
+//! examples/c/campaign.c prints.
+
+use chimenickel::{list, Campaign, Items, Record, Refusal, Verdict};
+
+fn show(c: &Campaign) -> Result<(), Refusal> {
+    print!("M = {}, N = {}, T = {} ms: ", c.records(), c.failures(), c.exposure());
+    match c.verdict()? {
+        Verdict::NoRecord => println!("no record"),
+        Verdict::Accept { upper } => println!("accept, at most {upper:.9} per second"),
+        Verdict::Reject { lower } => println!("reject, at least {lower:.9} per second"),
+        Verdict::Continue { lower, upper } => println!("continue, {lower:.9} to {upper:.9} per second"),
+    }
+    Ok(())
+}
+
+fn main() -> Result<(), Refusal> {
+    let items = Items { step: 500, ramp: 0, level: 40_000, decorrelation: 2_000 };
+    let roll = [0, 41_000, 39_000, 41_000, 39_000, 41_000, 0];
+    let mut campaign = Campaign::open(7_200_000)?;
+    let mut record = Record::open(items)?;
+    for piece in roll.chunks(3) {
+        record.feed(piece)?;
+    }
+    campaign.close(&record)?;
+    show(&campaign)?;
+    for i in 0..25 {
+        campaign.enter(false, 1_800_000)?;
+        if i == 9 || i == 24 {
+            show(&campaign)?;
+        }
+    }
+    if let Err(refusal) = record.feed(&[0, 2_000_000]) {
+        let Refusal::Sample(place) = refusal else { return Err(refusal) };
+        println!("refused: {} ({place})", refusal.number());
+    }
+    let times: Vec<String> = list(items, &roll)?.iter().map(u32::to_string).collect();
+    println!("counted times: {} ms", times.join(" "));
+    Ok(())
+}

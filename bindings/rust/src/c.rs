@@ -1,0 +1,33 @@
+//! include/chimenickel.h.
+
+extern "C" {
+    pub fn chim_record_open(step: u64, ramp: u64, level: u64, decorrelation: u64, state: *mut u64, state_len: usize, carried: *mut u64) -> u64;
+    pub fn chim_record_feed(state: *mut u64, state_len: usize, piece: *const i32, piece_len: usize, carried: *mut u64) -> u64;
+    pub fn chim_record_first_crossing(samples: *const i32, samples_len: usize, ramp: u64, level: u64) -> usize;
+    pub fn chim_record_list(
+        step: u64,
+        ramp: u64,
+        level: u64,
+        decorrelation: u64,
+        samples: *const i32,
+        samples_len: usize,
+        times: *mut u32,
+        times_len: usize,
+        carried: *mut u64,
+    ) -> u64;
+    pub fn chim_campaign_open(standard: u64, state: *mut u64, state_len: usize, carried: *mut u64) -> u64;
+    pub fn chim_campaign_close(record: *const u64, record_len: usize, state: *mut u64, state_len: usize, carried: *mut u64) -> u64;
+    pub fn chim_campaign_enter(state: *mut u64, state_len: usize, failed: u64, exposure: u64, carried: *mut u64) -> u64;
+    pub fn chim_campaign_censored(state: *const u64, state_len: usize, carried: *mut u64) -> u64;
+    pub fn chim_campaign_verdict(state: *const u64, state_len: usize, lower: *mut f64, upper: *mut f64, carried: *mut u64) -> u64;
+    pub fn chim_campaign_rates(
+        state: *const u64,
+        state_len: usize,
+        estimate: *mut f64,
+        lower: *mut f64,
+        upper: *mut f64,
+        carried: *mut u64,
+    ) -> u64;
+    pub fn chim_upper_row(n: u64) -> u32;
+    pub fn chim_lower_row(n: u64) -> u32;
+}

@@ -1,0 +1,391 @@
+//! Failures in ship-stability campaigns, counted by a proved library.
+//!
+//! A [`Record`] is one channel of roll or acceleration, fed whole or in pieces; a [`Campaign`] closes records and gives the [`Verdict`]. Samples and
+//! levels are in thousandths of a degree or in mm/s², times in ms, rates in failures a second. What the library cannot take it refuses by a
+//! [`Refusal`], and then nothing has changed.
+//!
+//! ```
+//! use chimenickel::{Campaign, Items, Record, Verdict};
+//!
+//! # fn main() -> Result<(), chimenickel::Refusal> {
+//! let mut record = Record::open(Items { step: 500, ramp: 0, level: 40_000, decorrelation: 2_000 })?;
+//! record.feed(&[0, 41_000, 39_000])?;
+//! record.feed(&[41_000, 39_000, 41_000, 0])?;
+//! assert_eq!((record.crossings(), record.counted(), record.first()), (3, 2, Some(1)));
+//!
+//! let mut campaign = Campaign::open(7_200_000)?;
+//! campaign.close(&record)?;
+//! assert!(matches!(campaign.verdict()?, Verdict::Reject { .. }));
+//! # Ok(())
+//! # }
+//! ```
+
+mod c;
+
+use std::fmt;
+
+/// Why nothing was done, by the counter's refusal numbers.
+#[derive(Clone, Copy, Debug, PartialEq, Eq)]
+pub enum Refusal {
+    /// 1: an opening item is outside its range; the lowest such item, from 1 to 5.
+    Item(u64),
+    /// 2: a sample is outside -1,000,000 to 1,000,000; its place in the piece.
+    Sample(u64),
+    /// 3: the timed length of the record, or the exposure, would pass 10,000,000 ms.
+    TooLong,
+    /// 4: fewer than two timed samples, or an exposure of 0.
+    TooShort,
+    /// 5: the campaign has 100,000 records.
+    CampaignFull,
+    /// 6: the campaign has 64 failures.
+    RowsUsedUp,
+    /// 7: the lent slice is too short; the places needed.
+    Room(u64),
+    /// 8: the numbers are no state.
+    BrokenState,
+}
+
+impl Refusal {
+    /// The refusal's number, from 1 to 8.
+    pub fn number(self) -> u64 {
+        match self {
+            Refusal::Item(_) => 1,
+            Refusal::Sample(_) => 2,
+            Refusal::TooLong => 3,
+            Refusal::TooShort => 4,
+            Refusal::CampaignFull => 5,
+            Refusal::RowsUsedUp => 6,
+            Refusal::Room(_) => 7,
+            Refusal::BrokenState => 8,
+        }
+    }
+
+    fn from(number: u64, carried: u64) -> Refusal {
+        match number {
+            1 => Refusal::Item(carried),
+            2 => Refusal::Sample(carried),
+            3 => Refusal::TooLong,
+            4 => Refusal::TooShort,
+            5 => Refusal::CampaignFull,
+            6 => Refusal::RowsUsedUp,
+            7 => Refusal::Room(carried),
+            _ => Refusal::BrokenState,
+        }
+    }
+}
+
+impl fmt::Display for Refusal {
+    fn fmt(&self, f: &mut fmt::Formatter<'_>) -> fmt::Result {
+        match self {
+            Refusal::Item(item) => write!(f, "opening item {item} is outside its range"),
+            Refusal::Sample(place) => write!(f, "the sample at place {place} is outside its range"),
+            Refusal::TooLong => write!(f, "the timed length would pass 10,000,000 ms"),
+            Refusal::TooShort => write!(f, "there are fewer than two timed samples"),
+            Refusal::CampaignFull => write!(f, "the campaign has 100,000 records"),
+            Refusal::RowsUsedUp => write!(f, "the campaign has 64 failures"),
+            Refusal::Room(places) => write!(f, "{places} places are needed"),
+            Refusal::BrokenState => write!(f, "the numbers are no state"),
+        }
+    }
+}
+
+impl std::error::Error for Refusal {}
+
+/// What a call answers: the number that it carries, or the refusal.
+fn answer(call: impl FnOnce(*mut u64) -> u64) -> Result<u64, Refusal> {
+    let mut carried = 0;
+    match call(&mut carried) {
+        0 => Ok(carried),
+        number => Err(Refusal::from(number, carried)),
+    }
+}
+
+/// What a record is opened with.
+#[derive(Clone, Copy, Debug, PartialEq, Eq)]
+pub struct Items {
+    /// Item 1, the step between samples in ms: 1 to 10,000.
+    pub step: u64,
+    /// Item 2, the samples before time starts: 0 to 1,000,000.
+    pub ramp: u64,
+    /// Item 3: 1 to 1,000,000.
+    pub level: u64,
+    /// Item 4, in ms: 0 to 10,000,000.
+    pub decorrelation: u64,
+}
+
+/// One channel of samples, so far.
+#[derive(Clone, Debug, PartialEq, Eq)]
+pub struct Record {
+    numbers: [u64; 10],
+}
+
+impl Record {
+    /// A record without samples.
+    pub fn open(items: Items) -> Result<Record, Refusal> {
+        let mut s = [0; 10];
+        answer(|carried| unsafe {
+            c::chim_record_open(items.step, items.ramp, items.level, items.decorrelation, s.as_mut_ptr(), s.len(), carried)
+        })?;
+        Ok(Record { numbers: s })
+    }
+
+    /// The next piece. Cut anywhere, the pieces of a record lead to the state of the whole.
+    pub fn feed(&mut self, piece: &[i32]) -> Result<(), Refusal> {
+        let s = &mut self.numbers;
+        answer(|carried| unsafe { c::chim_record_feed(s.as_mut_ptr(), s.len(), piece.as_ptr(), piece.len(), carried) })?;
+        Ok(())
+    }
+
+    pub fn samples(&self) -> u64 {
+        self.numbers[4]
+    }
+
+    pub fn crossings(&self) -> u64 {
+        self.numbers[6]
+    }
+
+    /// The failures counted apart.
+    pub fn counted(&self) -> u64 {
+        self.numbers[7]
+    }
+
+    /// The place of the first crossing, which is the first failure.
+    pub fn first(&self) -> Option<u64> {
+        Some(self.numbers[8]).filter(|&place| place != 0)
+    }
+
+    /// The state, to be stored.
+    pub fn numbers(&self) -> &[u64; 10] {
+        &self.numbers
+    }
+
+    /// A stored state; numbers that are no state are refused at their first use.
+    pub fn from_numbers(numbers: [u64; 10]) -> Record {
+        Record { numbers }
+    }
+}
+
+/// The place of the first crossing of a whole record.
+pub fn first_crossing(samples: &[i32], ramp: u64, level: u64) -> Option<usize> {
+    let place = unsafe { c::chim_record_first_crossing(samples.as_ptr(), samples.len(), ramp, level) };
+    Some(place).filter(|&place| place < samples.len())
+}
+
+/// Writes the counted times of a whole record, in order, from the start of `times`, whose other places stay, and answers their number.
+pub fn list_into(items: Items, samples: &[i32], times: &mut [u32]) -> Result<usize, Refusal> {
+    let k = answer(|carried| unsafe {
+        c::chim_record_list(
+            items.step,
+            items.ramp,
+            items.level,
+            items.decorrelation,
+            samples.as_ptr(),
+            samples.len(),
+            times.as_mut_ptr(),
+            times.len(),
+            carried,
+        )
+    })?;
+    Ok(k as usize)
+}
+
+/// The counted times of a whole record.
+pub fn list(items: Items, samples: &[i32]) -> Result<Vec<u32>, Refusal> {
+    let mut times = Vec::new();
+    if let Err(Refusal::Room(places)) = list_into(items, samples, &mut times) {
+        times.resize(places as usize, 0);
+    }
+    let k = list_into(items, samples, &mut times)?;
+    times.truncate(k);
+    Ok(times)
+}
+
+/// What a campaign's figures say of its standard. Rates are the 95% bounds in failures a second.
+#[derive(Clone, Copy, Debug, PartialEq)]
+pub enum Verdict {
+    NoRecord,
+    Accept { upper: f64 },
+    Reject { lower: f64 },
+    Continue { lower: f64, upper: f64 },
+}
+
+/// Failures a second: the estimate and its 95% bounds.
+#[derive(Clone, Copy, Debug, PartialEq)]
+pub struct Rates {
+    pub estimate: f64,
+    pub lower: f64,
+    pub upper: f64,
+}
+
+/// Many records.
+#[derive(Clone, Debug, PartialEq, Eq)]
+pub struct Campaign {
+    numbers: [u64; 5],
+}
+
+impl Campaign {
+    /// A campaign without a record, at the standard of one failure in so many ms: item 5, 1 to 100,000,000,000.
+    pub fn open(standard: u64) -> Result<Campaign, Refusal> {
+        let mut s = [0; 5];
+        answer(|carried| unsafe { c::chim_campaign_open(standard, s.as_mut_ptr(), s.len(), carried) })?;
+        Ok(Campaign { numbers: s })
+    }
+
+    /// Enters a record.
+    pub fn close(&mut self, record: &Record) -> Result<(), Refusal> {
+        let (r, s) = (&record.numbers, &mut self.numbers);
+        answer(|carried| unsafe { c::chim_campaign_close(r.as_ptr(), r.len(), s.as_mut_ptr(), s.len(), carried) })?;
+        Ok(())
+    }
+
+    /// Enters a record by whether it failed and its exposure, 1 to 10,000,000 ms.
+    pub fn enter(&mut self, failed: bool, exposure: u64) -> Result<(), Refusal> {
+        let s = &mut self.numbers;
+        answer(|carried| unsafe { c::chim_campaign_enter(s.as_mut_ptr(), s.len(), u64::from(failed), exposure, carried) })?;
+        Ok(())
+    }
+
+    /// The records, M.
+    pub fn records(&self) -> u64 {
+        self.numbers[1]
+    }
+
+    /// The failures, N.
+    pub fn failures(&self) -> u64 {
+        self.numbers[2]
+    }
+
+    /// The exposure T in ms.
+    pub fn exposure(&self) -> u64 {
+        self.numbers[3]
+    }
+
+    /// The censored count N*.
+    pub fn censored(&self) -> Result<u64, Refusal> {
+        let s = &self.numbers;
+        answer(|carried| unsafe { c::chim_campaign_censored(s.as_ptr(), s.len(), carried) })
+    }
+
+    pub fn verdict(&self) -> Result<Verdict, Refusal> {
+        let s = &self.numbers;
+        let (mut lower, mut upper) = (0.0, 0.0);
+        let case = answer(|carried| unsafe { c::chim_campaign_verdict(s.as_ptr(), s.len(), &mut lower, &mut upper, carried) })?;
+        Ok(match case {
+            1 => Verdict::Accept { upper },
+            2 => Verdict::Reject { lower },
+            3 => Verdict::Continue { lower, upper },
+            _ => Verdict::NoRecord,
+        })
+    }
+
+    /// The three rates; `None` while there is no record.
+    pub fn rates(&self) -> Result<Option<Rates>, Refusal> {
+        let s = &self.numbers;
+        let (mut estimate, mut lower, mut upper) = (0.0, 0.0, 0.0);
+        let some =
+            answer(|carried| unsafe { c::chim_campaign_rates(s.as_ptr(), s.len(), &mut estimate, &mut lower, &mut upper, carried) })?;
+        Ok((some == 1).then_some(Rates { estimate, lower, upper }))
+    }
+
+    /// The state, to be stored.
+    pub fn numbers(&self) -> &[u64; 5] {
+        &self.numbers
+    }
+
+    /// A stored state; numbers that are no state are refused at their first use.
+    pub fn from_numbers(numbers: [u64; 5]) -> Campaign {
+        Campaign { numbers }
+    }
+}
+
+/// Upper row n of the quantile table in millionths of an expected failure, for n from 1 to 64.
+pub fn upper_row(n: u64) -> Option<u32> {
+    Some(unsafe { c::chim_upper_row(n) }).filter(|_| (1..=64).contains(&n))
+}
+
+/// Lower row n of the quantile table in millionths of an expected failure, for n from 0 to 64.
+pub fn lower_row(n: u64) -> Option<u32> {
+    Some(unsafe { c::chim_lower_row(n) }).filter(|_| n <= 64)
+}
+
+#[cfg(test)]
+mod tests {
+    use super::*;
+
+    const ITEMS: Items = Items { step: 500, ramp: 0, level: 40_000, decorrelation: 2_000 };
+    const ROLL: [i32; 7] = [0, 41_000, 39_000, 41_000, 39_000, 41_000, 0];
+
+    fn fed(samples: &[i32]) -> Record {
+        let mut record = Record::open(ITEMS).unwrap();
+        record.feed(samples).unwrap();
+        record
+    }
+
+    #[test]
+    fn every_cut_leads_to_the_whole() {
+        let whole = fed(&ROLL);
+        assert_eq!((whole.samples(), whole.crossings(), whole.counted(), whole.first()), (7, 3, 2, Some(1)));
+        for cut in 0..=ROLL.len() {
+            let mut record = fed(&ROLL[..cut]);
+            record.feed(&ROLL[cut..]).unwrap();
+            assert_eq!(record, whole);
+        }
+    }
+
+    #[test]
+    fn a_refused_piece_leaves_the_record() {
+        let mut record = fed(&ROLL);
+        let before = record.clone();
+        assert_eq!(record.feed(&[0, 0, 1_000_001]), Err(Refusal::Sample(2)));
+        assert_eq!(record, before);
+    }
+
+    #[test]
+    fn items_are_refused_lowest_first() {
+        assert_eq!(Record::open(Items { level: 0, decorrelation: u64::MAX, ..ITEMS }), Err(Refusal::Item(3)));
+        assert_eq!(Campaign::open(0), Err(Refusal::Item(5)));
+    }
+
+    #[test]
+    fn times_fit_or_tell_the_room() {
+        assert_eq!(list(ITEMS, &ROLL), Ok(vec![500, 2_500]));
+        let mut one = [7];
+        assert_eq!(list_into(ITEMS, &ROLL, &mut one), Err(Refusal::Room(2)));
+        assert_eq!(one, [7]);
+        assert_eq!(list(ITEMS, &ROLL[..1]), Err(Refusal::TooShort));
+        assert_eq!(first_crossing(&ROLL, 0, 40_000), Some(1));
+        assert_eq!(first_crossing(&ROLL, 0, 41_000), None);
+    }
+
+    #[test]
+    fn the_marked_verdicts() {
+        let mut c = Campaign::open(7_200_000).unwrap();
+        assert_eq!((c.verdict(), c.rates(), c.censored()), (Ok(Verdict::NoRecord), Ok(None), Ok(0)));
+        c.enter(true, 182_282).unwrap();
+        assert!(matches!(c.verdict(), Ok(Verdict::Reject { .. })));
+        let mut c = Campaign::open(7_200_000).unwrap();
+        for exposure in [8_853_312, 8_853_312, 8_853_312] {
+            c.enter(false, exposure).unwrap();
+        }
+        assert_eq!((c.records(), c.failures(), c.exposure(), c.censored()), (3, 0, 26_559_936, Ok(1)));
+        assert!(matches!(c.verdict(), Ok(Verdict::Continue { .. })));
+        assert_eq!(c.rates().unwrap().unwrap().lower, 0.0);
+        assert_eq!(c.enter(false, 10_000_001), Err(Refusal::TooLong));
+    }
+
+    #[test]
+    fn numbers_that_are_no_state() {
+        let mut record = Record::from_numbers([u64::MAX; 10]);
+        assert_eq!(record.feed(&[]), Err(Refusal::BrokenState));
+        assert_eq!(Campaign::from_numbers([1, 1, 1, 1, 2]).verdict(), Err(Refusal::BrokenState));
+        let stored = *fed(&ROLL).numbers();
+        assert_eq!(Record::from_numbers(stored), fed(&ROLL));
+    }
+
+    #[test]
+    fn the_table_and_its_ends() {
+        assert_eq!((upper_row(1), lower_row(1)), (Some(3_688_880), Some(25_317)));
+        assert_eq!((upper_row(0), lower_row(0)), (None, Some(0)));
+        assert_eq!((upper_row(65), lower_row(65)), (None, None));
+    }
+}

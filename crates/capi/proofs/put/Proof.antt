@@ -1,0 +1,77 @@
+-- `capi::put` meets its contract. The invariant: the two lists are as long as each other and agree up to i. The measure is what is left of them.
+-- Assumes nothing.
+use mathlib.Core.Path.{_≡_, refl, sym, _∙_}
+use Prim.Native.Nat.{_≤_, _<_, _-_}
+use native.Mathlib.Omega.{arith}
+use native.Mathlib.Numerals.{add-one}
+use borrow.Author.Needs.{needs}
+use lib.ListN.{length, take, getD, length-set}
+use lib.Seq.{take-all, take-suc, take-suc-set}
+use Rattle.capi.proofs.put.Statement.{statement}
+use Rattle.capi.proofs.put.Tie as tie
+
+abbrev Inv-loop : tie.InvT-loop
+Inv-loop from to₀ i₀ to i = (i ≤ length from) × (length to ≡ length from) × (take i to ≡ take i from)
+
+abbrev μ-loop : tie.MeasureT-loop
+μ-loop from to₀ i₀ to i = length from - i
+
+loop-holds : tie.Need-loop-holds Inv-loop μ-loop
+loop-holds c = (search needs, c .pre, refl)
+
+mul-to : tie.Need-mul-to Inv-loop μ-loop
+mul-to c = search needs
+
+shared-slice-read-to : tie.Need-shared-slice-read-to Inv-loop μ-loop
+shared-slice-read-to c = search needs
+
+mul-to-2 : tie.Need-mul-to-2 Inv-loop μ-loop
+mul-to-2 c = search needs
+
+slice-write-to : tie.Need-slice-write-to Inv-loop μ-loop
+slice-write-to c = search needs
+
+add-i : tie.Need-add-i Inv-loop μ-loop
+add-i c = search needs
+
+loop-less : tie.Need-loop-less Inv-loop μ-loop
+loop-less c = search needs
+
+loop-again : tie.Need-loop-again Inv-loop μ-loop
+loop-again c =
+    let i = c .before .before .loop .i in
+    let to = c .before .before .loop .to in
+    let from = c .before .before .before .args .from .now in
+    let v = c .before .before .loop .inv in
+    let e : take i to ≡ take i from = v .2 in
+    let h : i < length from = c .before .loop-test .taken in
+    let k : i < length to = omega (arith, v .1) in
+    (search needs, length-set to i (getD from i 0) ∙ v .1, rw (add-one, take-suc-set to i (getD from i 0) k, take-suc from i 0 h, e))
+
+same-length : tie.Need-same-length Inv-loop μ-loop
+same-length c = search needs
+
+returns : tie.Need-returns Inv-loop μ-loop
+returns c =
+    let i = c .before .loop .i in
+    let v = c .before .loop .inv in
+    let to = c .before .loop .to in
+    let from = c .before .before .args .from .now in
+    sym (take-all i to (omega (arith, v .1))) ∙ v .2 ∙ take-all i from (omega arith)
+
+pub put-spec : {M : Type 1} → statement M
+put-spec =
+    tie.close
+    (tie.spec
+    Inv-loop
+    μ-loop
+    loop-holds
+    mul-to
+    shared-slice-read-to
+    mul-to-2
+    slice-write-to
+    add-i
+    loop-less
+    loop-again
+    same-length
+    returns)

@@ -1,0 +1,98 @@
+-- A state as the numbers of a lent array, in both directions: ten for a record, five for a campaign. An array that holds no state stands for one whose
+-- first number is 0, which no state has, so that every entry refuses it by 8. Assumes nothing.
+use Prim.Native.Nat.{ℕ, _+_, _/_, _%_}
+use mathlib.Core.Bool.{Bool, cond, false, _&&_}
+use mathlib.Core.List.{List, [], _∷_}
+use lib.Dec.{eqb, leb}
+use lib.IntN.{ℤ, pos, negsuc}
+use lib.ListN.{length, getD}
+use Rattle.campaign.specs.declared.Campaign.{Campaign}
+use Rattle.record.specs.declared.Record.{Record}
+
+abbrev pub numberAt : List ℕ → ℕ → ℕ
+numberAt s i = getD s i 0
+
+-- ---- a sample: 0, -1, 1, -2, 2, .. are 0, 1, 2, 3, 4, ..
+unfoldable pub codeOf : ℤ → ℕ
+codeOf (pos n) = n + n
+codeOf (negsuc n) = n + n + 1
+
+unfoldable pub sampleOf : ℕ → ℤ
+sampleOf k = cond (eqb (k % 2) 0) (pos (k / 2)) (negsuc (k / 2))
+
+-- the code of 1,000,000, the highest of a sample in range
+abbrev pub highestCode : ℕ
+highestCode = 2000000
+
+-- ---- a record: ten numbers, of which number 5 codes the last sample
+abbrev pub recordNumbers : ℕ
+recordNumbers = 10
+
+abbrev pub ofRecord : Record → List ℕ
+ofRecord r =
+    r .step ∷ r .ramp ∷ r .level ∷ r .decorrelation ∷ r .n ∷ codeOf (r .last) ∷ r .crossings ∷ r .counted ∷ r .first ∷ r .latest ∷ []
+
+abbrev pub noRecord : Record
+noRecord =
+    record {
+      step = 0;
+      ramp = 0;
+      level = 0;
+      decorrelation = 0;
+      n = 0;
+      last = pos 0;
+      crossings = 0;
+      counted = 0;
+      first = 0;
+      latest = 0;
+    }
+
+abbrev pub recordAt : List ℕ → Record
+recordAt s =
+    record {
+      step = numberAt s 0;
+      ramp = numberAt s 1;
+      level = numberAt s 2;
+      decorrelation = numberAt s 3;
+      n = numberAt s 4;
+      last = sampleOf (numberAt s 5);
+      crossings = numberAt s 6;
+      counted = numberAt s 7;
+      first = numberAt s 8;
+      latest = numberAt s 9;
+    }
+
+abbrev pub isRecord : List ℕ → Bool
+isRecord s = eqb (length s) recordNumbers && leb (numberAt s 5) highestCode
+
+unfoldable pub recordOf : List ℕ → Record
+recordOf s = cond (isRecord s) (recordAt s) noRecord
+
+-- ---- a campaign: five numbers, of which number 4 is 1 if the last record failed, else 0
+abbrev pub campaignNumbers : ℕ
+campaignNumbers = 5
+
+abbrev pub flag : Bool → ℕ
+flag b = cond b 1 0
+
+abbrev pub ofCampaign : Campaign → List ℕ
+ofCampaign c = c .standard ∷ c .records ∷ c .failures ∷ c .exposure ∷ flag (c .failed) ∷ []
+
+abbrev pub noCampaign : Campaign
+noCampaign = record { standard = 0; records = 0; failures = 0; exposure = 0; failed = false }
+
+abbrev pub campaignAt : List ℕ → Campaign
+campaignAt s =
+    record {
+      standard = numberAt s 0;
+      records = numberAt s 1;
+      failures = numberAt s 2;
+      exposure = numberAt s 3;
+      failed = eqb (numberAt s 4) 1;
+    }
+
+abbrev pub isCampaign : List ℕ → Bool
+isCampaign s = eqb (length s) campaignNumbers && leb (numberAt s 4) 1
+
+unfoldable pub campaignOf : List ℕ → Campaign
+campaignOf s = cond (isCampaign s) (campaignAt s) noCampaign

@@ -1,0 +1,47 @@
+/* A campaign at one failure in 7,200,000 ms (two hours): a roll that crosses 40 degrees, then quiet records by their exposure. */
+#include "chimenickel.h"
+#include <inttypes.h>
+#include <stdio.h>
+
+static void verdict(const uint64_t *campaign) {
+    uint64_t carried;
+    double lower, upper;
+    if (chim_campaign_verdict(campaign, CHIM_CAMPAIGN_NUMBERS, &lower, &upper, &carried) != CHIM_TAKEN)
+        return;
+    printf("M = %" PRIu64 ", N = %" PRIu64 ", T = %" PRIu64 " ms: ", campaign[1], campaign[2], campaign[3]);
+    switch (carried) {
+    case CHIM_ACCEPT: printf("accept, at most %.9f per second\n", upper); break;
+    case CHIM_REJECT: printf("reject, at least %.9f per second\n", lower); break;
+    case CHIM_CONTINUE: printf("continue, %.9f to %.9f per second\n", lower, upper); break;
+    default: printf("no record\n");
+    }
+}
+
+int main(void) {
+    uint64_t campaign[CHIM_CAMPAIGN_NUMBERS], record[CHIM_RECORD_NUMBERS], carried;
+    chim_campaign_open(7200000, campaign, CHIM_CAMPAIGN_NUMBERS, &carried);
+    chim_record_open(500, 0, 40000, 2000, record, CHIM_RECORD_NUMBERS, &carried);
+    const int32_t roll[] = {0, 41000, 39000, 41000, 39000, 41000, 0};
+    chim_record_feed(record, CHIM_RECORD_NUMBERS, roll, 3, &carried);
+    chim_record_feed(record, CHIM_RECORD_NUMBERS, roll + 3, 4, &carried);
+    chim_campaign_close(record, CHIM_RECORD_NUMBERS, campaign, CHIM_CAMPAIGN_NUMBERS, &carried);
+    verdict(campaign);
+
+    for (int i = 0; i < 25; i++) {
+        chim_campaign_enter(campaign, CHIM_CAMPAIGN_NUMBERS, 0, 1800000, &carried);
+        if (i == 9 || i == 24)
+            verdict(campaign);
+    }
+
+    const int32_t bad[] = {0, 2000000};
+    uint64_t refusal = chim_record_feed(record, CHIM_RECORD_NUMBERS, bad, 2, &carried);
+    printf("refused: %" PRIu64 " (%" PRIu64 ")\n", refusal, carried);
+
+    uint32_t times[4];
+    refusal = chim_record_list(500, 0, 40000, 2000, roll, 7, times, 4, &carried);
+    printf("counted times:");
+    for (uint64_t i = 0; refusal == CHIM_TAKEN && i < carried; i++)
+        printf(" %" PRIu32, times[i]);
+    printf(" ms\n");
+    return 0;
+}

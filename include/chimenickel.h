@@ -1,0 +1,125 @@
+/* Chimenickel: the proved failure counter, for C and whatever calls C.
+ *
+ * Numbers. A function that may refuse answers 0, or one of the refusal numbers below, and always writes *carried: with a refusal what that refusal
+ * returns (0 for nothing), and with 0 the answer where it is one number, else 0. A refusal leaves every state, slice and rate as it stood.
+ *
+ *   No.  given exactly when                                                     *carried
+ *   1    an opening item is outside its range                                   the item's number, the lowest
+ *   2    a sample is outside -1,000,000 to 1,000,000                            its place in the piece, the first
+ *   3    the timed length of the record, or an exposure, would pass 10,000,000 ms   0
+ *   4    closing or listing with fewer than ramp + 2 samples; an exposure of 0  0
+ *   5    closing or entering into a campaign of 100,000 records                 0
+ *   6    closing or entering into a campaign with 64 failures                   0
+ *   7    more counted times than the lent slice has places                      the number of places needed
+ *   8    a state's array has another length, or numbers that are no state;      0
+ *        a flag is neither 0 nor 1
+ *
+ * Where several hold, the first in the order that stands at the function is given.
+ *
+ * Memory. A slice is a pointer and the number of its elements. Pointers are aligned and never NULL, not even of an empty slice, and memory that a
+ * function writes overlaps nothing else that it is lent; whatever numbers stand there, the answer is defined. No function keeps a pointer, allocates,
+ * or touches anything but its arguments, so calls on different states may run at the same time.
+ *
+ * States. A state is an array of numbers that the caller keeps, copies and stores as it likes. Any change to one is either another sound state or
+ * refusal 8 at its next use.
+ *
+ *   record, 10 numbers                                   campaign, 5 numbers
+ *   0  step, ms                   1 to 10,000            0  standard: one failure in so many ms   1 to 100,000,000,000
+ *   1  ramp, samples              0 to 1,000,000         1  records M                             0 to 100,000
+ *   2  level                      1 to 1,000,000         2  failures N                            0 to 64
+ *   3  decorrelation time, ms     0 to 10,000,000        3  exposure T, ms                        M to M * 10,000,000
+ *   4  samples so far, n                                 4  1 if the last record failed, else 0
+ *   5  last sample x: 2x, and -2x - 1 for x below 0; 0 to 2,000,000
+ *   6  crossings
+ *   7  counted failures
+ *   8  place of the first crossing, 0 for none
+ *   9  place of the last counted crossing, 0 for none
+ *
+ * Levels and samples are in thousandths of a degree or in mm/s2, times in ms, rates in failures a second. Items 1 to 4 are a record's first four
+ * numbers, item 5 is the standard.
+ *
+ * Example: the start of examples/c/campaign.c, which CI compiles and runs. A roll that crosses 40 degrees, fed in two pieces, is closed into a
+ * campaign at one failure in two hours; the verdict then is CHIM_REJECT.
+ *
+ *   uint64_t campaign[CHIM_CAMPAIGN_NUMBERS], record[CHIM_RECORD_NUMBERS], carried;
+ *   chim_campaign_open(7200000, campaign, CHIM_CAMPAIGN_NUMBERS, &carried);
+ *   chim_record_open(500, 0, 40000, 2000, record, CHIM_RECORD_NUMBERS, &carried);
+ *   const int32_t roll[] = {0, 41000, 39000, 41000, 39000, 41000, 0};
+ *   chim_record_feed(record, CHIM_RECORD_NUMBERS, roll, 3, &carried);
+ *   chim_record_feed(record, CHIM_RECORD_NUMBERS, roll + 3, 4, &carried);
+ *   chim_campaign_close(record, CHIM_RECORD_NUMBERS, campaign, CHIM_CAMPAIGN_NUMBERS, &carried);
+ */
+#ifndef CHIMENICKEL_H
+#define CHIMENICKEL_H
+
+#include <stddef.h>
+#include <stdint.h>
+
+#ifdef __cplusplus
+extern "C" {
+#endif
+
+enum { CHIM_RECORD_NUMBERS = 10, CHIM_CAMPAIGN_NUMBERS = 5 };
+
+enum {
+    CHIM_TAKEN = 0,
+    CHIM_ITEM = 1,
+    CHIM_SAMPLE = 2,
+    CHIM_TOO_LONG = 3,
+    CHIM_TOO_SHORT = 4,
+    CHIM_CAMPAIGN_FULL = 5,
+    CHIM_ROWS_USED_UP = 6,
+    CHIM_ROOM = 7,
+    CHIM_BROKEN_STATE = 8
+};
+
+enum { CHIM_NO_RECORD = 0, CHIM_ACCEPT = 1, CHIM_REJECT = 2, CHIM_CONTINUE = 3 };
+
+/* ---- a record: one channel of samples at a fixed step */
+
+/* Puts a record without samples into `state`. Refuses 8 (the array's length), 1. */
+uint64_t chim_record_open(uint64_t step, uint64_t ramp, uint64_t level, uint64_t decorrelation, uint64_t *state, size_t state_len,
+                          uint64_t *carried);
+
+/* Feeds the next piece of the record; cut anywhere, the pieces of a record lead to the state of the whole. Refuses 8, 2, 3. */
+uint64_t chim_record_feed(uint64_t *state, size_t state_len, const int32_t *piece, size_t piece_len, uint64_t *carried);
+
+/* The place of the first crossing of a whole record, and samples_len if there is none. It never refuses: samples and numbers of any size are
+ * compared as they are. */
+size_t chim_record_first_crossing(const int32_t *samples, size_t samples_len, uint64_t ramp, uint64_t level);
+
+/* Writes the counted times of a whole record, in order, from the start of `times`, whose other places stay; *carried is their number.
+ * Refuses 1, 2, 3, 4, 7. */
+uint64_t chim_record_list(uint64_t step, uint64_t ramp, uint64_t level, uint64_t decorrelation, const int32_t *samples, size_t samples_len,
+                          uint32_t *times, size_t times_len, uint64_t *carried);
+
+/* ---- a campaign: many records */
+
+/* Puts a campaign without a record into `state`. Refuses 8 (the array's length), 1 with item 5. */
+uint64_t chim_campaign_open(uint64_t standard, uint64_t *state, size_t state_len, uint64_t *carried);
+
+/* Enters a record, which is read and not changed, into the campaign in `state`. Refuses 8 (either state), 4, 5, 6. */
+uint64_t chim_campaign_close(const uint64_t *record, size_t record_len, uint64_t *state, size_t state_len, uint64_t *carried);
+
+/* Enters a record of which only this is known: whether it failed (1) or not (0), and its exposure, 1 to 10,000,000 ms. Refuses 8 (the state or the
+ * flag), 4, 3, 5, 6. */
+uint64_t chim_campaign_enter(uint64_t *state, size_t state_len, uint64_t failed, uint64_t exposure, uint64_t *carried);
+
+/* *carried is the censored count N*. Refuses 8. */
+uint64_t chim_campaign_censored(const uint64_t *state, size_t state_len, uint64_t *carried);
+
+/* *carried is the verdict; accept sets *upper, reject *lower, continue both, and a rate that the verdict does not carry is set to 0. Refuses 8. */
+uint64_t chim_campaign_verdict(const uint64_t *state, size_t state_len, double *lower, double *upper, uint64_t *carried);
+
+/* The estimate of the rate and its 95% bounds; *carried is 1, and 0 while there is no record, when the rates are 0. Refuses 8. */
+uint64_t chim_campaign_rates(const uint64_t *state, size_t state_len, double *estimate, double *lower, double *upper, uint64_t *carried);
+
+/* ---- the quantile table, in millionths of an expected failure: row n from 1 to 64, and 0 for any other n */
+uint32_t chim_upper_row(uint64_t n);
+uint32_t chim_lower_row(uint64_t n);
+
+#ifdef __cplusplus
+}
+#endif
+
+#endif

@@ -1,0 +1,319 @@
+// Document 01 read once more, in plain Rust, sharing no line with the proved code. Where 01 speaks of a whole record, so does this: it keeps
+// every sample and looks back at all of them. Only `fed` goes sample by sample, since a state that was handed in has no samples to look back at.
+
+/// A refusal number and what is returned with it.
+pub type Refused = (u64, u64);
+
+pub const LONGEST: u64 = 10_000_000;
+pub const MOST_RECORDS: u64 = 100_000;
+pub const ROWS: u64 = 64;
+pub const SAMPLE: i32 = 1_000_000;
+
+// "Numbers a job may carry", items 1 to 5
+const RANGES: [(u64, u64); 5] = [(1, 10_000), (0, 1_000_000), (1, 1_000_000), (0, 10_000_000), (1, 100_000_000_000)];
+
+fn item_ok(item: usize, value: u64) -> bool {
+    let (low, high) = RANGES[item - 1];
+    low <= value && value <= high
+}
+
+fn sample_ok(x: i32) -> bool {
+    -SAMPLE <= x && x <= SAMPLE
+}
+
+fn above(level: u64, x: i32) -> bool {
+    u64::from(x.unsigned_abs()) > level
+}
+
+/// Refusal 3's bound on n.
+pub fn most_samples(step: u64, ramp: u64) -> u64 {
+    ramp + 1 + LONGEST / step
+}
+
+// ---- "Reading a record", over all its samples
+
+pub fn crossings(samples: &[i32], ramp: u64, level: u64) -> Vec<usize> {
+    let mut places = Vec::new();
+    for i in 1..samples.len() {
+        if (i - 1) as u64 >= ramp && !above(level, samples[i - 1]) && above(level, samples[i]) {
+            places.push(i);
+        }
+    }
+    places
+}
+
+pub fn counted(places: &[usize], step: u64, ramp: u64, decorrelation: u64) -> Vec<usize> {
+    let time = |i: usize| (i as u64 - ramp) * step;
+    let mut kept: Vec<usize> = Vec::new();
+    for &i in places {
+        match kept.last() {
+            Some(&j) if time(i) - time(j) < decorrelation => {}
+            _ => kept.push(i),
+        }
+    }
+    kept
+}
+
+/// The most crossings that are pairwise apart, by trying every choice; for short lists only.
+pub fn largest(times: &[u64], decorrelation: u64) -> usize {
+    let mut best = 0;
+    for choice in 0u32..1 << times.len() {
+        let chosen: Vec<u64> = (0..times.len()).filter(|&k| choice >> k & 1 == 1).map(|k| times[k]).collect();
+        if chosen.windows(2).all(|w| w[1] - w[0] >= decorrelation) {
+            best = best.max(chosen.len());
+        }
+    }
+    best
+}
+
+// ---- a record's state
+
+#[derive(Clone, Debug, PartialEq)]
+pub struct Record {
+    pub items: [u64; 4],
+    pub n: u64,
+    pub last: i32,
+    pub crossings: u64,
+    pub counted: u64,
+    pub first: u64,
+    pub latest: u64,
+}
+
+pub fn open(items: [u64; 4]) -> Result<Record, Refused> {
+    for item in 1..=4 {
+        if !item_ok(item, items[item - 1]) {
+            return Err((1, item as u64));
+        }
+    }
+    Ok(Record { items, n: 0, last: 0, crossings: 0, counted: 0, first: 0, latest: 0 })
+}
+
+/// The state of a whole list of samples, figure by figure.
+pub fn state_of(items: [u64; 4], samples: &[i32]) -> Record {
+    let [step, ramp, level, decorrelation] = items;
+    let places = crossings(samples, ramp, level);
+    let kept = counted(&places, step, ramp, decorrelation);
+    Record {
+        items,
+        n: samples.len() as u64,
+        last: samples.last().copied().unwrap_or(0),
+        crossings: places.len() as u64,
+        counted: kept.len() as u64,
+        first: places.first().map_or(0, |&i| i as u64),
+        latest: kept.last().map_or(0, |&i| i as u64),
+    }
+}
+
+/// "Relations for 8", the record's.
+pub fn record_ok(r: &Record) -> bool {
+    let [step, ramp, ..] = r.items;
+    if open(r.items).is_err() || !sample_ok(r.last) || r.n > most_samples(step, ramp) || r.counted > r.crossings {
+        return false;
+    }
+    if r.n == 0 && r.last != 0 {
+        return false;
+    }
+    if r.first == 0 {
+        return r.crossings == 0 && r.counted == 0 && r.latest == 0;
+    }
+    if r.crossings == 0 || r.counted == 0 {
+        return false;
+    }
+    r.n > ramp && r.crossings <= r.n - 1 - ramp && r.first > ramp && r.first <= r.latest && r.latest < r.n
+}
+
+fn one_more(r: &Record, x: i32) -> Record {
+    let [step, ramp, level, decorrelation] = r.items;
+    let mut s = r.clone();
+    let timed_before = r.n > ramp;
+    if timed_before && !above(level, r.last) && above(level, x) {
+        s.crossings += 1;
+        if r.crossings == 0 {
+            s.first = r.n;
+        }
+        if r.crossings == 0 || (r.n - r.latest) * step >= decorrelation {
+            s.counted += 1;
+            s.latest = r.n;
+        }
+    }
+    s.n += 1;
+    s.last = x;
+    s
+}
+
+pub fn fed(r: &Record, piece: &[i32]) -> Result<Record, Refused> {
+    if !record_ok(r) {
+        return Err((8, 0));
+    }
+    if let Some(place) = piece.iter().position(|&x| !sample_ok(x)) {
+        return Err((2, place as u64));
+    }
+    if r.n + piece.len() as u64 > most_samples(r.items[0], r.items[1]) {
+        return Err((3, 0));
+    }
+    Ok(piece.iter().fold(r.clone(), |s, &x| one_more(&s, x)))
+}
+
+/// The counted times, for a slice of so many places.
+pub fn listed(items: [u64; 4], samples: &[i32], places: usize) -> Result<Vec<u32>, Refused> {
+    open(items)?;
+    let [step, ramp, level, decorrelation] = items;
+    if let Some(place) = samples.iter().position(|&x| !sample_ok(x)) {
+        return Err((2, place as u64));
+    }
+    let n = samples.len() as u64;
+    if n > most_samples(step, ramp) {
+        return Err((3, 0));
+    }
+    if n < ramp + 2 {
+        return Err((4, 0));
+    }
+    let kept = counted(&crossings(samples, ramp, level), step, ramp, decorrelation);
+    if kept.len() > places {
+        return Err((7, kept.len() as u64));
+    }
+    Ok(kept.iter().map(|&i| ((i as u64 - ramp) * step) as u32).collect())
+}
+
+// ---- the campaign
+
+#[derive(Clone, Debug, PartialEq)]
+pub struct Campaign {
+    pub standard: u64,
+    pub records: u64,
+    pub failures: u64,
+    pub exposure: u64,
+    pub failed: bool,
+}
+
+pub struct Rows {
+    pub upper: Vec<u64>,
+    pub lower: Vec<u64>,
+}
+
+#[derive(Debug, PartialEq)]
+pub enum Verdict {
+    NoRecord,
+    Accept,
+    Reject,
+    Continue,
+}
+
+pub fn open_campaign(standard: u64) -> Result<Campaign, Refused> {
+    if !item_ok(5, standard) {
+        return Err((1, 5));
+    }
+    Ok(Campaign { standard, records: 0, failures: 0, exposure: 0, failed: false })
+}
+
+/// "Relations for 8", the campaign's.
+pub fn campaign_ok(c: &Campaign) -> bool {
+    let (m, n, t) = (c.records, c.failures, c.exposure);
+    item_ok(5, c.standard)
+        && m <= MOST_RECORDS
+        && n <= ROWS
+        && n <= m
+        && m <= t
+        && t <= m * LONGEST
+        && !(c.failed && n == 0)
+        && !(!c.failed && m >= 1 && n >= m)
+        && !(m == 0 && c.failed)
+        && !(n == ROWS && !c.failed)
+}
+
+fn entered(c: &Campaign, failed: bool, exposure: u64) -> Result<Campaign, Refused> {
+    if c.records == MOST_RECORDS {
+        return Err((5, 0));
+    }
+    if c.failures == ROWS {
+        return Err((6, 0));
+    }
+    Ok(Campaign {
+        standard: c.standard,
+        records: c.records + 1,
+        failures: c.failures + u64::from(failed),
+        exposure: c.exposure + exposure,
+        failed,
+    })
+}
+
+pub fn closed(r: &Record, c: &Campaign) -> Result<Campaign, Refused> {
+    if !record_ok(r) || !campaign_ok(c) {
+        return Err((8, 0));
+    }
+    let [step, ramp, ..] = r.items;
+    if r.n < ramp + 2 {
+        return Err((4, 0));
+    }
+    let failed = r.first != 0;
+    entered(c, failed, if failed { (r.first - ramp) * step } else { (r.n - 1 - ramp) * step })
+}
+
+/// A sheet's record.
+pub fn sheet_entered(c: &Campaign, failed: bool, exposure: u64) -> Result<Campaign, Refused> {
+    if !campaign_ok(c) {
+        return Err((8, 0));
+    }
+    if exposure == 0 {
+        return Err((4, 0));
+    }
+    if exposure > LONGEST {
+        return Err((3, 0));
+    }
+    entered(c, failed, exposure)
+}
+
+/// N*: N before the last record, plus 1.
+pub fn censored(c: &Campaign) -> u64 {
+    if c.records == 0 {
+        0
+    } else if c.failed {
+        c.failures - 1 + 1
+    } else {
+        c.failures + 1
+    }
+}
+
+impl Rows {
+    /// From the lines that the program `rows` writes and R checks.
+    pub fn read(text: &str) -> Rows {
+        let mut rows = Rows { upper: vec![0], lower: vec![0] };
+        for line in text.lines() {
+            let fields: Vec<&str> = line.split('\t').collect();
+            let column = if fields[0] == "upper" { &mut rows.upper } else { &mut rows.lower };
+            assert_eq!(fields[1].parse::<usize>().unwrap(), column.len());
+            column.push(fields[2].parse().unwrap());
+        }
+        assert_eq!((rows.upper.len(), rows.lower.len()), (65, 65));
+        rows
+    }
+
+    pub fn verdict(&self, c: &Campaign) -> Verdict {
+        if c.records == 0 {
+            return Verdict::NoRecord;
+        }
+        let exposed = u128::from(c.exposure) * 1_000_000;
+        let line = |row: u64| u128::from(row) * u128::from(c.standard);
+        if exposed < line(self.lower[c.failures as usize]) {
+            Verdict::Reject
+        } else if exposed > line(self.upper[censored(c) as usize]) {
+            Verdict::Accept
+        } else {
+            Verdict::Continue
+        }
+    }
+
+    /// Estimate, lower, upper; zeros without a record.
+    pub fn rates(&self, c: &Campaign) -> [f64; 3] {
+        if c.records == 0 {
+            return [0.0; 3];
+        }
+        let t = c.exposure;
+        let over = |n: u64, d: u64| n as f64 / d as f64;
+        [
+            over(c.failures * 1_000, t),
+            over(self.lower[c.failures as usize], t * 1_000),
+            over(self.upper[censored(c) as usize], t * 1_000),
+        ]
+    }
+}

@@ -13,6 +13,7 @@
  *   7    more counted times than the lent slice has places                      the number of places needed
  *   8    a state's array has another length, or numbers that are no state;      0
  *        a flag is neither 0 nor 1
+ *   9    a line of a job sheet is malformed                                     the line's number
  *
  * Where several hold, the first in the order that stands at the function is given.
  *
@@ -70,7 +71,8 @@ enum {
     CHIM_CAMPAIGN_FULL = 5,
     CHIM_ROWS_USED_UP = 6,
     CHIM_ROOM = 7,
-    CHIM_BROKEN_STATE = 8
+    CHIM_BROKEN_STATE = 8,
+    CHIM_LINE = 9
 };
 
 enum { CHIM_NO_RECORD = 0, CHIM_ACCEPT = 1, CHIM_REJECT = 2, CHIM_CONTINUE = 3 };
@@ -113,6 +115,12 @@ uint64_t chim_campaign_verdict(const uint64_t *state, size_t state_len, double *
 
 /* The estimate of the rate and its 95% bounds; *carried is 1, and 0 while there is no record, when the rates are 0. Refuses 8. */
 uint64_t chim_campaign_rates(const uint64_t *state, size_t state_len, double *estimate, double *lower, double *upper, uint64_t *carried);
+
+/* ---- a job sheet: `text` is the whole of it, as bin/tally reads it */
+
+/* Puts the campaign that the sheet ends in into `state`; *line is then 0. Refuses 8 (the array's length; *line is 0), then by the sheet's first bad
+ * line, whose number is in *line: 9, then on line 1 1, on later lines 4, 3, 5, 6. */
+uint64_t chim_sheet_read(const uint8_t *text, size_t text_len, uint64_t *state, size_t state_len, uint64_t *line, uint64_t *carried);
 
 /* ---- the quantile table, in millionths of an expected failure: row n from 1 to 64, and 0 for any other n */
 uint32_t chim_upper_row(uint64_t n);

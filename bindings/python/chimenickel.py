@@ -35,6 +35,7 @@ for _name, _result, _parameters in [
     ("chim_campaign_censored", _u64, [_numbers, _size, _numbers]),
     ("chim_campaign_verdict", _u64, [_numbers, _size, _rate, _rate, _numbers]),
     ("chim_campaign_rates", _u64, [_numbers, _size, _rate, _rate, _rate, _numbers]),
+    ("chim_sheet_read", _u64, [ctypes.c_char_p, _size, _numbers, _size, _numbers, _numbers]),
     ("chim_upper_row", ctypes.c_uint32, [_u64]),
     ("chim_lower_row", ctypes.c_uint32, [_u64]),
 ]:
@@ -43,7 +44,7 @@ for _name, _result, _parameters in [
 
 
 class Refusal(Exception):
-    """Why nothing was done: the refusal's number, from 1 to 8, and what it carries."""
+    """Why nothing was done: the refusal's number, from 1 to 9, and what it carries; for a job sheet also the line that it stands on."""
 
     MEANINGS = {
         1: "opening item {} is outside its range",
@@ -54,12 +55,14 @@ class Refusal(Exception):
         6: "the campaign has 64 failures",
         7: "{} places are needed",
         8: "the numbers are no state",
+        9: "line {} is malformed",
     }
 
     def __init__(self, number, carried):
         super().__init__(f"refusal {number}: " + self.MEANINGS[number].format(carried))
         self.number = number
         self.carried = carried
+        self.line = None
 
 
 def _number(x):
@@ -196,6 +199,17 @@ class Campaign(_State):
     def __init__(self, standard):
         super().__init__([0] * self.LENGTH)
         _ask(_lib.chim_campaign_open, _number(standard), self._state, self.LENGTH)
+
+    @classmethod
+    def read_sheet(cls, text):
+        """The campaign of a whole job sheet, as bytes; a Refusal knows its line."""
+        state, line = (_u64 * cls.LENGTH)(), _u64()
+        try:
+            _ask(_lib.chim_sheet_read, bytes(text), len(text), state, cls.LENGTH, ctypes.byref(line))
+        except Refusal as refusal:
+            refusal.line = line.value
+            raise
+        return cls.from_numbers(list(state))
 
     def close(self, record):
         """Enters a record."""

@@ -60,6 +60,16 @@ class Records(unittest.TestCase):
         self.assertEqual(campaign.rates().upper, campaign.verdict().upper)
         self.refused(3, 0, campaign.enter, False, 10_000_001)
 
+    def test_a_sheet_is_its_records(self):
+        campaign = Campaign(7_200_000)
+        campaign.enter(False, 1_800_000)
+        campaign.enter(True, 933_980)
+        self.assertEqual(Campaign.read_sheet(b"standard\t7200000\n1\t0\t1800000\n2\t1\t933980\n").numbers, campaign.numbers)
+        with self.assertRaises(Refusal) as caught:
+            Campaign.read_sheet(b"standard\t7200000\n1\t0\t0\n")
+        self.assertEqual((caught.exception.number, caught.exception.line), (4, 2))
+        self.refused(9, 1, Campaign.read_sheet, b"")
+
     def test_numbers_that_are_no_state(self):
         self.refused(8, 0, Record.from_numbers, [0] * 9)
         self.refused(8, 0, Record.from_numbers([(1 << 64) - 1] * 10).feed, [])

@@ -28,6 +28,14 @@ extern "C" {
         upper: *mut f64,
         carried: *mut u64,
     ) -> u64;
+    pub fn chim_sheet_read(
+        text: *const u8,
+        text_len: usize,
+        state: *mut u64,
+        state_len: usize,
+        line: *mut u64,
+        carried: *mut u64,
+    ) -> u64;
     pub fn chim_upper_row(n: u64) -> u32;
     pub fn chim_lower_row(n: u64) -> u32;
 }

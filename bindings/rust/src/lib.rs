@@ -43,10 +43,12 @@ pub enum Refusal {
     Room(u64),
     /// 8: the numbers are no state.
     BrokenState,
+    /// 9: a line of a job sheet is malformed; its number.
+    Line(u64),
 }
 
 impl Refusal {
-    /// The refusal's number, from 1 to 8.
+    /// The refusal's number, from 1 to 9.
     pub fn number(self) -> u64 {
         match self {
             Refusal::Item(_) => 1,
@@ -57,6 +59,7 @@ impl Refusal {
             Refusal::RowsUsedUp => 6,
             Refusal::Room(_) => 7,
             Refusal::BrokenState => 8,
+            Refusal::Line(_) => 9,
         }
     }
 
@@ -69,6 +72,7 @@ impl Refusal {
             5 => Refusal::CampaignFull,
             6 => Refusal::RowsUsedUp,
             7 => Refusal::Room(carried),
+            9 => Refusal::Line(carried),
             _ => Refusal::BrokenState,
         }
     }
@@ -85,6 +89,7 @@ impl fmt::Display for Refusal {
             Refusal::RowsUsedUp => write!(f, "the campaign has 64 failures"),
             Refusal::Room(places) => write!(f, "{places} places are needed"),
             Refusal::BrokenState => write!(f, "the numbers are no state"),
+            Refusal::Line(line) => write!(f, "line {line} of the sheet is malformed"),
         }
     }
 }
@@ -231,6 +236,13 @@ impl Campaign {
         Ok(Campaign { numbers: s })
     }
 
+    /// The campaign of a whole job sheet; or its first bad line's number and refusal.
+    pub fn read_sheet(text: &[u8]) -> Result<Campaign, (u64, Refusal)> {
+        let (mut s, mut line) = ([0; 5], 0);
+        let read = answer(|carried| unsafe { c::chim_sheet_read(text.as_ptr(), text.len(), s.as_mut_ptr(), s.len(), &mut line, carried) });
+        read.map(|_| Campaign { numbers: s }).map_err(|refusal| (line, refusal))
+    }
+
     /// Enters a record.
     pub fn close(&mut self, record: &Record) -> Result<(), Refusal> {
         let (r, s) = (&record.numbers, &mut self.numbers);
@@ -338,6 +350,16 @@ mod tests {
         let before = record.clone();
         assert_eq!(record.feed(&[0, 0, 1_000_001]), Err(Refusal::Sample(2)));
         assert_eq!(record, before);
+    }
+
+    #[test]
+    fn a_sheet_is_its_records() {
+        let mut c = Campaign::open(7_200_000).unwrap();
+        c.enter(false, 1_800_000).unwrap();
+        c.enter(true, 933_980).unwrap();
+        assert_eq!(Campaign::read_sheet(b"standard\t7200000\n1\t0\t1800000\n2\t1\t933980\n"), Ok(c));
+        assert_eq!(Campaign::read_sheet(b"standard\t7200000\n1\t0\t0\n"), Err((2, Refusal::TooShort)));
+        assert_eq!(Campaign::read_sheet(b""), Err((1, Refusal::Line(1))));
     }
 
     #[test]

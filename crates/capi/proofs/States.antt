@@ -7,7 +7,7 @@ use borrow.Author.Tests.{eq-eqb, eqb-true, le-leb, leb-true}
 use lib.Dec.{T, leb}
 use lib.IntN.{ℤ}
 use lib.ListN.{length}
-use Rattle.record.proofs.Bools.{and-true, true≢false}
+use Rattle.truth.proofs.Laws.{and-true, true≢false}
 use Rattle.record.proofs.Fed.{fed-broken, taken}
 use Rattle.record.proofs.Relations.{kept-from}
 use Rattle.record.proofs.Theorems.{fed-sound, opened-sound}

@@ -11,6 +11,7 @@ use Rattle.poisson.specs.Rows.{LowerRow, UpperRow}
 use Rattle.campaign.specs.declared.Rates.{Rates}
 use Rattle.record.specs.Reading.{firstCrossing}
 use Rattle.truth.proofs.Unique.{settled}
+use Rattle.capi.specs.Sheet.{sheetLine, sheetRead}
 use Rattle.capi.specs.Told.{Count, Judgement, Rating, Told, campaignCensored, campaignClosed, campaignEntered, campaignJudged, campaignOpened, campaignRated, recordFed, recordListed, recordOpened, told}
 
 -- ---- the number that is answered, what is carried, and the array or the rates afterwards
@@ -54,3 +55,7 @@ upper-row-unique = poisson.upper-row-unique
 
 pub lower-row-unique : (n r s : ℕ) → LowerRow n r → LowerRow n s → r ≡ s
 lower-row-unique = poisson.lower-row-unique
+
+-- the number, what is carried and the array, and the line
+pub sheet-read-unique : (text s : List ℕ) (x y : Told) (k l : ℕ) → x ≡ sheetRead text s → y ≡ sheetRead text s → k ≡ sheetLine text s → l ≡ sheetLine text s → (x ≡ y) × (k ≡ l)
+sheet-read-unique text s x y k l p q e f = (settled p q, settled e f)

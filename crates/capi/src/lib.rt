@@ -12,11 +12,14 @@ ghost use Rattle.campaign.specs.declared.Campaign.{Campaign};
 ghost use Rattle.campaign.specs.declared.Answer.the-variants as taken;
 ghost use Rattle.poisson.specs.Rows.{LowerRow, UpperRow};
 ghost use Rattle.capi.specs.Numbers.{codeOf, sampleOf, highestCode, recordNumbers, noRecord, recordOf, ofRecord, campaignNumbers, noCampaign, campaignOf, ofCampaign, flag};
+ghost use Rattle.capi.specs.Sheet.{answerOf, lineOf, sheetLine, sheetRead};
 ghost use Rattle.capi.specs.Told.{told, recordTold, recordOpened, recordFed, recordListed, campaignTold, campaignOpened, campaignClosed, campaignEntered, count, campaignCensored, judgement, verdictTold, campaignJudged, ratings, rates, campaignRated};
 use campaign::Campaign;
 use campaign::Verdict;
 use record::Record;
 use refusal::Refusal;
+use sheet::Reading;
+use sheet::Sheet;
 
 // How many numbers a state has.
 pub const RECORD_NUMBERS: usize = 10;
@@ -393,4 +396,46 @@ pub extern "C" fn chim_lower_row(n: u64) -> u32
     ensures { λ r. ⌜ LowerRow n r ⌝ }
 {
     poisson::lower_row(n)
+}
+
+// What the reading of a whole sheet answers.
+fn ended(end: Reading) -> campaign::Answer
+    ensures { λ a. ⌜ a ≡ answerOf end ⌝ }
+{
+    match end {
+        Reading::Read(c) => campaign::Answer::Taken(c),
+        Reading::Stopped(_, f) => campaign::Answer::Refused(f),
+        Reading::Waiting(_, _) => campaign::Answer::Refused(Refusal::BrokenState),
+    }
+}
+
+// The line on which the reading stopped, 0 if it did not.
+fn stopped_on(end: Reading) -> u64
+    ensures { λ n. ⌜ n ≡ lineOf end ⌝ }
+{
+    match end {
+        Reading::Read(_) => 0,
+        Reading::Stopped(line, _) => line,
+        Reading::Waiting(_, _) => 0,
+    }
+}
+
+// The campaign of a whole job sheet in `state`; or refusal 8 for an array of another length, else the sheet's first refusal, with its line in `line`.
+#[no_mangle]
+pub extern "C" fn chim_sheet_read(
+    text: &[u8],
+    state: &mut [u64],
+    line: &mut u64,
+    carried: &mut u64,
+) -> u64
+    ensures { λ n. ⌜ told n (now (carried .exit)) (now (state .exit)) ≡ sheetRead (now (text .entry)) (now (state .entry)) ⌝ }
+    ensures { λ _. ⌜ now (line .exit) ≡ sheetLine (now (text .entry)) (now (state .entry)) ⌝ }
+{
+    if state.len() != CAMPAIGN_NUMBERS {
+        *line = 0;
+        return refuse(Refusal::BrokenState, carried);
+    }
+    let end = sheet::read(Sheet::Fresh, text, false);
+    *line = stopped_on(end);
+    keep_campaign(ended(end), state, carried)
 }

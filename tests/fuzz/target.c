@@ -1,0 +1,130 @@
+/* A fuzz target over the whole C interface. The first byte of the input picks a part; the rest is a sheet, or numbers and samples to call with. What has
+ * to hold whatever comes: a refusal leaves every lent array as it stood, what is handed out is never refused as broken, a piece cut anywhere leads to
+ * the same record, and a sheet's campaign is that of its records. */
+#include <stdint.h>
+#include <stdlib.h>
+#include <string.h>
+
+#include "chimenickel.h"
+
+static void hold(int fact) {
+    if (!fact)
+        abort();
+}
+
+/* the input, taken apart from the front; 0 when it is used up */
+static const uint8_t *in;
+static size_t left;
+
+static uint64_t number(size_t bytes) {
+    uint64_t n = 0;
+    for (size_t i = 0; i < bytes && left > 0; i++, in++, left--)
+        n = n << 8 | *in;
+    return n;
+}
+
+static void sheet(void) {
+    uint64_t state[CHIM_CAMPAIGN_NUMBERS] = {7, 7, 7, 7, 7}, before[CHIM_CAMPAIGN_NUMBERS], line = 7, carried = 7;
+    memcpy(before, state, sizeof state);
+    uint64_t answer = chim_sheet_read(in, left, state, CHIM_CAMPAIGN_NUMBERS, &line, &carried);
+    if (answer == CHIM_TAKEN) {
+        double lower, upper;
+        hold(line == 0);
+        hold(chim_campaign_verdict(state, CHIM_CAMPAIGN_NUMBERS, &lower, &upper, &carried) == CHIM_TAKEN);
+    } else {
+        hold(answer != CHIM_BROKEN_STATE && answer != CHIM_SAMPLE && answer != CHIM_ROOM && answer <= CHIM_LINE);
+        hold(line >= 1 && line <= left + 1);
+        hold(answer != CHIM_LINE || carried == line);
+        hold(memcmp(before, state, sizeof state) == 0);
+    }
+}
+
+/* a record: opened by the input, or any numbers at all; fed whole and in two pieces */
+static void record(void) {
+    uint64_t whole[CHIM_RECORD_NUMBERS], cut[CHIM_RECORD_NUMBERS], before[CHIM_RECORD_NUMBERS], carried;
+    if (number(1) % 2 == 0) {
+        memset(whole, 0, sizeof whole);
+        if (chim_record_open(number(2), number(1), number(3), number(2), whole, CHIM_RECORD_NUMBERS, &carried) != CHIM_TAKEN)
+            return;
+        hold(chim_record_feed(whole, CHIM_RECORD_NUMBERS, (const int32_t[]){0}, 0, &carried) == CHIM_TAKEN);
+    } else {
+        for (size_t i = 0; i < CHIM_RECORD_NUMBERS; i++)
+            whole[i] = number(1 + i % 3);
+    }
+    memcpy(before, whole, sizeof whole);
+    memcpy(cut, whole, sizeof whole);
+    enum { MOST = 512 };
+    int32_t samples[MOST];
+    size_t at = number(1), n = 0;
+    while (left > 0 && n < MOST)
+        samples[n++] = (int32_t)number(3) - (number(1) % 2 ? 8388608 : 0);
+    at = at < n ? at : n;
+    uint64_t answer = chim_record_feed(whole, CHIM_RECORD_NUMBERS, samples, n, &carried);
+    if (answer != CHIM_TAKEN) {
+        hold(answer == CHIM_BROKEN_STATE || answer == CHIM_SAMPLE || answer == CHIM_TOO_LONG);
+        hold(answer != CHIM_SAMPLE || carried < n);
+        hold(memcmp(before, whole, sizeof whole) == 0);
+        return;
+    }
+    hold(chim_record_feed(cut, CHIM_RECORD_NUMBERS, samples, at, &carried) == CHIM_TAKEN);
+    hold(chim_record_feed(cut, CHIM_RECORD_NUMBERS, samples + at, n - at, &carried) == CHIM_TAKEN);
+    hold(memcmp(cut, whole, sizeof whole) == 0);
+    uint64_t campaign[CHIM_CAMPAIGN_NUMBERS];
+    hold(chim_campaign_open(7200000, campaign, CHIM_CAMPAIGN_NUMBERS, &carried) == CHIM_TAKEN);
+    answer = chim_campaign_close(whole, CHIM_RECORD_NUMBERS, campaign, CHIM_CAMPAIGN_NUMBERS, &carried);
+    hold(answer == CHIM_TAKEN || answer == CHIM_TOO_SHORT);
+}
+
+/* listing into a slice of any length: beyond its places nothing is written, and a refusal writes nothing */
+static void list(void) {
+    enum { MOST = 256, PLACES = 16 };
+    uint64_t step = number(2), ramp = number(1), level = number(3), decorrelation = number(2), places = number(1) % (PLACES + 1), carried = 0;
+    int32_t samples[MOST];
+    uint32_t times[PLACES + 1];
+    size_t n = 0;
+    while (left > 0 && n < MOST)
+        samples[n++] = (int32_t)number(3) - (number(1) % 2 ? 8388608 : 0);
+    memset(times, 0xa5, sizeof times);
+    uint64_t answer = chim_record_list(step, ramp, level, decorrelation, samples, n, times, places, &carried);
+    size_t written = answer == CHIM_TAKEN ? carried : 0;
+    hold(written <= places);
+    for (size_t i = written; i <= PLACES; i++)
+        hold(times[i] == 0xa5a5a5a5);
+    for (size_t i = 0; i < written; i++)
+        hold(times[i] <= 10000000 && (i == 0 || times[i] >= times[i - 1] + decorrelation));
+    hold(chim_record_first_crossing(samples, n, ramp, level) <= n);
+}
+
+/* a campaign of any numbers, and records entered into it */
+static void campaign(void) {
+    uint64_t state[CHIM_CAMPAIGN_NUMBERS], before[CHIM_CAMPAIGN_NUMBERS], carried;
+    double x = -1, y = -1, z = -1;
+    for (size_t i = 0; i < CHIM_CAMPAIGN_NUMBERS; i++)
+        state[i] = number(i == 4 ? 1 : 1 + i);
+    while (left > 0) {
+        memcpy(before, state, sizeof state);
+        uint64_t sound = chim_campaign_verdict(state, CHIM_CAMPAIGN_NUMBERS, &x, &y, &carried);
+        hold(sound == CHIM_TAKEN ? carried <= CHIM_CONTINUE : sound == CHIM_BROKEN_STATE && x == -1 && y == -1);
+        hold(chim_campaign_rates(state, CHIM_CAMPAIGN_NUMBERS, &x, &y, &z, &carried) == sound);
+        hold(chim_campaign_censored(state, CHIM_CAMPAIGN_NUMBERS, &carried) == sound);
+        uint64_t answer = chim_campaign_enter(state, CHIM_CAMPAIGN_NUMBERS, number(1) % 3, number(4), &carried);
+        if (answer == CHIM_TAKEN) {
+            hold(sound == CHIM_TAKEN && state[1] == before[1] + 1);
+            hold(chim_campaign_censored(state, CHIM_CAMPAIGN_NUMBERS, &carried) == CHIM_TAKEN && carried == before[2] + 1);
+        } else {
+            hold(memcmp(before, state, sizeof state) == 0);
+            return;
+        }
+    }
+}
+
+int LLVMFuzzerTestOneInput(const uint8_t *data, size_t size) {
+    in = data, left = size;
+    switch (number(1) % 4) {
+    case 0: sheet(); break;
+    case 1: record(); break;
+    case 2: list(); break;
+    case 3: campaign(); break;
+    }
+    return 0;
+}

@@ -3,6 +3,7 @@ pub mod Entries
 pub mod Fields
 pub mod Given
 pub mod Lines
+pub mod Pieces
 pub mod Room
 pub mod Running
 pub mod Steps

@@ -1,5 +1,6 @@
 pub mod Along
 pub mod Entries
+pub mod Examples
 pub mod Fields
 pub mod Given
 pub mod Lines

@@ -12,7 +12,7 @@ use Rattle.campaign.specs.State.{censored, sound}
 use Rattle.sheet.specs.declared.Reading.the-variants.{Stopped}
 use Rattle.sheet.specs.Line.{startsWith, begins, endedBy, fieldThen, recordLine, standardLine, stepping}
 use Rattle.sheet.specs.Written.{fieldText, figures, letterFor, recordText, refusedText}
-use Rattle.sheet.specs.Sheet.{Account, linesOf, reading, meaning}
+use Rattle.sheet.specs.Sheet.{linesOf, reading, meaning}
 
 -- standard 7200000; 1 0 1800000; 2 1 933980; 3 1 0
 abbrev sheet : List ℕ

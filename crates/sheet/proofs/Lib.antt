@@ -8,5 +8,6 @@ pub mod Pieces
 pub mod Room
 pub mod Running
 pub mod Steps
+pub mod Theorems
 pub mod Turns
 pub mod Unique

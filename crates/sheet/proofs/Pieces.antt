@@ -3,14 +3,14 @@
 -- follows. Assumes nothing.
 use Prim.Native.Nat.{ℕ, zero, suc, _+_, _-_, _≤_, _<_}
 use mathlib.Core.Path.{_≡_, refl, sym, ap, _∙_}
-use mathlib.Core.Bool.{Bool, true, false, cond, not, _&&_}
+use mathlib.Core.Bool.{Bool, true, false, not}
 use mathlib.Core.List.{List, [], _∷_, _++_, append-assoc, append-nil}
 use mathlib.Core.Logic.{_⊎_, inl, inr}
 use native.Mathlib.Omega.{arith}
 use lib.Dec.{ltb}
-use lib.ListN.{length, take, drop, length-drop, length-append}
-use lib.Seq.{drop-drop, drop-append-le, take-append-le, take-length}
-use borrow.Author.Tests.{ltb-true, ltb-false, not-true, not-false, le-ltb}
+use lib.ListN.{length, drop, length-drop, length-append}
+use lib.Seq.{drop-drop, drop-append-le, take-append-le}
+use borrow.Author.Tests.{ltb-true, ltb-false, not-true}
 use Rattle.text.proofs.Cases.{by-test, both-true}
 use Rattle.refusal.specs.declared.Refusal.{Refusal}
 use Rattle.sheet.specs.declared.Reading.{Reading}

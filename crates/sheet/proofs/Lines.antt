@@ -2,9 +2,9 @@
 -- or, where that is longer, its first 64 bytes. A longer line is refused either way, so the reading is the same (`reading-turn`).
 -- Assumes nothing.
 use Prim.Native.Nat.{ℕ, zero, suc, _+_, _-_, _≤_, _<_, min}
-use mathlib.Core.Path.{_≡_, refl, ap}
-use mathlib.Core.Bool.{Bool, true, false, cond, not, and-false}
-use mathlib.Core.List.{List, [], _∷_}
+use mathlib.Core.Path.{_≡_, refl, sym, ap, _∙_}
+use mathlib.Core.Bool.{Bool, true, false, cond, not, and-false, false≢true, true≢false}
+use mathlib.Core.List.{List, [], _∷_, _++_}
 use mathlib.Core.Logic.{_⊎_, inl, inr, ⊎-elim}
 use native.Mathlib.Numerals.{add-one, unary-clauses}
 use native.Mathlib.Nat.{add-zero}
@@ -27,9 +27,9 @@ use Rattle.sheet.specs.Sheet.{Account, linesOf, ended, afterStep, waits,
 use Rattle.sheet.specs.Cut.{cut, firstLine}
 
 -- a byte in front of a line keeps its end
-ends-cons : (b : ℕ) (line : List ℕ) → eqb b lineFeed ≡ false → endsLine line ≡ false → endsLine (b ∷ line) ≡ false
-ends-cons b [] e f = e
-ends-cons b (c ∷ line) e f = simp unary-clauses (simp unary-clauses at f)
+ends-on : (b : ℕ) (line : List ℕ) → eqb b lineFeed ≡ false → endsLine (b ∷ line) ≡ endsLine line
+ends-on b [] e = e
+ends-on b (c ∷ line) e = simp unary-clauses
 
 -- the first n bytes of a text against its first line
 module _ (n : ℕ) (text : List ℕ) where
@@ -78,7 +78,7 @@ module _ (n b : ℕ) (text : List ℕ) (e : eqb b lineFeed ≡ false) where
         first = rw (e, l .first);
         longer = omega (arith, l .longer);
         all = rw e (ap suc (l .all));
-        unended = rw e (ends-cons b (take (cut n text) text) e (l .unended));
+        unended = rw (e, ends-on b (take (cut n text) text) e) (l .unended);
       }
 
 first-of : (n : ℕ) (b : ℕ) (text : List ℕ) → Whole n (b ∷ text) ⊎ Long n (b ∷ text)
@@ -100,6 +100,26 @@ pub cut-some : (n : ℕ) (text : List ℕ) → 0 < length text → 0 < cut (suc 
 unfolding cut
 cut-some n [] h = absurd (omega arith)
 cut-some n (b ∷ text) h = by-test (eqb b lineFeed) (λ e. rw e (omega arith)) (λ e. rw e (omega arith))
+
+-- a line that has its LF, or as many bytes as were asked for, is the same in a longer text
+pub cut-append : (n : ℕ) (text more : List ℕ) → (endsLine (take (cut n text) text) ≡ true) ⊎ (n ≤ cut n text) → cut n (text ++ more) ≡ cut n text
+unfolding cut
+cut-append zero text more h = refl
+cut-append (suc n) [] more h = ⊎-elim (λ e. absurd (false≢true e)) (λ l. absurd (omega arith)) h
+cut-append (suc n) (b ∷ text) more h =
+    by-test (eqb b lineFeed)
+    (λ e. rw e)
+    (λ e. rw e (ap suc (cut-append n text more (⊎-elim (λ f. inl (rw (e, ends-on b (take (cut n text) text) e) at f)) (λ l. inr (let k = rw e at l in omega arith)) h))))
+
+-- one that has neither is the whole text
+pub cut-whole : (n : ℕ) (text : List ℕ) → endsLine (take (cut n text) text) ≡ false → cut n text < n → cut n text ≡ length text
+unfolding cut
+cut-whole zero text f l = absurd (omega arith)
+cut-whole (suc n) [] f l = refl
+cut-whole (suc n) (b ∷ text) f l =
+    by-test (eqb b lineFeed)
+    (λ e. absurd (true≢false (sym e ∙ (rw e at f))))
+    (λ e. rw e (ap suc (cut-whole n text (rw (e, ends-on b (take (cut n text) text) e) at f) (let k = rw e at l in omega arith))))
 
 -- the search for the LF of a line at `at`, come to i: what it finds there, and where it gives up
 module _ (text : List ℕ) (at i : ℕ) where

@@ -30,7 +30,7 @@ use Rattle.sheet.specs.Sheet.{soundSheet, textOf}
 use Rattle.sheet.proofs.Entries.{Says, goes, stops, Entry, Opening, record-says, standard-says}
 use Rattle.sheet.proofs.Fields.{field-some}
 
-field-few : (k v end : ℕ) → v < 10 ^ suc k → length (fieldText v end) ≤ k + 2
+pub field-few : (k v end : ℕ) → v < 10 ^ suc k → length (fieldText v end) ≤ k + 2
 unfolding fieldText
 field-few k v end h = rw length-append (omega (arith, digits-below k v h))
 
@@ -76,7 +76,7 @@ never e = let z : _≡_ {A = ℕ} 0 1 = cc in absurd (omega arith)
 same : {s t : Sheet} → Next s ≡ Next t → s ≡ t
 same e = cc
 
-says-next : {P : Sheet → Type 0} {line : ℕ} {step : Step} {t : Sheet} → Says P line step → step ≡ Next t → P t
+pub says-next : {P : Sheet → Type 0} {line : ℕ} {step : Step} {t : Sheet} → Says P line step → step ≡ Next t → P t
 says-next {P} (goes p) e = subst P (same e) p
 says-next stops e = absurd (never e)
 

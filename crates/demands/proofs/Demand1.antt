@@ -34,6 +34,13 @@ use Rattle.campaign.specs.Answers.{closing, entering, exposureOf}
 use Rattle.campaign.specs.Figures.{ratesOf, verdictOf}
 use Rattle.campaign.specs.State.{censored, empty, entered, mostRecords, standardInRange}
 use Rattle.campaign.specs.State as campaigning
+use Rattle.sheet.specs.declared.Sheet.the-variants.{Fresh, Open}
+use Rattle.sheet.specs.Line.{lineAfter, outcome, stepping}
+use Rattle.sheet.specs.Pieces.{feeding, joined}
+use Rattle.sheet.specs.Sheet.{meaning}
+use Rattle.sheet.proofs.Entries.{recordBytes}
+use Rattle.sheet.proofs.Pieces.{cut-anywhere}
+use Rattle.sheet.proofs.Theorems.{closing-line}
 
 -- ---- the statement
 -- a condition, and the refusal that it gives
@@ -129,6 +136,15 @@ pub record Demand1 : Type 0 where
       (c : Campaign)
       → Decides rating.Refused (not (campaigning.sound c) gives BrokenState ∷ []) (rating.Given (not (eqb (c .records) 0)) (ratesOf c)) (campaigns.rating c)
   pub censored : (c : Campaign) → Decides counting.Refused (not (campaigning.sound c) gives BrokenState ∷ []) (counting.Count (censored c)) (campaigns.counting c)
+  -- a job sheet: reading a line after what came before decides it, and however the text is cut into pieces, what is written and what the reading ends in
+  -- are those of its meaning; a record's own line comes to what closing the record answers, refusals and all
+  pub sheet : (pieces : List (List ℕ)) → feeding pieces Fresh [] ≡ meaning (joined pieces)
+  pub sheet-line :
+      (r : Record) (c : Campaign)
+      → campaigning.sound c ≡ true
+      → sound r ≡ true
+      → tooShort r ≡ false
+      → stepping (Open c) (recordBytes (c .records + 1) (cond (failed r) 1 0) (exposureOf r)) ≡ outcome (lineAfter c) (closing r c)
 
 -- ---- the proof
 -- what the tests decide, computed
@@ -221,5 +237,7 @@ demand-1 =
       kept = λ D R a τ xs before after r p. p .leaves;
       verdict = λ c. decided judging.Refused (judging.Given (verdictOf c)) own-verdict (λ r e. no (cc)) _ (campaigns.judging c) (swapped (campaigning.sound c) _ _);
       rates = λ c. decided rating.Refused (rating.Given (not (eqb (c .records) 0)) (ratesOf c)) own-rates (λ r e. no (cc)) _ (campaigns.rating c) (swapped (campaigning.sound c) _ _);
+      sheet = cut-anywhere;
+      sheet-line = closing-line;
       censored = λ c. decided counting.Refused (counting.Count (censored c)) own-count (λ r e. no (cc)) _ (campaigns.counting c) (swapped (campaigning.sound c) _ _);
     }

@@ -14,53 +14,77 @@ use borrow.Author.Needs.{needs}
 use Rattle.sheet.proofs.put_record.Statement.{statement}
 use Rattle.sheet.proofs.put_record.Tie as tie
 
+-- the places on the way back
+abbrev start : tie.After-letter → tie.Start
+start c = c .before .before .before .before .before
+
+abbrev letter-of : tie.After-put-field → tie.After-letter
+letter-of c = c .before .before
+
+abbrev first-of : tie.After-put-field2 → tie.After-put-field
+first-of c = c .before .before .before .before
+
+abbrev second-of : tie.After-put-field3 → tie.After-put-field2
+second-of c = c .before .before .before .before
+
+abbrev third-of : tie.After-put-field4 → tie.After-put-field3
+third-of c = c .before .before .before .before
+
+abbrev fourth-of : tie.After-write-byte → tie.After-put-field4
+fourth-of c = c .before .before .before .before
+
 -- what is left of the line after each part, N* and the letter being those that were answered
-abbrev Rest4 : Campaign → ℕ → List ℕ
-Rest4 c letter = letter ∷ lineFeed ∷ []
+module _ (c : Campaign) (n letter : ℕ) where
+  abbrev Rest4 : List ℕ
+  Rest4 = letter ∷ lineFeed ∷ []
 
-abbrev Rest3 : Campaign → ℕ → List ℕ
-Rest3 c letter = fieldText (c .exposure) tab ++ Rest4 c letter
+  abbrev Rest3 : List ℕ
+  Rest3 = fieldText (c .exposure) tab ++ Rest4
 
-abbrev Rest2 : Campaign → ℕ → ℕ → List ℕ
-Rest2 c n letter = fieldText n tab ++ Rest3 c letter
+  abbrev Rest2 : List ℕ
+  Rest2 = fieldText n tab ++ Rest3
 
-abbrev Rest1 : Campaign → ℕ → ℕ → List ℕ
-Rest1 c n letter = fieldText (c .failures) tab ++ Rest2 c n letter
+  abbrev Rest1 : List ℕ
+  Rest1 = fieldText (c .failures) tab ++ Rest2
 
-abbrev Rest0 : Campaign → ℕ → ℕ → List ℕ
-Rest0 c n letter = fieldText (c .records) tab ++ Rest1 c n letter
+  abbrev Rest0 : List ℕ
+  Rest0 = fieldText (c .records) tab ++ Rest1
 
-abbrev Whole : tie.After-letter → List ℕ
-Whole c = Rest0 (c .before .before .before .before .before .args .c) (c .before .censored .result) (c .letter .result)
+  figures-whole : ¬ (c .records ≡ 0) → n ≡ censored c → letter ≡ letterFor c → recordText c ≡ Rest0
+  unfolding recordText figures
+  figures-whole some e f = rw (ne-eqb (c .records) 0 some, e, f)
 
 empty : (c : Campaign) → c .records ≡ 0 → recordText c ≡ []
 unfolding recordText
 empty c e = rw (eq-eqb (c .records) 0 e)
 
-figures-whole : (c : Campaign) {n letter : ℕ} → ¬ (c .records ≡ 0) → n ≡ censored c → letter ≡ letterFor c → recordText c ≡ Rest0 c n letter
-unfolding recordText figures
-figures-whole c some e f = rw (ne-eqb (c .records) 0 some, e, f)
+-- of the line at this place, so much is left, and the lent bytes are these
+abbrev Of : (Campaign → ℕ → ℕ → List ℕ) → tie.After-letter → List ℕ
+Of rest c = rest (start c .args .c) (c .before .censored .result) (c .letter .result)
 
-whole : (c : tie.After-letter) → recordText (c .before .before .before .before .before .args .c) ≡ Whole c
-whole c = figures-whole (c .before .before .before .before .before .args .c) (c .before .before .if1 .left) (c .before .censored .ensures) (c .letter .ensures)
+abbrev Stands : tie.After-letter → List ℕ → List ℕ → ℕ → Type 0
+Stands c rest out at = Left (now (start c .args .out)) (start c .args .at) (Of Rest0 c) rest out at
 
-left0 : (c : tie.After-letter) → Left (now (c .before .before .before .before .before .args .out)) (c .before .before .before .before .before .args .at) (Whole c) (Whole c) (now (c .before .before .before .before .before .args .out)) (c .before .before .before .before .before .args .at)
-left0 c = left-all _ _ (Whole c) (rw (← whole c) (c .before .before .before .before .before .pre .1))
+whole : (c : tie.After-letter) → recordText (start c .args .c) ≡ Of Rest0 c
+whole c = figures-whole (start c .args .c) _ _ (c .before .before .if1 .left) (c .before .censored .ensures) (c .letter .ensures)
 
-left1 : (c : tie.After-put-field) → Left (now (c .before .before .before .before .before .before .before .args .out)) (c .before .before .before .before .before .before .before .args .at) (Whole (c .before .before)) (Rest1 (c .before .before .before .before .before .before .before .args .c) (c .before .before .before .censored .result) (c .before .before .letter .result)) (c .put-field .last .1 .1 .0) (c .put-field .result)
-left1 c = left-next (fieldText (c .before .before .before .before .before .before .before .args .c .records) tab) _ (left0 (c .before .before)) (c .put-field .ensures)
+left0 : (c : tie.After-letter) → Stands c (Of Rest0 c) (now (start c .args .out)) (start c .args .at)
+left0 c = left-all _ _ (Of Rest0 c) (rw (← whole c) (start c .pre .1))
 
-left2 : (c : tie.After-put-field2) → Left (now (c .before .before .before .before .before .before .before .before .before .before .before .args .out)) (c .before .before .before .before .before .before .before .before .before .before .before .args .at) (Whole (c .before .before .before .before .before .before)) (Rest2 (c .before .before .before .before .before .before .before .before .before .before .before .args .c) (c .before .before .before .before .before .before .before .censored .result) (c .before .before .before .before .before .before .letter .result)) (c .put-field2 .last .1 .1 .0) (c .put-field2 .result)
-left2 c = left-next (fieldText (c .before .before .before .before .before .before .before .before .before .before .before .args .c .failures) tab) _ (left1 (c .before .before .before .before)) (c .put-field2 .ensures)
+left1 : (c : tie.After-put-field) → Stands (letter-of c) (Of Rest1 (letter-of c)) (c .put-field .last .1 .1 .0) (c .put-field .result)
+left1 c = left-next (fieldText (start (letter-of c) .args .c .records) tab) _ (left0 (letter-of c)) (c .put-field .ensures)
 
-left3 : (c : tie.After-put-field3) → Left (now (c .before .before .before .before .before .before .before .before .before .before .before .before .before .before .before .args .out)) (c .before .before .before .before .before .before .before .before .before .before .before .before .before .before .before .args .at) (Whole (c .before .before .before .before .before .before .before .before .before .before)) (Rest3 (c .before .before .before .before .before .before .before .before .before .before .before .before .before .before .before .args .c) (c .before .before .before .before .before .before .before .before .before .before .letter .result)) (c .put-field3 .last .1 .1 .0) (c .put-field3 .result)
-left3 c = left-next (fieldText (c .before .before .before .before .before .before .before .before .before .before .before .censored .result) tab) _ (left2 (c .before .before .before .before)) (c .put-field3 .ensures)
+left2 : (c : tie.After-put-field2) → Stands (letter-of (first-of c)) (Of Rest2 (letter-of (first-of c))) (c .put-field2 .last .1 .1 .0) (c .put-field2 .result)
+left2 c = left-next (fieldText (start (letter-of (first-of c)) .args .c .failures) tab) _ (left1 (first-of c)) (c .put-field2 .ensures)
 
-left4 : (c : tie.After-put-field4) → Left (now (c .before .before .before .before .before .before .before .before .before .before .before .before .before .before .before .before .before .before .before .args .out)) (c .before .before .before .before .before .before .before .before .before .before .before .before .before .before .before .before .before .before .before .args .at) (Whole (c .before .before .before .before .before .before .before .before .before .before .before .before .before .before)) (Rest4 (c .before .before .before .before .before .before .before .before .before .before .before .before .before .before .before .before .before .before .before .args .c) (c .before .before .before .before .before .before .before .before .before .before .before .before .before .before .letter .result)) (c .put-field4 .last .1 .1 .0) (c .put-field4 .result)
-left4 c = left-next (fieldText (c .before .before .before .before .before .before .before .before .before .before .before .before .before .before .before .before .before .before .before .args .c .exposure) tab) _ (left3 (c .before .before .before .before)) (c .put-field4 .ensures)
+left3 : (c : tie.After-put-field3) → let l = letter-of (first-of (second-of c)) in Stands l (Of Rest3 l) (c .put-field3 .last .1 .1 .0) (c .put-field3 .result)
+left3 c = left-next (fieldText (letter-of (first-of (second-of c)) .before .censored .result) tab) _ (left2 (second-of c)) (c .put-field3 .ensures)
 
-left5 : (c : tie.After-write-byte) → Left (now (c .before .before .before .before .before .before .before .before .before .before .before .before .before .before .before .before .before .before .before .before .before .before .before .args .out)) (c .before .before .before .before .before .before .before .before .before .before .before .before .before .before .before .before .before .before .before .before .before .before .before .args .at) (Whole (c .before .before .before .before .before .before .before .before .before .before .before .before .before .before .before .before .before .before)) (lineFeed ∷ []) (c .write-byte .last .1 .0) (c .write-byte .result)
-left5 c = left-next (c .before .before .before .before .before .before .before .before .before .before .before .before .before .before .before .before .before .before .letter .result ∷ []) _ (left4 (c .before .before .before .before)) (c .write-byte .ensures)
+left4 : (c : tie.After-put-field4) → let l = letter-of (first-of (second-of (third-of c))) in Stands l (Of Rest4 l) (c .put-field4 .last .1 .1 .0) (c .put-field4 .result)
+left4 c = left-next (fieldText (start (letter-of (first-of (second-of (third-of c)))) .args .c .exposure) tab) _ (left3 (third-of c)) (c .put-field4 .ensures)
+
+left5 : (c : tie.After-write-byte) → let l = letter-of (first-of (second-of (third-of (fourth-of c)))) in Stands l (lineFeed ∷ []) (c .write-byte .last .1 .0) (c .write-byte .result)
+left5 c = left-next (letter-of (first-of (second-of (third-of (fourth-of c)))) .letter .result ∷ []) _ (left4 (fourth-of c)) (c .write-byte .ensures)
 
 returns : tie.Need-returns
 returns c = let a = c .before .before .before .args in rw (empty (a .c) (c .if1 .taken)) (wrote-none (now (a .out)) (a .at) (omega (arith, rw (empty (a .c) (c .if1 .taken)) at (c .before .before .before .pre .1))))
@@ -72,16 +96,22 @@ letter-requires : tie.Need-letter-requires
 letter-requires c κs = search needs
 
 put-field-requires : tie.Need-put-field-requires
-put-field-requires c κs = left-room (fieldText (c .before .before .before .before .before .before .args .c .records) tab) _ (left0 (c .before))
+put-field-requires c κs =
+    left-room (fieldText (start (c .before) .args .c .records) tab) _ (left0 (c .before))
 
 put-field-requires-2 : tie.Need-put-field-requires-2
-put-field-requires-2 c κs = left-room (fieldText (c .before .before .before .before .before .before .before .before .before .before .args .c .failures) tab) _ (left1 (c .before .before .before))
+put-field-requires-2 c κs =
+    left-room (fieldText (start (letter-of (c .before .before .before)) .args .c .failures) tab) _ (left1 (c .before .before .before))
 
 put-field-requires-3 : tie.Need-put-field-requires-3
-put-field-requires-3 c κs = left-room (fieldText (c .before .before .before .before .before .before .before .before .before .before .censored .result) tab) _ (left2 (c .before .before .before))
+put-field-requires-3 c κs =
+    let p = c .before .before .before in
+    left-room (fieldText (letter-of (first-of p) .before .censored .result) tab) _ (left2 p)
 
 put-field-requires-4 : tie.Need-put-field-requires-4
-put-field-requires-4 c κs = left-room (fieldText (c .before .before .before .before .before .before .before .before .before .before .before .before .before .before .before .before .before .before .args .c .exposure) tab) _ (left3 (c .before .before .before))
+put-field-requires-4 c κs =
+    let p = c .before .before .before in
+    left-room (fieldText (start (letter-of (first-of (second-of p))) .args .c .exposure) tab) _ (left3 p)
 
 write-byte-requires : tie.Need-write-byte-requires
 write-byte-requires c κs = search needs
@@ -93,7 +123,9 @@ same-length : tie.Need-same-length
 same-length c = search needs
 
 returns-2 : tie.Need-returns-2
-returns-2 c = rw (whole (c .before .before .before .before .before .before .before .before .before .before .before .before .before .before .before .before .before .before .before .before .before .before .before .before)) (left-last (left5 (c .before .before .before .before .before .before)) (c .before .before .write-byte2 .ensures))
+returns-2 c =
+    let p = c .before .before .before .before .before .before in
+    rw (whole (letter-of (first-of (second-of (third-of (fourth-of p)))))) (left-last (left5 p) (c .before .before .write-byte2 .ensures))
 
 pub put-record-spec : {M : Type 1} → statement M
 put-record-spec =

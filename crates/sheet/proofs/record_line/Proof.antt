@@ -4,6 +4,8 @@ use native.Mathlib.Omega.{arith}
 use mathlib.Core.Path.{_≡_, sym, ap, _∙_}
 use mathlib.Core.Bool.{true}
 use denote.Ref.{now}
+use mathlib.Core.List.{List}
+use Prim.Native.Nat.{ℕ}
 use Rattle.truth.proofs.Laws.{holds, said-no, said-yes}
 use Rattle.campaign.proofs.Relations.{kept-from}
 use Rattle.decimal.specs.Field.{tab, lineFeed}
@@ -13,20 +15,53 @@ use borrow.Author.Needs.{needs}
 use Rattle.sheet.proofs.record_line.Statement.{statement}
 use Rattle.sheet.proofs.record_line.Tie as tie
 
--- what is known past each test and each field
-within : (c : tie.Else1) → isLine (now (c .before .before .before .before .args .text)) ≡ true
+-- a field's number, and the place after it
+abbrev Found : Type 0
+Found = ℕ × ℕ
+
+-- the places on the way back: the test of the line, and each field
+abbrev line-of : tie.After-known-told → tie.Else1
+line-of c = c .before .before .before .before
+
+abbrev first-of : tie.After-known-told2 → tie.After-known-told
+first-of c = c .before .before .before .before
+
+abbrev second-of : tie.After-known-told3 → tie.After-known-told2
+second-of c = c .before .before .before .before
+
+abbrev fields-of : tie.After-both2 → tie.After-known-told3
+fields-of c = c .before .before .before
+
+abbrev start : tie.Else1 → tie.Start
+start c = c .before .before .before .before
+
+-- what is known past each
+abbrev Text : tie.Else1 → List ℕ
+Text c = now (start c .args .text)
+
+abbrev number : tie.After-known-told → Found
+number c = (c .before .number .given .0 .0, c .before .number .given .0 .1 .0)
+
+abbrev flag : tie.After-known-told2 → Found
+flag c = (c .before .flag .given .0 .0, c .before .flag .given .0 .1 .0)
+
+abbrev exposure : tie.After-known-told3 → Found
+exposure c = (c .before .exposure .given .0 .0, c .before .exposure .given .0 .1 .0)
+
+within : (c : tie.Else1) → isLine (Text c) ≡ true
 within c = said-yes (c .before .is-line .ensures) (c .if1 .left)
 
-first : (c : tie.After-known-told) → fieldThen tab (now (c .before .before .before .before .before .before .before .before .args .text)) 0 ≡ Number (c .before .number .given .0 .0) (c .before .number .given .0 .1 .0)
+first : (c : tie.After-known-told) → fieldThen tab (Text (line-of c)) 0 ≡ Number (number c .0) (number c .1)
 first c = sym (c .before .before .before .field-then .ensures) ∙ c .before .number .given .1
 
-second : (c : tie.After-known-told2) → fieldThen tab (now (c .before .before .before .before .before .before .before .before .before .before .before .before .args .text)) (c .before .before .before .before .before .number .given .0 .1 .0) ≡ Number (c .before .flag .given .0 .0) (c .before .flag .given .0 .1 .0)
+second : (c : tie.After-known-told2) → fieldThen tab (Text (line-of (first-of c))) (number (first-of c) .1) ≡ Number (flag c .0) (flag c .1)
 second c = sym (c .before .before .before .field-then2 .ensures) ∙ c .before .flag .given .1
 
-third : (c : tie.After-known-told3) → fieldThen lineFeed (now (c .before .before .before .before .before .before .before .before .before .before .before .before .before .before .before .before .args .text)) (c .before .before .before .before .before .flag .given .0 .1 .0) ≡ Number (c .before .exposure .given .0 .0) (c .before .exposure .given .0 .1 .0)
+third : (c : tie.After-known-told3) → fieldThen lineFeed (Text (line-of (first-of (second-of c)))) (flag (second-of c) .1) ≡ Number (exposure c .0) (exposure c .1)
 third c = sym (c .before .before .before .field-then3 .ensures) ∙ c .before .exposure .given .1
 
-tests : (c : tie.After-both2) → isRecord (c .before .before .before .before .before .before .before .before .before .before .before .before .before .before .before .before .before .before .before .args .c) (now (c .before .before .before .before .before .before .before .before .before .before .before .before .before .before .before .before .before .before .before .args .text)) (c .before .before .before .before .before .before .before .before .before .before .before .before .number .given .0 .0) (c .before .before .before .before .before .before .before .before .flag .given .0 .0) (c .before .before .before .before .exposure .given .0 .1 .0) ≡ c .both2 .result
+tests : (c : tie.After-both2) → let t = fields-of c in let s = second-of t in let f = first-of s in
+    isRecord (start (line-of f) .args .c) (Text (line-of f)) (number f .0) (flag s .0) (exposure t .1) ≡ c .both2 .result
 tests c = cc
 
 add-line : tie.Need-add-line
@@ -63,7 +98,9 @@ enum-told-2 c = search needs
 
 returns-3 : tie.Need-returns-3
 unfolding recordLine
-returns-3 c = let f = c .before .before .before in rw (within (f .before .before .before .before), first f, sym (c .before .before .field-then2 .ensures) ∙ c .enum-told2 .given .1)
+returns-3 c =
+    let f = c .before .before .before in
+    rw (within (line-of f), first f, sym (c .before .before .field-then2 .ensures) ∙ c .enum-told2 .given .1)
 
 field-then-requires-3 : tie.Need-field-then-requires-3
 field-then-requires-3 c κs = search needs
@@ -76,10 +113,13 @@ enum-told-3 c = search needs
 
 returns-4 : tie.Need-returns-4
 unfolding recordLine
-returns-4 c = let s = c .before .before .before in let f = s .before .before .before .before in rw (within (f .before .before .before .before), first f, second s, sym (c .before .before .field-then3 .ensures) ∙ c .enum-told3 .given .1)
+returns-4 c =
+    let s = c .before .before .before in
+    rw (within (line-of (first-of s)), first (first-of s), second s, sym (c .before .before .field-then3 .ensures) ∙ c .enum-told3 .given .1)
 
 add-both : tie.Need-add-both
-add-both c = omega (arith, kept-from (c .before .before .before .before .before .before .before .before .before .before .before .before .before .before .before .before .before .args .c) (holds (c .before .before .before .before .before .before .before .before .before .before .before .before .before .before .before .before .before .pre)) .records)
+add-both c =
+    omega (arith, kept-from (start (line-of (first-of (second-of (c .before)))) .args .c) (holds (start (line-of (first-of (second-of (c .before)))) .pre)) .records)
 
 both-requires : tie.Need-both-requires
 both-requires c κs = search needs
@@ -89,7 +129,10 @@ both-requires-2 c κs = search needs
 
 returns-5 : tie.Need-returns-5
 unfolding recordLine
-returns-5 c = let t = c .before .before .before .before in let s = t .before .before .before .before in let f = s .before .before .before .before in rw (within (f .before .before .before .before), first f, second s, third t, said-no (sym (tests (c .before))) (c .if2 .taken))
+returns-5 c =
+    let t = fields-of (c .before) in
+    let s = second-of t in
+    rw (within (line-of (first-of s)), first (first-of s), second s, third t, said-no (sym (tests (c .before))) (c .if2 .taken))
 
 enter-requires : tie.Need-enter-requires
 enter-requires c κs = search needs
@@ -99,7 +142,13 @@ outcome-requires c κs = search needs
 
 returns-6 : tie.Need-returns-6
 unfolding recordLine
-returns-6 c = let b = c .before .before .before in let t = b .before .before .before in let s = t .before .before .before .before in let f = s .before .before .before .before in let start = f .before .before .before .before .before .before .before .before in rw (within (f .before .before .before .before), first f, second s, third t, said-yes (sym (tests b)) (c .before .before .if2 .left)) (c .outcome .ensures ∙ ap (outcome (lineAfter (start .args .c))) (c .before .enter .ensures))
+returns-6 c =
+    let b = c .before .before .before in
+    let t = fields-of b in
+    let s = second-of t in
+    let f = first-of s in
+    rw (within (line-of f), first f, second s, third t, said-yes (sym (tests b)) (c .before .before .if2 .left))
+    (c .outcome .ensures ∙ ap (outcome (lineAfter (start (line-of f) .args .c))) (c .before .enter .ensures))
 
 pub record-line-spec : {M : Type 1} → statement M
 record-line-spec =

@@ -9,7 +9,8 @@ use native.Mathlib.Omega.{arith}
 use lib.ListN.{length, take, drop, length-append, length-drop}
 use lib.Seq.{length-take-le, take-append-seam, drop-append-seam, drop-drop}
 use Rattle.text.specs.Write.{laid, written, placeAfter}
-use Rattle.text.proofs.Cases.{by-test, both-true}
+use Rattle.truth.proofs.Cases.{by-test}
+use Rattle.truth.proofs.Laws.{and-true}
 use Rattle.text.proofs.Laws.{written-fits, after-fits}
 use Rattle.decimal.specs.Decimal.{longest, isDigit, allDigits, isNumber, valueOf, digitsOf}
 use Rattle.decimal.specs.Field.{isEnd, endsHere, fieldOf, readAs, fieldAt}
@@ -23,7 +24,7 @@ unfolding allDigits fieldOf endsHere
 field-is [] [] ds e = refl
 field-is [] (b ∷ after) ds e = rw e
 field-is (b ∷ text) after ds e =
-    let (d, rest) = both-true (isDigit b) (allDigits text) ds in
+    let (d, rest) = and-true (isDigit b) (allDigits text) ds in
     rw (digit-no-end b d, field-is text after rest e)
 
 pub read-back : (before after : List ℕ) (v : ℕ) → v < 10 ^ longest → endsHere after ≡ true

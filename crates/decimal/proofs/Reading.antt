@@ -11,7 +11,7 @@ use lib.Dec.{leb, ltb, eqb, leb·suc-suc}
 use lib.ListN.{length, getD, drop, length-drop, drop-of-length-le}
 use lib.Seq.{drop-cons, drop-drop, getD-drop}
 use borrow.Author.Tests.{lt-leb, le-leb, ne-eqb}
-use Rattle.text.proofs.Cases.{by-order, by-test}
+use Rattle.truth.proofs.Cases.{by-order, by-test}
 use Rattle.decimal.specs.Decimal.{zeroByte, longest, isDigit, allDigits, leadingDigits, isNumber, valueOf}
 use Rattle.decimal.specs.Field.{isEnd, endsHere, fieldOf, readAs, fieldAt}
 use Rattle.decimal.specs.declared.Field.the-variants.{Number, Bad}

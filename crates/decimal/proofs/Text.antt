@@ -10,7 +10,8 @@ use native.Mathlib.Omega.{arith}
 use lib.Dec.{ltb, leb}
 use lib.ListN.{length, getD, length-append, List·getD-append}
 use borrow.Author.Tests.{lt-ltb, le-ltb, le-leb, ne-eqb, leb-true, ltb-true, eqb-false, not-true}
-use Rattle.text.proofs.Cases.{by-order, both-true}
+use Rattle.truth.proofs.Cases.{by-order}
+use Rattle.truth.proofs.Laws.{and-true}
 use Rattle.decimal.specs.Decimal.{zeroByte, longest, isDigit, allDigits, leadingZero, isNumber, push, valueOf, digitsWithin, digitsOf}
 
 abbrev lastDigit : ℕ → List ℕ
@@ -128,7 +129,7 @@ number-digits v h =
 -- a digit byte lies between those of 0 and 9
 pub digit-range : (b : ℕ) → isDigit b ≡ true → (zeroByte ≤ b) × (b < zeroByte + 10)
 digit-range b d =
-    let (low, high) = both-true (leb zeroByte b) (ltb b (zeroByte + 10)) d in
+    let (low, high) = and-true (leb zeroByte b) (ltb b (zeroByte + 10)) d in
     (leb-true zeroByte b low, ltb-true b (zeroByte + 10) high)
 
 -- a digit more behind a number is a digit more behind its text
@@ -152,7 +153,7 @@ digits-fold : (v : ℕ) (text : List ℕ) → 1 ≤ v → allDigits text ≡ tru
 unfolding allDigits
 digits-fold v [] some ds = rw append-nil
 digits-fold v (b ∷ text) some ds =
-    let (d, rest) = both-true (isDigit b) (allDigits text) ds in
+    let (d, rest) = and-true (isDigit b) (allDigits text) ds in
     digits-fold (push v b) text (omega arith) rest ∙ rw (digits-push v b some d, append-assoc)
 
 -- what makes a text a number of the sheet, one by one
@@ -165,9 +166,9 @@ pub record Sound (text : List ℕ) : Type 0 where
 pub sound : (text : List ℕ) → isNumber text ≡ true → Sound text
 unfolding isNumber
 sound text n =
-    let (all, n₁) = both-true (allDigits text) _ n in
-    let (some, n₂) = both-true (leb 1 (length text)) _ n₁ in
-    let (short, plain) = both-true (leb (length text) longest) _ n₂ in
+    let (all, n₁) = and-true (allDigits text) _ n in
+    let (some, n₂) = and-true (leb 1 (length text)) _ n₁ in
+    let (short, plain) = and-true (leb (length text) longest) _ n₂ in
     record {
       all = all;
       some = leb-true 1 (length text) some;
@@ -179,9 +180,9 @@ sound text n =
 pub digits-value : (text : List ℕ) → isNumber text ≡ true → digitsOf (valueOf text) ≡ text
 unfolding allDigits valueOf
 digits-value [] n = absurd (not-suc-le-zero (sound [] n .some))
-digits-value (b ∷ []) n = digits-single b (both-true (isDigit b) true (sound (b ∷ []) n .all) .0)
+digits-value (b ∷ []) n = digits-single b (and-true (isDigit b) true (sound (b ∷ []) n .all) .0)
 digits-value (b ∷ c ∷ text) n =
-    let (d, rest) = both-true (isDigit b) (allDigits (c ∷ text)) (sound (b ∷ c ∷ text) n .all) in
+    let (d, rest) = and-true (isDigit b) (allDigits (c ∷ text)) (sound (b ∷ c ∷ text) n .all) in
     let more : ltb 1 (length (b ∷ c ∷ text)) ≡ true = lt-ltb 1 (length (b ∷ c ∷ text)) (omega arith) in
     let other : b ≡ zeroByte → ⊥ = eqb-false b zeroByte (rw more at (sound (b ∷ c ∷ text) n .plain)) in
     let range = digit-range b d in
@@ -195,7 +196,7 @@ fold-below : (v k : ℕ) (text : List ℕ) → v < 10 ^ k → allDigits text ≡
 unfolding allDigits
 fold-below v k [] h ds = rw add-zero h
 fold-below v k (b ∷ text) h ds =
-    let (d, rest) = both-true (isDigit b) (allDigits text) ds in
+    let (d, rest) = and-true (isDigit b) (allDigits text) ds in
     let one-more : k + length (b ∷ text) ≡ k + 1 + length text = omega arith in
     rw one-more (fold-below (push v b) (k + 1) text (push-below v b k h d) rest)
 

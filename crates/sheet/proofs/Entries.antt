@@ -9,7 +9,7 @@ use lib.ListN.{length, drop}
 use lib.Seq.{drop-length}
 use borrow.Author.Tests.{eqb-true, leb-true}
 use Rattle.refusal.specs.declared.Refusal.{Refusal}
-use Rattle.text.proofs.Cases.{both-true}
+use Rattle.truth.proofs.Laws.{and-true}
 use Rattle.decimal.specs.Field.{tab, lineFeed}
 use Rattle.decimal.specs.declared.Field.{Field}
 use Rattle.decimal.specs.declared.Field.the-variants.{Number, Bad}
@@ -85,8 +85,8 @@ record-says c line =
         → fieldThen tab line 0 ≡ Number n second → fieldThen tab line second ≡ Number f third → fieldThen lineFeed line third ≡ Number t end → isRecord c line n f end ≡ true
         → (d : Campaign) → entering c (eqb f 1) t ≡ Taken d → Entry c line (Open d)
     entry n f t second third end e₁ e₂ e₃ r d e =
-        let (r₁, last) = both-true (eqb n (c .records + 1) && leb f 1) (eqb end (length line)) r in
-        let (number, flag) = both-true (eqb n (c .records + 1)) (leb f 1) r₁ in
+        let (r₁, last) = and-true (eqb n (c .records + 1) && leb f 1) (eqb end (length line)) r in
+        let (number, flag) = and-true (eqb n (c .records + 1)) (leb f 1) r₁ in
         record {
           flag = f;
           exposure = t;

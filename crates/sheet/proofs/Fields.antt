@@ -8,7 +8,8 @@ use lib.Dec.{eqb}
 use lib.ListN.{length, drop, length-append, take-append-drop}
 use lib.Seq.{drop-drop}
 use borrow.Author.Tests.{eqb-true}
-use Rattle.text.proofs.Cases.{by-test, both-true}
+use Rattle.truth.proofs.Cases.{by-test}
+use Rattle.truth.proofs.Laws.{and-true}
 use Rattle.decimal.specs.Decimal.{longest, digitsOf}
 use Rattle.decimal.specs.Field.{fieldAt}
 use Rattle.decimal.specs.declared.Field.{Field}
@@ -28,7 +29,7 @@ unfolding begins
 begins-with [] text e = refl
 begins-with (w ∷ word) [] e = absurd (false≢true e)
 begins-with (w ∷ word) (b ∷ text) e =
-    let (f, g) = both-true (eqb b w) (begins word text) e in
+    let (f, g) = and-true (eqb b w) (begins word text) e in
     rw (eqb-true b w f) (ap (λ x. w ∷ x) (begins-with word text g))
 
 -- the field's number, and the text from its place on

@@ -13,7 +13,7 @@ use lib.Dec.{eqb, leb}
 use lib.ListN.{length, getD, take, drop, length-drop, drop-of-length-le}
 use lib.Seq.{drop-cons, length-take-le}
 use borrow.Author.Tests.{lt-leb, le-ltb}
-use Rattle.text.proofs.Cases.{by-order, by-test}
+use Rattle.truth.proofs.Cases.{by-order, by-test}
 use Rattle.decimal.specs.Field.{lineFeed}
 use Rattle.refusal.specs.declared.Refusal.the-variants.{BrokenState}
 use Rattle.campaign.specs.State.{sound}

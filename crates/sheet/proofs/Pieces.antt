@@ -11,7 +11,8 @@ use lib.Dec.{ltb}
 use lib.ListN.{length, drop, length-drop, length-append}
 use lib.Seq.{drop-drop, drop-append-le, take-append-le}
 use borrow.Author.Tests.{ltb-true, ltb-false, not-true}
-use Rattle.text.proofs.Cases.{by-test, both-true}
+use Rattle.truth.proofs.Cases.{by-test}
+use Rattle.truth.proofs.Laws.{and-true}
 use Rattle.refusal.specs.declared.Refusal.{Refusal}
 use Rattle.sheet.specs.declared.Reading.{Reading}
 use Rattle.sheet.specs.declared.Reading.the-variants.{Read, Stopped, Waiting}
@@ -30,7 +31,7 @@ module _ (text : List ℕ) where
   waits-whole : waits true (firstLine text) ≡ true → length (firstLine text) ≡ length text
   unfolding firstLine
   waits-whole w =
-      let (unended, short) = both-true (not (endsLine (firstLine text))) (ltb (length (firstLine text)) longestLine) w in
+      let (unended, short) = and-true (not (endsLine (firstLine text))) (ltb (length (firstLine text)) longestLine) w in
       length-first text ∙ cut-whole longestLine text (not-true (endsLine (firstLine text)) unended) (omega (arith, length-first text, ltb-true (length (firstLine text)) longestLine short))
 
   complete : waits true (firstLine text) ≡ false → (endsLine (firstLine text) ≡ true) ⊎ (longestLine ≤ cut longestLine text)

@@ -8,7 +8,7 @@ use lib.Dec.{ltb}
 use lib.ListN.{length, drop, length-drop}
 use lib.Seq.{drop-drop}
 use borrow.Author.Tests.{ltb-true}
-use Rattle.text.proofs.Cases.{both-true}
+use Rattle.truth.proofs.Laws.{and-true}
 use Rattle.refusal.specs.declared.Refusal.{Refusal}
 use Rattle.sheet.specs.declared.Found.the-variants.{Taken, Waits, Bad}
 use Rattle.sheet.specs.declared.Reading.the-variants.{Stopped, Waiting}
@@ -95,8 +95,8 @@ module _ (more : Bool) (text : List ℕ) (at : ℕ) (s : Sheet) where
             → (here ≡ ended (Waiting s n)) × (n ≤ length text) × (n < longestLine)
         go true step w f e =
             let bytes : length part ≡ n = cc (e) in
-            let open-line = both-true more (not (endsLine part) && ltb (length part) longestLine) w .1 in
-            let short = ltb-true (length part) longestLine (both-true (not (endsLine part)) (ltb (length part) longestLine) open-line .1) in
+            let open-line = and-true more (not (endsLine part) && ltb (length part) longestLine) w .1 in
+            let short = ltb-true (length part) longestLine (and-true (not (endsLine part)) (ltb (length part) longestLine) open-line .1) in
             (turn ∙ rw (w, bytes), omega (arith, ends), omega arith)
         go false (Stop l r) w f e = absurd (not-waits′ e)
         go false (Next u) w f e = absurd (not-waits e)

@@ -9,7 +9,7 @@ use native.Mathlib.Omega.{arith}
 use lib.ListN.{length, getD, take, drop, set, length-append, length-drop, take-append-drop}
 use lib.Seq.{length-take-le, take-at, take-suc, drop-at, drop-drop, take-set-le, set-split}
 use borrow.Author.Tests.{le-leb, lt-leb}
-use Rattle.text.proofs.Cases.{by-order}
+use Rattle.truth.proofs.Cases.{by-order}
 use Rattle.text.specs.Write.{laid, written, placeAfter}
 
 -- the promise of a writer: the place that it answers and the bytes that it leaves

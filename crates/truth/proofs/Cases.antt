@@ -1,6 +1,6 @@
--- Ways to go by cases: by a test, by which of two numbers is less, and from two tests at once to each. Assumes nothing.
+-- Ways to go by cases: by a test, and by which of two numbers is less. Assumes nothing.
 use mathlib.Core.Path.{_≡_, refl}
-use mathlib.Core.Bool.{Bool, true, false, _&&_, false≢true}
+use mathlib.Core.Bool.{Bool, true, false}
 use Prim.Native.Nat.{ℕ, _≤_, _<_}
 use native.Mathlib.Decide.{decLt}
 use native.Mathlib.Omega.{arith}
@@ -15,7 +15,3 @@ by-order n k {P} below above = split (decLt n k)
     split : Dec (n < k) → P
     split (yes l) = below l
     split (no l) = above (omega arith)
-
-pub both-true : (a b : Bool) → (a && b) ≡ true → (a ≡ true) × (b ≡ true)
-both-true true b e = (refl, e)
-both-true false b e = absurd (false≢true e)

@@ -3,6 +3,7 @@ use Prim.Native.Nat.{_+_}
 use mathlib.Core.Path.{_≡_, ap}
 use native.Mathlib.Omega.{arith}
 use lib.ListN.{length, length-append}
+use lib.Dec.{leb}
 use denote.Ref.{now}
 use Rattle.decimal.specs.Decimal.{digitsOf}
 use Rattle.sheet.specs.Written.{fieldText, refusedText}
@@ -11,9 +12,20 @@ use borrow.Author.Needs.{needs}
 use Rattle.sheet.proofs.write_refused.Statement.{statement}
 use Rattle.sheet.proofs.write_refused.Tie as tie
 
-needed : (c : tie.After-digits2) → c .before .before .digits .result + c .digits2 .result + 10 ≡ length (refusedText (c .before .before .before .before .args .line) (c .before .before .before .before .args .r))
+abbrev start : tie.After-has-room → tie.Start
+start c = c .before .before .before .before .before
+
+asked : (c : tie.After-has-room) → let d = c .before in
+    c .has-room .result ≡ leb (start c .args .at + (d .before .before .digits .result + d .digits2 .result + 10)) (length (now (start c .args .out)))
+asked c = c .has-room .ensures
+
+needed : (c : tie.After-has-room) → let d = c .before in
+    d .before .before .digits .result + d .digits2 .result + 10 ≡ length (refusedText (start c .args .line) (start c .args .r))
 unfolding refusedText fieldText
-needed c = simp length-append (omega (arith, c .before .before .digits .ensures .0, c .digits2 .ensures .0, ap (λ n. length (digitsOf n)) (c .before .number .ensures)))
+needed c =
+    let d = c .before in
+    simp length-append
+    (omega (arith, d .before .before .digits .ensures .0, d .digits2 .ensures .0, ap (λ n. length (digitsOf n)) (d .before .number .ensures)))
 
 digits-requires : tie.Need-digits-requires
 digits-requires c κs = search needs
@@ -34,16 +46,22 @@ has-room-requires : tie.Need-has-room-requires
 has-room-requires c κs = search needs
 
 returns : tie.Need-returns
-returns c = no-room (now (c .before .before .before .before .before .before .args .out)) (c .before .before .before .before .before .before .args .at) (refusedText (c .before .before .before .before .before .before .args .line) (c .before .before .before .before .before .before .args .r)) (c .before .has-room .ensures) (needed (c .before .before)) (c .if1 .taken)
+returns c =
+    let h = c .before in
+    no-room (now (start h .args .out)) (start h .args .at) (refusedText (start h .args .line) (start h .args .r)) (asked h) (needed h) (c .if1 .taken)
 
 put-refused-requires : tie.Need-put-refused-requires
-put-refused-requires c κs = has-room (now (c .before .before .before .before .before .before .before .args .out)) (c .before .before .before .before .before .before .before .args .at) (refusedText (c .before .before .before .before .before .before .before .args .line) (c .before .before .before .before .before .before .before .args .r)) (c .before .before .has-room .ensures) (needed (c .before .before .before)) (c .before .if1 .left)
+put-refused-requires c κs =
+    let h = c .before .before in
+    has-room (now (start h .args .out)) (start h .args .at) (refusedText (start h .args .line) (start h .args .r)) (asked h) (needed h) (c .before .if1 .left)
 
 same-length : tie.Need-same-length
 same-length c = search needs
 
 returns-2 : tie.Need-returns-2
-returns-2 c = upto (now (c .before .before .before .before .before .before .before .before .before .before .args .out)) (c .before .before .before .before .before .before .before .before .before .before .args .at) (refusedText (c .before .before .before .before .before .before .before .before .before .before .args .line) (c .before .before .before .before .before .before .before .before .before .before .args .r)) (c .before .before .before .before .before .has-room .ensures) (needed (c .before .before .before .before .before .before)) (c .before .before .before .before .if1 .left) (c .before .before .put-refused .ensures)
+returns-2 c =
+    let h = c .before .before .before .before .before in
+    upto (now (start h .args .out)) (start h .args .at) (refusedText (start h .args .line) (start h .args .r)) (asked h) (needed h) (c .before .before .before .before .if1 .left) (c .before .before .put-refused .ensures)
 
 pub write-refused-spec : {M : Type 1} → statement M
 write-refused-spec =

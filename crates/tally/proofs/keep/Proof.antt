@@ -22,7 +22,7 @@ module _ (from : ℕ) (text₀ text : List ℕ) (i : ℕ) (m : Moved from text�
   byte : getD text (from + i) 0 ≡ getD (drop from text₀) i 0
   byte =
       let swap : from + i ≡ i + from = omega arith in
-      rw (swap, ← getD-drop i text from 0, m .rest, getD-drop, getD-drop, swap)
+      rw (swap, ← getD-drop i text from 0, m .rest, getD-drop i text₀ from 0, getD-drop from text₀ i 0, swap)
 
   moved-on : Moved from text₀ (set text i (getD text (from + i) 0)) (i + 1)
   moved-on =

@@ -54,19 +54,19 @@ failuresKept c = leb (c .failures) rows && leb (c .failures) (c .records)
 abbrev pub exposureKept : Campaign → Bool
 exposureKept c = within (c .records) (c .records * longestTime) (c .exposure)
 
--- last record failed only if N ≥ 1
+-- where the last record failed there is a failure
 abbrev pub failedKept : Campaign → Bool
 failedKept c = not (c .failed) || leb 1 (c .failures)
 
--- last record not failed and M ≥ 1 only if N < M
+-- where there is a last record and it did not fail, fewer failed than there are
 abbrev pub unfailedKept : Campaign → Bool
 unfailedKept c = not (not (c .failed) && leb 1 (c .records)) || ltb (c .failures) (c .records)
 
--- M = 0 only if the last didn't fail
+-- without a record none failed
 abbrev pub emptyKept : Campaign → Bool
 emptyKept c = not (eqb (c .records) 0) || not (c .failed)
 
--- N = 64 only if the last failed
+-- a failure that uses up the rows is the last record's, since nothing enters after it
 abbrev pub fullKept : Campaign → Bool
 fullKept c = not (eqb (c .failures) rows) || c .failed
 

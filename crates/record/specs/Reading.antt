@@ -9,7 +9,7 @@ use lib.IntN.{ℤ, pos}
 use Rattle.magnitude.specs.Above.{above}
 use Rattle.largest.specs.Walk.{walk}
 
--- timed sample i stands at (i - R)·D ms
+-- the moment of sample i, in ms after the ramp
 abbrev pub timeAt : ℕ → ℕ → ℕ → ℕ
 timeAt D R i = (i - R) * D
 

@@ -35,15 +35,15 @@ failed r = not (eqb (r .first) 0)
 abbrev pub itemsKept : Record → Bool
 itemsKept r = eqb (itemOutside (r .step) (r .ramp) (r .level) (r .decorrelation)) 0
 
--- the last sample kept in range, and 0 while n is 0
+-- the sample kept for the next piece is one that may be handed in; before the first it is 0
 abbrev pub lastKept : Record → Bool
 lastKept r = sampleInRange (r .last) && (not (eqb (r .n) 0) || eqb (natAbs (r .last)) 0)
 
--- n within refusal 3's bound
+-- no more samples than refusal 3 lets through
 abbrev pub lengthKept : Record → Bool
 lengthKept r = leb (r .n) (mostSamples (r .step) (r .ramp))
 
--- counted at most crossings
+-- no more counted than crossed
 abbrev pub countsKept : Record → Bool
 countsKept r = leb (r .counted) (r .crossings)
 

@@ -1,3 +1,4 @@
 pub mod Codes
+pub mod Placed
 pub mod States
 pub mod Unique

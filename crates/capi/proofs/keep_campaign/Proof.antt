@@ -1,10 +1,19 @@
--- `capi::keep_campaign` meets its contract: a state that was taken is put into the array, a refusal leaves it. Assumes nothing.
+-- `capi::keep_campaign` meets its contract: a state that was taken is put into an array of its length, a refusal leaves it. Assumes nothing.
 use mathlib.Core.Path.{ap, sym, _∙_}
 use lib.ListN.{length}
-use Rattle.capi.specs.Told.{campaignTold}
+use borrow.Author.Tests.{eq-eqb, ne-eqb}
+use Rattle.capi.specs.Told.{campaignKept, campaignTold}
+use Rattle.capi.proofs.Placed.{placed-right}
 use borrow.Author.Needs.{needs}
 use Rattle.capi.proofs.keep_campaign.Statement.{statement}
 use Rattle.capi.proofs.keep_campaign.Tie as tie
+
+refuse-requires : tie.Need-refuse-requires
+refuse-requires c κs = search needs
+
+returns : tie.Need-returns
+unfolding campaignKept
+returns c = rw (ne-eqb _ _ (c .before .before .if1 .taken), c .refuse .ensures .0, c .refuse .ensures .1)
 
 enum-known-a : tie.Need-enum-known-a
 enum-known-a c = search needs
@@ -16,8 +25,7 @@ slice-aggregate-put : tie.Need-slice-aggregate-put
 slice-aggregate-put c = search needs
 
 put-requires : tie.Need-put-requires
-put-requires c κs =
-    c .before .before .before .before .before .before .before .pre (c .before .before .before .before .a .given .0 .0) (c .before .before .before .before .a .given .1) ∙ sym (ap length (c .before .before .of-campaign .ensures))
+put-requires c κs = search needs
 
 give-requires : tie.Need-give-requires
 give-requires c κs = search needs
@@ -25,31 +33,36 @@ give-requires c κs = search needs
 enum-known-a-2 : tie.Need-enum-known-a-2
 enum-known-a-2 c = search needs
 
-refuse-requires : tie.Need-refuse-requires
-refuse-requires c κs = search needs
+refuse-requires-2 : tie.Need-refuse-requires-2
+refuse-requires-2 c κs = search needs
 
 same-length : tie.Need-same-length
 same-length c = search needs
 
-returns : tie.Need-returns
-unfolding campaignTold
-returns c = rw (c .before .before .before .before .before .before .before .before .before .a .given .1, c .give .ensures .0, c .give .ensures .1, c .before .before .before .before .put .ensures, c .before .before .before .before .before .before .before .of-campaign .ensures)
-
 returns-2 : tie.Need-returns-2
-unfolding campaignTold
-returns-2 c = rw (c .before .before .before .a2 .given .1, c .refuse .ensures .0, c .refuse .ensures .1)
+unfolding campaignKept campaignTold
+returns-2 c =
+    let l = c .before .before .before .before .before .before .before .before .before .before .before .if1 .left in
+    let e = c .before .before .before .before .before .before .before .of-campaign .ensures in
+    rw (eq-eqb _ _ l, c .before .before .before .before .before .before .before .before .before .a .given .1, c .give .ensures .0, c .give .ensures .1, c .before .before .before .before .put .ensures, placed-right (c .before .before .before .before .before .before .before .of-campaign .result) (c .before .before .before .before .before .before .before .before .before .before .before .before .before .args .state .now) (l ∙ sym (ap length e)), e)
+
+returns-3 : tie.Need-returns-3
+unfolding campaignKept campaignTold
+returns-3 c = rw (eq-eqb _ _ (c .before .before .before .before .before .if1 .left), c .before .before .before .a2 .given .1, c .refuse2 .ensures .0, c .refuse2 .ensures .1)
 
 pub keep-campaign-spec : {M : Type 1} → statement M
 keep-campaign-spec =
     tie.close
     (tie.spec
+    refuse-requires
+    returns
     enum-known-a
     of-campaign-requires
     slice-aggregate-put
     put-requires
     give-requires
     enum-known-a-2
-    refuse-requires
+    refuse-requires-2
     same-length
-    returns
-    returns-2)
+    returns-2
+    returns-3)

@@ -1,12 +1,15 @@
--- `capi::put` meets its contract. The invariant: the two lists are as long as each other and agree up to i. The measure is what is left of them.
--- Assumes nothing.
+-- `capi::put` meets its contract. Lists of the same length: the invariant is that they agree up to i, and the measure what is left
+-- of them. Assumes nothing.
 use mathlib.Core.Path.{_≡_, refl, sym, _∙_}
 use Prim.Native.Nat.{_≤_, _<_, _-_}
 use native.Mathlib.Omega.{arith}
 use native.Mathlib.Numerals.{add-one}
 use borrow.Author.Needs.{needs}
+use borrow.Author.Tests.{ne-eqb}
 use lib.ListN.{length, take, getD, length-set}
 use lib.Seq.{take-all, take-suc, take-suc-set}
+use Rattle.capi.specs.Told.{placed}
+use Rattle.capi.proofs.Placed.{placed-right}
 use Rattle.capi.proofs.put.Statement.{statement}
 use Rattle.capi.proofs.put.Tie as tie
 
@@ -16,8 +19,12 @@ Inv-loop from to₀ i₀ to i = (i ≤ length from) × (length to ≡ length fro
 abbrev μ-loop : tie.MeasureT-loop
 μ-loop from to₀ i₀ to i = length from - i
 
+returns : tie.Need-returns Inv-loop μ-loop
+unfolding placed
+returns c = rw (ne-eqb _ _ (c .if1 .taken))
+
 loop-holds : tie.Need-loop-holds Inv-loop μ-loop
-loop-holds c = (search needs, c .pre, refl)
+loop-holds c = (search needs, c .if1 .left, refl)
 
 mul-to : tie.Need-mul-to Inv-loop μ-loop
 mul-to c = search needs
@@ -41,7 +48,7 @@ loop-again : tie.Need-loop-again Inv-loop μ-loop
 loop-again c =
     let i = c .before .before .loop .i in
     let to = c .before .before .loop .to in
-    let from = c .before .before .before .args .from .now in
+    let from = c .before .before .before .before .args .from .now in
     let v = c .before .before .loop .inv in
     let e : take i to ≡ take i from = v .2 in
     let h : i < length from = c .before .loop-test .taken in
@@ -51,13 +58,14 @@ loop-again c =
 same-length : tie.Need-same-length Inv-loop μ-loop
 same-length c = search needs
 
-returns : tie.Need-returns Inv-loop μ-loop
-returns c =
+returns-2 : tie.Need-returns-2 Inv-loop μ-loop
+returns-2 c =
     let i = c .before .loop .i in
     let v = c .before .loop .inv in
     let to = c .before .loop .to in
-    let from = c .before .before .args .from .now in
-    sym (take-all i to (omega (arith, v .1))) ∙ v .2 ∙ take-all i from (omega arith)
+    let from = c .before .before .before .args .from .now in
+    rw (placed-right from (c .before .before .before .args .to .now) (c .before .before .if1 .left))
+    (sym (take-all i to (omega (arith, v .1))) ∙ v .2 ∙ take-all i from (omega arith))
 
 pub put-spec : {M : Type 1} → statement M
 put-spec =
@@ -65,6 +73,7 @@ put-spec =
     (tie.spec
     Inv-loop
     μ-loop
+    returns
     loop-holds
     mul-to
     shared-slice-read-to
@@ -74,4 +83,4 @@ put-spec =
     loop-less
     loop-again
     same-length
-    returns)
+    returns-2)

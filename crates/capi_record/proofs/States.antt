@@ -1,0 +1,42 @@
+-- What opening and feeding leave in an array is the record that they answer; an array that is no record is refused by 8 and stays. Assumes nothing.
+use Prim.Native.Nat.{ℕ}
+use mathlib.Core.Path.{_≡_, refl}
+use mathlib.Core.Bool.{Bool, cond, false, true}
+use mathlib.Core.List.{List}
+use borrow.Author.Tests.{eqb-true}
+use lib.Dec.{eqb}
+use lib.IntN.{ℤ}
+use lib.ListN.{length}
+use Rattle.truth.proofs.Laws.{and-true, true≢false}
+use Rattle.record.proofs.Fed.{fed-broken, taken}
+use Rattle.record.proofs.Theorems.{fed-sound, opened-sound}
+use Rattle.record.specs.Answers.{fed, opened}
+use Rattle.record.specs.State.{sound}
+use Rattle.record.specs.declared.Answer.the-variants.{Refused, Taken}
+use Rattle.record.specs.declared.Record.{Record}
+use Rattle.refusal.specs.declared.Refusal.the-variants.{BrokenState}
+use Rattle.capi.proofs.States.{other-record, record-left}
+use Rattle.capi.specs.Numbers.{isRecord, recordNumbers, recordOf}
+use Rattle.capi.specs.Told.{recordKept, recordTold, refused}
+use Rattle.capi_record.specs.Told.{recordFed, recordOpened}
+
+pub other-fed : (s : List ℕ) (p : List ℤ) → isRecord s ≡ false → recordFed s p ≡ refused BrokenState s
+unfolding recordKept recordTold
+other-fed s p e = rw (fed-broken (recordOf s) p (other-record s e)) (go (eqb (length s) recordNumbers))
+  where
+    go : (b : Bool) → cond b (recordTold (Refused BrokenState) s) (refused BrokenState s) ≡ refused BrokenState s
+    go true = refl
+    go false = refl
+
+is-record : (s : List ℕ) (b : Bool) → isRecord s ≡ b → sound (recordOf s) ≡ true → b ≡ true
+is-record s true e h = refl
+is-record s false e h = absurd (true≢false (cc (other-record s e)))
+
+fed-length : (s : List ℕ) (p : List ℤ) (r : Record) → fed (recordOf s) p ≡ Taken r → length s ≡ recordNumbers
+fed-length s p r e = eqb-true _ _ (and-true _ _ (is-record s (isRecord s) refl (taken (recordOf s) p r e .state)) .0)
+
+pub opened-left : (D R a τ : ℕ) (s : List ℕ) (r : Record) → length s ≡ recordNumbers → opened D R a τ ≡ Taken r → recordOf (recordOpened D R a τ s .lent) ≡ r
+opened-left D R a τ s r l e = record-left (opened D R a τ) s r l e (opened-sound D R a τ r e)
+
+pub fed-left : (s : List ℕ) (p : List ℤ) (r : Record) → fed (recordOf s) p ≡ Taken r → recordOf (recordFed s p .lent) ≡ r
+fed-left s p r e = record-left (fed (recordOf s) p) s r (fed-length s p r e) e (fed-sound (recordOf s) p r e)

@@ -1,0 +1,52 @@
+-- `capi_record::chim_record_list` meets its contract: what `list` answered is known in each arm, and the slice is as it left it. Assumes nothing.
+use Rattle.capi_record.specs.Told.{listTold}
+use borrow.Author.Needs.{needs}
+use Rattle.capi_record.proofs.chim_record_list.Statement.{statement}
+use Rattle.capi_record.proofs.chim_record_list.Tie as tie
+
+list-requires : tie.Need-list-requires
+list-requires c κs = search needs
+
+enum-known-a : tie.Need-enum-known-a
+enum-known-a c = search needs
+
+give-requires : tie.Need-give-requires
+give-requires c κs = search needs
+
+enum-known-a-2 : tie.Need-enum-known-a-2
+enum-known-a-2 c = search needs
+
+refuse-requires : tie.Need-refuse-requires
+refuse-requires c κs = search needs
+
+same-length : tie.Need-same-length
+same-length c = search needs
+
+returns : tie.Need-returns
+unfolding listTold
+returns c =
+    let e = c .before .before .before .before .before .before .before .list .ensures in
+    rw (← e .answers, ← e .leaves, c .before .before .before .a .given .1, c .give .ensures .0, c .give .ensures .1)
+
+same-length-2 : tie.Need-same-length-2
+same-length-2 c = search needs
+
+returns-2 : tie.Need-returns-2
+unfolding listTold
+returns-2 c =
+    let e = c .before .before .before .before .before .before .before .list .ensures in
+    rw (← e .answers, ← e .leaves, c .before .before .before .a2 .given .1, c .refuse .ensures .0, c .refuse .ensures .1)
+
+pub chim-record-list-spec : {M : Type 1} → statement M
+chim-record-list-spec =
+    tie.close
+    (tie.spec
+    list-requires
+    enum-known-a
+    give-requires
+    enum-known-a-2
+    refuse-requires
+    same-length
+    returns
+    same-length-2
+    returns-2)

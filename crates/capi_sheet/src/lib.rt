@@ -1,0 +1,49 @@
+// The job sheet for C: a whole text read into a campaign's array. A refusal leaves the array as it stood.
+ghost use mathlib.Core.Path.{_≡_};
+ghost use Rattle.capi.specs.Told.{told};
+ghost use Rattle.capi_sheet.specs.Told.{answerOf, lineOf, sheetLine, sheetRead};
+use refusal::Refusal;
+use sheet::Reading;
+use sheet::Sheet;
+
+// What the reading of a whole sheet answers.
+fn ended(end: Reading) -> campaign::Answer
+    ensures { λ a. ⌜ a ≡ answerOf end ⌝ }
+{
+    match end {
+        Reading::Read(c) => campaign::Answer::Taken(c),
+        Reading::Stopped(_, f) => campaign::Answer::Refused(f),
+        Reading::Waiting(_, _) => campaign::Answer::Refused(Refusal::BrokenState),
+    }
+}
+
+// The line on which the reading stopped, 0 if it did not.
+fn stopped_on(end: Reading) -> u64
+    ensures { λ n. ⌜ n ≡ lineOf end ⌝ }
+{
+    match end {
+        Reading::Read(_) => 0,
+        Reading::Stopped(line, _) => line,
+        Reading::Waiting(_, _) => 0,
+    }
+}
+
+// The campaign of a whole job sheet in `state`; or refusal 8 for an array of another length, else the sheet's first refusal, with its line in `line`.
+#[no_mangle]
+pub extern "C" fn chim_sheet_read(
+    text: &[u8],
+    state: &mut [u64],
+    line: &mut u64,
+    carried: &mut u64,
+) -> u64
+    ensures { λ n. ⌜ told n (now (carried .exit)) (now (state .exit)) ≡ sheetRead (now (text .entry)) (now (state .entry)) ⌝ }
+    ensures { λ _. ⌜ now (line .exit) ≡ sheetLine (now (text .entry)) (now (state .entry)) ⌝ }
+{
+    if state.len() != capi::CAMPAIGN_NUMBERS {
+        *line = 0;
+        return capi::refuse(Refusal::BrokenState, carried);
+    }
+    let end = sheet::read(Sheet::Fresh, text, false);
+    *line = stopped_on(end);
+    capi::keep_campaign(ended(end), state, carried)
+}

@@ -1,0 +1,25 @@
+-- Two answers that a promise allows are the same answer, with the same later contents of everything that was lent. Assumes nothing.
+use Prim.Native.Nat.{ℕ}
+use mathlib.Core.Path.{_≡_}
+use mathlib.Core.List.{List}
+use lib.Ieee.{Float}
+use Rattle.truth.proofs.Unique.{settled}
+use Rattle.poisson.proofs.Unique as poisson
+use Rattle.poisson.specs.Rows.{LowerRow, UpperRow}
+use Rattle.campaign.specs.declared.Rates.{Rates}
+use Rattle.capi_verdict.specs.Told.{Count, Judgement, Rating, campaignCensored, campaignJudged, campaignRated}
+
+pub campaign-censored-unique : (s : List ℕ) (x y : Count) → x ≡ campaignCensored s → y ≡ campaignCensored s → x ≡ y
+campaign-censored-unique s x y = settled
+
+pub campaign-verdict-unique : (s : List ℕ) (l u : Float) (x y : Judgement) → x ≡ campaignJudged s l u → y ≡ campaignJudged s l u → x ≡ y
+campaign-verdict-unique s l u x y = settled
+
+pub campaign-rates-unique : (s : List ℕ) (r : Rates) (x y : Rating) → x ≡ campaignRated s r → y ≡ campaignRated s r → x ≡ y
+campaign-rates-unique s r x y = settled
+
+pub upper-row-unique : (n r s : ℕ) → UpperRow n r → UpperRow n s → r ≡ s
+upper-row-unique = poisson.upper-row-unique
+
+pub lower-row-unique : (n r s : ℕ) → LowerRow n r → LowerRow n s → r ≡ s
+lower-row-unique = poisson.lower-row-unique

@@ -1,0 +1,44 @@
+-- `capi_verdict::chim_campaign_verdict` meets its contract: what the campaign answered is known in each arm. Assumes nothing.
+use Rattle.capi_verdict.specs.Told.{judgedTold}
+use borrow.Author.Needs.{needs}
+use Rattle.capi_verdict.proofs.chim_campaign_verdict.Statement.{statement}
+use Rattle.capi_verdict.proofs.chim_campaign_verdict.Tie as tie
+
+campaign-of-requires : tie.Need-campaign-of-requires
+campaign-of-requires c κs = search needs
+
+verdict-requires : tie.Need-verdict-requires
+verdict-requires c κs = search needs
+
+enum-known-a : tie.Need-enum-known-a
+enum-known-a c = search needs
+
+tell-requires : tie.Need-tell-requires
+tell-requires c κs = search needs
+
+enum-known-a-2 : tie.Need-enum-known-a-2
+enum-known-a-2 c = search needs
+
+refuse-requires : tie.Need-refuse-requires
+refuse-requires c κs = search needs
+
+returns : tie.Need-returns
+unfolding judgedTold
+returns c = rw (← c .before .before .before .before .before .before .before .before .campaign-of .ensures, ← c .before .before .before .before .before .before .before .verdict .ensures, c .before .before .before .before .before .a .given .1, c .tell .ensures)
+
+returns-2 : tie.Need-returns-2
+unfolding judgedTold
+returns-2 c = rw (← c .before .before .before .before .before .before .campaign-of .ensures, ← c .before .before .before .before .before .verdict .ensures, c .before .before .before .a2 .given .1, c .refuse .ensures .0, c .refuse .ensures .1)
+
+pub chim-campaign-verdict-spec : {M : Type 1} → statement M
+chim-campaign-verdict-spec =
+    tie.close
+    (tie.spec
+    campaign-of-requires
+    verdict-requires
+    enum-known-a
+    tell-requires
+    enum-known-a-2
+    refuse-requires
+    returns
+    returns-2)

@@ -6,10 +6,7 @@ use Rattle.record.specs.declared.Record.{Record}
 use Rattle.truth.proofs.Unique.{settled}
 use Rattle.campaign.specs.declared.Answer.{Answer}
 use Rattle.campaign.specs.declared.Campaign.{Campaign}
-use Rattle.campaign.specs.declared.Counted.{Counted}
-use Rattle.campaign.specs.declared.Judged.{Judged}
-use Rattle.campaign.specs.declared.Rated.{Rated}
-use Rattle.campaign.specs.Answers.{closing, counting, entering, judging, opened, rating}
+use Rattle.campaign.specs.Answers.{closing, entering, opened}
 use Rattle.campaign.specs.State.{sound}
 
 pub open-unique : (q : ℕ) (a b : Answer) → a ≡ opened q → b ≡ opened q → a ≡ b
@@ -23,12 +20,3 @@ enter-unique c f t a b = settled
 
 pub close-unique : (r : Record) (c : Campaign) (a b : Answer) → a ≡ closing r c → b ≡ closing r c → a ≡ b
 close-unique r c a b = settled
-
-pub censored-unique : (c : Campaign) (a b : Counted) → a ≡ counting c → b ≡ counting c → a ≡ b
-censored-unique c a b = settled
-
-pub verdict-unique : (c : Campaign) (a b : Judged) → a ≡ judging c → b ≡ judging c → a ≡ b
-verdict-unique c a b = settled
-
-pub rates-unique : (c : Campaign) (a b : Rated) → a ≡ rating c → b ≡ rating c → a ≡ b
-rates-unique c a b = settled

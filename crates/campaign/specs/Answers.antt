@@ -10,14 +10,7 @@ use Rattle.refusal.specs.declared.Refusal.the-variants.{BrokenState, CampaignFu
 use Rattle.campaign.specs.declared.Answer.{Answer}
 use Rattle.campaign.specs.declared.Answer.the-variants.{Refused, Taken}
 use Rattle.campaign.specs.declared.Campaign.{Campaign}
-use Rattle.campaign.specs.declared.Counted.{Counted}
-use Rattle.campaign.specs.declared.Judged.{Judged}
-use Rattle.campaign.specs.declared.Rated.{Rated}
-use Rattle.campaign.specs.State.{censored, empty, entered, mostRecords, sound, standardInRange}
-use Rattle.campaign.specs.Figures.{ratesOf, verdictOf}
-use Rattle.campaign.specs.declared.Counted.the-variants as counted
-use Rattle.campaign.specs.declared.Judged.the-variants as judged
-use Rattle.campaign.specs.declared.Rated.the-variants as rated
+use Rattle.campaign.specs.State.{empty, entered, mostRecords, sound, standardInRange}
 use Rattle.record.specs.State as reading
 
 -- Opening 1: item 5
@@ -50,13 +43,3 @@ closing r c =
     (cond (not (sound c)) (Refused BrokenState)
     (cond (tooShort r) (Refused TooShort)
     (taken c (failed r) (exposureOf r))))
-
--- Verdict and rates 8
-unfoldable pub judging : Campaign → Judged
-judging c = cond (sound c) (judged.Given (verdictOf c)) (judged.Refused BrokenState)
-
-unfoldable pub rating : Campaign → Rated
-rating c = cond (sound c) (rated.Given (not (eqb (c .records) 0)) (ratesOf c)) (rated.Refused BrokenState)
-
-unfoldable pub counting : Campaign → Counted
-counting c = cond (sound c) (counted.Count (censored c)) (counted.Refused BrokenState)

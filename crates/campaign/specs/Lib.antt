@@ -1,5 +1,4 @@
 pub mod Answers
-pub mod Figures
 pub mod Kept
 pub mod Records
 pub mod State

@@ -1,16 +1,14 @@
-// The campaign: many records by the exponential method (document 000, section 4), with document 01 deciding. Opening, entering a record, the
-// censored count, the verdict and the rates. The state goes in by value and comes back in the answer, so a refusal leaves the caller's as it
-// stood. What a record does to a campaign depends on two things alone: whether it failed, and its exposure.
+// The campaign: many records by the exponential method (document 000, section 4), with document 01 deciding. Opening, closing a record, entering one. The
+// state goes in by value and comes back in the answer, so a refusal leaves the caller's as it stood. What a record does to a campaign depends on two things
+// alone: whether it failed, and its exposure.
 ghost use mathlib.Core.Path.{_≡_};
 ghost use mathlib.Core.Bool.{true};
 ghost use Prim.Native.Nat.{_+_, _≤_};
-ghost use Rattle.poisson.specs.Tables.{l, u};
 ghost use Rattle.record.specs.Limits.{longestTime};
 ghost use Rattle.record.specs.State as reading;
 ghost use Rattle.campaign.specs.Kept.{Kept};
-ghost use Rattle.campaign.specs.State.{censored, figuresKept, lastKept, mostRecords, sound};
-ghost use Rattle.campaign.specs.Answers.{closing, counting, entering, exposureOf, judging, opened, rating, taken};
-ghost use Rattle.campaign.specs.Figures.{accepts, lowerRate, rate, rejects, three, upperRate, weighed};
+ghost use Rattle.campaign.specs.State.{figuresKept, lastKept, mostRecords, sound};
+ghost use Rattle.campaign.specs.Answers.{closing, entering, exposureOf, opened, taken};
 use record::Record;
 use refusal::Refusal;
 
@@ -32,37 +30,6 @@ pub struct Campaign {
 
 pub enum Answer {
     Taken(Campaign),
-    Refused(Refusal),
-}
-
-// Accept carries the upper rate, reject the lower, continue the lower and then the upper.
-pub enum Verdict {
-    Accept(f64),
-    Reject(f64),
-    Continue(f64, f64),
-    NoRecord,
-}
-
-pub enum Judged {
-    Given(Verdict),
-    Refused(Refusal),
-}
-
-// Failures in a second.
-pub struct Rates {
-    pub estimate: f64,
-    pub lower: f64,
-    pub upper: f64,
-}
-
-// Whether there is a record, and the rates; without one they are 0.
-pub enum Rated {
-    Given(bool, Rates),
-    Refused(Refusal),
-}
-
-pub enum Counted {
-    Count(u64),
     Refused(Refusal),
 }
 
@@ -177,94 +144,6 @@ pub fn close(r: Record, c: Campaign) -> Answer
     take(c, r.first != 0, exposure_of(r))
 }
 
-// N*, of a state that keeps the relations.
-fn censored_of(c: Campaign) -> u64
-    requires { ⌜ Kept c ⌝ }
-    ensures { λ r. ⌜ r ≡ censored c ⌝ }
-{
-    if c.records == 0 {
-        return 0;
-    }
-    c.failures - truth::pick(c.failed, 1, 0) + 1
-}
-
-// One rounded division of two whole numbers that f64 holds exactly.
-fn rate(n: u64, t: u64) -> f64
-    requires { ⌜ (n ≤ 9007199254740992) × (t ≤ 9007199254740992) ⌝ }
-    ensures { λ r. ⌜ r ≡ rate n t ⌝ }
-{
-    (n as f64) / (t as f64)
-}
-
-// l(N).
-fn low(c: Campaign) -> u64
-    ensures { λ r. ⌜ (r ≡ l (c .failures)) × (r ≤ 49287798) ⌝ }
-{
-    poisson::lower_row(c.failures) as u64
-}
-
-// u(N*).
-fn high(c: Campaign) -> u64
-    requires { ⌜ Kept c ⌝ }
-    ensures { λ r. ⌜ (r ≡ u (censored c)) × (r ≤ 80604368) ⌝ }
-{
-    poisson::upper_row(censored_of(c)) as u64
-}
-
-fn rejects(c: Campaign) -> bool
-    requires { ⌜ Kept c ⌝ }
-    ensures { λ r. ⌜ r ≡ rejects c ⌝ }
-{
-    c.exposure * 1_000_000 < low(c) * c.standard
-}
-
-fn accepts(c: Campaign) -> bool
-    requires { ⌜ Kept c ⌝ }
-    ensures { λ r. ⌜ r ≡ accepts c ⌝ }
-{
-    high(c) * c.standard < c.exposure * 1_000_000
-}
-
-fn lower_rate(c: Campaign) -> f64
-    requires { ⌜ Kept c ⌝ }
-    ensures { λ r. ⌜ r ≡ lowerRate c ⌝ }
-{
-    rate(low(c), c.exposure * 1_000)
-}
-
-fn upper_rate(c: Campaign) -> f64
-    requires { ⌜ Kept c ⌝ }
-    ensures { λ r. ⌜ r ≡ upperRate c ⌝ }
-{
-    rate(high(c), c.exposure * 1_000)
-}
-
-// The verdict of a state with a record: reject is tried first.
-fn weigh(c: Campaign) -> Verdict
-    requires { ⌜ Kept c ⌝ }
-    ensures { λ r. ⌜ r ≡ weighed c ⌝ }
-{
-    if rejects(c) {
-        return Verdict::Reject(lower_rate(c));
-    }
-    if accepts(c) {
-        return Verdict::Accept(upper_rate(c));
-    }
-    Verdict::Continue(lower_rate(c), upper_rate(c))
-}
-
-// The three rates of a state with a record.
-fn three(c: Campaign) -> Rates
-    requires { ⌜ Kept c ⌝ }
-    ensures { λ r. ⌜ r ≡ three c ⌝ }
-{
-    Rates {
-        estimate: rate(c.failures * 1_000, c.exposure),
-        lower: lower_rate(c),
-        upper: upper_rate(c),
-    }
-}
-
 impl Campaign {
     // The campaign with a record of this exposure entered; or refusal 8, 4 for no exposure, 3 for too long a one, 5, 6.
     pub fn enter(self, failed: bool, exposure: u64) -> Answer
@@ -280,48 +159,5 @@ impl Campaign {
             return Answer::Refused(Refusal::TooLong);
         }
         take(self, failed, exposure)
-    }
-
-    // The censored count N*; or refusal 8.
-    pub fn censored(self) -> Counted
-        ensures { λ r. ⌜ r ≡ counting self ⌝ }
-    {
-        if !sound(self) {
-            return Counted::Refused(Refusal::BrokenState);
-        }
-        Counted::Count(censored_of(self))
-    }
-
-    // The verdict; or refusal 8.
-    pub fn verdict(self) -> Judged
-        ensures { λ r. ⌜ r ≡ judging self ⌝ }
-    {
-        if !sound(self) {
-            return Judged::Refused(Refusal::BrokenState);
-        }
-        if self.records == 0 {
-            return Judged::Given(Verdict::NoRecord);
-        }
-        Judged::Given(weigh(self))
-    }
-
-    // The rates and whether there is a record; or refusal 8.
-    pub fn rates(self) -> Rated
-        ensures { λ r. ⌜ r ≡ rating self ⌝ }
-    {
-        if !sound(self) {
-            return Rated::Refused(Refusal::BrokenState);
-        }
-        if self.records == 0 {
-            return Rated::Given(
-                false,
-                Rates {
-                    estimate: 0.0,
-                    lower: 0.0,
-                    upper: 0.0,
-                },
-            );
-        }
-        Rated::Given(true, three(self))
     }
 }

@@ -3,17 +3,17 @@
 ghost use mathlib.Core.Path.{_≡_};
 ghost use Rattle.poisson.specs.Rows.{LowerRow, UpperRow};
 ghost use Rattle.capi_verdict.specs.Told.{campaignCensored, campaignJudged, campaignRated, count, judgement, rates, ratings, verdictTold};
-use campaign::Verdict;
+use verdict::Verdict;
 
 // The censored count N* in `carried`; or refusal 8.
 #[no_mangle]
 pub extern "C" fn chim_campaign_censored(state: &[u64], carried: &mut u64) -> u64
     ensures { λ n. ⌜ count n (now (carried .exit)) ≡ campaignCensored (now (state .entry)) ⌝ }
 {
-    let a = capi::campaign_of(state).censored();
+    let a = verdict::censored(capi::campaign_of(state));
     match a {
-        campaign::Counted::Count(n) => capi::give(n, carried),
-        campaign::Counted::Refused(f) => capi::refuse(f, carried),
+        verdict::Counted::Count(n) => capi::give(n, carried),
+        verdict::Counted::Refused(f) => capi::refuse(f, carried),
     }
 }
 
@@ -55,10 +55,10 @@ pub extern "C" fn chim_campaign_verdict(
 ) -> u64
     ensures { λ n. ⌜ judgement n (now (carried .exit)) (now (lower .exit)) (now (upper .exit)) ≡ campaignJudged (now (state .entry)) (now (lower .entry)) (now (upper .entry)) ⌝ }
 {
-    let a = capi::campaign_of(state).verdict();
+    let a = verdict::judge(capi::campaign_of(state));
     match a {
-        campaign::Judged::Given(v) => tell(v, lower, upper, carried),
-        campaign::Judged::Refused(f) => capi::refuse(f, carried),
+        verdict::Judged::Given(v) => tell(v, lower, upper, carried),
+        verdict::Judged::Refused(f) => capi::refuse(f, carried),
     }
 }
 
@@ -73,15 +73,15 @@ pub extern "C" fn chim_campaign_rates(
 ) -> u64
     ensures { λ n. ⌜ ratings n (now (carried .exit)) (rates (now (estimate .exit)) (now (lower .exit)) (now (upper .exit))) ≡ campaignRated (now (state .entry)) (rates (now (estimate .entry)) (now (lower .entry)) (now (upper .entry))) ⌝ }
 {
-    let a = capi::campaign_of(state).rates();
+    let a = verdict::rate(capi::campaign_of(state));
     match a {
-        campaign::Rated::Given(b, r) => {
+        verdict::Rated::Given(b, r) => {
             *estimate = r.estimate;
             *lower = r.lower;
             *upper = r.upper;
             capi::give(capi::flag(b), carried)
         }
-        campaign::Rated::Refused(f) => capi::refuse(f, carried),
+        verdict::Rated::Refused(f) => capi::refuse(f, carried),
     }
 }
 

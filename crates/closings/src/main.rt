@@ -2,12 +2,12 @@
 // until a refusal. q = 7,200,000, D = 500, a = 40,000. slate_cases has J and K of the definitions.
 use campaign::Answer;
 use campaign::Campaign;
-use campaign::Counted;
-use campaign::Judged;
-use campaign::Rated;
-use campaign::Verdict;
 use record::Record;
 use refusal::Refusal;
+use verdict::Counted;
+use verdict::Judged;
+use verdict::Rated;
+use verdict::Verdict;
 
 const STANDARD: u64 = 7_200_000;
 
@@ -26,7 +26,7 @@ fn refused(f: Refusal) {
 }
 
 fn censored(c: Campaign) {
-    match c.censored() {
+    match verdict::censored(c) {
         Counted::Count(n) => number(b" N* ", n),
         Counted::Refused(f) => refused(f),
     }
@@ -42,14 +42,14 @@ fn letter(v: Verdict) {
 }
 
 fn verdict(c: Campaign) {
-    match c.verdict() {
+    match verdict::judge(c) {
         Judged::Given(v) => letter(v),
         Judged::Refused(f) => refused(f),
     }
 }
 
 fn known(c: Campaign) {
-    match c.rates() {
+    match verdict::rate(c) {
         Rated::Given(yes, _) => {
             if yes {
                 text(b" rates");
@@ -83,9 +83,8 @@ fn line(name: &[u8], a: Answer) {
     text(b"\n");
 }
 
-// A record fed as one piece; a refusal of it is told, and the record left broken so that closing refuses it too.
-fn fed(ramp: u64, samples: &[i32]) -> Record {
-    let broken = Record {
+fn broken() -> Record {
+    Record {
         step: 0,
         ramp: 0,
         level: 0,
@@ -96,12 +95,16 @@ fn fed(ramp: u64, samples: &[i32]) -> Record {
         counted: 0,
         first: 0,
         latest: 0,
-    };
+    }
+}
+
+// A record fed as one piece; a refusal of it is told, and the record left broken so that closing refuses it too.
+fn fed(ramp: u64, samples: &[i32]) -> Record {
     let record::Answer::Taken(r) = record::open(500, ramp, 40_000, 2000) else {
-        return broken;
+        return broken();
     };
     let record::Answer::Taken(s) = r.feed(samples) else {
-        return broken;
+        return broken();
     };
     s
 }
@@ -146,22 +149,42 @@ fn edges() {
     weighed(b"64 failures, the last record none", 65, 64, false, 1000);
 }
 
-fn main() {
-    edges();
-    let empty = campaign::open(STANDARD);
-    let quiet = fed(0, &[0i32, 0]);
-    let failing = fed(0, &[0i32, 41000, 0]);
+// The record that does not fail, and the one that does.
+fn quiet() -> Record {
+    fed(0, &[0i32, 0])
+}
+
+fn failing() -> Record {
+    fed(0, &[0i32, 41000, 0])
+}
+
+fn opened() {
     line(b"q = 0", campaign::open(0));
     line(b"q too large", campaign::open(100_000_000_001));
-    line(b"opened", empty);
+    line(b"opened", campaign::open(STANDARD));
+}
+
+fn closed() {
+    let empty = campaign::open(STANDARD);
     line(b"one sample closed", then(empty, fed(0, &[0i32])));
-    line(b"two samples closed", then(empty, quiet));
-    line(b"a failure closed", then(empty, failing));
+    line(b"two samples closed", then(empty, quiet()));
+    line(b"a failure closed", then(empty, failing()));
     line(b"a broken record", then(empty, fed(0, &[2_000_000i32])));
-    let most = again(empty, failing, 64);
+}
+
+fn limits() {
+    let empty = campaign::open(STANDARD);
+    let most = again(empty, failing(), 64);
     line(b"64 failures", most);
-    line(b"one record more", then(most, quiet));
-    let full = again(empty, quiet, 100_000);
+    line(b"one record more", then(most, quiet()));
+    let full = again(empty, quiet(), 100_000);
     line(b"100,000 records", full);
-    line(b"one record more", then(full, failing));
+    line(b"one record more", then(full, failing()));
+}
+
+fn main() {
+    edges();
+    opened();
+    closed();
+    limits();
 }

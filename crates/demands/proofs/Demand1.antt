@@ -26,12 +26,13 @@ use Rattle.record.specs.State.{failed, sound, stateOf, tooShort}
 use Rattle.record.specs.Step.{stepped}
 use Rattle.campaign.specs.declared.Answer.the-variants as campaigned
 use Rattle.campaign.specs.declared.Campaign.{Campaign}
-use Rattle.campaign.specs.declared.Counted.the-variants as counting
-use Rattle.campaign.specs.declared.Judged.the-variants as judging
-use Rattle.campaign.specs.declared.Rated.the-variants as rating
+use Rattle.verdict.specs.declared.Counted.the-variants as counting
+use Rattle.verdict.specs.declared.Judged.the-variants as judging
+use Rattle.verdict.specs.declared.Rated.the-variants as rating
 use Rattle.campaign.specs.Answers as campaigns
 use Rattle.campaign.specs.Answers.{closing, entering, exposureOf}
-use Rattle.campaign.specs.Figures.{ratesOf, verdictOf}
+use Rattle.verdict.specs.Answers as verdicts
+use Rattle.verdict.specs.Figures.{ratesOf, verdictOf}
 use Rattle.campaign.specs.State.{censored, empty, entered, mostRecords, standardInRange}
 use Rattle.campaign.specs.State as campaigning
 use Rattle.sheet.specs.declared.Sheet.the-variants.{Fresh, Open}
@@ -131,11 +132,11 @@ pub record Demand1 : Type 0 where
       → Decides listing.Refused (itemTests D R a τ (listTests D R a τ xs places)) (listing.Times (length (counted D R a τ xs))) (listed D R a τ xs places)
   pub kept : (D R a τ : ℕ) (xs : List ℤ) (before after : List ℕ) (r : Refusal) → ListsTo D R a τ xs before (listing.Refused r) after → after ≡ before
   -- verdict, rates and the censored count 8
-  pub verdict : (c : Campaign) → Decides judging.Refused (not (campaigning.sound c) gives BrokenState ∷ []) (judging.Given (verdictOf c)) (campaigns.judging c)
+  pub verdict : (c : Campaign) → Decides judging.Refused (not (campaigning.sound c) gives BrokenState ∷ []) (judging.Given (verdictOf c)) (verdicts.judging c)
   pub rates :
       (c : Campaign)
-      → Decides rating.Refused (not (campaigning.sound c) gives BrokenState ∷ []) (rating.Given (not (eqb (c .records) 0)) (ratesOf c)) (campaigns.rating c)
-  pub censored : (c : Campaign) → Decides counting.Refused (not (campaigning.sound c) gives BrokenState ∷ []) (counting.Count (censored c)) (campaigns.counting c)
+      → Decides rating.Refused (not (campaigning.sound c) gives BrokenState ∷ []) (rating.Given (not (eqb (c .records) 0)) (ratesOf c)) (verdicts.rating c)
+  pub censored : (c : Campaign) → Decides counting.Refused (not (campaigning.sound c) gives BrokenState ∷ []) (counting.Count (censored c)) (verdicts.counting c)
   -- a job sheet: reading a line after what came before decides it, and however the text is cut into pieces, what is written and what the reading ends in
   -- are those of its meaning; a record's own line comes to what closing the record answers, refusals and all
   pub sheet : (pieces : List (List ℕ)) → feeding pieces Fresh [] ≡ meaning (joined pieces)
@@ -219,7 +220,7 @@ no : _≡_ {A = ℕ} 0 1 → ⊥
 no e = omega arith
 
 pub demand-1 : Demand1
-unfolding decide opened fed listed itemOutside written closing entering campaigns.judging campaigns.rating campaigns.counting
+unfolding decide opened fed listed itemOutside written closing entering verdicts.judging verdicts.rating verdicts.counting
 demand-1 =
     record {
       open-record =
@@ -235,9 +236,9 @@ demand-1 =
           decided listing.Refused (listing.Times (length (counted D R a τ xs))) own-list (λ r e. no (cc)) _ (listed D R a τ xs places)
           (first-item listing.Refused (listTests D R a τ xs places) (listing.Times (length (counted D R a τ xs))) (stepInRange D) (rampInRange R) (levelInRange a) (decorrelationInRange τ) (itemOutside D R a τ) refl);
       kept = λ D R a τ xs before after r p. p .leaves;
-      verdict = λ c. decided judging.Refused (judging.Given (verdictOf c)) own-verdict (λ r e. no (cc)) _ (campaigns.judging c) (swapped (campaigning.sound c) _ _);
-      rates = λ c. decided rating.Refused (rating.Given (not (eqb (c .records) 0)) (ratesOf c)) own-rates (λ r e. no (cc)) _ (campaigns.rating c) (swapped (campaigning.sound c) _ _);
+      verdict = λ c. decided judging.Refused (judging.Given (verdictOf c)) own-verdict (λ r e. no (cc)) _ (verdicts.judging c) (swapped (campaigning.sound c) _ _);
+      rates = λ c. decided rating.Refused (rating.Given (not (eqb (c .records) 0)) (ratesOf c)) own-rates (λ r e. no (cc)) _ (verdicts.rating c) (swapped (campaigning.sound c) _ _);
       sheet = cut-anywhere;
       sheet-line = closing-line;
-      censored = λ c. decided counting.Refused (counting.Count (censored c)) own-count (λ r e. no (cc)) _ (campaigns.counting c) (swapped (campaigning.sound c) _ _);
+      censored = λ c. decided counting.Refused (counting.Count (censored c)) own-count (λ r e. no (cc)) _ (verdicts.counting c) (swapped (campaigning.sound c) _ _);
     }

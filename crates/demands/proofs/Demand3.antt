@@ -18,13 +18,13 @@ use Rattle.poisson.specs.Rows.{million, millionthLess, millionthMore}
 use Rattle.poisson.specs.Tables.{l}
 use Rattle.poisson.proofs.Exposure.{accept-only-if, accept-whenever, never-both, none-or-more, reject-only-if, reject-whenever}
 use Rattle.campaign.specs.declared.Campaign.{Campaign}
-use Rattle.campaign.specs.declared.Judged.the-variants.{Given}
-use Rattle.campaign.specs.declared.Verdict.{Verdict}
-use Rattle.campaign.specs.declared.Verdict.the-variants.{Accept, Continue, NoRecord, Reject}
-use Rattle.campaign.specs.declared.Rates.{Rates}
-use Rattle.campaign.specs.declared.Rated.the-variants as rated
-use Rattle.campaign.specs.Answers.{judging, rating}
-use Rattle.campaign.specs.Figures.{accepts, lowerRate, ratesOf, rejects, three, upperRate, verdictOf, weighed, zero64}
+use Rattle.verdict.specs.declared.Judged.the-variants.{Given}
+use Rattle.verdict.specs.declared.Verdict.{Verdict}
+use Rattle.verdict.specs.declared.Verdict.the-variants.{Accept, Continue, NoRecord, Reject}
+use Rattle.verdict.specs.declared.Rates.{Rates}
+use Rattle.verdict.specs.declared.Rated.the-variants as rated
+use Rattle.verdict.specs.Answers.{judging, rating}
+use Rattle.verdict.specs.Figures.{accepts, lowerRate, ratesOf, rejects, three, upperRate, verdictOf, weighed, zero64}
 use Rattle.campaign.specs.State.{censored, sound}
 use Rattle.truth.proofs.Laws.{holds, no}
 use Rattle.campaign.proofs.Relations.{censored-row, kept-from}

@@ -5,13 +5,13 @@ use mathlib.Core.Bool.{true}
 use native.Mathlib.Omega.{arith}
 use Rattle.refusal.specs.declared.Refusal.{Refusal}
 use Rattle.campaign.specs.declared.Campaign.{Campaign}
-use Rattle.campaign.specs.declared.Counted.{Counted}
-use Rattle.campaign.specs.declared.Counted.the-variants as counted
-use Rattle.campaign.specs.declared.Judged.{Judged}
-use Rattle.campaign.specs.declared.Judged.the-variants as judged
-use Rattle.campaign.specs.declared.Verdict.{Verdict}
-use Rattle.campaign.specs.Answers.{counting, judging}
-use Rattle.campaign.specs.Figures.{verdictOf}
+use Rattle.verdict.specs.declared.Counted.{Counted}
+use Rattle.verdict.specs.declared.Counted.the-variants as counted
+use Rattle.verdict.specs.declared.Judged.{Judged}
+use Rattle.verdict.specs.declared.Judged.the-variants as judged
+use Rattle.verdict.specs.declared.Verdict.{Verdict}
+use Rattle.verdict.specs.Answers.{counting, judging}
+use Rattle.verdict.specs.Figures.{verdictOf}
 use Rattle.campaign.specs.State.{censored, sound}
 
 never-given : {w : Verdict} {r : Refusal} → ¬ (judged.Given w ≡ judged.Refused r)

@@ -12,10 +12,10 @@ use Rattle.text.specs.Write.{fits, written}
 use Rattle.decimal.specs.Decimal.{digitsOf}
 use Rattle.decimal.specs.Field.{tab, lineFeed}
 use Rattle.campaign.specs.declared.Campaign.{Campaign}
-use Rattle.campaign.specs.declared.Verdict.{Verdict}
-use Rattle.campaign.specs.declared.Verdict.the-variants.{Accept, Reject, Continue, NoRecord}
+use Rattle.verdict.specs.declared.Verdict.{Verdict}
+use Rattle.verdict.specs.declared.Verdict.the-variants.{Accept, Reject, Continue, NoRecord}
 use Rattle.campaign.specs.State.{censored, sound}
-use Rattle.campaign.specs.Figures.{verdictOf}
+use Rattle.verdict.specs.Figures.{verdictOf}
 use Rattle.sheet.specs.declared.Written.{Written}
 use Rattle.sheet.specs.declared.Written.the-variants.{Upto, Refused}
 

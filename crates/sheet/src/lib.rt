@@ -12,11 +12,11 @@ ghost use Rattle.sheet.specs.Cut.{cut, found};
 ghost use Rattle.sheet.specs.Written.{fieldText, letterFor, recordText, recordLeft, recordWriting, refusedText, writing};
 use campaign::Answer;
 use campaign::Campaign;
-use campaign::Counted;
-use campaign::Judged;
-use campaign::Verdict;
 use decimal::Field;
 use refusal::Refusal;
+use verdict::Counted;
+use verdict::Judged;
+use verdict::Verdict;
 
 const TAB: u8 = 9;
 
@@ -210,7 +210,7 @@ fn letter(c: Campaign) -> u8
     requires { ⌜ sound c ≡ true ⌝ }
     ensures { λ r. ⌜ r ≡ letterFor c ⌝ }
 {
-    let Judged::Given(v) = c.verdict() else {
+    let Judged::Given(v) = verdict::judge(c) else {
         return 0;
     };
     match v {
@@ -226,7 +226,7 @@ fn censored(c: Campaign) -> u64
     requires { ⌜ sound c ≡ true ⌝ }
     ensures { λ r. ⌜ r ≡ censored c ⌝ }
 {
-    let Counted::Count(n) = c.censored() else {
+    let Counted::Count(n) = verdict::censored(c) else {
         return 0;
     };
     n

@@ -7,9 +7,9 @@ use lib.Dec.{eqb}
 use lib.IntN.{ℤ, pos, negsuc}
 use Rattle.poisson.specs.Tables.{l, u}
 use Rattle.campaign.specs.declared.Campaign.{Campaign}
-use Rattle.campaign.specs.declared.Verdict.{Verdict}
-use Rattle.campaign.specs.declared.Verdict.the-variants.{Accept, Continue, NoRecord, Reject}
-use Rattle.campaign.specs.Figures.{verdictOf}
+use Rattle.verdict.specs.declared.Verdict.{Verdict}
+use Rattle.verdict.specs.declared.Verdict.the-variants.{Accept, Continue, NoRecord, Reject}
+use Rattle.verdict.specs.Figures.{verdictOf}
 use Rattle.record.specs.Reading.{timeAt, crossings, countedTimes, fullTime}
 
 -- a marked case

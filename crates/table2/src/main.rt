@@ -3,10 +3,10 @@
 // printed to four digits by `four_digits`, which would print any rate of any campaign.
 use campaign::Answer;
 use campaign::Campaign;
-use campaign::Counted;
-use campaign::Rated;
-use campaign::Rates;
 use libc::STDOUT_FILENO;
+use verdict::Counted;
+use verdict::Rated;
+use verdict::Rates;
 ghost use lib.Ieee.{isNan};
 ghost use lib.Dec.{T};
 ghost use mathlib.Core.Bool.{not};
@@ -179,10 +179,10 @@ fn write_rates(rates: Rates) {
 }
 
 fn write_line(c: Campaign) {
-    let Counted::Count(censored) = c.censored() else {
+    let Counted::Count(censored) = verdict::censored(c) else {
         return;
     };
-    let Rated::Given(_, rates) = c.rates() else {
+    let Rated::Given(_, rates) = verdict::rate(c) else {
         return;
     };
     write_number(c.records);

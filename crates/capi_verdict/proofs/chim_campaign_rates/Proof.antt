@@ -7,8 +7,8 @@ use Rattle.capi_verdict.proofs.chim_campaign_rates.Tie as tie
 campaign-of-requires : tie.Need-campaign-of-requires
 campaign-of-requires c κs = search needs
 
-rates-requires : tie.Need-rates-requires
-rates-requires c κs = search needs
+rate-requires : tie.Need-rate-requires
+rate-requires c κs = search needs
 
 enum-known-a : tie.Need-enum-known-a
 enum-known-a c = search needs
@@ -27,18 +27,18 @@ refuse-requires c κs = search needs
 
 returns : tie.Need-returns
 unfolding ratedTold
-returns c = rw (← c .before .before .before .before .before .before .before .campaign-of .ensures, ← c .before .before .before .before .before .before .rates .ensures, c .before .before .before .before .a .given .1, c .give .ensures .0, c .give .ensures .1, c .before .before .flag .ensures)
+returns c = rw (← c .before .before .before .before .before .before .before .campaign-of .ensures, ← c .before .before .before .before .before .before .rate .ensures, c .before .before .before .before .a .given .1, c .give .ensures .0, c .give .ensures .1, c .before .before .flag .ensures)
 
 returns-2 : tie.Need-returns-2
 unfolding ratedTold
-returns-2 c = rw (← c .before .before .before .before .before .before .campaign-of .ensures, ← c .before .before .before .before .before .rates .ensures, c .before .before .before .a2 .given .1, c .refuse .ensures .0, c .refuse .ensures .1)
+returns-2 c = rw (← c .before .before .before .before .before .before .campaign-of .ensures, ← c .before .before .before .before .before .rate .ensures, c .before .before .before .a2 .given .1, c .refuse .ensures .0, c .refuse .ensures .1)
 
 pub chim-campaign-rates-spec : {M : Type 1} → statement M
 chim-campaign-rates-spec =
     tie.close
     (tie.spec
     campaign-of-requires
-    rates-requires
+    rate-requires
     enum-known-a
     flag-requires
     give-requires

@@ -7,8 +7,8 @@ use Rattle.capi_verdict.proofs.chim_campaign_verdict.Tie as tie
 campaign-of-requires : tie.Need-campaign-of-requires
 campaign-of-requires c κs = search needs
 
-verdict-requires : tie.Need-verdict-requires
-verdict-requires c κs = search needs
+judge-requires : tie.Need-judge-requires
+judge-requires c κs = search needs
 
 enum-known-a : tie.Need-enum-known-a
 enum-known-a c = search needs
@@ -24,18 +24,18 @@ refuse-requires c κs = search needs
 
 returns : tie.Need-returns
 unfolding judgedTold
-returns c = rw (← c .before .before .before .before .before .before .before .before .campaign-of .ensures, ← c .before .before .before .before .before .before .before .verdict .ensures, c .before .before .before .before .before .a .given .1, c .tell .ensures)
+returns c = rw (← c .before .before .before .before .before .before .before .before .campaign-of .ensures, ← c .before .before .before .before .before .before .before .judge .ensures, c .before .before .before .before .before .a .given .1, c .tell .ensures)
 
 returns-2 : tie.Need-returns-2
 unfolding judgedTold
-returns-2 c = rw (← c .before .before .before .before .before .before .campaign-of .ensures, ← c .before .before .before .before .before .verdict .ensures, c .before .before .before .a2 .given .1, c .refuse .ensures .0, c .refuse .ensures .1)
+returns-2 c = rw (← c .before .before .before .before .before .before .campaign-of .ensures, ← c .before .before .before .before .before .judge .ensures, c .before .before .before .a2 .given .1, c .refuse .ensures .0, c .refuse .ensures .1)
 
 pub chim-campaign-verdict-spec : {M : Type 1} → statement M
 chim-campaign-verdict-spec =
     tie.close
     (tie.spec
     campaign-of-requires
-    verdict-requires
+    judge-requires
     enum-known-a
     tell-requires
     enum-known-a-2

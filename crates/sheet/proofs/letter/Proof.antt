@@ -1,6 +1,6 @@
 -- `sheet::letter` meets its contract: of a state that keeps its relations the campaign gives its verdict, and each has its letter. Assumes nothing.
 use mathlib.Core.Path.{_≡_}
-use Rattle.campaign.specs.Figures.{verdictOf}
+use Rattle.verdict.specs.Figures.{verdictOf}
 use Rattle.sheet.specs.Written.{letterFor}
 use Rattle.sheet.proofs.Given.{has-verdict, not-refused}
 use borrow.Author.Needs.{needs}
@@ -8,10 +8,10 @@ use Rattle.sheet.proofs.letter.Statement.{statement}
 use Rattle.sheet.proofs.letter.Tie as tie
 
 given : (c : tie.After-known-told) → c .before .v .given .0 .0 ≡ verdictOf (c .before .before .before .before .args .c)
-given c = has-verdict (c .before .before .before .before .args .c) (c .before .before .before .before .pre) (c .before .before .before .verdict .ensures) (c .before .v .given .1)
+given c = has-verdict (c .before .before .before .before .args .c) (c .before .before .before .before .pre) (c .before .before .before .judge .ensures) (c .before .v .given .1)
 
-verdict-requires : tie.Need-verdict-requires
-verdict-requires c κs = search needs
+judge-requires : tie.Need-judge-requires
+judge-requires c κs = search needs
 
 enum-known-v : tie.Need-enum-known-v
 enum-known-v c = search needs
@@ -20,7 +20,7 @@ enum-told : tie.Need-enum-told
 enum-told c = search needs
 
 returns : tie.Need-returns
-returns c = absurd (not-refused (c .before .before .before .args .c) (c .before .before .before .pre) (c .before .before .verdict .ensures) (c .enum-told .given .1))
+returns c = absurd (not-refused (c .before .before .before .args .c) (c .before .before .before .pre) (c .before .before .judge .ensures) (c .enum-told .given .1))
 
 enum-told-2 : tie.Need-enum-told-2
 enum-told-2 c = search needs
@@ -54,7 +54,7 @@ pub letter-spec : {M : Type 1} → statement M
 letter-spec =
     tie.close
     (tie.spec
-    verdict-requires
+    judge-requires
     enum-known-v
     enum-told
     returns

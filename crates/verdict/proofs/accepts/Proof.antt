@@ -1,0 +1,21 @@
+-- `verdict::accepts` meets its contract: both products fit, the row and the standard having their bounds. Assumes nothing.
+use native.Mathlib.Omega.{arith}
+use native.Mathlib.Nat.{mul-le-mul}
+use borrow.Author.Needs.{needs}
+use Rattle.verdict.proofs.accepts.Statement.{statement}
+use Rattle.verdict.proofs.accepts.Tie as tie
+
+high-requires : tie.Need-high-requires
+high-requires c κs = search needs
+
+mul-result : tie.Need-mul-result
+mul-result c = omega (arith, mul-le-mul (c .before .high .ensures .1) (c .before .before .pre .standard-high))
+
+mul-result-2 : tie.Need-mul-result-2
+mul-result-2 c = search needs
+
+returns : tie.Need-returns
+returns c = rw (← c .before .before .high .ensures .0)
+
+pub accepts-spec : {M : Type 1} → statement M
+accepts-spec = tie.close (tie.spec high-requires mul-result mul-result-2 returns)

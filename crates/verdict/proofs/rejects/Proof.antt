@@ -1,0 +1,21 @@
+-- `verdict::rejects` meets its contract: both products fit, the row and the standard having their bounds. Assumes nothing.
+use native.Mathlib.Omega.{arith}
+use native.Mathlib.Nat.{mul-le-mul}
+use borrow.Author.Needs.{needs}
+use Rattle.verdict.proofs.rejects.Statement.{statement}
+use Rattle.verdict.proofs.rejects.Tie as tie
+
+mul-result : tie.Need-mul-result
+mul-result c = search needs
+
+low-requires : tie.Need-low-requires
+low-requires c κs = search needs
+
+mul-result-2 : tie.Need-mul-result-2
+mul-result-2 c = omega (arith, mul-le-mul (c .before .low .ensures .1) (c .before .before .before .pre .standard-high))
+
+returns : tie.Need-returns
+returns c = rw (← c .before .low .ensures .0)
+
+pub rejects-spec : {M : Type 1} → statement M
+rejects-spec = tie.close (tie.spec mul-result low-requires mul-result-2 returns)

@@ -1,0 +1,23 @@
+-- What each entry answers (document 01, "Refusal numbers"). Assumes nothing.
+use mathlib.Core.Bool.{cond, not}
+use lib.Dec.{eqb}
+use Rattle.refusal.specs.declared.Refusal.the-variants.{BrokenState}
+use Rattle.campaign.specs.declared.Campaign.{Campaign}
+use Rattle.campaign.specs.State.{censored, sound}
+use Rattle.verdict.specs.declared.Counted.{Counted}
+use Rattle.verdict.specs.declared.Counted.the-variants as counted
+use Rattle.verdict.specs.declared.Judged.{Judged}
+use Rattle.verdict.specs.declared.Judged.the-variants as judged
+use Rattle.verdict.specs.declared.Rated.{Rated}
+use Rattle.verdict.specs.declared.Rated.the-variants as rated
+use Rattle.verdict.specs.Figures.{ratesOf, verdictOf}
+
+-- Verdict and rates 8
+unfoldable pub judging : Campaign → Judged
+judging c = cond (sound c) (judged.Given (verdictOf c)) (judged.Refused BrokenState)
+
+unfoldable pub rating : Campaign → Rated
+rating c = cond (sound c) (rated.Given (not (eqb (c .records) 0)) (ratesOf c)) (rated.Refused BrokenState)
+
+unfoldable pub counting : Campaign → Counted
+counting c = cond (sound c) (counted.Count (censored c)) (counted.Refused BrokenState)

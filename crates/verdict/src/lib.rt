@@ -1,0 +1,173 @@
+// What a campaign says: its censored count, its verdict and its rates (document 01, "The campaign"), by the rows of the quantile table. A state that breaks
+// the campaign's relations is refused.
+ghost use mathlib.Core.Path.{_≡_};
+ghost use Prim.Native.Nat.{_≤_};
+ghost use Rattle.poisson.specs.Tables.{l, u};
+ghost use Rattle.campaign.specs.Kept.{Kept};
+ghost use Rattle.campaign.specs.State.{censored};
+ghost use Rattle.verdict.specs.Answers.{counting, judging, rating};
+ghost use Rattle.verdict.specs.Figures.{accepts, lowerRate, quotient, rejects, three, upperRate, weighed};
+use campaign::Campaign;
+use refusal::Refusal;
+
+// Accept carries the upper rate, reject the lower, continue the lower and then the upper.
+pub enum Verdict {
+    Accept(f64),
+    Reject(f64),
+    Continue(f64, f64),
+    NoRecord,
+}
+
+pub enum Judged {
+    Given(Verdict),
+    Refused(Refusal),
+}
+
+// Failures in a second.
+pub struct Rates {
+    pub estimate: f64,
+    pub lower: f64,
+    pub upper: f64,
+}
+
+// Whether there is a record, and the rates; without one they are 0.
+pub enum Rated {
+    Given(bool, Rates),
+    Refused(Refusal),
+}
+
+pub enum Counted {
+    Count(u64),
+    Refused(Refusal),
+}
+
+// N*, of a state that keeps the relations.
+fn censored_of(c: Campaign) -> u64
+    requires { ⌜ Kept c ⌝ }
+    ensures { λ r. ⌜ r ≡ censored c ⌝ }
+{
+    if c.records == 0 {
+        return 0;
+    }
+    c.failures - truth::pick(c.failed, 1, 0) + 1
+}
+
+// One rounded division of two whole numbers that f64 holds exactly.
+fn quotient(n: u64, t: u64) -> f64
+    requires { ⌜ (n ≤ 9007199254740992) × (t ≤ 9007199254740992) ⌝ }
+    ensures { λ r. ⌜ r ≡ quotient n t ⌝ }
+{
+    (n as f64) / (t as f64)
+}
+
+// l(N).
+fn low(c: Campaign) -> u64
+    ensures { λ r. ⌜ (r ≡ l (c .failures)) × (r ≤ 49287798) ⌝ }
+{
+    poisson::lower_row(c.failures) as u64
+}
+
+// u(N*).
+fn high(c: Campaign) -> u64
+    requires { ⌜ Kept c ⌝ }
+    ensures { λ r. ⌜ (r ≡ u (censored c)) × (r ≤ 80604368) ⌝ }
+{
+    poisson::upper_row(censored_of(c)) as u64
+}
+
+fn rejects(c: Campaign) -> bool
+    requires { ⌜ Kept c ⌝ }
+    ensures { λ r. ⌜ r ≡ rejects c ⌝ }
+{
+    c.exposure * 1_000_000 < low(c) * c.standard
+}
+
+fn accepts(c: Campaign) -> bool
+    requires { ⌜ Kept c ⌝ }
+    ensures { λ r. ⌜ r ≡ accepts c ⌝ }
+{
+    high(c) * c.standard < c.exposure * 1_000_000
+}
+
+fn lower_rate(c: Campaign) -> f64
+    requires { ⌜ Kept c ⌝ }
+    ensures { λ r. ⌜ r ≡ lowerRate c ⌝ }
+{
+    quotient(low(c), c.exposure * 1_000)
+}
+
+fn upper_rate(c: Campaign) -> f64
+    requires { ⌜ Kept c ⌝ }
+    ensures { λ r. ⌜ r ≡ upperRate c ⌝ }
+{
+    quotient(high(c), c.exposure * 1_000)
+}
+
+// The verdict of a state with a record: reject is tried first.
+fn weigh(c: Campaign) -> Verdict
+    requires { ⌜ Kept c ⌝ }
+    ensures { λ r. ⌜ r ≡ weighed c ⌝ }
+{
+    if rejects(c) {
+        return Verdict::Reject(lower_rate(c));
+    }
+    if accepts(c) {
+        return Verdict::Accept(upper_rate(c));
+    }
+    Verdict::Continue(lower_rate(c), upper_rate(c))
+}
+
+// The three rates of a state with a record.
+fn three(c: Campaign) -> Rates
+    requires { ⌜ Kept c ⌝ }
+    ensures { λ r. ⌜ r ≡ three c ⌝ }
+{
+    Rates {
+        estimate: quotient(c.failures * 1_000, c.exposure),
+        lower: lower_rate(c),
+        upper: upper_rate(c),
+    }
+}
+
+// The censored count N*; or refusal 8.
+pub fn censored(c: Campaign) -> Counted
+    ensures { λ r. ⌜ r ≡ counting c ⌝ }
+{
+    if !campaign::sound(c) {
+        return Counted::Refused(Refusal::BrokenState);
+    }
+    Counted::Count(censored_of(c))
+}
+
+// The verdict; or refusal 8.
+pub fn judge(c: Campaign) -> Judged
+    ensures { λ r. ⌜ r ≡ judging c ⌝ }
+{
+    if !campaign::sound(c) {
+        return Judged::Refused(Refusal::BrokenState);
+    }
+    if c.records == 0 {
+        return Judged::Given(Verdict::NoRecord);
+    }
+    Judged::Given(weigh(c))
+}
+
+// The rates and whether there is a record; or refusal 8.
+pub fn rate(c: Campaign) -> Rated
+    ensures { λ r. ⌜ r ≡ rating c ⌝ }
+{
+    if !campaign::sound(c) {
+        return Rated::Refused(Refusal::BrokenState);
+    }
+    if c.records == 0 {
+        return Rated::Given(
+            false,
+            Rates {
+                estimate: 0.0,
+                lower: 0.0,
+                upper: 0.0,
+            },
+        );
+    }
+    Rated::Given(true, three(c))
+}

@@ -6,9 +6,9 @@ ghost use lib.ListN.{length};
 ghost use Rattle.sheet.specs.Sheet.{leftIn};
 use libc::STDIN_FILENO;
 use libc::STDOUT_FILENO;
+use line::Sheet;
 use sheet::Ran;
 use sheet::Reading;
-use sheet::Sheet;
 
 // Runs over a piece and writes what it gives. Answers what the reading came to.
 fn piece(s: Sheet, text: &[u8], more: bool, out: &mut [u8]) -> Reading

@@ -4,7 +4,7 @@ ghost use Rattle.capi.specs.Told.{told};
 ghost use Rattle.capi_sheet.specs.Told.{answerOf, lineOf, sheetLine, sheetRead};
 use refusal::Refusal;
 use sheet::Reading;
-use sheet::Sheet;
+use line::Sheet;
 
 // What the reading of a whole sheet answers.
 fn ended(end: Reading) -> campaign::Answer

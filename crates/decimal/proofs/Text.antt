@@ -12,6 +12,7 @@ use lib.ListN.{length, getD, length-append, List·getD-append}
 use borrow.Author.Tests.{lt-ltb, le-ltb, le-leb, ne-eqb, leb-true, ltb-true, eqb-false, not-true}
 use Rattle.truth.proofs.Cases.{by-order}
 use Rattle.truth.proofs.Laws.{and-true}
+use Rattle.decimal.specs.Field.{fieldText}
 use Rattle.decimal.specs.Decimal.{zeroByte, longest, isDigit, allDigits, leadingZero, isNumber, push, valueOf, digitsWithin, digitsOf}
 
 abbrev lastDigit : ℕ → List ℕ
@@ -101,6 +102,16 @@ digits-below (suc k) v h =
     by-order v 10
     (λ l. rw (digits-one v l) (omega arith))
     (λ l. rw (digits-more v l, length-append) (omega (arith, digits-below k (v / 10) (omega arith))))
+
+-- a field's text has a digit at least, and its end
+module _ (v end : ℕ) where
+  pub field-some : 2 ≤ length (fieldText v end)
+  unfolding fieldText
+  field-some = rw length-append (omega (arith, digits-some v))
+
+  pub field-few : (k : ℕ) → v < 10 ^ suc k → length (fieldText v end) ≤ k + 2
+  unfolding fieldText
+  field-few k h = rw length-append (omega (arith, digits-below k v h))
 
 -- the first digit is 0 for 0 alone
 pub digits-first : (v : ℕ) → 1 ≤ v → zeroByte < getD (digitsOf v) 0 0

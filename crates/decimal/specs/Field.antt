@@ -1,10 +1,10 @@
 -- Document 01, "The job sheet": the fields of a line, parted by a tab, the line ended by LF. Assumes nothing.
 use Prim.Native.Nat.{ℕ, _+_}
 use mathlib.Core.Bool.{Bool, true, cond, _||_}
-use mathlib.Core.List.{List, [], _∷_}
+use mathlib.Core.List.{List, [], _∷_, _++_}
 use lib.ListN.{length, drop}
 use lib.Dec.{eqb}
-use Rattle.decimal.specs.Decimal.{isNumber, valueOf}
+use Rattle.decimal.specs.Decimal.{digitsOf, isNumber, valueOf}
 use Rattle.decimal.specs.declared.Field.{Field}
 use Rattle.decimal.specs.declared.Field.the-variants.{Number, Bad}
 
@@ -35,3 +35,7 @@ readAs field at = cond (isNumber field) (Number (valueOf field) (at + length fie
 -- what stands at a place of a text, read as a number field
 unfoldable pub fieldAt : List ℕ → ℕ → Field
 fieldAt text at = readAs (fieldOf (drop at text)) at
+
+-- a field as it is written: a number and the byte that ends it
+unfoldable pub fieldText : ℕ → ℕ → List ℕ
+fieldText v end = digitsOf v ++ (end ∷ [])

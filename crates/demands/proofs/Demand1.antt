@@ -35,13 +35,13 @@ use Rattle.verdict.specs.Answers as verdicts
 use Rattle.verdict.specs.Figures.{ratesOf, verdictOf}
 use Rattle.campaign.specs.State.{censored, empty, entered, mostRecords, standardInRange}
 use Rattle.campaign.specs.State as campaigning
-use Rattle.sheet.specs.declared.Sheet.the-variants.{Fresh, Open}
-use Rattle.sheet.specs.Line.{lineAfter, outcome, stepping}
+use Rattle.line.specs.declared.Sheet.the-variants.{Fresh, Open}
+use Rattle.line.specs.Line.{lineAfter, outcome, stepping}
 use Rattle.sheet.specs.Pieces.{feeding, joined}
 use Rattle.sheet.specs.Sheet.{meaning}
-use Rattle.sheet.proofs.Entries.{recordBytes}
+use Rattle.line.proofs.Entries.{recordBytes}
 use Rattle.sheet.proofs.Pieces.{cut-anywhere}
-use Rattle.sheet.proofs.Theorems.{closing-line}
+use Rattle.line.proofs.Theorems.{closing-line}
 
 -- ---- the statement
 -- a condition, and the refusal that it gives

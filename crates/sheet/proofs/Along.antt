@@ -1,6 +1,6 @@
 -- A reader on its way through a text: what the whole text comes to is what its lines so far gave, before what the rest comes to from where the
 -- reading stands. It is the invariant of both readers; a turn keeps it, and an end of the rest is the whole text's end. Assumes nothing.
-use Prim.Native.Nat.{ℕ, _*_, _≤_, _<_}
+use Prim.Native.Nat.{ℕ, _≤_, _<_}
 use mathlib.Core.Path.{_≡_, refl, _∙_}
 use mathlib.Core.Bool.{Bool, true}
 use mathlib.Core.List.{List, [], _++_, append-assoc}
@@ -8,9 +8,11 @@ use native.Mathlib.Omega.{arith}
 use lib.ListN.{length, length-append, drop-of-length-le}
 use Rattle.sheet.specs.declared.Found.the-variants.{Taken}
 use Rattle.sheet.specs.declared.Reading.{Reading}
-use Rattle.sheet.specs.declared.Sheet.{Sheet}
-use Rattle.sheet.specs.Sheet.{linesOf, prefixed, endText, ended, lastOf, textOf, reading, soundSheet}
+use Rattle.line.specs.declared.Sheet.{Sheet}
+use Rattle.sheet.specs.Sheet.{linesOf, prefixed, endText, ended, lastOf, textOf, reading}
+use Rattle.line.specs.Line.{soundSheet}
 use Rattle.sheet.specs.Cut.{found}
+use Rattle.sheet.proofs.Steps.{most}
 use Rattle.sheet.proofs.Turns.{here, found-taken}
 
 -- `gave`: what the lines before `at` gave
@@ -18,7 +20,7 @@ pub record Along (more : Bool) (text : List ℕ) (from s : Sheet) (at : ℕ) (ga
   pub account : reading more (linesOf text) from ≡ prefixed gave (here more text at s)
   pub sound : soundSheet s ≡ true
   pub within : at ≤ length text
-  pub few : length gave ≤ 5 * at
+  pub few : length gave ≤ most s
 
 pub along-start : (more : Bool) (text : List ℕ) (s : Sheet) → soundSheet s ≡ true → Along more text s s 0 []
 along-start more text s g = record { account = refl; sound = g; within = omega arith; few = omega arith }
@@ -31,7 +33,7 @@ module _ {more : Bool} {text : List ℕ} {from s : Sheet} {at : ℕ} {gave : Lis
         account = a .account ∙ rw (took .reads, append-assoc);
         sound = took .sound;
         within = took .within;
-        few = rw length-append (omega (arith, a .few, took .few, took .further));
+        few = rw length-append (omega (arith, a .few, took .grows));
       }
 
   -- the lines have come to an end

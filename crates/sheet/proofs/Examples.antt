@@ -6,12 +6,12 @@ use Prim.Native.Nat.{ℕ}
 use Rattle.poisson.specs.Tables.{l, u, lowerRows, upperRows}
 use Rattle.refusal.specs.declared.Refusal.the-variants.{TooShort}
 use Rattle.decimal.specs.Decimal.{allDigits, isNumber, valueOf, digitsWithin, digitsOf}
-use Rattle.decimal.specs.Field.{fieldOf, readAs, fieldAt}
+use Rattle.decimal.specs.Field.{fieldOf, fieldText, readAs, fieldAt}
 use Rattle.campaign.specs.Answers.{entering}
 use Rattle.campaign.specs.State.{censored, sound}
 use Rattle.sheet.specs.declared.Reading.the-variants.{Stopped}
-use Rattle.sheet.specs.Line.{startsWith, begins, endedBy, fieldThen, recordLine, standardLine, stepping}
-use Rattle.sheet.specs.Written.{fieldText, figures, letterFor, recordText, refusedText}
+use Rattle.line.specs.Line.{startsWith, begins, endedBy, fieldThen, recordLine, standardLine, stepping}
+use Rattle.reply.specs.Written.{figures, letterFor, recordText, refusedText}
 use Rattle.sheet.specs.Sheet.{linesOf, reading, meaning}
 
 -- standard 7200000; 1 0 1800000; 2 1 933980; 3 1 0

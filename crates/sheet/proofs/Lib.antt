@@ -1,13 +1,11 @@
 pub mod Along
-pub mod Entries
+pub mod Promised
+pub mod Put
+pub mod Enough
 pub mod Examples
-pub mod Fields
-pub mod Given
 pub mod Lines
 pub mod Pieces
-pub mod Room
 pub mod Running
 pub mod Steps
-pub mod Theorems
 pub mod Turns
 pub mod Unique

@@ -17,12 +17,12 @@ use Rattle.truth.proofs.Cases.{by-order, by-test}
 use Rattle.decimal.specs.Field.{lineFeed}
 use Rattle.refusal.specs.declared.Refusal.the-variants.{BrokenState}
 use Rattle.campaign.specs.State.{sound}
-use Rattle.sheet.specs.declared.Sheet.{Sheet}
-use Rattle.sheet.specs.declared.Sheet.the-variants.{Fresh, Open}
+use Rattle.line.specs.declared.Sheet.{Sheet}
+use Rattle.line.specs.declared.Sheet.the-variants.{Fresh, Open}
 use Rattle.sheet.specs.declared.Reading.the-variants.{Waiting}
-use Rattle.sheet.specs.declared.Step.{Step}
-use Rattle.sheet.specs.declared.Step.the-variants.{Stop}
-use Rattle.sheet.specs.Line.{longestLine, endsLine, isLine, lineAfter, malformed, recordLine, standardLine, stepping}
+use Rattle.line.specs.declared.Step.{Step}
+use Rattle.line.specs.declared.Step.the-variants.{Stop}
+use Rattle.line.specs.Line.{longestLine, endsLine, isLine, lineAfter, malformed, recordLine, standardLine, stepping}
 use Rattle.sheet.specs.Sheet.{Account, linesOf, ended, afterStep, waits, reading}
 use Rattle.sheet.specs.Cut.{cut, firstLine}
 

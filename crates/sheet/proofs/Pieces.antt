@@ -16,11 +16,11 @@ use Rattle.truth.proofs.Laws.{and-true}
 use Rattle.refusal.specs.declared.Refusal.{Refusal}
 use Rattle.sheet.specs.declared.Reading.{Reading}
 use Rattle.sheet.specs.declared.Reading.the-variants.{Read, Stopped, Waiting}
-use Rattle.sheet.specs.declared.Sheet.{Sheet}
-use Rattle.sheet.specs.declared.Sheet.the-variants.{Fresh}
-use Rattle.sheet.specs.declared.Step.{Step}
-use Rattle.sheet.specs.declared.Step.the-variants.{Next, Stop}
-use Rattle.sheet.specs.Line.{longestLine, endsLine, stepping}
+use Rattle.line.specs.declared.Sheet.{Sheet}
+use Rattle.line.specs.declared.Sheet.the-variants.{Fresh}
+use Rattle.line.specs.declared.Step.{Step}
+use Rattle.line.specs.declared.Step.the-variants.{Next, Stop}
+use Rattle.line.specs.Line.{longestLine, endsLine, stepping}
 use Rattle.sheet.specs.Sheet.{Account, linesOf, prefixed, ended, afterStep, textOf, waits, reading, leftIn, meaning}
 use Rattle.sheet.specs.Cut.{cut, firstLine}
 use Rattle.sheet.specs.Pieces.{joined, lastBytes, onward, feeding}

@@ -1,125 +1,89 @@
--- A run on its way through a text: the reader is `Along`, and what its lines gave stands at the start of the lent bytes. Each line has room, five bytes
--- being kept for each byte of text that is still to come and 32 for the refused line. Assumes nothing.
-use Prim.Native.Nat.{ℕ, _+_, _-_, _*_, _^_, _≤_, _<_}
-use mathlib.Core.Path.{_≡_, refl, sym, ap, _∙_}
+-- A pass on its way through a text: the reader is `Along`, what its lines gave is counted, and where the lent bytes have room for it, it stands at their
+-- start. Assumes nothing.
+use Prim.Native.Nat.{ℕ, _+_, _^_, _≤_, _<_}
+use mathlib.Core.Path.{_≡_, refl, sym, _∙_}
 use mathlib.Core.Bool.{Bool, true, false}
 use mathlib.Core.List.{List, [], _++_}
 use native.Mathlib.Nat.{zero-add}
 use native.Mathlib.Omega.{arith}
 use lib.ListN.{length, length-append}
-use borrow.Author.Tests.{le-leb, lt-leb}
 use Rattle.refusal.specs.declared.Refusal.{Refusal}
-use Rattle.refusal.specs.declared.Refusal.the-variants.{BrokenState, Line, Room}
+use Rattle.refusal.specs.declared.Refusal.the-variants.{Line}
 use Rattle.text.specs.Write.{laid, written}
-use Rattle.text.proofs.Laws.{Wrote, laid-none, laid-join, length-laid, written-fits, after-fits}
+use Rattle.text.proofs.Laws.{laid-none, laid-join, length-written, written-fits}
+use Rattle.line.specs.declared.Sheet.{Sheet}
+use Rattle.line.specs.declared.Sheet.the-variants.{Fresh, Open}
+use Rattle.line.specs.Line.{longestLine, soundSheet}
+use Rattle.reply.proofs.Few.{refused-few}
 use Rattle.sheet.specs.declared.Found.the-variants.{Taken}
-use Rattle.sheet.specs.declared.Ran.{Ran}
-use Rattle.sheet.specs.declared.Ran.the-variants.{Came, Refused}
 use Rattle.sheet.specs.declared.Reading.{Reading}
 use Rattle.sheet.specs.declared.Reading.the-variants.{Stopped, Waiting}
-use Rattle.sheet.specs.declared.Sheet.{Sheet}
-use Rattle.sheet.specs.declared.Sheet.the-variants.{Fresh, Open}
-use Rattle.sheet.specs.Sheet.{Account, linesOf, endText, ended, lastOf, leftBy, leftIn, putBy, reading, roomFor, running, runLeft, soundSheet, textOf}
-use Rattle.sheet.specs.Line.{longestLine}
-use Rattle.sheet.specs.Cut.{found}
+use Rattle.sheet.specs.Sheet.{endText, ended, lastOf, leftIn, textOf}
+use Rattle.sheet.specs.Cut.{Passed, found}
 use Rattle.sheet.proofs.Along.{Along, along-start, along-next, whole-end, whole-text}
-use Rattle.sheet.proofs.Steps.{refused-few}
+use Rattle.sheet.proofs.Steps.{most-few}
 use Rattle.sheet.proofs.Turns.{here, found-taken}
 
 pub record Running (more : Bool) (text : List ℕ) (from : Sheet) (lent out : List ℕ) (s : Sheet) (at put : ℕ) : Type 0 where
   pub gave : List ℕ
   pub along : Along more text from s at gave
   pub place : put ≡ length gave
-  pub bytes : out ≡ laid lent 0 gave
-  pub room : 5 * length text + 32 ≤ length lent
+  pub size : length out ≡ length lent
+  pub bytes : length gave ≤ length lent → out ≡ laid lent 0 gave
 
-pub running-start : (more : Bool) (text : List ℕ) (s : Sheet) (lent : List ℕ) → soundSheet s ≡ true → 5 * length text + 32 ≤ length lent → Running more text s lent lent s 0 0
-running-start more text s lent g h = record { gave = []; along = along-start more text s g; place = refl; bytes = sym (laid-none lent 0); room = h }
+pub running-start : (more : Bool) (text : List ℕ) (s : Sheet) (lent : List ℕ) → soundSheet s ≡ true → Running more text s lent lent s 0 0
+running-start more text s lent g =
+    record { gave = []; along = along-start more text s g; place = refl; size = refl; bytes = λ h. sym (laid-none lent 0) }
 
 module _ {more : Bool} {text : List ℕ} {from : Sheet} {lent out : List ℕ} {s : Sheet} {at put : ℕ} (r : Running more text from lent out s at put) where
-  pub running-length : length out ≡ length lent
-  running-length = rw (r .bytes) (length-laid lent 0 (r .gave) (omega (arith, r .along .few, r .along .within, r .room)))
+  -- a part that goes behind what stands there
+  joined : (part : List ℕ) → length (r .gave ++ part) ≤ length lent → written out put part ≡ laid lent 0 (r .gave ++ part)
+  joined part h =
+      let few : length (r .gave) + length part ≤ length lent = rw length-append at h in
+      written-fits out put part (omega (arith, r .place, r .size))
+      ∙ rw (r .bytes (omega arith), r .place) (rw zero-add at (laid-join lent 0 (r .gave) part (omega arith)))
 
-  -- a part with room is written behind what stands there
-  part-room : (part : List ℕ) → length part ≤ 5 * (length text - at) + 32 → put + length part ≤ length out
-  part-room part h = omega (arith, running-length, r .place, r .along .few, r .along .within, r .room)
-
-  joined : (part : List ℕ) {later : List ℕ} {next : ℕ} → length part ≤ 5 * (length text - at) + 32 → Wrote out put part later next
-      → (next ≡ length (r .gave ++ part)) × (later ≡ laid lent 0 (r .gave ++ part))
-  joined part h (e, f) =
-      let fits = part-room part h in (
-        e ∙ after-fits out put part fits ∙ rw (r .place, length-append),
-        f ∙ written-fits out put part fits ∙ rw (r .bytes, r .place) (rw zero-add at (laid-join lent 0 (r .gave) part (omega (arith, running-length, r .place)))),
-      )
+  pub few-so-far : put ≤ 3000000
+  few-so-far = omega (arith, r .place, r .along .few, most-few s (r .along .sound))
 
   module _ {t : Sheet} {next : ℕ} (inside : at < length text) (e : found more text at s ≡ Taken t next) where
-    line-few : length (textOf t) ≤ 5 * (length text - at) + 32
-    line-few = let took = found-taken more text at s inside (r .along .sound) e in omega (arith, took .few, took .within, took .further)
+    pub line-few : (soundSheet t ≡ true) × (put + length (textOf t) < 2 ^ 63)
+    line-few =
+        let took = found-taken more text at s inside (r .along .sound) e in
+        (took .sound, omega (arith, r .place, r .along .few, took .grows, most-few t (took .sound)))
 
-    pub line-room : (soundSheet t ≡ true) × (put + length (textOf t) ≤ length out)
-    line-room = (found-taken more text at s inside (r .along .sound) e .sound, part-room (textOf t) line-few)
+    pub running-next : {later : List ℕ} {n : ℕ} → (n ≡ put + length (textOf t)) × (later ≡ written out put (textOf t)) → Running more text from lent later t next n
+    running-next (p, b) =
+        record {
+          gave = r .gave ++ textOf t;
+          along = along-next (r .along) inside e;
+          place = p ∙ rw (r .place, length-append);
+          size = rw b (length-written out put (textOf t) ∙ r .size);
+          bytes = λ h. b ∙ joined (textOf t) h;
+        }
 
-    pub running-next : {later : List ℕ} {n : ℕ} → Wrote out put (textOf t) later n → Running more text from lent later t next n
-    running-next w =
-        let (p, b) = joined (textOf t) line-few w in
-        record { gave = r .gave ++ textOf t; along = along-next (r .along) inside e; place = p; bytes = b; room = r .room }
-
-  pub end-room : (end : Reading) → length (endText end) ≤ 32 → put + length (endText end) ≤ length out
-  end-room end h = part-room (endText end) (omega arith)
-
-  -- what the text comes to
-  abbrev whole : Account
-  whole = reading more (linesOf text) from
-
-  ends : {end : Reading} {later : List ℕ} {n : ℕ} → here more text at s ≡ ended end → length (endText end) ≤ 32 → Wrote out put (endText end) later n
-      → (Came end n ≡ Came (whole .end) (length (whole .text))) × (later ≡ written lent 0 (whole .text)) × (n ≤ length lent)
-  ends {end} {later} {n} e h w =
-      let (p, b) = joined (endText end) (omega arith) w in
+  -- the end of the rest is the end of the whole
+  pub running-end : {end : Reading} {later : List ℕ} {n : ℕ} → here more text at s ≡ ended end → length (endText end) ≤ 33 → (leftIn end ≤ length text) × (leftIn end < longestLine)
+      → (n ≡ put + length (endText end)) × (later ≡ written out put (endText end)) → Passed more text from lent end n later
+  running-end {end} e few left (p, b) =
       let text-is = whole-text (r .along) e in
-      let fits : 0 + length (whole .text) ≤ length lent = rw (← text-is) (omega (arith, p, running-length, end-room end h, r .place, simp length-append at p)) in (
-        rw (← whole-end (r .along) e, ← text-is, p),
-        rw (written-fits lent 0 (whole .text) fits, ← text-is) b,
-        omega (arith, p, ap length text-is),
-      )
+      record {
+        ends = whole-end (r .along) e;
+        counts = p ∙ rw (← text-is, length-append, r .place);
+        writes = λ h.
+            let all : length (r .gave ++ endText end) ≤ length lent = rw length-append (omega (arith, p, r .place)) in
+            b ∙ joined (endText end) all ∙ rw text-is (sym (written-fits lent 0 _ (omega (arith, rw text-is at all))));
+        left = left;
+        small = omega (arith, p, few-so-far);
+      }
 
--- an end has room for its line, and leaves less than a line unread
-pub record Ending (text : List ℕ) (end : Reading) : Type 0 where
-  pub few : length (endText end) ≤ 32
-  pub left : leftIn end ≤ length text
-  pub short : leftIn end < longestLine
+-- an end has a short line, and leaves less than a line unread
+pub last-few : (more : Bool) (s : Sheet) → length (endText (lastOf more s)) ≤ 33
+last-few true s = omega arith
+last-few false Fresh = refused-few 1 (Line 1) (omega arith)
+last-few false (Open c) = omega arith
 
-pub last-ending : (more : Bool) (text : List ℕ) (s : Sheet) → Ending text (lastOf more s)
-last-ending true text s = record { few = omega arith; left = omega arith; short = omega arith }
-last-ending false text Fresh = record { few = refused-few 1 (Line 1) (omega arith); left = omega arith; short = omega arith }
-last-ending false text (Open c) = record { few = omega arith; left = omega arith; short = omega arith }
-
-pub stopped-ending : (text : List ℕ) {line : ℕ} {r : Refusal} → line < 10 ^ 20 → Ending text (Stopped line r)
-stopped-ending text {line} {r} h = record { few = refused-few line r h; left = omega arith; short = omega arith }
-
-pub waiting-ending : (text : List ℕ) {s : Sheet} {n : ℕ} → n ≤ length text → n < longestLine → Ending text (Waiting s n)
-waiting-ending text h k = record { few = omega arith; left = h; short = k }
-
--- the promise of a run
-abbrev pub Promised : Bool → List ℕ → Sheet → List ℕ → Ran → List ℕ → Type 0
-Promised more text from lent ran later =
-    (ran ≡ running more text from lent)
-    × ((later ≡ runLeft more text from lent)
-    × ((putBy ran ≤ length lent)
-    × ((leftBy ran ≤ length text) × (leftBy ran < longestLine))))
-
-module _ (more : Bool) (text : List ℕ) (from : Sheet) (lent : List ℕ) where
-  pub run-broken : soundSheet from ≡ false → Promised more text from lent (Refused BrokenState) lent
-  unfolding running runLeft
-  run-broken g = rw g (refl, (refl, (omega arith, (omega arith, omega arith))))
-
-  pub run-short : {n : ℕ} → soundSheet from ≡ true → n ≡ roomFor (length text) → length lent < n → Promised more text from lent (Refused (Room n)) lent
-  unfolding running runLeft
-  run-short {n} g e h = rw (g, lt-leb (roomFor (length text)) (length lent) (omega arith), e) (refl, (refl, (omega arith, (omega arith, omega arith))))
-
-pub run-came : {more : Bool} {text : List ℕ} {from : Sheet} {lent out : List ℕ} {s : Sheet} {at put : ℕ} (r : Running more text from lent out s at put)
-    {end : Reading} {later : List ℕ} {n : ℕ} → soundSheet from ≡ true → here more text at s ≡ ended end → Ending text end → Wrote out put (endText end) later n
-    → Promised more text from lent (Came end n) later
-unfolding running runLeft
-run-came {text = text} {lent = lent} r g e k w =
-    let (ran, left, few) = ends r e (k .few) w in
-    rw (g, le-leb (roomFor (length text)) (length lent) (omega (arith, r .room))) (ran, (left, (few, (k .left, k .short))))
+pub last-left : (more : Bool) (s : Sheet) → leftIn (lastOf more s) ≡ 0
+last-left true s = refl
+last-left false Fresh = refl
+last-left false (Open c) = refl

@@ -12,14 +12,14 @@ use Rattle.truth.proofs.Laws.{and-true}
 use Rattle.refusal.specs.declared.Refusal.{Refusal}
 use Rattle.sheet.specs.declared.Found.the-variants.{Taken, Waits, Bad}
 use Rattle.sheet.specs.declared.Reading.the-variants.{Stopped, Waiting}
-use Rattle.sheet.specs.declared.Sheet.{Sheet}
-use Rattle.sheet.specs.declared.Step.{Step}
-use Rattle.sheet.specs.declared.Step.the-variants.{Next, Stop}
-use Rattle.sheet.specs.Line.{endsLine, longestLine, stepping}
-use Rattle.sheet.specs.Sheet.{Account, linesOf, prefixed, ended, afterStep, textOf, waits, reading, soundSheet}
+use Rattle.line.specs.declared.Sheet.{Sheet}
+use Rattle.line.specs.declared.Step.{Step}
+use Rattle.line.specs.declared.Step.the-variants.{Next, Stop}
+use Rattle.line.specs.Line.{endsLine, longestLine, soundSheet, stepping}
+use Rattle.sheet.specs.Sheet.{Account, linesOf, prefixed, ended, afterStep, textOf, waits, reading}
 use Rattle.sheet.specs.Cut.{firstLine, foundAt, found}
 use Rattle.sheet.proofs.Lines.{cut-within, cut-some, length-first, reading-turn}
-use Rattle.sheet.proofs.Steps.{step-led, step-line}
+use Rattle.sheet.proofs.Steps.{most, step-led, step-line}
 
 -- the three cases are apart, and each holds what it was made of
 not-taken : {n : ℕ} {t : Sheet} {next : ℕ} → ¬ (Waits n ≡ Taken t next)
@@ -51,7 +51,7 @@ module _ (more : Bool) (text : List ℕ) (at : ℕ) (s : Sheet) where
     pub further : at < next
     pub within : next ≤ length text
     pub sound : soundSheet t ≡ true
-    pub few : length (textOf t) ≤ 5 * (next - at)
+    pub grows : most s + length (textOf t) ≤ most t
 
   module _ (inside : at < length text) where
     abbrev part : List ℕ
@@ -84,7 +84,7 @@ module _ (more : Bool) (text : List ℕ) (at : ℕ) (s : Sheet) where
               further = rw (← place) starts;
               within = rw (← place) ends;
               sound = led .sound;
-              few = omega (arith, led .few);
+              grows = led .grows;
             }
 
     pub found-waits : {n : ℕ} → found more text at s ≡ Waits n → (here ≡ ended (Waiting s n)) × (n ≤ length text) × (n < longestLine)

@@ -1,18 +1,24 @@
 -- What the readers' own functions answer, on the way to a sheet's meaning: the bytes of a text that a reader hands over as its first line, and what
 -- they come to. Assumes nothing.
-use Prim.Native.Nat.{ℕ, zero, suc, _+_}
+use Prim.Native.Nat.{ℕ, zero, suc, _+_, _^_, _≤_, _<_}
+use mathlib.Core.Path.{_≡_}
 use mathlib.Core.Bool.{Bool, cond}
 use mathlib.Core.List.{List, [], _∷_}
 use lib.ListN.{length, take, drop}
 use lib.Dec.{eqb}
+use Rattle.refusal.specs.Numbers.{valueOf}
+use Rattle.text.specs.Write.{written}
 use Rattle.decimal.specs.Field.{lineFeed}
+use Rattle.reply.specs.declared.Written.{Written}
+use Rattle.reply.specs.declared.Written.the-variants.{Upto, Refused}
 use Rattle.sheet.specs.declared.Found.{Found}
 use Rattle.sheet.specs.declared.Found.the-variants.{Taken, Waits, Bad}
-use Rattle.sheet.specs.declared.Sheet.{Sheet}
-use Rattle.sheet.specs.declared.Step.{Step}
-use Rattle.sheet.specs.declared.Step.the-variants.{Next, Stop}
-use Rattle.sheet.specs.Line.{longestLine, stepping}
-use Rattle.sheet.specs.Sheet.{waits}
+use Rattle.line.specs.declared.Sheet.{Sheet}
+use Rattle.line.specs.declared.Step.{Step}
+use Rattle.line.specs.declared.Step.the-variants.{Next, Stop}
+use Rattle.line.specs.Line.{longestLine, stepping}
+use Rattle.sheet.specs.declared.Reading.{Reading}
+use Rattle.sheet.specs.Sheet.{leftIn, linesOf, reading, waits}
 
 -- the bytes up to the first LF and with it, at most n of them
 unfoldable pub cut : ℕ → List ℕ → ℕ
@@ -33,3 +39,16 @@ unfoldable pub found : Bool → List ℕ → ℕ → Sheet → Found
 found more text at s =
     cond (waits more (firstLine (drop at text))) (Waits (length (firstLine (drop at text))))
     (foundAt (at + length (firstLine (drop at text))) (stepping s (firstLine (drop at text))))
+
+-- the place behind a text that a writer was to write at a place, also where it had no room
+abbrev pub behindOf : ℕ → Written → ℕ
+behindOf at (Upto next) = next
+behindOf at (Refused r) = at + valueOf r
+
+-- what a pass over a text comes to, the bytes that it counts, and what it leaves in lent bytes that have room for them
+pub record Passed (more : Bool) (text : List ℕ) (s : Sheet) (lent : List ℕ) (end : Reading) (put : ℕ) (later : List ℕ) : Type 0 where
+  pub ends : end ≡ reading more (linesOf text) s .end
+  pub counts : put ≡ length (reading more (linesOf text) s .text)
+  pub writes : put ≤ length lent → later ≡ written lent 0 (reading more (linesOf text) s .text)
+  pub left : (leftIn end ≤ length text) × (leftIn end < longestLine)
+  pub small : put < 2 ^ 63

@@ -1,5 +1,3 @@
-pub mod Line
-pub mod Written
 pub mod Sheet
 pub mod Cut
 pub mod Pieces

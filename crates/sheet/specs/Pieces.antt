@@ -6,7 +6,7 @@ use mathlib.Core.List.{List, [], _∷_, _++_}
 use lib.ListN.{length, drop}
 use Rattle.sheet.specs.declared.Reading.{Reading}
 use Rattle.sheet.specs.declared.Reading.the-variants.{Read, Stopped, Waiting}
-use Rattle.sheet.specs.declared.Sheet.{Sheet}
+use Rattle.line.specs.declared.Sheet.{Sheet}
 use Rattle.sheet.specs.Sheet.{Account, linesOf, prefixed, reading}
 
 -- the pieces as one text

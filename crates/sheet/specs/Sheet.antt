@@ -1,5 +1,5 @@
 -- Document 01, "The job sheet": what a text means, from its bytes: what the program writes, and what the reading ends in. Assumes nothing.
-use Prim.Native.Nat.{ℕ, _+_, _*_, min}
+use Prim.Native.Nat.{ℕ}
 use mathlib.Core.Bool.{Bool, true, false, cond, not, _&&_}
 use mathlib.Core.List.{List, [], _∷_, _++_}
 use lib.ListN.{length}
@@ -7,17 +7,16 @@ use lib.Dec.{eqb, leb, ltb}
 use Rattle.refusal.specs.declared.Refusal.the-variants.{BrokenState, Line, Room}
 use Rattle.text.specs.Write.{written}
 use Rattle.decimal.specs.Field.{lineFeed}
-use Rattle.campaign.specs.State.{sound}
 use Rattle.sheet.specs.declared.Reading.{Reading}
 use Rattle.sheet.specs.declared.Reading.the-variants.{Read, Stopped, Waiting}
 use Rattle.sheet.specs.declared.Ran.{Ran}
 use Rattle.sheet.specs.declared.Ran.the-variants.{Came, Refused}
-use Rattle.sheet.specs.declared.Sheet.{Sheet}
-use Rattle.sheet.specs.declared.Sheet.the-variants.{Fresh, Open}
-use Rattle.sheet.specs.declared.Step.{Step}
-use Rattle.sheet.specs.declared.Step.the-variants.{Next, Stop}
-use Rattle.sheet.specs.Line.{endsLine, longestLine, stepping}
-use Rattle.sheet.specs.Written.{recordText, refusedText}
+use Rattle.line.specs.declared.Sheet.{Sheet}
+use Rattle.line.specs.declared.Sheet.the-variants.{Fresh, Open}
+use Rattle.line.specs.declared.Step.{Step}
+use Rattle.line.specs.declared.Step.the-variants.{Next, Stop}
+use Rattle.line.specs.Line.{endsLine, longestLine, soundSheet, stepping}
+use Rattle.reply.specs.Written.{recordText, refusedText}
 
 -- ---- the lines of a text: each goes up to an LF and has it; what stands behind the last LF is a line too, without one
 abbrev pub startLine : ℕ → List (List ℕ) → List (List ℕ)
@@ -76,28 +75,20 @@ unfoldable pub meaning : List ℕ → Account
 meaning text = reading false (linesOf text) Fresh
 
 -- ---- what the readers of a lent text answer; a campaign that was never handed out is refusal 8
-abbrev pub soundSheet : Sheet → Bool
-soundSheet Fresh = true
-soundSheet (Open c) = sound c
-
 unfoldable pub readingEnd : Bool → List ℕ → Sheet → Reading
 readingEnd more text s = cond (soundSheet s) (reading more (linesOf text) s .end) (Stopped 0 BrokenState)
 
--- the bytes that a run over a text of n bytes asks for: five for each, and what the refused line needs; as far as 64 bits hold the number
-abbrev pub roomFor : ℕ → ℕ
-roomFor n = min (5 * n + 32) 18446744073709551615
-
--- a run writes what its lines give: 8, 7; a refusal leaves the lent bytes as they were
+-- a run writes what its lines give: 8, 7 with the bytes needed; a refusal leaves the lent bytes as they were
 unfoldable pub running : Bool → List ℕ → Sheet → List ℕ → Ran
 running more text s out =
     cond (soundSheet s)
-    (cond (leb (roomFor (length text)) (length out))
+    (cond (leb (length (reading more (linesOf text) s .text)) (length out))
     (Came (reading more (linesOf text) s .end) (length (reading more (linesOf text) s .text)))
-    (Refused (Room (roomFor (length text)))))
+    (Refused (Room (length (reading more (linesOf text) s .text)))))
     (Refused BrokenState)
 
 unfoldable pub runLeft : Bool → List ℕ → Sheet → List ℕ → List ℕ
-runLeft more text s out = cond (soundSheet s && leb (roomFor (length text)) (length out)) (written out 0 (reading more (linesOf text) s .text)) out
+runLeft more text s out = cond (soundSheet s) (written out 0 (reading more (linesOf text) s .text)) out
 
 -- what a caller counts with: the bytes that a run wrote, and those that it left unread
 abbrev pub putBy : Ran → ℕ

@@ -4,13 +4,13 @@
 ghost use mathlib.Core.Path.{_≡_};
 ghost use Prim.Native.Nat.{_+_, _≤_, _<_};
 ghost use lib.ListN.{length, take, drop};
-ghost use Rattle.sheet.specs.Line.{longestLine};
+ghost use Rattle.line.specs.Line.{longestLine};
 ghost use Rattle.tally.specs.Kept.{keptBy};
 use libc::STDIN_FILENO;
 use libc::STDOUT_FILENO;
+use line::Sheet;
 use sheet::Ran;
 use sheet::Reading;
-use sheet::Sheet;
 
 // What a turn of the loop comes to: where the reading stands, with the bytes of a line begun; or the end.
 enum After {

@@ -5,8 +5,7 @@ use Prim.Native.Nat.{ℕ, _+_, _-_, _≤_}
 use mathlib.Core.Path.{_≡_, sym, _∙_}
 use denote.Ref.{now}
 use mathlib.Core.List.{List}
-use Rattle.sheet.specs.Line.{longestLine}
-use Rattle.sheet.specs.Line.{stepping}
+use Rattle.line.specs.Line.{longestLine, stepping}
 use Rattle.sheet.specs.Sheet.{waits}
 use Rattle.sheet.specs.Cut.{cut, firstLine, found}
 use Rattle.sheet.proofs.Lines.{end-within, part-length, part-end, part-first}

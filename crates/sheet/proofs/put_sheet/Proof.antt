@@ -1,10 +1,29 @@
 -- `sheet::put_sheet` meets its contract: before line 1 nothing is written, and after a line the record's. Assumes nothing.
+use Prim.Native.Nat.{ℕ, _+_}
+use mathlib.Core.Path.{_≡_, ap, _∙_}
 use native.Mathlib.Omega.{arith}
+use lib.ListN.{length}
 use denote.Ref.{now}
-use Rattle.text.proofs.Parts.{wrote-none}
+use Rattle.reply.specs.Written.{recordText, recordLeft, recordWriting}
+use Rattle.sheet.specs.Cut.{behindOf}
+use Rattle.sheet.specs.Sheet.{textOf}
+use Rattle.sheet.proofs.Put.{behind-writing, none-written}
 use borrow.Author.Needs.{needs}
 use Rattle.sheet.proofs.put_sheet.Statement.{statement}
 use Rattle.sheet.proofs.put_sheet.Tie as tie
+
+abbrev sheet-of : tie.After-write-record → tie.After-s
+sheet-of c = c .before .before .before
+
+abbrev start : tie.After-s → tie.Start
+start c = c .before .before .before
+
+place : (c : tie.After-write-record) → let s = sheet-of c in
+    behindOf (start s .args .at) (c .write-record .result) ≡ start s .args .at + length (recordText (s .s .given .0 .0))
+unfolding recordWriting
+place c =
+    let s = sheet-of c in
+    behind-writing (now (start s .args .out)) (start s .args .at) _ (rw (rw (s .s .given .1) at (start s .pre .0)) at (c .write-record .ensures .0))
 
 enum-known-s : tie.Need-enum-known-s
 enum-known-s c = search needs
@@ -13,17 +32,34 @@ enum-told : tie.Need-enum-told
 enum-told c = search needs
 
 returns : tie.Need-returns
-returns c = rw (c .enum-told .given .1) (wrote-none (now (c .before .before .before .args .out)) (c .before .before .before .args .at) (omega (arith, rw (c .enum-told .given .1) at (c .before .before .before .pre .1))))
+returns c = rw (c .enum-told .given .1) (none-written (now (c .before .before .before .args .out)) (c .before .before .before .args .at))
 
-put-record-requires : tie.Need-put-record-requires
-put-record-requires c κs = (rw (c .before .before .s .given .1) at (c .before .before .before .before .before .pre .0), rw (c .before .before .s .given .1) at (c .before .before .before .before .before .pre .1))
+write-record-requires : tie.Need-write-record-requires
+write-record-requires c κs = search needs
+
+behind-requires : tie.Need-behind-requires
+behind-requires c κs =
+    let w = c .before .before in
+    omega (arith, place w, ap (λ s. length (textOf s)) (sheet-of w .s .given .1), start (sheet-of w) .pre .1)
 
 same-length : tie.Need-same-length
 same-length c = search needs
 
 returns-2 : tie.Need-returns-2
-returns-2 c = rw (c .before .before .before .before .before .s .given .1) (c .before .before .put-record .ensures)
+unfolding recordLeft
+returns-2 c =
+    let w = c .before .before .before in
+    let s = sheet-of w in
+    rw (s .s .given .1) (c .behind .ensures ∙ place w, rw (rw (s .s .given .1) at (start s .pre .0)) at (w .write-record .ensures .1))
 
 pub put-sheet-spec : {M : Type 1} → statement M
 put-sheet-spec =
-    tie.close (tie.spec enum-known-s enum-told returns put-record-requires same-length returns-2)
+    tie.close
+    (tie.spec
+    enum-known-s
+    enum-told
+    returns
+    write-record-requires
+    behind-requires
+    same-length
+    returns-2)

@@ -9,7 +9,8 @@ use borrow.Author.Needs.{needs}
 use lib.ListN.{length}
 use denote.Ref.{now}
 use Rattle.truth.proofs.Laws.{said-no, said-yes}
-use Rattle.sheet.specs.Sheet.{readingEnd, soundSheet}
+use Rattle.sheet.specs.Sheet.{readingEnd}
+use Rattle.line.specs.Line.{soundSheet}
 use Rattle.sheet.specs.Cut.{found}
 use Rattle.sheet.proofs.Along.{Along, along-start, along-next, along-last, whole-end}
 use Rattle.sheet.proofs.Turns.{found-taken, found-waits, found-bad}

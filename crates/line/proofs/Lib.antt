@@ -1,0 +1,4 @@
+pub mod Entries
+pub mod Fields
+pub mod Theorems
+pub mod Unique

@@ -1,0 +1,178 @@
+-- `line::record_line` meets its contract: the line is taken apart field by field, and each answer follows from the fields and tests that led to
+-- it. A campaign that keeps its relations has few enough records for the line's number to fit. Assumes nothing.
+use native.Mathlib.Omega.{arith}
+use mathlib.Core.Path.{_≡_, sym, ap, _∙_}
+use mathlib.Core.Bool.{true}
+use denote.Ref.{now}
+use mathlib.Core.List.{List}
+use Prim.Native.Nat.{ℕ}
+use Rattle.truth.proofs.Laws.{holds, said-no, said-yes}
+use Rattle.campaign.proofs.Relations.{kept-from}
+use Rattle.decimal.specs.Field.{tab, lineFeed}
+use Rattle.decimal.specs.declared.Field.the-variants.{Number}
+use Rattle.line.specs.Line.{isLine, fieldThen, isRecord, lineAfter, outcome, recordLine}
+use borrow.Author.Needs.{needs}
+use Rattle.line.proofs.record_line.Statement.{statement}
+use Rattle.line.proofs.record_line.Tie as tie
+
+-- a field's number, and the place after it
+abbrev Found : Type 0
+Found = ℕ × ℕ
+
+-- the places on the way back: the test of the line, and each field
+abbrev line-of : tie.After-known-told → tie.Else1
+line-of c = c .before .before .before .before
+
+abbrev first-of : tie.After-known-told2 → tie.After-known-told
+first-of c = c .before .before .before .before
+
+abbrev second-of : tie.After-known-told3 → tie.After-known-told2
+second-of c = c .before .before .before .before
+
+abbrev fields-of : tie.After-both2 → tie.After-known-told3
+fields-of c = c .before .before .before
+
+abbrev start : tie.Else1 → tie.Start
+start c = c .before .before .before .before
+
+-- what is known past each
+abbrev Text : tie.Else1 → List ℕ
+Text c = now (start c .args .text)
+
+abbrev number : tie.After-known-told → Found
+number c = (c .before .number .given .0 .0, c .before .number .given .0 .1 .0)
+
+abbrev flag : tie.After-known-told2 → Found
+flag c = (c .before .flag .given .0 .0, c .before .flag .given .0 .1 .0)
+
+abbrev exposure : tie.After-known-told3 → Found
+exposure c = (c .before .exposure .given .0 .0, c .before .exposure .given .0 .1 .0)
+
+within : (c : tie.Else1) → isLine (Text c) ≡ true
+within c = said-yes (c .before .is-line .ensures) (c .if1 .left)
+
+first : (c : tie.After-known-told) → fieldThen tab (Text (line-of c)) 0 ≡ Number (number c .0) (number c .1)
+first c = sym (c .before .before .before .field-then .ensures) ∙ c .before .number .given .1
+
+second : (c : tie.After-known-told2) → fieldThen tab (Text (line-of (first-of c))) (number (first-of c) .1) ≡ Number (flag c .0) (flag c .1)
+second c = sym (c .before .before .before .field-then2 .ensures) ∙ c .before .flag .given .1
+
+third : (c : tie.After-known-told3) → fieldThen lineFeed (Text (line-of (first-of (second-of c)))) (flag (second-of c) .1) ≡ Number (exposure c .0) (exposure c .1)
+third c = sym (c .before .before .before .field-then3 .ensures) ∙ c .before .exposure .given .1
+
+tests : (c : tie.After-both2) → let t = fields-of c in let s = second-of t in let f = first-of s in
+    isRecord (start (line-of f) .args .c) (Text (line-of f)) (number f .0) (flag s .0) (exposure t .1) ≡ c .both2 .result
+tests c = cc
+
+add-line : tie.Need-add-line
+add-line c = omega (arith, kept-from (c .before .before .args .c) (holds (c .before .before .pre)) .records)
+
+is-line-requires : tie.Need-is-line-requires
+is-line-requires c κs = search needs
+
+returns : tie.Need-returns
+unfolding recordLine
+returns c = rw (said-no (c .before .is-line .ensures) (c .if1 .taken))
+
+field-then-requires : tie.Need-field-then-requires
+field-then-requires c κs = search needs
+
+enum-known-number : tie.Need-enum-known-number
+enum-known-number c = search needs
+
+enum-told : tie.Need-enum-told
+enum-told c = search needs
+
+returns-2 : tie.Need-returns-2
+unfolding recordLine
+returns-2 c = rw (within (c .before .before .before), sym (c .before .before .field-then .ensures) ∙ c .enum-told .given .1)
+
+field-then-requires-2 : tie.Need-field-then-requires-2
+field-then-requires-2 c κs = search needs
+
+enum-known-flag : tie.Need-enum-known-flag
+enum-known-flag c = search needs
+
+enum-told-2 : tie.Need-enum-told-2
+enum-told-2 c = search needs
+
+returns-3 : tie.Need-returns-3
+unfolding recordLine
+returns-3 c =
+    let f = c .before .before .before in
+    rw (within (line-of f), first f, sym (c .before .before .field-then2 .ensures) ∙ c .enum-told2 .given .1)
+
+field-then-requires-3 : tie.Need-field-then-requires-3
+field-then-requires-3 c κs = search needs
+
+enum-known-exposure : tie.Need-enum-known-exposure
+enum-known-exposure c = search needs
+
+enum-told-3 : tie.Need-enum-told-3
+enum-told-3 c = search needs
+
+returns-4 : tie.Need-returns-4
+unfolding recordLine
+returns-4 c =
+    let s = c .before .before .before in
+    rw (within (line-of (first-of s)), first (first-of s), second s, sym (c .before .before .field-then3 .ensures) ∙ c .enum-told3 .given .1)
+
+add-both : tie.Need-add-both
+add-both c =
+    omega (arith, kept-from (start (line-of (first-of (second-of (c .before)))) .args .c) (holds (start (line-of (first-of (second-of (c .before)))) .pre)) .records)
+
+both-requires : tie.Need-both-requires
+both-requires c κs = search needs
+
+both-requires-2 : tie.Need-both-requires-2
+both-requires-2 c κs = search needs
+
+returns-5 : tie.Need-returns-5
+unfolding recordLine
+returns-5 c =
+    let t = fields-of (c .before) in
+    let s = second-of t in
+    rw (within (line-of (first-of s)), first (first-of s), second s, third t, said-no (sym (tests (c .before))) (c .if2 .taken))
+
+enter-requires : tie.Need-enter-requires
+enter-requires c κs = search needs
+
+outcome-requires : tie.Need-outcome-requires
+outcome-requires c κs = search needs
+
+returns-6 : tie.Need-returns-6
+unfolding recordLine
+returns-6 c =
+    let b = c .before .before .before in
+    let t = fields-of b in
+    let s = second-of t in
+    let f = first-of s in
+    rw (within (line-of f), first f, second s, third t, said-yes (sym (tests b)) (c .before .before .if2 .left))
+    (c .outcome .ensures ∙ ap (outcome (lineAfter (start (line-of f) .args .c))) (c .before .enter .ensures))
+
+pub record-line-spec : {M : Type 1} → statement M
+record-line-spec =
+    tie.close
+    (tie.spec
+    add-line
+    is-line-requires
+    returns
+    field-then-requires
+    enum-known-number
+    enum-told
+    returns-2
+    field-then-requires-2
+    enum-known-flag
+    enum-told-2
+    returns-3
+    field-then-requires-3
+    enum-known-exposure
+    enum-told-3
+    returns-4
+    add-both
+    both-requires
+    both-requires-2
+    returns-5
+    enter-requires
+    outcome-requires
+    returns-6)

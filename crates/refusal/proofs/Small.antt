@@ -1,0 +1,17 @@
+-- A refusal's number has at most two digits. Assumes nothing.
+use Prim.Native.Nat.{_<_}
+use native.Mathlib.Omega.{arith}
+use Rattle.refusal.specs.declared.Refusal.{Refusal}
+use Rattle.refusal.specs.declared.Refusal.the-variants.{Item, Sample, TooLong, TooShort, CampaignFull, RowsUsedUp, Room, BrokenState, Line}
+use Rattle.refusal.specs.Numbers.{numberOf}
+
+pub number-small : (r : Refusal) → numberOf r < 100
+number-small (Item i) = omega arith
+number-small (Sample p) = omega arith
+number-small TooLong = omega arith
+number-small TooShort = omega arith
+number-small CampaignFull = omega arith
+number-small RowsUsedUp = omega arith
+number-small (Room k) = omega arith
+number-small BrokenState = omega arith
+number-small (Line l) = omega arith

@@ -1,0 +1,4 @@
+pub mod Few
+pub mod Given
+pub mod Room
+pub mod Unique

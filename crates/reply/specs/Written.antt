@@ -1,0 +1,61 @@
+-- Document 01, "The job sheet": the lines that the program writes, fields parted by a tab, ended by LF; and what writing one into lent bytes
+-- answers and leaves. Assumes nothing.
+use Prim.Native.Nat.{ℕ, _+_}
+use mathlib.Core.Bool.{cond}
+use mathlib.Core.List.{List, [], _∷_, _++_}
+use lib.ListN.{length}
+use lib.Dec.{eqb}
+use Rattle.refusal.specs.declared.Refusal.{Refusal}
+use Rattle.refusal.specs.declared.Refusal.the-variants.{BrokenState, Room}
+use Rattle.refusal.specs.Numbers.{numberOf}
+use Rattle.text.specs.Write.{fits, written}
+use Rattle.decimal.specs.Field.{tab, lineFeed, fieldText}
+use Rattle.campaign.specs.declared.Campaign.{Campaign}
+use Rattle.verdict.specs.declared.Verdict.{Verdict}
+use Rattle.verdict.specs.declared.Verdict.the-variants.{Accept, Reject, Continue, NoRecord}
+use Rattle.campaign.specs.State.{censored, sound}
+use Rattle.verdict.specs.Figures.{verdictOf}
+use Rattle.reply.specs.declared.Written.{Written}
+use Rattle.reply.specs.declared.Written.the-variants.{Upto, Refused}
+
+-- A, R or C; no record has no letter
+abbrev pub letterOf : Verdict → ℕ
+letterOf (Accept upper) = 65
+letterOf (Reject lower) = 82
+letterOf (Continue lower upper) = 67
+letterOf NoRecord = 0
+
+-- the letter of a campaign's verdict
+unfoldable pub letterFor : Campaign → ℕ
+letterFor c = letterOf (verdictOf c)
+
+-- for each record: number, N, N*, T and the letter
+unfoldable pub figures : Campaign → ℕ → List ℕ
+figures c letter =
+    fieldText (c .records) tab
+    ++ (fieldText (c .failures) tab
+    ++ (fieldText (censored c) tab
+    ++ (fieldText (c .exposure) tab
+    ++ (letter ∷ lineFeed ∷ []))))
+
+-- without a record nothing is written
+unfoldable pub recordText : Campaign → List ℕ
+recordText c = cond (eqb (c .records) 0) [] (figures c (letterFor c))
+
+-- at the first refusal: refused, line number, refusal number
+abbrev pub refusedWord : List ℕ
+refusedWord = 114 ∷ 101 ∷ 102 ∷ 117 ∷ 115 ∷ 101 ∷ 100 ∷ tab ∷ []
+
+unfoldable pub refusedText : ℕ → Refusal → List ℕ
+refusedText line r = refusedWord ++ (fieldText line tab ++ fieldText (numberOf r) lineFeed)
+
+-- the answer of a writer: the place after the text; where it has no room 7, with the bytes needed
+unfoldable pub writing : List ℕ → ℕ → List ℕ → Written
+writing out at text = cond (fits out at text) (Upto (at + length text)) (Refused (Room (length text)))
+
+-- a record's line: 8, 7; a refusal leaves the lent bytes as they were
+unfoldable pub recordWriting : Campaign → List ℕ → ℕ → Written
+recordWriting c out at = cond (sound c) (writing out at (recordText c)) (Refused BrokenState)
+
+unfoldable pub recordLeft : Campaign → List ℕ → ℕ → List ℕ
+recordLeft c out at = cond (sound c) (written out at (recordText c)) out

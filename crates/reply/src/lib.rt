@@ -1,0 +1,135 @@
+// The lines that the bureau writes about a job sheet, by document 01's section of that name: one for each record, and the refused line. Each is written
+// whole into lent bytes from a place on, or not at all.
+ghost use mathlib.Core.Path.{_≡_};
+ghost use mathlib.Core.Bool.{true};
+ghost use Prim.Native.Nat.{_+_, _≤_};
+ghost use lib.ListN.{length};
+ghost use Rattle.text.specs.Write.{written, placeAfter};
+ghost use Rattle.decimal.specs.Field.{fieldText};
+ghost use Rattle.campaign.specs.State.{censored, sound};
+ghost use Rattle.reply.specs.Written.{letterFor, recordText, recordLeft, recordWriting, refusedText, writing};
+use campaign::Campaign;
+use refusal::Refusal;
+use verdict::Counted;
+use verdict::Judged;
+use verdict::Verdict;
+
+const TAB: u8 = 9;
+
+const LF: u8 = 10;
+
+// The place after the text that was written.
+pub enum Written {
+    Upto(usize),
+    Refused(Refusal),
+}
+
+// Writes `v` and the byte `end` into `out` from `at` on.
+fn put_field(v: u64, end: u8, out: &mut [u8], at: usize) -> usize
+    requires { ⌜ at + length (fieldText v end) ≤ length (now out) ⌝ }
+    ensures { λ r. ⌜ r ≡ placeAfter (now (out .entry)) at (fieldText v end) ⌝ }
+    ensures { λ _. ⌜ now (out .exit) ≡ written (now (out .entry)) at (fieldText v end) ⌝ }
+{
+    let next = decimal::write_number(v, out, at);
+    text::write_byte(end, out, next)
+}
+
+// The letter of the verdict on a campaign that keeps its relations.
+fn letter(c: Campaign) -> u8
+    requires { ⌜ sound c ≡ true ⌝ }
+    ensures { λ r. ⌜ r ≡ letterFor c ⌝ }
+{
+    let Judged::Given(v) = verdict::judge(c) else {
+        return 0;
+    };
+    match v {
+        Verdict::Accept(_) => b'A',
+        Verdict::Reject(_) => b'R',
+        Verdict::Continue(_, _) => b'C',
+        Verdict::NoRecord => 0,
+    }
+}
+
+// N* of a campaign that keeps its relations.
+fn censored(c: Campaign) -> u64
+    requires { ⌜ sound c ≡ true ⌝ }
+    ensures { λ r. ⌜ r ≡ censored c ⌝ }
+{
+    let Counted::Count(n) = verdict::censored(c) else {
+        return 0;
+    };
+    n
+}
+
+// The bytes of a record's line.
+fn record_length(c: Campaign) -> usize
+    requires { ⌜ sound c ≡ true ⌝ }
+    ensures { λ r. ⌜ r ≡ length (recordText c) ⌝ }
+{
+    if c.records == 0 {
+        return 0;
+    }
+    decimal::digits(c.records)
+        + decimal::digits(c.failures)
+        + decimal::digits(censored(c))
+        + decimal::digits(c.exposure)
+        + 6
+}
+
+// Writes a record's line where it has room.
+fn put_record(c: Campaign, out: &mut [u8], at: usize) -> usize
+    requires { ⌜ (sound c ≡ true) × (at + length (recordText c) ≤ length (now out)) ⌝ }
+    ensures { λ r. ⌜ r ≡ placeAfter (now (out .entry)) at (recordText c) ⌝ }
+    ensures { λ _. ⌜ now (out .exit) ≡ written (now (out .entry)) at (recordText c) ⌝ }
+{
+    if c.records == 0 {
+        return at;
+    }
+    let censors = censored(c);
+    let verdict = letter(c);
+    let second = put_field(c.records, TAB, out, at);
+    let third = put_field(c.failures, TAB, out, second);
+    let fourth = put_field(censors, TAB, out, third);
+    let fifth = put_field(c.exposure, TAB, out, fourth);
+    let end = text::write_byte(verdict, out, fifth);
+    text::write_byte(LF, out, end)
+}
+
+// Writes the line of the campaign's last record into `out` from `at` on: number, N, N*, T and A, R or C; without a record nothing. Or refusal 8; 7
+// with the bytes needed.
+pub fn write_record(c: Campaign, out: &mut [u8], at: usize) -> Written
+    ensures { λ r. ⌜ r ≡ recordWriting c (now (out .entry)) at ⌝ }
+    ensures { λ _. ⌜ now (out .exit) ≡ recordLeft c (now (out .entry)) at ⌝ }
+{
+    if !campaign::sound(c) {
+        return Written::Refused(Refusal::BrokenState);
+    }
+    let needed = record_length(c);
+    if !text::has_room(out.len(), at, needed) {
+        return Written::Refused(Refusal::Room(needed as u64));
+    }
+    Written::Upto(put_record(c, out, at))
+}
+
+// Writes the refused line where it has room.
+fn put_refused(line: u64, r: Refusal, out: &mut [u8], at: usize) -> usize
+    requires { ⌜ at + length (refusedText line r) ≤ length (now out) ⌝ }
+    ensures { λ n. ⌜ n ≡ placeAfter (now (out .entry)) at (refusedText line r) ⌝ }
+    ensures { λ _. ⌜ now (out .exit) ≡ written (now (out .entry)) at (refusedText line r) ⌝ }
+{
+    let number = text::write_bytes(b"refused\t", out, at);
+    let reason = put_field(line, TAB, out, number);
+    put_field(refusal::number(r), LF, out, reason)
+}
+
+// Writes the refused line into `out` from `at` on: refused, the line's number, the refusal's. Or refusal 7 with the bytes needed.
+pub fn write_refused(line: u64, r: Refusal, out: &mut [u8], at: usize) -> Written
+    ensures { λ w. ⌜ w ≡ writing (now (out .entry)) at (refusedText line r) ⌝ }
+    ensures { λ _. ⌜ now (out .exit) ≡ written (now (out .entry)) at (refusedText line r) ⌝ }
+{
+    let needed = decimal::digits(line) + decimal::digits(refusal::number(r)) + 10;
+    if !text::has_room(out.len(), at, needed) {
+        return Written::Refused(Refusal::Room(needed as u64));
+    }
+    Written::Upto(put_refused(line, r, out, at))
+}

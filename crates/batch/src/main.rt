@@ -70,6 +70,6 @@ fn all(text: &mut [u8], out: &mut [u8]) {
 
 fn main() {
     let mut text = [0u8; 65536];
-    let mut out = [0u8; 327712];
+    let mut out = [0u8; 327713];
     all(&mut text, &mut out);
 }

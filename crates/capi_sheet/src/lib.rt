@@ -2,9 +2,9 @@
 ghost use mathlib.Core.Path.{_≡_};
 ghost use Rattle.capi.specs.Told.{told};
 ghost use Rattle.capi_sheet.specs.Told.{answerOf, lineOf, sheetLine, sheetRead};
+use line::Sheet;
 use refusal::Refusal;
 use sheet::Reading;
-use line::Sheet;
 
 // What the reading of a whole sheet answers.
 fn ended(end: Reading) -> campaign::Answer

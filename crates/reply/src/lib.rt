@@ -111,6 +111,13 @@ pub fn write_record(c: Campaign, out: &mut [u8], at: usize) -> Written
     Written::Upto(put_record(c, out, at))
 }
 
+// The bytes of the refused line.
+fn refused_length(line: u64, r: Refusal) -> usize
+    ensures { λ n. ⌜ n ≡ length (refusedText line r) ⌝ }
+{
+    decimal::digits(line) + decimal::digits(refusal::number(r)) + 10
+}
+
 // Writes the refused line where it has room.
 fn put_refused(line: u64, r: Refusal, out: &mut [u8], at: usize) -> usize
     requires { ⌜ at + length (refusedText line r) ≤ length (now out) ⌝ }
@@ -127,7 +134,7 @@ pub fn write_refused(line: u64, r: Refusal, out: &mut [u8], at: usize) -> Writte
     ensures { λ w. ⌜ w ≡ writing (now (out .entry)) at (refusedText line r) ⌝ }
     ensures { λ _. ⌜ now (out .exit) ≡ written (now (out .entry)) at (refusedText line r) ⌝ }
 {
-    let needed = decimal::digits(line) + decimal::digits(refusal::number(r)) + 10;
+    let needed = refused_length(line, r);
     if !text::has_room(out.len(), at, needed) {
         return Written::Refused(Refusal::Room(needed as u64));
     }

@@ -5,4 +5,4 @@ use Rattle.tally.specs.declared.After.the-variants.{On, Over}
 
 abbrev pub keptBy : After → ℕ
 keptBy (On s left) = left
-keptBy Over = 0
+keptBy (Over end) = 0

@@ -72,6 +72,9 @@ returns-2 c = search needs
 enum-known-reading-2 : tie.Need-enum-known-reading-2
 enum-known-reading-2 c = search needs
 
+ended-requires : tie.Need-ended-requires
+ended-requires c κs = search needs
+
 same-length-5 : tie.Need-same-length-5
 same-length-5 c = search needs
 
@@ -117,6 +120,7 @@ work-spec =
     same-length-4
     returns-2
     enum-known-reading-2
+    ended-requires
     same-length-5
     same-length-6
     returns-3

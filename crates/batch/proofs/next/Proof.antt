@@ -7,23 +7,11 @@ use borrow.Author.Needs.{needs}
 use Rattle.batch.proofs.next.Statement.{statement}
 use Rattle.batch.proofs.next.Tie as tie
 
-slice-aggregate-read-full : tie.Need-slice-aggregate-read-full
-slice-aggregate-read-full c = search needs
-
-read-full-requires : tie.Need-read-full-requires
-read-full-requires c κs = search needs
+read-head-requires : tie.Need-read-head-requires
+read-head-requires c κs = search needs
 
 returns : tie.Need-returns
 returns c = search needs
-
-array-read-pair : tie.Need-array-read-pair
-array-read-pair c = search needs
-
-array-read-pair-2 : tie.Need-array-read-pair-2
-array-read-pair-2 c = search needs
-
-pair-requires : tie.Need-pair-requires
-pair-requires c κs = search needs
 
 returns-2 : tie.Need-returns-2
 returns-2 c = search needs
@@ -31,20 +19,17 @@ returns-2 c = search needs
 slice-relend-prefix-read-full : tie.Need-slice-relend-prefix-read-full
 slice-relend-prefix-read-full c = search needs
 
-slice-aggregate-read-full-2 : tie.Need-slice-aggregate-read-full-2
-slice-aggregate-read-full-2 c = sym (length-take-le (c .before .before .pair .result) (now (c .before .before .before .before .before .before .before .before .before .args .text)) (omega arith))
+slice-aggregate-read-full : tie.Need-slice-aggregate-read-full
+slice-aggregate-read-full c = sym (length-take-le (c .before .before .before .before .read-head .result .size) (now (c .before .before .before .before .before .before .before .args .text)) (omega arith))
 
-read-full-requires-2 : tie.Need-read-full-requires-2
-read-full-requires-2 c κs = search needs
+read-full-requires : tie.Need-read-full-requires
+read-full-requires c κs = search needs
 
-array-read-pair-3 : tie.Need-array-read-pair-3
-array-read-pair-3 c = search needs
+slice-reshare-prefix-one : tie.Need-slice-reshare-prefix-one
+slice-reshare-prefix-one c = search needs
 
-array-read-pair-4 : tie.Need-array-read-pair-4
-array-read-pair-4 c = search needs
-
-pair-requires-2 : tie.Need-pair-requires-2
-pair-requires-2 c κs = search needs
+slice-aggregate-one : tie.Need-slice-aggregate-one
+slice-aggregate-one c = sym (length-take-le _ _ (omega arith))
 
 one-requires : tie.Need-one-requires
 one-requires c κs = search needs
@@ -68,19 +53,14 @@ pub next-spec : {M : Type 1} → statement M
 next-spec =
     tie.close
     (tie.spec
-    slice-aggregate-read-full
-    read-full-requires
+    read-head-requires
     returns
-    array-read-pair
-    array-read-pair-2
-    pair-requires
     returns-2
     slice-relend-prefix-read-full
-    slice-aggregate-read-full-2
-    read-full-requires-2
-    array-read-pair-3
-    array-read-pair-4
-    pair-requires-2
+    slice-aggregate-read-full
+    read-full-requires
+    slice-reshare-prefix-one
+    slice-aggregate-one
     one-requires
     slice-aggregate-write-all
     write-all-requires

@@ -40,6 +40,12 @@ part-piece-start c = search needs
 part-piece-end : tie.Need-part-piece-end
 part-piece-end c = search needs
 
+slice-relend-prefix-piece : tie.Need-slice-relend-prefix-piece
+slice-relend-prefix-piece c = search needs
+
+slice-aggregate-piece-2 : tie.Need-slice-aggregate-piece-2
+slice-aggregate-piece-2 c = sym (length-take-le _ _ (omega arith))
+
 piece-requires-2 : tie.Need-piece-requires-2
 piece-requires-2 c κs = search needs
 
@@ -64,6 +70,8 @@ one-spec =
     sub-piece
     part-piece-start
     part-piece-end
+    slice-relend-prefix-piece
+    slice-aggregate-piece-2
     piece-requires-2
     same-length-2
     returns-4)

@@ -17,15 +17,6 @@ run-requires c κs = search needs
 enum-known-reading : tie.Need-enum-known-reading
 enum-known-reading c = search needs
 
-enum-told : tie.Need-enum-told
-enum-told c = search needs
-
-same-length : tie.Need-same-length
-same-length c = search needs
-
-returns : tie.Need-returns
-returns c = search needs
-
 slice-reshare-prefix-write-all : tie.Need-slice-reshare-prefix-write-all
 slice-reshare-prefix-write-all c = put-fits c
 
@@ -35,11 +26,44 @@ slice-aggregate-write-all c = sym (length-take-le _ _ (put-fits (c .before)))
 write-all-requires : tie.Need-write-all-requires
 write-all-requires c κs = search needs
 
+enum-known-r : tie.Need-enum-known-r
+enum-known-r c = search needs
+
+number-requires : tie.Need-number-requires
+number-requires c κs = search needs
+
+print-decimal-requires : tie.Need-print-decimal-requires
+print-decimal-requires c κs = search needs
+
+slice-aggregate-write-all-2 : tie.Need-slice-aggregate-write-all-2
+slice-aggregate-write-all-2 c = search needs
+
+write-all-requires-2 : tie.Need-write-all-requires-2
+write-all-requires-2 c κs = search needs
+
+carried-requires : tie.Need-carried-requires
+carried-requires c κs = search needs
+
+print-decimal-requires-2 : tie.Need-print-decimal-requires-2
+print-decimal-requires-2 c κs = search needs
+
+slice-aggregate-write-all-3 : tie.Need-slice-aggregate-write-all-3
+slice-aggregate-write-all-3 c = search needs
+
+write-all-requires-3 : tie.Need-write-all-requires-3
+write-all-requires-3 c κs = search needs
+
+same-length : tie.Need-same-length
+same-length c = search needs
+
+returns : tie.Need-returns
+returns c = (rw (c .before .before .before .reading .given .1) at (c .before .before .before .before .before .before .before .run .ensures .1 .1 .1)) .0
+
 same-length-2 : tie.Need-same-length-2
 same-length-2 c = search needs
 
 returns-2 : tie.Need-returns-2
-returns-2 c = (rw (c .before .before .before .reading .given .1) at (c .before .before .before .before .before .before .before .run .ensures .1 .1 .1)) .0
+returns-2 c = search needs
 
 pub piece-spec : {M : Type 1} → statement M
 piece-spec =
@@ -47,11 +71,19 @@ piece-spec =
     (tie.spec
     run-requires
     enum-known-reading
-    enum-told
-    same-length
-    returns
     slice-reshare-prefix-write-all
     slice-aggregate-write-all
     write-all-requires
+    enum-known-r
+    number-requires
+    print-decimal-requires
+    slice-aggregate-write-all-2
+    write-all-requires-2
+    carried-requires
+    print-decimal-requires-2
+    slice-aggregate-write-all-3
+    write-all-requires-3
+    same-length
+    returns
     same-length-2
     returns-2)

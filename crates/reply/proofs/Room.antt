@@ -6,7 +6,7 @@ use mathlib.Core.Bool.{Bool, true, false, not}
 use mathlib.Core.List.{List}
 use lib.Dec.{leb}
 use lib.ListN.{length}
-use borrow.Author.Tests.{leb-true, leb-false}
+use borrow.Author.Tests.{le-leb, leb-true, leb-false}
 use Rattle.refusal.specs.declared.Refusal.the-variants.{Room}
 use Rattle.truth.proofs.Laws.{said-no, said-yes}
 use Rattle.text.specs.Write.{written}
@@ -25,6 +25,7 @@ module _ (out : List ℕ) (at : ℕ) (text : List ℕ) {n : ℕ} {r : Bool} (ask
   unfolding writing
   no-room h = (rw (said-no fitting h, needed), wrote-short out at text (leb-false _ _ (said-no fitting h)) .1)
 
-  pub upto : {later : List ℕ} {next : ℕ} → not r ≡ false → Wrote out at text later next → (Upto next ≡ writing out at text) × (later ≡ written out at text)
+module _ (out : List ℕ) (at : ℕ) (text : List ℕ) where
+  pub upto : {later : List ℕ} {next : ℕ} → at + length text ≤ length out → Wrote out at text later next → (Upto next ≡ writing out at text) × (later ≡ written out at text)
   unfolding writing
-  upto h (e, f) = (rw (said-yes fitting h, e) (ap Upto (after-fits out at text (has-room h))), f)
+  upto h (e, f) = (rw (le-leb _ _ h, e) (ap Upto (after-fits out at text h)), f)

@@ -18,6 +18,9 @@ const TAB: u8 = 9;
 
 const LF: u8 = 10;
 
+// The most bytes of a record's line. Where there is room for them, its own are not counted first.
+const LONGEST_RECORD: usize = 30;
+
 // The place after the text that was written.
 pub enum Written {
     Upto(usize),
@@ -104,9 +107,11 @@ pub fn write_record(c: Campaign, out: &mut [u8], at: usize) -> Written
     if !campaign::sound(c) {
         return Written::Refused(Refusal::BrokenState);
     }
-    let needed = record_length(c);
-    if !text::has_room(out.len(), at, needed) {
-        return Written::Refused(Refusal::Room(needed as u64));
+    if !text::has_room(out.len(), at, LONGEST_RECORD) {
+        let needed = record_length(c);
+        if !text::has_room(out.len(), at, needed) {
+            return Written::Refused(Refusal::Room(needed as u64));
+        }
     }
     Written::Upto(put_record(c, out, at))
 }

@@ -1,30 +1,27 @@
 -- `reply::write_record` meets its contract: a state that keeps its relations has its line, and the line its room or not. Assumes nothing.
+use Prim.Native.Nat.{_+_, _≤_}
 use mathlib.Core.Path.{_≡_, refl}
-use Prim.Native.Nat.{_+_}
 use mathlib.Core.Bool.{true}
-use lib.Dec.{leb}
+use mathlib.Core.Logic.{⊎-elim}
+use native.Mathlib.Omega.{arith}
 use lib.ListN.{length}
-use Rattle.campaign.specs.State.{sound}
+use borrow.Author.Tests.{leb-true}
 use denote.Ref.{now}
 use Rattle.truth.proofs.Laws.{said-no, said-yes}
-use Rattle.reply.specs.Written.{recordText, recordWriting, recordLeft}
+use Rattle.campaign.specs.State.{sound}
+use Rattle.reply.specs.Written.{recordText, recordLeft, recordWriting}
+use Rattle.reply.proofs.Few.{record-few}
 use Rattle.reply.proofs.Room.{has-room, no-room, upto}
 use borrow.Author.Needs.{needs}
 use Rattle.reply.proofs.write_record.Statement.{statement}
 use Rattle.reply.proofs.write_record.Tie as tie
 
--- past the first test the state is sound, and what was asked of the room is the line's
-state : (c : tie.Else1) → sound (c .before .before .before .args .c) ≡ true
+abbrev start : tie.Else1 → tie.Start
+start c = c .before .before .before
+
+-- past the first test the state is sound
+state : (c : tie.Else1) → sound (start c .args .c) ≡ true
 state c = said-yes (c .before .sound .ensures) (c .if1 .left)
-
-abbrev start : tie.After-has-room → tie.Start
-start c = c .before .before .before .before .before
-
-asked : (c : tie.After-has-room) → c .has-room .result ≡ leb (start c .args .at + c .before .record-length .result) (length (now (start c .args .out)))
-asked c = c .has-room .ensures
-
-needed : (c : tie.After-has-room) → c .before .record-length .result ≡ length (recordText (start c .args .c))
-needed c = c .before .record-length .ensures
 
 sound-requires : tie.Need-sound-requires
 sound-requires c κs = search needs
@@ -33,22 +30,35 @@ returns : tie.Need-returns
 unfolding recordWriting recordLeft
 returns c = rw (said-no (c .before .sound .ensures) (c .if1 .taken)) (refl, refl)
 
-record-length-requires : tie.Need-record-length-requires
-record-length-requires c κs = state c
-
 has-room-requires : tie.Need-has-room-requires
 has-room-requires c κs = search needs
+
+record-length-requires : tie.Need-record-length-requires
+record-length-requires c κs = state (c .before .before)
+
+has-room-requires-2 : tie.Need-has-room-requires-2
+has-room-requires-2 c κs = search needs
 
 returns-2 : tie.Need-returns-2
 unfolding recordWriting recordLeft
 returns-2 c =
-    let h = c .before in
-    rw (state (h .before .before)) (no-room (now (start h .args .out)) (start h .args .at) (recordText (start h .args .c)) (asked h) (needed h) (c .if2 .taken))
+    let l = c .before .before in
+    let e = l .before .before .before in
+    let a = start e .args in
+    rw (state e) (no-room (now (a .out)) (a .at) (recordText (a .c)) (c .before .has-room2 .ensures) (l .record-length .ensures) (c .if3 .taken))
+
+-- either way the line has its room: the most that a line may need, or its own
+fits : (c : tie.Joined2) → let a = start (c .before .before) .args in a .at + length (recordText (a .c)) ≤ length (now (a .out))
+fits c =
+    let e = c .before .before in
+    let a = start e .args in
+    ⊎-elim
+    (λ w. has-room (now (a .out)) (a .at) (recordText (a .c)) (w .2 .ensures) (w .1 .ensures) (w .3 .left))
+    (λ w. omega (arith, record-few (a .c) (state e), leb-true (a .at + 30) (length (now (a .out))) (said-yes (c .before .has-room .ensures) (w .left))))
+    (c .if2 .came)
 
 put-record-requires : tie.Need-put-record-requires
-put-record-requires c κs =
-    let h = c .before .before in
-    (state (h .before .before), has-room (now (start h .args .out)) (start h .args .at) (recordText (start h .args .c)) (asked h) (needed h) (c .before .if2 .left))
+put-record-requires c κs = (state (c .before .before .before), fits (c .before))
 
 same-length : tie.Need-same-length
 same-length c = search needs
@@ -56,8 +66,9 @@ same-length c = search needs
 returns-3 : tie.Need-returns-3
 unfolding recordWriting recordLeft
 returns-3 c =
-    let h = c .before .before .before .before .before in
-    rw (state (h .before .before)) (upto (now (start h .args .out)) (start h .args .at) (recordText (start h .args .c)) (asked h) (needed h) (c .before .before .before .before .if2 .left) (c .before .before .put-record .ensures))
+    let j = c .before .before .before .before in
+    let e = j .before .before in
+    rw (state e) (upto _ _ (recordText (start e .args .c)) (fits j) (c .before .before .put-record .ensures))
 
 pub write-record-spec : {M : Type 1} → statement M
 write-record-spec =
@@ -65,8 +76,9 @@ write-record-spec =
     (tie.spec
     sound-requires
     returns
-    record-length-requires
     has-room-requires
+    record-length-requires
+    has-room-requires-2
     returns-2
     put-record-requires
     same-length

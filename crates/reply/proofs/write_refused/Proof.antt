@@ -1,6 +1,6 @@
 -- `reply::write_refused` meets its contract: the line has its room or not. Assumes nothing.
 use mathlib.Core.Path.{_≡_}
-use Prim.Native.Nat.{_+_}
+use Prim.Native.Nat.{_+_, _≤_}
 use lib.Dec.{leb}
 use lib.ListN.{length}
 use denote.Ref.{now}
@@ -30,18 +30,21 @@ returns c =
     let h = c .before in
     no-room (now (start h .args .out)) (start h .args .at) (refusedText (start h .args .line) (start h .args .r)) (asked h) (needed h) (c .if1 .taken)
 
+fits : (c : tie.Else1) → let a = start (c .before) .args in a .at + length (refusedText (a .line) (a .r)) ≤ length (now (a .out))
+fits c =
+    let h = c .before in
+    has-room (now (start h .args .out)) (start h .args .at) (refusedText (start h .args .line) (start h .args .r)) (asked h) (needed h) (c .if1 .left)
+
 put-refused-requires : tie.Need-put-refused-requires
-put-refused-requires c κs =
-    let h = c .before .before in
-    has-room (now (start h .args .out)) (start h .args .at) (refusedText (start h .args .line) (start h .args .r)) (asked h) (needed h) (c .before .if1 .left)
+put-refused-requires c κs = fits (c .before)
 
 same-length : tie.Need-same-length
 same-length c = search needs
 
 returns-2 : tie.Need-returns-2
 returns-2 c =
-    let h = c .before .before .before .before .before in
-    upto (now (start h .args .out)) (start h .args .at) (refusedText (start h .args .line) (start h .args .r)) (asked h) (needed h) (c .before .before .before .before .if1 .left) (c .before .before .put-refused .ensures)
+    let e = c .before .before .before .before in
+    upto _ _ (refusedText (start (e .before) .args .line) (start (e .before) .args .r)) (fits e) (c .before .before .put-refused .ensures)
 
 pub write-refused-spec : {M : Type 1} → statement M
 write-refused-spec =

@@ -11,6 +11,7 @@ SHAPE = re.compile(
     r"|not in scope"
     r"|is not a constructor of"
     r"|does not define it"
+    r"|this tuple has"
     r"|is applied to an argument but has type"
     r"|: error: (?!`)"
     r"|: error\["

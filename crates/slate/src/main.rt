@@ -1,17 +1,70 @@
-// Document 01's marked cases A to H and the other cases that it names for a record, run through the code: a line for each. slate_cases has A
-// to H of the definitions. D = 500 and a = 40,000 unless said.
+// Document 01's marked cases A to H and the other cases that it names for a record, run through the code: a row of the table for each, and a line for each
+// row. slate_cases has A to H of the definitions.
 use record::Answer;
 use record::Listed;
 use record::Record;
 use refusal::Refusal;
 
-const STEP: u64 = 500;
+// Of each row: step, ramp, level, decorrelation time; how often the first piece is fed, its samples, and all samples of the row, which the second piece ends;
+// the places lent for the times; the row of SAMPLES.
+const ROWS: [[u64; 9]; 34] = [
+    // A to H
+    [500, 0, 40000, 2000, 1, 7, 7, 3, 0],
+    [500, 0, 40000, 2001, 1, 7, 7, 3, 0],
+    [500, 0, 40000, 0, 1, 7, 7, 3, 0],
+    [500, 0, 40000, 2000, 1, 2, 2, 3, 1],
+    [500, 0, 40000, 2000, 1, 2, 2, 3, 2],
+    [500, 0, 40000, 2000, 1, 3, 3, 3, 3],
+    [500, 0, 40000, 2000, 1, 3, 3, 3, 4],
+    [500, 2, 40000, 2000, 1, 5, 5, 3, 5],
+    // no sample, one, two; case A into one place
+    [500, 0, 40000, 2000, 1, 0, 0, 3, 6],
+    [500, 0, 40000, 2000, 1, 1, 1, 3, 6],
+    [500, 0, 40000, 2000, 1, 2, 2, 3, 6],
+    [500, 0, 40000, 2000, 1, 7, 7, 1, 0],
+    // the ends of an i32, the end of the range and one past it
+    [500, 0, 40000, 2000, 1, 2, 2, 3, 7],
+    [500, 0, 40000, 2000, 1, 2, 2, 3, 8],
+    [500, 0, 40000, 2000, 1, 2, 2, 3, 9],
+    [500, 0, 40000, 2000, 1, 2, 2, 3, 10],
+    // case A cut anywhere; a bad piece after a good one
+    [500, 0, 40000, 2000, 1, 0, 7, 3, 0],
+    [500, 0, 40000, 2000, 1, 1, 7, 3, 0],
+    [500, 0, 40000, 2000, 1, 2, 7, 3, 0],
+    [500, 0, 40000, 2000, 1, 3, 7, 3, 0],
+    [500, 0, 40000, 2000, 1, 4, 7, 3, 0],
+    [500, 0, 40000, 2000, 1, 5, 7, 3, 0],
+    [500, 0, 40000, 2000, 1, 6, 7, 3, 0],
+    [500, 0, 40000, 2000, 1, 2, 5, 3, 11],
+    // n at refusal 3's bound and one past it, for the longest step and the shortest; a bad sample there
+    [10000, 0, 40000, 0, 200, 5, 6, 3, 6],
+    [10000, 0, 40000, 0, 200, 5, 7, 3, 6],
+    [1, 1000000, 40000, 0, 2200000, 5, 6, 3, 6],
+    [1, 1000000, 40000, 0, 2200000, 5, 7, 3, 6],
+    [1, 1000000, 40000, 0, 1833333, 6, 7, 3, 12],
+    // items at the ends of their ranges and past them
+    [1, 0, 1, 0, 0, 0, 0, 3, 0],
+    [0, 1000001, 0, 10000001, 0, 0, 0, 3, 0],
+    [1, 1000001, 0, 10000001, 0, 0, 0, 3, 0],
+    [1, 0, 1000001, 10000001, 0, 0, 0, 3, 0],
+    [1, 0, 1, 10000001, 0, 0, 0, 3, 0],
+];
 
-const LEVEL: u64 = 40_000;
-
-fn text(s: &[u8]) {
-    io::write_all(1, s);
-}
+const SAMPLES: [[i32; 7]; 13] = [
+    [0, 41000, 39000, 41000, 39000, 41000, 0],
+    [40000, 40000, 0, 0, 0, 0, 0],
+    [40000, 40001, 0, 0, 0, 0, 0],
+    [41000, 0, -41000, 0, 0, 0, 0],
+    [0, 41000, -41000, 0, 0, 0, 0],
+    [0, 41000, 41000, 0, 41000, 0, 0],
+    [0, 0, 0, 0, 0, 0, 0],
+    [0, -2147483648, 0, 0, 0, 0, 0],
+    [0, 2147483647, 0, 0, 0, 0, 0],
+    [0, -1000000, 0, 0, 0, 0, 0],
+    [0, -1000001, 0, 0, 0, 0, 0],
+    [0, 41000, 39000, 2000000, -2000000, 0, 0],
+    [0, 0, 0, 0, 0, 0, 1000001],
+];
 
 fn number(name: &[u8], n: u64) {
     io::write_all(1, name);
@@ -61,139 +114,81 @@ fn wide(x: u32) -> u64 {
     x as u64
 }
 
-// The first k numbers of a slice, as far as it goes.
-fn times(slice: &[u32], k: u64) {
+fn times(slice: &[u32]) {
     let mut i = 0;
     while i < slice.len() {
-        if (i as u64) < k {
-            number(b" ", wide(slice[i]));
-        }
+        number(b" ", wide(slice[i]));
         i += 1;
     }
 }
 
-// The counted times, listed into a slice.
-fn listed(ramp: u64, decorrelation: u64, samples: &[i32], slice: &mut [u32]) {
-    let l = record::list(STEP, ramp, LEVEL, decorrelation, samples, slice);
+// The record in two pieces.
+fn fed(items: [u64; 9], samples: &[i32]) {
+    let cut = items[5] as usize;
+    if cut <= samples.len() {
+        let head = &samples[0..cut];
+        let opened = record::open(items[0], items[1], items[2], items[3]);
+        answer(then(again(opened, head, items[4]), &samples[cut..]));
+    }
+}
+
+// Its counted times, listed into the lent places, and what these then hold.
+fn listed(items: [u64; 9], samples: &[i32], slice: &mut [u32]) {
+    let l = record::list(items[0], items[1], items[2], items[3], samples, slice);
     match l {
-        Listed::Times(k) => {
-            number(b" times ", k);
-            times(slice, k);
-        }
+        Listed::Times(k) => number(b" times ", k),
         Listed::Refused(f) => refused(f),
     }
+    times(slice);
 }
 
-// A case: the state of the record fed as one piece, its counted times, and the place of the first crossing.
-fn case(name: &[u8], ramp: u64, decorrelation: u64, samples: &[i32]) {
-    text(name);
-    answer(then(record::open(STEP, ramp, LEVEL, decorrelation), samples));
-    let mut slice = [0u32; 8];
-    listed(ramp, decorrelation, samples, &mut slice);
+fn case(items: [u64; 9], samples: &[i32]) {
+    fed(items, samples);
+    let mut slice = [7u32; 3];
+    let mut place = [7u32; 1];
+    if items[7] == 1 {
+        listed(items, samples, &mut place);
+    } else {
+        listed(items, samples, &mut slice);
+    }
     number(
         b" found ",
-        record::first_crossing(samples, ramp, LEVEL) as u64,
+        record::first_crossing(samples, items[1], items[2]) as u64,
     );
-    text(b"\n");
 }
 
-fn opened(name: &[u8], a: Answer) {
-    text(name);
-    answer(a);
-    text(b"\n");
-}
-
-fn marked() {
-    let bobbing = [0i32, 41000, 39000, 41000, 39000, 41000, 0];
-    case(b"A", 0, 2000, &bobbing);
-    case(b"B", 0, 2001, &bobbing);
-    case(b"C", 0, 0, &bobbing);
-    case(b"D", 0, 2000, &[40000i32, 40000]);
-    case(b"E", 0, 2000, &[40000i32, 40001]);
-    case(b"F", 0, 2000, &[41000i32, 0, -41000]);
-    case(b"G", 0, 2000, &[0i32, 41000, -41000]);
-    case(b"H", 2, 2000, &[0i32, 41000, 41000, 0, 41000]);
-}
-
-fn short() {
-    case(b"no sample", 0, 2000, &[0i32; 0]);
-    case(b"one sample", 0, 2000, &[0i32]);
-    case(b"two samples", 0, 2000, &[0i32, 0]);
-    let bobbing = [0i32, 41000, 39000, 41000, 39000, 41000, 0];
-    text(b"A into one place");
-    let mut slice = [7u32; 1];
-    listed(0, 2000, &bobbing, &mut slice);
-    number(b" left ", wide(slice[0]));
-    text(b"\n");
-}
-
-fn extremes() {
-    case(b"least i32", 0, 2000, &[0i32, -2147483648]);
-    case(b"greatest i32", 0, 2000, &[0i32, 2147483647]);
-    case(b"lowest sample", 0, 2000, &[0i32, -1000000]);
-    case(b"one below it", 0, 2000, &[0i32, -1000001]);
-}
-
-// A bad piece between two good ones: refused, and the next goes on from the state that stood.
-fn bad_piece() {
-    let start = then(
-        record::open(STEP, 0, LEVEL, 2000),
-        &[0i32, 41000, 39000, 41000],
-    );
-    opened(b"good piece", start);
-    opened(b"bad piece", then(start, &[39000i32, 2000000, -2000000]));
-    opened(b"next piece", then(start, &[39000i32, 41000, 0]));
-    opened(b"empty piece", then(start, &[0i32; 0]));
-}
-
-// A record cut at a place within it.
-fn cut(samples: &[i32], k: usize) {
-    if k <= samples.len() {
-        number(b"A cut at ", k as u64);
-        let head = &samples[0..k];
-        let first = then(record::open(STEP, 0, LEVEL, 2000), head);
-        answer(then(first, &samples[k..]));
-        text(b"\n");
+// A case of the first samples.
+fn first_of(items: [u64; 9], samples: &[i32]) {
+    let count = items[6] as usize;
+    if count <= samples.len() {
+        case(items, &samples[0..count]);
     }
 }
 
-fn cuts() {
-    let bobbing = [0i32, 41000, 39000, 41000, 39000, 41000, 0];
-    cut(&bobbing, 0);
-    cut(&bobbing, 1);
-    cut(&bobbing, 2);
-    cut(&bobbing, 3);
-    cut(&bobbing, 4);
-    cut(&bobbing, 5);
-    cut(&bobbing, 6);
-    cut(&bobbing, 7);
+fn samples_of(i: u64) -> [i32; 7] {
+    if i < 13 { SAMPLES[i as usize] } else { [0; 7] }
 }
 
-// n at refusal 3's bound and one past it, for the longest step and the shortest.
-fn longest() {
-    let long = again(record::open(10_000, 0, LEVEL, 0), &[0i32; 1001], 1);
-    opened(b"step 10000, 1001 samples", long);
-    opened(b"one more", then(long, &[0i32]));
-    let most = then(
-        again(record::open(1, 1_000_000, LEVEL, 0), &[0i32; 100_000], 110),
-        &[0i32],
-    );
-    opened(b"step 1, ramp 1000000, 11000001 samples", most);
-    opened(b"one more", then(most, &[0i32]));
-    opened(b"one more, bad", then(most, &[1000001i32]));
+fn row(i: usize) {
+    if 34 <= i {
+        return;
+    }
+    let items = ROWS[i];
+    let samples = samples_of(items[8]);
+    number(b"row ", (i as u64) + 1);
+    first_of(items, &samples);
+    io::write_all(1, b"\n");
 }
 
-fn items() {
-    opened(b"items in range", record::open(1, 0, 1, 0));
-    opened(
-        b"all out of range",
-        record::open(0, 1_000_001, 0, 10_000_001),
-    );
-    opened(b"ramp", record::open(1, 1_000_001, 0, 10_000_001));
-    opened(b"level", record::open(1, 0, 1_000_001, 10_000_001));
-    opened(b"decorrelation", record::open(1, 0, 1, 10_000_001));
+fn rows() {
+    let mut i = 0;
+    while i < 34 {
+        row(i);
+        i += 1;
+    }
 }
 
+// A first failure without a crossing, which no samples lead to.
 fn broken() {
     let r = Record {
         step: 500,
@@ -207,16 +202,12 @@ fn broken() {
         first: 2,
         latest: 2,
     };
-    opened(b"a first failure without a crossing", r.feed(&[2000000i32]));
+    io::write_all(1, b"broken");
+    answer(r.feed(&[2000000i32]));
+    io::write_all(1, b"\n");
 }
 
 fn main() {
-    marked();
-    short();
-    extremes();
-    bad_piece();
-    cuts();
-    longest();
-    items();
+    rows();
     broken();
 }

@@ -7,10 +7,10 @@ use Rattle.slate.proofs.times.Statement.{statement}
 use Rattle.slate.proofs.times.Tie as tie
 
 abbrev Inv-loop : tie.InvT-loop
-Inv-loop slice k i₀ t4 i = (i ≤ length slice) × (length t4 ≡ 1)
+Inv-loop slice i₀ t3 i = (i ≤ length slice) × (length t3 ≡ 1)
 
 abbrev μ-loop : tie.MeasureT-loop
-μ-loop slice k i₀ t4 i = length slice - i
+μ-loop slice i₀ t3 i = length slice - i
 
 loop-holds : tie.Need-loop-holds Inv-loop μ-loop
 loop-holds c = search needs

@@ -1,3 +1,2 @@
-pub mod Largest
 pub mod Turn
 pub mod Unique

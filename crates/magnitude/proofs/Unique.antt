@@ -2,16 +2,11 @@
 use Prim.Native.Nat.{ℕ}
 use mathlib.Core.Path.{_≡_, sym, _∙_}
 use mathlib.Core.Bool.{Bool}
-use mathlib.Core.List.{List}
 use lib.IntN.{ℤ, natAbs}
 use Rattle.magnitude.specs.Above.{above}
-use Rattle.magnitude.specs.Peak.{peakOf}
 
 pub magnitude-unique : (z : ℤ) (x y : ℕ) → x ≡ natAbs z → y ≡ natAbs z → x ≡ y
 magnitude-unique z x y e f = e ∙ sym f
 
 pub above-unique : (a : ℕ) (z : ℤ) (x y : Bool) → x ≡ above a z → y ≡ above a z → x ≡ y
 above-unique a z x y e f = e ∙ sym f
-
-pub peak-unique : (xs : List ℤ) (x y : ℕ) → x ≡ peakOf xs → y ≡ peakOf xs → x ≡ y
-peak-unique xs x y e f = e ∙ sym f

@@ -10,12 +10,13 @@ use lib.ListN.{length, length-append}
 use lib.IntN.{ℤ}
 use Rattle.record.specs.declared.Record.{Record}
 use Rattle.record.specs.declared.Answer.the-variants.{Taken}
-use Rattle.record.specs.Limits.{mostSamples}
+use Rattle.limits.specs.Limits.{mostSamples}
 use Rattle.record.specs.State.{sound}
 use Rattle.record.specs.Step.{stepped}
-use Rattle.record.specs.Answers.{firstBad, fed}
+use Rattle.range.specs.Range.{firstBad}
+use Rattle.record.specs.Answers.{fed}
 use Rattle.record.proofs.Steps.{stepped-sound, stepped-n, stepped-most}
-use Rattle.record.proofs.Bad.{good-head, good-left, bad-append}
+use Rattle.range.proofs.Bad.{good-head, good-left, bad-append}
 use Rattle.record.proofs.Fed.{taken, fed-taken}
 
 pub run-n : (r : Record) (p : List ℤ) → foldl stepped r p .n ≡ r .n + length p

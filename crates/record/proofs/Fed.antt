@@ -11,11 +11,12 @@ use borrow.Author.Tests.{ltb-false, lt-ltb, le-ltb}
 use Rattle.refusal.specs.declared.Refusal.the-variants.{Sample, TooLong, BrokenState}
 use Rattle.record.specs.declared.Record.{Record}
 use Rattle.record.specs.declared.Answer.the-variants.{Taken, Refused}
-use Rattle.record.specs.Limits.{mostSamples}
+use Rattle.limits.specs.Limits.{mostSamples}
 use Rattle.record.specs.State.{sound}
 use Rattle.record.specs.Step.{stepped}
-use Rattle.record.specs.Answers.{firstBad, fed}
-use Rattle.record.proofs.Bad.{bad-within}
+use Rattle.range.specs.Range.{firstBad}
+use Rattle.record.specs.Answers.{fed}
+use Rattle.range.proofs.Bad.{bad-within}
 
 module _ (r : Record) (p : List ℤ) where
   pub fed-broken : sound r ≡ false → fed r p ≡ Refused BrokenState

@@ -1,16 +1,10 @@
 pub mod Relations
 pub mod Steps
-pub mod Bad
 pub mod Quiet
-pub mod Blocks
 pub mod Fed
 pub mod Whole
 pub mod Cutting
 pub mod Opening
-pub mod Noting
-pub mod Listing
-pub mod First
-pub mod Places
 pub mod Times
 pub mod Theorems
 pub mod Unique

@@ -11,8 +11,8 @@ use Rattle.refusal.specs.declared.Refusal.the-variants.{Item}
 use Rattle.largest.specs.Walk.{walk}
 use Rattle.record.specs.declared.Record.{Record}
 use Rattle.record.specs.declared.Answer.the-variants.{Taken, Refused}
-use Rattle.record.specs.Limits.{itemOutside}
-use Rattle.record.specs.Reading.{passing, firstOf, lastOf}
+use Rattle.limits.specs.Limits.{itemOutside}
+use Rattle.reading.specs.Reading.{passing, firstOf, lastOf}
 use Rattle.record.specs.State.{stateOf, sound}
 use Rattle.record.specs.Answers.{opened}
 use Rattle.record.proofs.Relations.{kept-sound}

@@ -8,43 +8,10 @@ use lib.Dec.{eqb, leb, ltb}
 use lib.IntN.{natAbs}
 use borrow.Author.Tests.{leb-true, ltb-true, eqb-true, le-leb, lt-ltb, eq-eqb, ne-eqb}
 use Rattle.record.specs.declared.Record.{Record}
-use Rattle.record.specs.Limits.{itemOutside, within, stepInRange, rampInRange, levelInRange, decorrelationInRange, sampleInRange, mostSamples}
+use Rattle.limits.specs.Limits.{itemOutside, mostSamples}
+use Rattle.range.specs.Range.{sampleInRange}
 use Rattle.record.specs.State.{sound, itemsKept, lastKept, lengthKept, countsKept, figuresKept, failureKept, noneKept}
 use Rattle.truth.proofs.Laws.{and-true, both-true}
-
-pub record Items (D R a τ : ℕ) : Type 0 where
-  pub step-low : 1 ≤ D
-  pub step-high : D ≤ 10000
-  pub ramp : R ≤ 1000000
-  pub level-low : 1 ≤ a
-  pub level-high : a ≤ 1000000
-  pub decorrelation : τ ≤ 10000000
-
-none-outside : (a b c d : Bool) → _≡_ {A = ℕ} (cond (not a) 1 (cond (not b) 2 (cond (not c) 3 (cond (not d) 4 0)))) 0 → (a ≡ true) × (b ≡ true) × (c ≡ true) × (d ≡ true)
-none-outside true true true true e = (refl, refl, refl, refl)
-none-outside false b c d e = absurd (omega (arith, e))
-none-outside true false c d e = absurd (omega (arith, e))
-none-outside true true false d e = absurd (omega (arith, e))
-none-outside true true true false e = absurd (omega (arith, e))
-
-low : (l h x : ℕ) → within l h x ≡ true → l ≤ x
-low l h x e = leb-true l x (and-true (leb l x) (leb x h) e .0)
-
-high : (l h x : ℕ) → within l h x ≡ true → x ≤ h
-high l h x e = leb-true x h (and-true (leb l x) (leb x h) e .1)
-
-pub items : (D R a τ : ℕ) → itemOutside D R a τ ≡ 0 → Items D R a τ
-unfolding itemOutside
-items D R a τ e =
-    let i = none-outside (stepInRange D) (rampInRange R) (levelInRange a) (decorrelationInRange τ) e in
-    record {
-      step-low = low 1 10000 D (i .0);
-      step-high = high 1 10000 D (i .0);
-      ramp = high 0 1000000 R (i .1);
-      level-low = low 1 1000000 a (i .2);
-      level-high = high 1 1000000 a (i .2);
-      decorrelation = high 0 10000000 τ (i .3);
-    }
 
 pub record None (r : Record) : Type 0 where
   pub first : r .first ≡ 0

@@ -4,18 +4,19 @@ use mathlib.Core.Path.{_≡_, refl}
 use mathlib.Core.Bool.{Bool, true, false, cond, _||_}
 use mathlib.Core.Logic.{_⊎_, inl, inr}
 use native.Mathlib.Omega.{arith}
-use native.Mathlib.Nat.{div-le-self}
 use lib.Dec.{eqb, ltb}
 use lib.IntN.{ℤ}
 use borrow.Author.Tests.{eqb-true, eqb-false, ltb-true}
 use Rattle.largest.specs.Walk.{since}
 use Rattle.record.specs.declared.Record.{Record}
-use Rattle.record.specs.Limits.{sampleInRange, mostSamples}
-use Rattle.record.specs.Reading.{timeAt, rises}
+use Rattle.limits.specs.Limits.{mostSamples, mostInRange}
+use Rattle.range.specs.Range.{sampleInRange}
+use Rattle.reading.specs.Reading.{timeAt, rises}
 use Rattle.record.specs.State.{sound}
 use Rattle.record.specs.Step.{moved, counts, crossed, crosses, stepped}
 use Rattle.truth.proofs.Laws.{and-true}
-use Rattle.record.proofs.Relations.{Items, items, None, Failure, Kept, kept-from, kept-sound}
+use Rattle.limits.proofs.Items.{Items, items, most-in-range, most-small}
+use Rattle.record.proofs.Relations.{None, Failure, Kept, kept-from, kept-sound}
 
 -- states are equal figure by figure
 pub ext : (s t : Record) → s .step ≡ t .step → s .ramp ≡ t .ramp → s .level ≡ t .level → s .decorrelation ≡ t .decorrelation → s .n ≡ t .n → s .last ≡ t .last → s .crossings ≡ t .crossings → s .counted ≡ t .counted → s .first ≡ t .first → s .latest ≡ t .latest → s ≡ t
@@ -27,7 +28,10 @@ items-of {r} k = items (r .step) (r .ramp) (r .level) (r .decorrelation) (k .out
 
 -- the longest record, in samples
 pub small : {r : Record} → Kept r → mostSamples (r .step) (r .ramp) ≤ 11000001
-small {r} k = omega (arith, div-le-self 10000000 (r .step), items-of k .ramp)
+small k = most-small (items-of k)
+
+pub most-of : {r : Record} → Kept r → mostInRange (r .step) (r .ramp) ≡ mostSamples (r .step) (r .ramp)
+most-of {r} k = most-in-range (r .step) (r .ramp) (r .level) (r .decorrelation) (k .outside)
 
 -- a state with a crossing has a first failure
 pub failure : {r : Record} → Kept r → (r .crossings ≡ 0 → ⊥) → Failure r

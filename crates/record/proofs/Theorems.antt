@@ -12,18 +12,19 @@ use Rattle.largest.specs.Choice.{Apart, Largest}
 use Rattle.largest.proofs.Walk.{walk-largest, walk-apart}
 use Rattle.record.specs.declared.Record.{Record}
 use Rattle.record.specs.declared.Answer.the-variants.{Taken, Refused}
-use Rattle.record.specs.Reading.{timeAt, crossesAt, crossings, firstCrossing, counted, countedTimes}
+use Rattle.reading.specs.Reading.{timeAt, crossesAt, crossings, firstCrossing, counted, countedTimes}
 use Rattle.record.specs.State.{stateOf, sound, failed}
 use Rattle.record.specs.Step.{stepped}
-use Rattle.record.specs.Answers.{opened, fed, firstBad}
+use Rattle.range.specs.Range.{firstBad}
+use Rattle.record.specs.Answers.{opened, fed}
 use Rattle.record.specs.Pieces.{AllTaken, end, piece, joined}
 use Rattle.record.proofs.Relations.{kept-from}
 use Rattle.record.proofs.Opening.{opened-taken, fresh-sound}
 use Rattle.record.proofs.Whole.{state}
 use Rattle.record.proofs.Fed.{taken, fed-taken, not-broken}
 use Rattle.record.proofs.Cutting.{run-sound, joins, splits}
-use Rattle.record.proofs.First.{searched}
-use Rattle.record.proofs.Places.{rising-passing, itself, apart-times}
+use Rattle.reading.proofs.First.{searched}
+use Rattle.reading.proofs.Places.{rising-passing, itself, apart-times}
 
 -- ---- what is handed out keeps the relations
 pub opened-sound : (D R a τ : ℕ) (s : Record) → opened D R a τ ≡ Taken s → sound s ≡ true

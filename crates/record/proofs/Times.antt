@@ -4,19 +4,16 @@ use Prim.Native.Nat.{ℕ, _+_, _-_, _*_, _/_, _≤_}
 use mathlib.Core.Path.{_≡_, sym}
 use mathlib.Core.Bool.{true, false}
 use mathlib.Core.Logic.{_⊎_, inl, inr}
-use native.Mathlib.Nat.{mul-le-mul, div-mul-le-self}
+use native.Mathlib.Nat.{mul-le-mul}
 use native.Mathlib.Omega.{arith}
 use borrow.Author.Tests.{ltb-false, eq-eqb}
 use Rattle.record.specs.declared.Record.{Record}
-use Rattle.record.specs.Limits.{longestTime}
+use Rattle.limits.specs.Limits.{longestTime}
 use Rattle.record.specs.State.{sound, failed, firstTime, wholeTime, tooShort}
 use Rattle.truth.proofs.Laws.{true≢false}
+use Rattle.limits.proofs.Items.{in-time}
 use Rattle.record.proofs.Relations.{None, Failure, kept-from}
 use Rattle.record.proofs.Steps.{items-of}
-
--- so many samples past R stand within the longest timed length
-pub in-time : (k D : ℕ) → k ≤ longestTime / D → k * D ≤ longestTime
-in-time k D l = omega (arith, mul-le-mul {n₁ = k} {m₁ = D} {n₂ = longestTime / D} {m₂ = D} l (omega arith), div-mul-le-self longestTime D)
 
 spanned : (k D : ℕ) → 1 ≤ k → 1 ≤ D → k ≤ longestTime / D → (1 ≤ k * D) × (k * D ≤ longestTime)
 spanned k D h d l = (mul-le-mul {n₁ = 1} {m₁ = 1} {n₂ = k} {m₂ = D} h d, in-time k D l)

@@ -1,6 +1,5 @@
 -- The state that the samples lead to one by one is the state of the whole list. From any state r, the samples ys with the crossings cs
--- among them lead to `finish r ys cs` (`whole`, by induction on ys); the crossings met one by one (`placesFrom`) are those that pass the
--- test on the whole list (`scan`). Assumes nothing.
+-- among them lead to `finish r ys cs` (`whole`, by induction on ys). Assumes nothing.
 use Prim.Native.Nat.{ℕ, _+_, _-_}
 use mathlib.Core.Path.{_≡_, refl, sym, ap, _∙_}
 use mathlib.Core.Bool.{Bool, true, false, cond, _&&_, _||_}
@@ -14,20 +13,15 @@ use lib.Dec.{ltb, eqb}
 use borrow.Author.Tests.{ne-eqb, ltb-true}
 use Rattle.largest.specs.Walk.{since, later, walk}
 use Rattle.record.specs.declared.Record.{Record}
-use Rattle.record.specs.Reading.{timeAt, sampleAt, rises, crossesAt, passing, crossings, firstOf, lastOf}
+use Rattle.reading.specs.Reading.{timeAt, sampleAt, rises, crossesAt, passing, crossings, firstOf, lastOf}
 use Rattle.record.specs.State.{stateOf}
 use Rattle.record.specs.Step.{moved, counts, crossed, crosses, stepped}
 use Rattle.truth.proofs.Laws.{true≢false}
+use Rattle.reading.proofs.Scan.{placesFrom, places-whole}
 use Rattle.record.proofs.Steps.{ext, marked}
 
--- the crossings among the samples that follow `before`, the first of which is sample i
-unfoldable pub placesFrom : ℕ → ℕ → ℕ → ℤ → List ℤ → List ℕ
-placesFrom R a i before [] = []
-placesFrom R a i before (x ∷ xs) =
-    cond (ltb R i && rises a before x) (i ∷ placesFrom R a (i + 1) x xs) (placesFrom R a (i + 1) x xs)
-
 -- those of the crossings cs that are counted after the state r
-unfoldable pub rest : Record → List ℕ → List ℕ
+unfoldable rest : Record → List ℕ → List ℕ
 rest r cs =
     cond (eqb (r .crossings) 0)
     (walk (timeAt (r .step) (r .ramp)) (r .decorrelation) cs)
@@ -53,7 +47,7 @@ same : {A : Type 0} (b : Bool) (x : A) → cond b x x ≡ x
 same true x = refl
 same false x = refl
 
-pub rest-nil : (r : Record) → rest r [] ≡ []
+rest-nil : (r : Record) → rest r [] ≡ []
 unfolding rest walk later
 rest-nil r = same (eqb (r .crossings) 0) []
 
@@ -78,11 +72,11 @@ near false true w x y e = absurd (true≢false e)
 near false false w x y e = refl
 
 module _ (r : Record) (cs : List ℕ) where
-  pub rest-far : counts r ≡ true → rest r (r .n ∷ cs) ≡ r .n ∷ later (timeAt (r .step) (r .ramp)) (r .decorrelation) (r .n) cs
+  rest-far : counts r ≡ true → rest r (r .n ∷ cs) ≡ r .n ∷ later (timeAt (r .step) (r .ramp)) (r .decorrelation) (r .n) cs
   unfolding rest walk later
   rest-far e = far (eqb (r .crossings) 0) (since (timeAt (r .step) (r .ramp)) (r .decorrelation) (r .latest) (r .n)) _ _ e
 
-  pub rest-near : counts r ≡ false → rest r (r .n ∷ cs) ≡ rest r cs
+  rest-near : counts r ≡ false → rest r (r .n ∷ cs) ≡ rest r cs
   unfolding rest walk later
   rest-near e = near (eqb (r .crossings) 0) (since (timeAt (r .step) (r .ramp)) (r .decorrelation) (r .latest) (r .n)) _ _ _ e
 
@@ -95,11 +89,11 @@ not-zero n = ne-eqb (n + 1) 0 (λ e. omega arith)
 
 module _ (r : Record) (y : ℤ) (cs : List ℕ) where
   -- after a crossing that is counted, or not, the walk goes on from it, or from the last counted one
-  pub marked-far : rest (marked r y (eqb (r .crossings) 0) true) cs ≡ later (timeAt (r .step) (r .ramp)) (r .decorrelation) (r .n) cs
+  marked-far : rest (marked r y (eqb (r .crossings) 0) true) cs ≡ later (timeAt (r .step) (r .ramp)) (r .decorrelation) (r .n) cs
   unfolding rest
   marked-far = rw not-zero
 
-  pub marked-near : counts r ≡ false → rest (marked r y (eqb (r .crossings) 0) false) cs ≡ rest r cs
+  marked-near : counts r ≡ false → rest (marked r y (eqb (r .crossings) 0) false) cs ≡ rest r cs
   unfolding rest
   marked-near e = rw (not-zero, not-first (eqb (r .crossings) 0) _ e)
 
@@ -128,7 +122,7 @@ turn r y ys cs = go (crosses r y)
     go false = ext _ _ refl refl refl refl (omega arith) refl refl refl refl refl
 
 -- a step leaves the ramp and the level, and the next sample is compared with this one
-pub next-places : (r : Record) (y : ℤ) (ys : List ℤ) → placesFrom (stepped r y .ramp) (stepped r y .level) (stepped r y .n) (stepped r y .last) ys ≡ placesFrom (r .ramp) (r .level) (r .n + 1) y ys
+next-places : (r : Record) (y : ℤ) (ys : List ℤ) → placesFrom (stepped r y .ramp) (stepped r y .level) (stepped r y .n) (stepped r y .last) ys ≡ placesFrom (r .ramp) (r .level) (r .n + 1) y ys
 unfolding stepped
 next-places r y ys = go (crosses r y)
   where
@@ -141,25 +135,6 @@ unfolding placesFrom
 whole r [] = finish-nil r
 whole r (y ∷ ys) =
     whole (stepped r y) ys ∙ ap (finish (stepped r y) ys) (next-places r y ys) ∙ turn r y ys (placesFrom (r .ramp) (r .level) (r .n + 1) y ys)
-
--- what is tested one by one is what is tested on the whole list
-test-same : (b : Bool) (a : ℕ) (p q x y : ℤ) → (b ≡ true → p ≡ q) → x ≡ y → (b && rises a p x) ≡ (b && rises a q y)
-test-same false a p q x y h e = refl
-test-same true a p q x y h e = rw (h refl, e)
-
-module _ (R a : ℕ) (w : List ℤ) where
-  scan : (k : ℕ) (before : ℤ) (xs : List ℤ) → drop k w ≡ xs → (ltb R k ≡ true → before ≡ sampleAt w (k - 1)) → placesFrom R a k before xs ≡ passing (crossesAt R a w) k (length xs)
-  unfolding placesFrom passing
-  scan k before [] e h = refl
-  scan k before (x ∷ xs) e h =
-      let y : x ≡ sampleAt w k = sym (ap (λ (l : List ℤ). sampleAt l 0) e) ∙ getD-drop k w 0 (pos 0) ∙ ap (sampleAt w) (add-zero k) in
-      let d : drop (k + 1) w ≡ xs = sym (drop-drop 1 k w) ∙ ap (drop 1) e in
-      let i = scan (k + 1) x xs d (λ t. y ∙ ap (sampleAt w) (omega arith)) in
-      rw (i, test-same (ltb R k) a before (sampleAt w (k - 1)) x (sampleAt w k) h y)
-
--- the crossings met one by one from a fresh record are those of the list
-pub places-whole : (R a : ℕ) (xs : List ℤ) → placesFrom R a 0 (pos 0) xs ≡ crossings R a xs
-places-whole R a xs = scan R a xs 0 (pos 0) xs refl (λ t. absurd (omega (arith, ltb-true R 0 t)))
 
 -- the samples one by one from a fresh record lead to the state of the list
 pub state : (D R a τ : ℕ) (xs : List ℤ) → foldl stepped (stateOf D R a τ []) xs ≡ stateOf D R a τ xs

@@ -1,5 +1,3 @@
-pub mod Limits
-pub mod Reading
 pub mod State
 pub mod Step
 pub mod Answers

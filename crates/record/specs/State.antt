@@ -6,9 +6,10 @@ use mathlib.Core.List.{List}
 use lib.ListN.{length}
 use lib.Dec.{ltb, leb, eqb}
 use lib.IntN.{ℤ, pos, natAbs}
+use Rattle.limits.specs.Limits.{itemOutside, mostSamples}
+use Rattle.range.specs.Range.{sampleInRange}
+use Rattle.reading.specs.Reading.{timeAt, crossings, lastOf, firstCrossing, counted, fullTime, tooFew}
 use Rattle.record.specs.declared.Record.{Record}
-use Rattle.record.specs.Limits.{itemOutside, sampleInRange, mostSamples}
-use Rattle.record.specs.Reading.{timeAt, crossings, lastOf, firstCrossing, counted, fullTime, tooFew}
 
 -- the state of the samples xs: "Reading a record", figure by figure
 unfoldable pub stateOf : ℕ → ℕ → ℕ → ℕ → List ℤ → Record

@@ -1,13 +1,11 @@
 -- One sample more: the state after sample n, which is x, from the state r before it. Assumes nothing.
 use Prim.Native.Nat.{ℕ, _+_}
 use mathlib.Core.Bool.{Bool, cond, _&&_, _||_}
-use mathlib.Core.List.{List, [], _∷_}
-use lib.ListN.{set}
 use lib.Dec.{ltb, eqb}
 use lib.IntN.{ℤ}
 use Rattle.largest.specs.Walk.{since}
+use Rattle.reading.specs.Reading.{timeAt, rises}
 use Rattle.record.specs.declared.Record.{Record}
-use Rattle.record.specs.Reading.{timeAt, rises}
 
 -- k more samples without a crossing, the last of them x
 abbrev pub moved : Record → ℕ → ℤ → Record
@@ -51,16 +49,3 @@ crosses r x = ltb (r .ramp) (r .n) && rises (r .level) (r .last) x
 
 unfoldable pub stepped : Record → ℤ → Record
 stepped r x = cond (crosses r x) (crossed r x) (moved r 1 x)
-
--- a failure is counted at sample n
-abbrev pub noted : Record → ℤ → Bool
-noted r x = crosses r x && counts r
-
--- the times of the failures counted from the state r on
-unfoldable pub timesFrom : Record → List ℤ → List ℕ
-timesFrom r [] = []
-timesFrom r (x ∷ xs) = cond (noted r x) (timeAt (r .step) (r .ramp) (r .n) ∷ timesFrom (stepped r x) xs) (timesFrom (stepped r x) xs)
-
--- a slice of times after sample n: a failure counted there has its time in the next place
-abbrev pub noting : Record → ℤ → List ℕ → List ℕ
-noting r x times = cond (noted r x) (set times (r .counted) (timeAt (r .step) (r .ramp) (r .n))) times

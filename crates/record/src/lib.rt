@@ -5,30 +5,14 @@ ghost use mathlib.Core.Bool.{true};
 ghost use mathlib.Core.List.{foldl, []};
 ghost use Prim.Native.Nat.{_+_, _-_, _*_, _≤_, _<_};
 ghost use lib.ListN.{length};
-ghost use lib.Seq.{sets};
-ghost use Rattle.magnitude.specs.Peak.{peakOf};
-ghost use Rattle.record.specs.Limits.{within, itemOutside, sampleInRange, mostSamples};
-ghost use Rattle.record.specs.Reading.{timeAt, rises, firstCrossing};
+ghost use Rattle.block.specs.Block.{anyAbove};
+ghost use Rattle.limits.specs.Limits.{mostSamples};
+ghost use Rattle.range.specs.Range.{firstBad};
+ghost use Rattle.reading.specs.Reading.{timeAt};
 ghost use Rattle.record.specs.State.{stateOf, lastKept, noneKept, failureKept, figuresKept, sound};
-ghost use Rattle.record.specs.Step.{moved, counts, crossed, crosses, noted, noting, timesFrom, stepped};
-ghost use Rattle.record.specs.Answers.{opened, fed, firstBad, ListsTo};
+ghost use Rattle.record.specs.Step.{moved, counts, crossed, crosses, stepped};
+ghost use Rattle.record.specs.Answers.{opened, fed};
 use refusal::Refusal;
-
-// Document 01, "Numbers a job may carry".
-pub const LONGEST_STEP: u64 = 10_000;
-
-pub const LONGEST_RAMP: u64 = 1_000_000;
-
-pub const HIGHEST_LEVEL: u64 = 1_000_000;
-
-pub const LONGEST_DECORRELATION: u64 = 10_000_000;
-
-pub const SAMPLE_LIMIT: u32 = 1_000_000;
-
-pub const LONGEST_TIME: u64 = 10_000_000;
-
-// The samples that are looked at together: enough to be worth it, few enough that one above the level costs little.
-const BLOCK: usize = 256;
 
 // The four items, how many samples came and the last of them, and the figures so far. `first` and `latest` are places of
 // samples; places without a meaning yet hold 0.
@@ -48,27 +32,6 @@ pub struct Record {
 pub enum Answer {
     Taken(Record),
     Refused(Refusal),
-}
-
-pub enum Listed {
-    Times(u64),
-    Refused(Refusal),
-}
-
-fn between(low: u64, high: u64, x: u64) -> bool
-    ensures { λ r. ⌜ r ≡ within low high x ⌝ }
-{
-    truth::both(low <= x, x <= high)
-}
-
-// The number of the lowest item outside its range, 0 if there is none.
-fn item_outside(step: u64, ramp: u64, level: u64, decorrelation: u64) -> u64
-    ensures { λ r. ⌜ r ≡ itemOutside step ramp level decorrelation ⌝ }
-{
-    let fourth = truth::pick(!between(0, LONGEST_DECORRELATION, decorrelation), 4, 0);
-    let third = truth::pick(!between(1, HIGHEST_LEVEL, level), 3, fourth);
-    let second = truth::pick(!between(0, LONGEST_RAMP, ramp), 2, third);
-    truth::pick(!between(1, LONGEST_STEP, step), 1, second)
 }
 
 // The state of no samples.
@@ -93,7 +56,7 @@ fn fresh(step: u64, ramp: u64, level: u64, decorrelation: u64) -> Record
 pub fn open(step: u64, ramp: u64, level: u64, decorrelation: u64) -> Answer
     ensures { λ r. ⌜ r ≡ opened step ramp level decorrelation ⌝ }
 {
-    let item = item_outside(step, ramp, level, decorrelation);
+    let item = limits::item_outside(step, ramp, level, decorrelation);
     if item == 0 {
         Answer::Taken(fresh(step, ramp, level, decorrelation))
     } else {
@@ -108,26 +71,12 @@ fn spans(ramp: u64, n: u64) -> u64
     if ramp < n { n - 1 - ramp } else { 0 }
 }
 
-// The most samples that a record may have.
-fn most_samples(step: u64, ramp: u64) -> u64
-    requires { ⌜ (1 ≤ step) × (ramp ≤ 1000000) ⌝ }
-    ensures { λ r. ⌜ r ≡ mostSamples step ramp ⌝ }
-{
-    ramp + 1 + LONGEST_TIME / step
-}
-
-fn sample_in_range(x: i32) -> bool
-    ensures { λ r. ⌜ r ≡ sampleInRange x ⌝ }
-{
-    magnitude::magnitude(x) <= SAMPLE_LIMIT
-}
-
 fn last_kept(r: Record) -> bool
     ensures { λ k. ⌜ k ≡ lastKept r ⌝ }
 {
     let last = r.last;
     truth::both(
-        sample_in_range(last),
+        range::in_range(last),
         truth::either(r.n != 0, magnitude::magnitude(last) == 0),
     )
 }
@@ -167,13 +116,13 @@ fn figures_kept(r: Record) -> bool
 pub fn sound(r: Record) -> bool
     ensures { λ k. ⌜ k ≡ sound r ⌝ }
 {
-    if item_outside(r.step, r.ramp, r.level, r.decorrelation) != 0 {
+    if limits::item_outside(r.step, r.ramp, r.level, r.decorrelation) != 0 {
         return false;
     }
     truth::both(
         last_kept(r),
         truth::both(
-            r.n <= most_samples(r.step, r.ramp),
+            r.n <= limits::most_samples(r.step, r.ramp),
             truth::both(r.counted <= r.crossings, figures_kept(r)),
         ),
     )
@@ -237,19 +186,12 @@ fn moved(r: Record, k: u64, last: i32) -> Record
     }
 }
 
-// Whether the level is crossed from x to y.
-fn rises(level: u64, x: i32, y: i32) -> bool
-    ensures { λ k. ⌜ k ≡ rises level x y ⌝ }
-{
-    truth::both(!magnitude::above(level, x), magnitude::above(level, y))
-}
-
 // Whether sample n, which is x, crosses the level.
 fn crosses(r: Record, x: i32) -> bool
     ensures { λ k. ⌜ k ≡ crosses r x ⌝ }
 {
     let last = r.last;
-    truth::both(r.ramp < r.n, rises(r.level, last, x))
+    truth::both(r.ramp < r.n, reading::rises(r.level, last, x))
 }
 
 // The state after one sample more.
@@ -262,20 +204,6 @@ fn step(r: Record, x: i32) -> Record
     } else {
         moved(r, 1, x)
     }
-}
-
-// The place of the first sample outside its range, the piece's length if there is none.
-fn first_bad(piece: &[i32]) -> usize
-    ensures { λ r. ⌜ r ≡ firstBad (now (piece .entry)) ⌝ }
-{
-    let mut i = 0;
-    while i < piece.len() {
-        if !sample_in_range(piece[i]) {
-            return i;
-        }
-        i += 1;
-    }
-    i
 }
 
 // The state after a piece whose samples are in range and not too many.
@@ -292,28 +220,20 @@ fn run(r: Record, piece: &[i32]) -> Record
     s
 }
 
-// The state after a block whose largest magnitude is `peak`, in range. At most the level, no sample of it crosses, and only n and the last
-// sample move.
-fn advance(r: Record, block: &[i32], peak: u32) -> Record
-    requires { ⌜ (sound r ≡ true) × (peak ≡ peakOf (now block)) × (peak ≤ 1000000) × (0 < length (now block)) × (r .n + length (now block) ≤ mostSamples (r .step) (r .ramp)) ⌝ }
+// The same for a block of which it is known whether a sample is above the level. Where none is, no sample of it crosses, and only n and the last sample
+// move.
+fn advance(r: Record, loud: bool, block: &[i32]) -> Record
+    requires { ⌜ (sound r ≡ true) × (loud ≡ anyAbove (r .level) (now block)) × (firstBad (now block) ≡ length (now block)) × (0 < length (now block)) × (r .n + length (now block) ≤ mostSamples (r .step) (r .ramp)) ⌝ }
     ensures { λ s. ⌜ s ≡ foldl stepped r (now (block .entry)) ⌝ }
 {
-    if peak as u64 <= r.level {
-        let k = block.len();
-        return moved(r, k as u64, block[k - 1]);
+    if loud {
+        return run(r, block);
     }
-    run(r, block)
+    let k = block.len();
+    moved(r, k as u64, block[k - 1])
 }
 
-// Where the block that starts at i ends, of n samples.
-fn block_end(i: usize, n: usize) -> usize
-    requires { ⌜ i < n ⌝ }
-    ensures { λ e. ⌜ (i < e) × (e ≤ n) ⌝ }
-{
-    if n - i < BLOCK { n } else { i + BLOCK }
-}
-
-// The answer to a piece that there is room for, block by block, so that a quiet block is passed over at the speed of its peak.
+// The answer to a piece that there is room for, block by block, so that a quiet block is passed over at the speed of `loud`.
 fn pass(r: Record, piece: &[i32]) -> Answer
     requires { ⌜ (sound r ≡ true) × (r .n + length (now piece) ≤ mostSamples (r .step) (r .ramp)) ⌝ }
     ensures { λ a. ⌜ a ≡ fed r (now (piece .entry)) ⌝ }
@@ -321,14 +241,14 @@ fn pass(r: Record, piece: &[i32]) -> Answer
     let mut s = r;
     let mut i = 0;
     while i < piece.len() {
-        let end = block_end(i, piece.len());
-        let block = &piece[i..end];
-        let peak = magnitude::peak(block);
-        if SAMPLE_LIMIT < peak {
-            let bad = first_bad(block);
+        let end = block::end(i, piece.len());
+        let part = &piece[i..end];
+        let loud = block::loud(s.level, part);
+        let bad = range::first_bad_if(loud, part);
+        if bad < part.len() {
             return Answer::Refused(Refusal::Sample((i + bad) as u64));
         }
-        s = advance(s, block, peak);
+        s = advance(s, loud, part);
         i = end;
     }
     Answer::Taken(s)
@@ -342,98 +262,14 @@ impl Record {
         if !sound(self) {
             return Answer::Refused(Refusal::BrokenState);
         }
-        let room = most_samples(self.step, self.ramp) - self.n;
+        let room = limits::most_samples(self.step, self.ramp) - self.n;
         if piece.len() as u64 <= room {
             return pass(self, piece);
         }
-        let bad = first_bad(piece);
+        let bad = range::first_bad(piece);
         if bad < piece.len() {
             return Answer::Refused(Refusal::Sample(bad as u64));
         }
         Answer::Refused(Refusal::TooLong)
     }
-}
-
-// The place of the first crossing of a whole record; its length, which is no place in it, if there is none.
-pub fn first_crossing(samples: &[i32], ramp: u64, level: u64) -> usize
-    ensures { λ r. ⌜ r ≡ firstCrossing (length (now (samples .entry))) ramp level (now (samples .entry)) ⌝ }
-{
-    if samples.len() as u64 <= ramp {
-        return samples.len();
-    }
-    let mut i = ramp as usize + 1;
-    let place = loop {
-        if i >= samples.len() {
-            break samples.len();
-        }
-        if rises(level, samples[i - 1], samples[i]) {
-            break i;
-        }
-        i += 1;
-    };
-    place
-}
-
-// Puts the time of sample n, which is x, into the next place if a failure is counted there.
-fn note(r: Record, x: i32, times: &mut [u32])
-    requires { ⌜ (sound r ≡ true) × (r .n < mostSamples (r .step) (r .ramp)) × (noted r x ≡ true → r .counted < length (now times)) ⌝ }
-    ensures { λ u. ⌜ now (times .exit) ≡ noting r x (now (times .entry)) ⌝ }
-{
-    if !crosses(r, x) {
-        return;
-    }
-    if !counts(r) {
-        return;
-    }
-    let k = r.counted as usize;
-    times[k] = time_at(r.step, r.ramp, r.n) as u32;
-}
-
-// Puts the times of the failures counted in `samples`, from the state r on, into the places from the one after r's last.
-fn note_all(r: Record, samples: &[i32], times: &mut [u32])
-    requires { ⌜ (sound r ≡ true) × (firstBad (now samples) ≡ length (now samples)) × (r .n + length (now samples) ≤ mostSamples (r .step) (r .ramp)) × (r .counted + length (timesFrom r (now samples)) ≤ length (now times)) ⌝ }
-    ensures { λ u. ⌜ now (times .exit) ≡ sets (now (times .entry)) (r .counted) (timesFrom r (now (samples .entry))) ⌝ }
-{
-    let mut s = r;
-    let mut i = 0;
-    while i < samples.len() {
-        note(s, samples[i], times);
-        s = step(s, samples[i]);
-        i += 1;
-    }
-}
-
-// A whole record at once: the counted times, in order, from the start of `times`, whose rest stays, and their number; or refusal 1, 2, 3, 4
-// or 7 with the places needed, and `times` as it stood.
-pub fn list(
-    step: u64,
-    ramp: u64,
-    level: u64,
-    decorrelation: u64,
-    samples: &[i32],
-    times: &mut [u32],
-) -> Listed
-    ensures { λ r. ⌜ ListsTo step ramp level decorrelation (now (samples .entry)) (now (times .entry)) r (now (times .exit)) ⌝ }
-{
-    let item = item_outside(step, ramp, level, decorrelation);
-    if item != 0 {
-        return Listed::Refused(Refusal::Item(item));
-    }
-    let bad = first_bad(samples);
-    if bad < samples.len() {
-        return Listed::Refused(Refusal::Sample(bad as u64));
-    }
-    if most_samples(step, ramp) < samples.len() as u64 {
-        return Listed::Refused(Refusal::TooLong);
-    }
-    if (samples.len() as u64) < ramp + 2 {
-        return Listed::Refused(Refusal::TooShort);
-    }
-    let start = fresh(step, ramp, level, decorrelation);
-    let end = run(start, samples);
-    if (times.len() as u64) < end.counted {
-        return Listed::Refused(Refusal::Room(end.counted));
-    }
-    note_all(start, samples, times);
-    Listed::Times(end.counted)
 }

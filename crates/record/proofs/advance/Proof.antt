@@ -8,14 +8,19 @@ use lib.ListN.{length}
 use mir.Val.{SFits}
 use mir.Syntax.{w32}
 use mir.Facts.{toZ-ofZ}
-use Rattle.record.specs.Reading.{sampleAt}
+use Rattle.reading.specs.Reading.{sampleAt}
 use Rattle.record.specs.Step.{moved}
 use Rattle.record.proofs.Relations.{kept-from}
 use Rattle.record.proofs.Steps.{small}
-use Rattle.record.proofs.Bad.{peak-good}
 use Rattle.record.proofs.Quiet.{quiet-run}
 use Rattle.record.proofs.advance.Statement.{statement}
 use Rattle.record.proofs.advance.Tie as tie
+
+run-requires : tie.Need-run-requires
+run-requires c κs = search needs
+
+returns : tie.Need-returns
+returns c = search needs
 
 sub-moved : tie.Need-sub-moved
 sub-moved c = search needs
@@ -27,29 +32,23 @@ shared-slice-copy-out-moved : tie.Need-shared-slice-copy-out-moved
 shared-slice-copy-out-moved c = search needs
 
 moved-requires : tie.Need-moved-requires
-moved-requires c κs = omega (arith, small (kept-from (c .before .before .before .args .r) (c .before .before .before .pre .0)))
-
-returns : tie.Need-returns
-returns c =
-    let r = c .before .before .before .before .args .r in
-    let p = c .before .before .before .before .args .block .now in
-    let f : SFits w32 (sampleAt p (length p - 1)) = search needs in
-    c .moved .ensures ∙ ap (moved r (length p)) (toZ-ofZ f) ∙ sym (quiet-run r p (omega arith) (omega arith))
-
-run-requires : tie.Need-run-requires
-run-requires c κs = (c .before .before .pre .0, peak-good (c .before .before .args .block .now) (omega arith), omega arith)
+moved-requires c κs = omega (arith, small (kept-from (c .before .before .args .r) (c .before .before .pre .0)))
 
 returns-2 : tie.Need-returns-2
-returns-2 c = search needs
+returns-2 c =
+    let r = c .before .before .before .args .r in
+    let p = c .before .before .before .args .block .now in
+    let f : SFits w32 (sampleAt p (length p - 1)) = search needs in
+    c .moved .ensures ∙ ap (moved r (length p)) (toZ-ofZ f) ∙ sym (quiet-run r p (sym (c .before .before .before .pre .1) ∙ c .before .before .if1 .left) (omega arith))
 
 pub advance-spec : {M : Type 1} → statement M
 advance-spec =
     tie.close
     (tie.spec
+    run-requires
+    returns
     sub-moved
     mul-moved
     shared-slice-copy-out-moved
     moved-requires
-    returns
-    run-requires
     returns-2)

@@ -1,7 +1,7 @@
 -- `record::fresh` meets its contract: no samples have no figures. Assumes nothing.
 use mathlib.Core.Path.{refl}
 use Rattle.largest.specs.Walk.{walk}
-use Rattle.record.specs.Reading.{passing, firstOf, lastOf}
+use Rattle.reading.specs.Reading.{passing, firstOf, lastOf}
 use Rattle.record.specs.State.{stateOf}
 use Rattle.record.proofs.fresh.Statement.{statement}
 use Rattle.record.proofs.fresh.Tie as tie

@@ -6,8 +6,8 @@ use mir.Syntax.{w32}
 use Rattle.record.proofs.last_kept.Statement.{statement}
 use Rattle.record.proofs.last_kept.Tie as tie
 
-sample-in-range-requires : tie.Need-sample-in-range-requires
-sample-in-range-requires c κs = search needs
+in-range-requires : tie.Need-in-range-requires
+in-range-requires c κs = search needs
 
 magnitude-requires : tie.Need-magnitude-requires
 magnitude-requires c κs = search needs
@@ -26,4 +26,4 @@ returns c =
 pub last-kept-spec : {M : Type 1} → statement M
 last-kept-spec =
     tie.close
-    (tie.spec sample-in-range-requires magnitude-requires either-requires both-requires returns)
+    (tie.spec in-range-requires magnitude-requires either-requires both-requires returns)

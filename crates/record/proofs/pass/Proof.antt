@@ -10,12 +10,14 @@ use borrow.Author.Needs.{needs}
 use lib.ListN.{length, take, drop, drop-of-length-le}
 use Rattle.refusal.specs.declared.Refusal.the-variants.{Sample}
 use Rattle.record.specs.declared.Answer.the-variants.{Taken, Refused}
-use Rattle.record.specs.Limits.{mostSamples}
+use Rattle.limits.specs.Limits.{mostSamples}
 use Rattle.record.specs.State.{sound}
 use Rattle.record.specs.Step.{stepped}
-use Rattle.record.specs.Answers.{firstBad}
-use Rattle.record.proofs.Bad.{bad-append, bad-left, peak-good, peak-bad}
-use Rattle.record.proofs.Blocks.{block-length, block-cut}
+use Rattle.range.specs.Range.{firstBad}
+use Rattle.range.proofs.Bad.{bad-append, bad-left, bad-within, if-loud}
+use Rattle.block.proofs.Cut.{end-within, block-length, block-cut}
+use Rattle.record.proofs.Relations.{kept-from}
+use Rattle.record.proofs.Steps.{items-of}
 use Rattle.record.proofs.Cutting.{run-n, run-most, run-sound}
 use Rattle.record.proofs.Fed.{fed-bad, fed-taken}
 use Rattle.record.proofs.pass.Statement.{statement}
@@ -35,65 +37,88 @@ abbrev μ-loop : tie.MeasureT-loop
 loop-holds : tie.Need-loop-holds Inv-loop μ-loop
 loop-holds c = (c .pre .0, omega arith, zero-add _, omega arith, refl)
 
-block-end-requires : tie.Need-block-end-requires Inv-loop μ-loop
-block-end-requires c κs = omega arith
+end-requires : tie.Need-end-requires Inv-loop μ-loop
+end-requires c κs = search needs
 
-mul-block : tie.Need-mul-block Inv-loop μ-loop
-mul-block c = omega arith
+-- the block is within the piece, and not empty
+within : (c : tie.After-end Inv-loop μ-loop) → (c .before .before .loop .i < c .end .result) × (c .end .result ≤ length (c .before .before .before .args .piece .now))
+within c = end-within (c .before .before .loop .i) (length (c .before .before .before .args .piece .now)) (c .end .ensures) (omega arith)
 
-sub-block : tie.Need-sub-block Inv-loop μ-loop
-sub-block c = omega arith
+mul-part : tie.Need-mul-part Inv-loop μ-loop
+mul-part c = omega (arith, within c)
 
-part-block-start : tie.Need-part-block-start Inv-loop μ-loop
-part-block-start c = omega arith
+sub-part : tie.Need-sub-part Inv-loop μ-loop
+sub-part c = omega (arith, within c)
 
-part-block-end : tie.Need-part-block-end Inv-loop μ-loop
-part-block-end c = omega arith
+part-part-start : tie.Need-part-part-start Inv-loop μ-loop
+part-part-start c = omega (arith, within c)
 
-peak-requires : tie.Need-peak-requires Inv-loop μ-loop
-peak-requires c κs = search needs
+part-part-end : tie.Need-part-part-end Inv-loop μ-loop
+part-part-end c = omega (arith, within c)
 
-first-bad-requires : tie.Need-first-bad-requires Inv-loop μ-loop
-first-bad-requires c κs = search needs
+loud-requires : tie.Need-loud-requires Inv-loop μ-loop
+loud-requires c κs = search needs
 
--- the first bad sample of a block past the limit is that of the piece
-bad-here : (c : tie.After-first-bad Inv-loop μ-loop) → (c .before .before .before .before .before .before .loop .i + c .first-bad .result ≡ firstBad (c .before .before .before .before .before .before .before .args .piece .now)) × (firstBad (c .before .before .before .before .before .before .before .args .piece .now) < length (c .before .before .before .before .before .before .before .args .piece .now))
-bad-here c =
+first-bad-if-requires : tie.Need-first-bad-if-requires Inv-loop μ-loop
+first-bad-if-requires c κs = search needs
+
+-- a block of which no sample is above the level has no bad one
+looked : (c : tie.After-first-bad-if Inv-loop μ-loop) → c .first-bad-if .result ≡ firstBad (take (c .before .before .before .end .result - c .before .before .before .before .before .loop .i) (drop (c .before .before .before .before .before .loop .i) (c .before .before .before .before .before .before .args .piece .now)))
+looked c =
+    let s = c .before .before .before .before .before .loop .s in
+    c .first-bad-if .ensures ∙ if-loud (s .level) (take (c .before .before .before .end .result - c .before .before .before .before .before .loop .i) (drop (c .before .before .before .before .before .loop .i) (c .before .before .before .before .before .before .args .piece .now))) (items-of (kept-from s (c .before .before .before .before .before .loop .inv .0)) .level-high) (c .before .loud .ensures)
+
+-- the first bad sample of a block is that of the piece
+here : (c : tie.Then1 Inv-loop μ-loop) → (c .before .before .before .before .before .before .loop .i + c .before .first-bad-if .result ≡ firstBad (c .before .before .before .before .before .before .before .args .piece .now)) × (firstBad (c .before .before .before .before .before .before .before .args .piece .now) < length (c .before .before .before .before .before .before .before .args .piece .now))
+here c =
     let p = c .before .before .before .before .before .before .before .args .piece .now in
     let i = c .before .before .before .before .before .before .loop .i in
-    let e = c .before .before .before .before .block-end .result in
+    let e = c .before .before .before .before .end .result in
+    let w = within (c .before .before .before .before) in
     let block = take (e - i) (drop i p) in
     let l = block-length p i e (omega arith) (omega arith) in
-    let h = peak-bad block (omega (arith, c .before .before .peak .ensures)) in
-    let f = ap firstBad (block-cut p i e (omega arith) (omega arith)) ∙ bad-left block (drop e p) h in
-    let g = c .first-bad .ensures in
-    (omega (arith, c .before .before .before .before .before .before .loop .inv .2), omega (arith, c .before .before .before .before .before .before .loop .inv .2))
+    let k = looked (c .before) in
+    let f = ap firstBad (block-cut p i e (omega arith) (omega arith)) ∙ bad-left block (drop e p) (omega (arith, c .if1 .taken)) in
+    let v = c .before .before .before .before .before .before .loop .inv .2 in
+    (omega arith, omega (arith, c .if1 .taken))
 
 add-t14 : tie.Need-add-t14 Inv-loop μ-loop
-add-t14 c = omega (arith, bad-here c)
+add-t14 c = omega (arith, here c)
 
 returns : tie.Need-returns Inv-loop μ-loop
-returns c = ap (λ (k : ℕ). Refused (Sample k)) (bad-here c .0) ∙ sym (fed-bad (c .before .before .before .before .before .before .before .args .r) (c .before .before .before .before .before .before .before .args .piece .now) (c .before .before .before .before .before .before .before .pre .0) (bad-here c .1))
+returns c = ap (λ (k : ℕ). Refused (Sample k)) (here c .0) ∙ sym (fed-bad (c .before .before .before .before .before .before .before .args .r) (c .before .before .before .before .before .before .before .args .piece .now) (c .before .before .before .before .before .before .before .pre .0) (here c .1))
+
+-- past the test no sample of the block is bad
+good : (c : tie.Else1 Inv-loop μ-loop) → firstBad (take (c .before .before .before .before .end .result - c .before .before .before .before .before .before .loop .i) (drop (c .before .before .before .before .before .before .loop .i) (c .before .before .before .before .before .before .before .args .piece .now))) ≡ length (take (c .before .before .before .before .end .result - c .before .before .before .before .before .before .loop .i) (drop (c .before .before .before .before .before .before .loop .i) (c .before .before .before .before .before .before .before .args .piece .now)))
+good c =
+    let p = c .before .before .before .before .before .before .before .args .piece .now in
+    let i = c .before .before .before .before .before .before .loop .i in
+    let e = c .before .before .before .before .end .result in
+    let w = within (c .before .before .before .before) in
+    let l = block-length p i e (omega arith) (omega arith) in
+    omega (arith, bad-within (take (e - i) (drop i p)), looked (c .before), c .if1 .left)
 
 advance-requires : tie.Need-advance-requires Inv-loop μ-loop
 advance-requires c κs =
-    let l = block-length (c .before .before .before .before .before .before .args .piece .now) (c .before .before .before .before .before .loop .i) (c .before .before .before .block-end .result) (omega arith) (omega arith) in
-    (c .before .before .before .before .before .loop .inv .0, c .before .peak .ensures, omega arith, omega arith, omega (arith, c .before .before .before .before .before .loop .inv .3))
+    let w = within (c .before .before .before .before) in
+    let l = block-length (c .before .before .before .before .before .before .before .args .piece .now) (c .before .before .before .before .before .before .loop .i) (c .before .before .before .before .end .result) (omega arith) (omega arith) in
+    (c .before .before .before .before .before .before .loop .inv .0, c .before .before .loud .ensures, good c, omega arith, omega (arith, c .before .before .before .before .before .before .loop .inv .3))
 
 loop-less : tie.Need-loop-less Inv-loop μ-loop
-loop-less c = omega arith
+loop-less c = omega (arith, within (c .before .before .before .before .before))
 
 loop-again : tie.Need-loop-again Inv-loop μ-loop
 loop-again c =
-    let p = c .before .before .before .before .before .before .before .args .piece .now in
-    let i = c .before .before .before .before .before .before .loop .i in
-    let s = c .before .before .before .before .before .before .loop .s in
-    let v = c .before .before .before .before .before .before .loop .inv in
-    let e = c .before .before .before .before .block-end .result in
+    let p = c .before .before .before .before .before .before .before .before .args .piece .now in
+    let i = c .before .before .before .before .before .before .before .loop .i in
+    let s = c .before .before .before .before .before .before .before .loop .s in
+    let v = c .before .before .before .before .before .before .before .loop .inv in
+    let e = c .before .before .before .before .before .end .result in
+    let w = within (c .before .before .before .before .before) in
     let block = take (e - i) (drop i p) in
     let l = block-length p i e (omega arith) (omega arith) in
     let k = block-cut p i e (omega arith) (omega arith) in
-    let g = peak-good block (omega (arith, c .before .before .peak .ensures)) in
+    let g = good (c .before) in
     rw (c .advance .ensures) (
       run-sound s block (v .0) g (omega (arith, v .3)),
       omega arith,
@@ -117,13 +142,13 @@ pass-spec =
     Inv-loop
     μ-loop
     loop-holds
-    block-end-requires
-    mul-block
-    sub-block
-    part-block-start
-    part-block-end
-    peak-requires
-    first-bad-requires
+    end-requires
+    mul-part
+    sub-part
+    part-part-start
+    part-part-end
+    loud-requires
+    first-bad-if-requires
     add-t14
     returns
     advance-requires

@@ -9,13 +9,13 @@ use borrow.Author.Needs.{needs}
 use lib.ListN.{length, drop, length-drop, drop-of-length-le}
 use mir.Facts.{toZ-ofZ}
 use Rattle.magnitude.proofs.Turn.{turn}
-use Rattle.record.specs.Limits.{mostSamples}
-use Rattle.record.specs.Reading.{sampleAt}
+use Rattle.limits.specs.Limits.{mostSamples}
+use Rattle.reading.specs.Reading.{sampleAt}
 use Rattle.record.specs.State.{sound}
 use Rattle.record.specs.Step.{stepped}
-use Rattle.record.specs.Answers.{firstBad}
+use Rattle.range.specs.Range.{firstBad}
 use Rattle.record.proofs.Steps.{stepped-sound, stepped-n, stepped-most}
-use Rattle.record.proofs.Bad.{good-head}
+use Rattle.range.proofs.Bad.{good-head}
 use Rattle.record.proofs.run.Statement.{statement}
 use Rattle.record.proofs.run.Tie as tie
 

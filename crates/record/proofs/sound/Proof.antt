@@ -3,7 +3,7 @@ use borrow.Author.Needs.{needs}
 use borrow.Author.Tests.{eq-eqb, ne-eqb}
 use Rattle.record.specs.State.{sound, itemsKept}
 use mathlib.Core.Path.{_≡_, sym, _∙_}
-use Rattle.record.proofs.Relations.{items}
+use Rattle.limits.proofs.Items.{most-in-range}
 use mathlib.Core.Bool.{true}
 use Rattle.record.proofs.sound.Statement.{statement}
 use Rattle.record.proofs.sound.Tie as tie
@@ -19,10 +19,7 @@ last-kept-requires : tie.Need-last-kept-requires
 last-kept-requires c κs = search needs
 
 most-samples-requires : tie.Need-most-samples-requires
-most-samples-requires c κs =
-    let r = c .before .before .before .args .r in
-    let i = items (r .step) (r .ramp) (r .level) (r .decorrelation) (sym (c .before .before .item-outside .ensures) ∙ c .before .if1 .left) in
-    (i .step-low, i .ramp)
+most-samples-requires c κs = search needs
 
 figures-kept-requires : tie.Need-figures-kept-requires
 figures-kept-requires c κs = search needs
@@ -40,8 +37,10 @@ returns-2 : tie.Need-returns-2
 unfolding sound
 returns-2 c =
     let r = c .before .before .before .before .before .before .before .before .before .before .args .r in
-    let e : itemsKept r ≡ true = eq-eqb _ 0 (sym (c .before .before .before .before .before .before .before .before .before .item-outside .ensures) ∙ c .before .before .before .before .before .before .before .before .if1 .left) in
-    rw e (cc)
+    let z = sym (c .before .before .before .before .before .before .before .before .before .item-outside .ensures) ∙ c .before .before .before .before .before .before .before .before .if1 .left in
+    let e : itemsKept r ≡ true = eq-eqb _ 0 z in
+    let m = most-in-range (r .step) (r .ramp) (r .level) (r .decorrelation) z in
+    rw (e, ← m) (cc)
 
 pub sound-spec : {M : Type 1} → statement M
 sound-spec =

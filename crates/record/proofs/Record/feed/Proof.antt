@@ -3,9 +3,10 @@ use mathlib.Core.Path.{_≡_, sym, _∙_}
 use mathlib.Core.Bool.{true}
 use native.Mathlib.Omega.{arith}
 use borrow.Author.Tests.{not-true, not-false}
+use Rattle.limits.specs.Limits.{mostSamples}
 use Rattle.record.specs.State.{sound}
 use Rattle.record.proofs.Relations.{Kept, kept-from}
-use Rattle.record.proofs.Steps.{items-of}
+use Rattle.record.proofs.Steps.{most-of}
 use Rattle.record.proofs.Fed.{fed-broken, fed-bad, fed-long}
 use borrow.Author.Needs.{needs}
 use Rattle.record.proofs.Record.feed.Statement.{statement}
@@ -25,13 +26,17 @@ facts : (c : tie.Else1) → Kept (c .before .before .args .self)
 facts c = kept-from (c .before .before .args .self) (held c)
 
 most-samples-requires : tie.Need-most-samples-requires
-most-samples-requires c κs = (items-of (facts c) .step-low, items-of (facts c) .ramp)
+most-samples-requires c κs = search needs
+
+-- the room for samples
+most : (c : tie.After-most-samples) → c .most-samples .result ≡ mostSamples (c .before .before .before .args .self .step) (c .before .before .before .args .self .ramp)
+most c = c .most-samples .ensures ∙ most-of (facts (c .before))
 
 sub-room : tie.Need-sub-room
-sub-room c = omega (arith, c .before .most-samples .ensures, facts (c .before .before) .length)
+sub-room c = omega (arith, most (c .before), facts (c .before .before) .length)
 
 pass-requires : tie.Need-pass-requires
-pass-requires c κs = (held (c .before .before .before), omega (arith, c .before .before .most-samples .ensures, facts (c .before .before .before) .length))
+pass-requires c κs = (held (c .before .before .before), omega (arith, most (c .before .before), facts (c .before .before .before) .length))
 
 returns-2 : tie.Need-returns-2
 returns-2 c = search needs
@@ -47,7 +52,7 @@ returns-3 c =
 returns-4 : tie.Need-returns-4
 returns-4 c =
     let k = facts (c .before .before .before .before .before) in
-    sym (fed-long (c .before .before .before .before .before .before .before .args .self) (c .before .before .before .before .before .before .before .args .piece .now) (held (c .before .before .before .before .before)) (omega (arith, c .before .first-bad .ensures)) (omega (arith, c .before .before .before .before .most-samples .ensures, k .length)))
+    sym (fed-long (c .before .before .before .before .before .before .before .args .self) (c .before .before .before .before .before .before .before .args .piece .now) (held (c .before .before .before .before .before)) (omega (arith, c .before .first-bad .ensures)) (omega (arith, most (c .before .before .before .before), k .length)))
 
 pub feed-spec : {M : Type 1} → statement M
 feed-spec =

@@ -1,0 +1,43 @@
+// Document 01, "Numbers a job may carry": the four items that open a record, and how many samples it may have.
+ghost use mathlib.Core.Path.{_≡_};
+ghost use Rattle.limits.specs.Limits.{within, itemOutside, mostInRange};
+
+pub const LONGEST_STEP: u64 = 10_000;
+
+pub const LONGEST_RAMP: u64 = 1_000_000;
+
+pub const HIGHEST_LEVEL: u64 = 1_000_000;
+
+pub const LONGEST_DECORRELATION: u64 = 10_000_000;
+
+pub const LONGEST_TIME: u64 = 10_000_000;
+
+fn between(low: u64, high: u64, x: u64) -> bool
+    ensures { λ r. ⌜ r ≡ within low high x ⌝ }
+{
+    truth::both(low <= x, x <= high)
+}
+
+// The number of the lowest item outside its range, 0 if there is none.
+pub fn item_outside(step: u64, ramp: u64, level: u64, decorrelation: u64) -> u64
+    ensures { λ r. ⌜ r ≡ itemOutside step ramp level decorrelation ⌝ }
+{
+    let fourth = truth::pick(!between(0, LONGEST_DECORRELATION, decorrelation), 4, 0);
+    let third = truth::pick(!between(1, HIGHEST_LEVEL, level), 3, fourth);
+    let second = truth::pick(!between(0, LONGEST_RAMP, ramp), 2, third);
+    truth::pick(!between(1, LONGEST_STEP, step), 1, second)
+}
+
+// The most samples that a record may have, 0 where its step or its ramp is outside its range.
+pub fn most_samples(step: u64, ramp: u64) -> u64
+    ensures { λ r. ⌜ r ≡ mostInRange step ramp ⌝ }
+{
+    if truth::both(
+        between(1, LONGEST_STEP, step),
+        between(0, LONGEST_RAMP, ramp),
+    ) {
+        ramp + 1 + LONGEST_TIME / step
+    } else {
+        0
+    }
+}

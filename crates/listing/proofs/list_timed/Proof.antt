@@ -1,0 +1,34 @@
+-- `listing::list_timed` meets its contract: the first pass goes into a slice of its own. Assumes nothing.
+use mathlib.Core.Path.{sym}
+use borrow.Author.Needs.{needs}
+use Rattle.listing.proofs.list_timed.Statement.{statement}
+use Rattle.listing.proofs.list_timed.Tie as tie
+
+slice-aggregate-pass : tie.Need-slice-aggregate-pass
+slice-aggregate-pass c = search needs
+
+pass-requires : tie.Need-pass-requires
+pass-requires c κs = search needs
+
+slice-aggregate-settle : tie.Need-slice-aggregate-settle
+slice-aggregate-settle c = search needs
+
+settle-requires : tie.Need-settle-requires
+settle-requires c κs = (c .before .before .before .before .before .before .pre .0, c .before .before .before .before .before .before .pre .1, c .before .before .before .before .before .before .pre .2, record { before = _; same = sym (c .before .before .before .pass .kept .1 .1 .1 .1 .0); passes = c .before .before .before .pass .ensures })
+
+same-length : tie.Need-same-length
+same-length c = search needs
+
+returns : tie.Need-returns
+returns c = search needs
+
+pub list-timed-spec : {M : Type 1} → statement M
+list-timed-spec =
+    tie.close
+    (tie.spec
+    slice-aggregate-pass
+    pass-requires
+    slice-aggregate-settle
+    settle-requires
+    same-length
+    returns)

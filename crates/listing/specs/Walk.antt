@@ -1,0 +1,66 @@
+-- One timed sample more, for listing: D is the step, a the level, τ the decorrelation time. Assumes nothing.
+use Prim.Native.Nat.{ℕ, _+_, _*_, _≤_}
+use mathlib.Core.Path.{_≡_}
+use mathlib.Core.Bool.{Bool, true, false, cond, not, _&&_}
+use mathlib.Core.List.{List, foldl}
+use lib.ListN.{length, set}
+use lib.Dec.{ltb, leb}
+use lib.IntN.{ℤ}
+use Rattle.magnitude.specs.Above.{above}
+use Rattle.range.specs.Range.{firstBad}
+use Rattle.listing.specs.declared.Walk.{Walk}
+use Rattle.listing.specs.declared.Found.{Found}
+use Rattle.listing.specs.declared.Found.the-variants.{Count, Bad}
+
+-- before the first timed sample; any crossing is counted
+abbrev pub start : Walk
+start = record { below = false; time = 0; count = 0; due = 0 }
+
+-- a failure is counted at the sample x
+abbrev pub counts : ℕ → Walk → ℤ → Bool
+counts a w x = (w .below && above a x) && leb (w .due) (w .time)
+
+-- the walk after it; one counted puts the next off by τ
+unfoldable pub stepped : ℕ → ℕ → ℕ → Walk → ℤ → Walk
+stepped D a τ w x =
+    record {
+      below = not (above a x);
+      time = w .time + D;
+      count = cond (counts a w x) (w .count + 1) (w .count);
+      due = cond (counts a w x) (w .time + τ) (w .due);
+    }
+
+-- the walk after k samples at most the level
+abbrev pub passed : ℕ → Walk → ℕ → Walk
+passed D w k = record { below = true; time = w .time + k * D; count = w .count; due = w .due }
+
+-- the walk, and a slice of times
+pub record Noting : Type 0 where
+  pub walk : Walk
+  pub times : List ℕ
+
+abbrev pub noting : Walk → List ℕ → Noting
+noting w ts = record { walk = w; times = ts }
+
+-- one counted has its time in the next place
+unfoldable pub noted : ℕ → ℕ → ℕ → Noting → ℤ → Noting
+noted D a τ s x =
+    noting (stepped D a τ (s .walk) x) (cond (counts a (s .walk) x) (set (s .times) (s .walk .count) (s .walk .time)) (s .times))
+
+-- n more samples stay within the longest record
+pub record Ready (D τ : ℕ) (w : Walk) (n : ℕ) : Type 0 where
+  pub step : 1 ≤ D
+  pub decorrelation : τ ≤ 10000000
+  pub counted : w .count ≤ w .time
+  pub room : w .time + n * D ≤ 20000000
+
+-- the timed samples xs, noted into a slice: how many failures are counted and the slice afterwards, or the first bad sample
+pub record Passes (D a τ : ℕ) (xs : List ℤ) (before : List ℕ) (r : Found) (after : List ℕ) : Type 0 where
+  pub answers : r ≡ cond (ltb (firstBad xs) (length xs)) (Bad (firstBad xs)) (Count (foldl (noted D a τ) (noting start before) xs .walk .count))
+  pub leaves : firstBad xs ≡ length xs → after ≡ foldl (noted D a τ) (noting start before) xs .times
+
+-- they were noted so into the slice `kept`
+pub record Heard (D a τ : ℕ) (xs : List ℤ) (r : Found) (kept : List ℕ) : Type 0 where
+  pub before : List ℕ
+  pub same : length before ≡ length kept
+  pub passes : Passes D a τ xs before r kept

@@ -1,0 +1,267 @@
+// The counted times of a whole record, listed into lent memory. The timed samples are read once, block by block, and a quiet block is passed over. The times
+// found on the way are kept aside, since refusal 7 must know their number before anything is written; only if they are too many is the record read again.
+ghost use mathlib.Core.Path.{_≡_};
+ghost use mathlib.Core.Bool.{cond};
+ghost use mathlib.Core.List.{foldl};
+ghost use Prim.Native.Nat.{_*_, _≤_};
+ghost use lib.ListN.{length, set, take};
+ghost use lib.Seq.{paste};
+ghost use Rattle.block.specs.Block.{anyAbove};
+ghost use Rattle.range.specs.Range.{firstBad};
+ghost use Rattle.reading.specs.Reading.{countedTimes};
+ghost use Rattle.listing.specs.Walk.{counts, stepped, passed, start, noting, noted, Ready, Passes, Heard};
+ghost use Rattle.listing.specs.Answers.{WritesTo, ListsTimed, ListsTo};
+use refusal::Refusal;
+use whole::Size;
+
+pub enum Listed {
+    Times(u64),
+    Refused(Refusal),
+}
+
+// How many times are kept aside: with a decorrelation time of 5 s or more no record has more.
+const KEPT: usize = 2_048;
+
+// The walk before a timed sample: its time, whether a timed sample at most the level stands before it, how many failures were counted, and from what time
+// on a crossing is counted.
+struct Walk {
+    below: bool,
+    time: u64,
+    count: u64,
+    due: u64,
+}
+
+// How many failures are counted, or the place of the first bad sample.
+enum Found {
+    Count(u64),
+    Bad(u64),
+}
+
+fn start() -> Walk
+    ensures { λ w. ⌜ w ≡ start ⌝ }
+{
+    Walk {
+        below: false,
+        time: 0,
+        count: 0,
+        due: 0,
+    }
+}
+
+// Whether a failure is counted at a sample.
+fn counts(level: u64, w: Walk, x: i32) -> bool
+    ensures { λ k. ⌜ k ≡ counts level w x ⌝ }
+{
+    truth::both(
+        truth::both(w.below, magnitude::above(level, x)),
+        w.due <= w.time,
+    )
+}
+
+// The walk after a sample.
+fn stepped(step: u64, level: u64, decorrelation: u64, w: Walk, x: i32) -> Walk
+    requires { ⌜ Ready step decorrelation w 1 ⌝ }
+    ensures { λ v. ⌜ v ≡ stepped step level decorrelation w x ⌝ }
+{
+    let c = counts(level, w, x);
+    Walk {
+        below: !magnitude::above(level, x),
+        time: w.time + step,
+        count: truth::pick(c, w.count + 1, w.count),
+        due: truth::pick(c, w.time + decorrelation, w.due),
+    }
+}
+
+// The walk after k samples at most the level.
+fn passed(step: u64, decorrelation: u64, w: Walk, k: usize) -> Walk
+    requires { ⌜ Ready step decorrelation w k ⌝ }
+    ensures { λ v. ⌜ v ≡ passed step w k ⌝ }
+{
+    Walk {
+        below: true,
+        time: w.time + k as u64 * step,
+        count: w.count,
+        due: w.due,
+    }
+}
+
+// Puts a time at a place, if there is such a place.
+fn put(time: u64, place: u64, times: &mut [u32])
+    requires { ⌜ time ≤ 20000000 ⌝ }
+    ensures { λ u. ⌜ now (times .exit) ≡ set (now (times .entry)) place time ⌝ }
+{
+    if place < times.len() as u64 {
+        let k = place as usize;
+        times[k] = time as u32;
+    }
+}
+
+// Puts the time of a sample into the next place if a failure is counted there.
+fn note(level: u64, w: Walk, x: i32, times: &mut [u32])
+    requires { ⌜ w .time ≤ 20000000 ⌝ }
+    ensures { λ u. ⌜ now (times .exit) ≡ cond (counts level w x) (set (now (times .entry)) (w .count) (w .time)) (now (times .entry)) ⌝ }
+{
+    if counts(level, w, x) {
+        put(w.time, w.count, times);
+    }
+}
+
+// The walk over a block sample by sample.
+fn along(
+    step: u64,
+    level: u64,
+    decorrelation: u64,
+    w: Walk,
+    block: &[i32],
+    times: &mut [u32],
+) -> Walk
+    requires { ⌜ Ready step decorrelation w (length (now block)) ⌝ }
+    ensures { λ v. ⌜ noting v (now (times .exit)) ≡ foldl (noted step level decorrelation) (noting w (now (times .entry))) (now (block .entry)) ⌝ }
+{
+    let mut v = w;
+    let mut i = 0;
+    while i < block.len() {
+        let x = block[i];
+        note(level, v, x, times);
+        v = stepped(step, level, decorrelation, v, x);
+        i += 1;
+    }
+    v
+}
+
+// The same, where it is known whether a sample of the block is above the level.
+fn advance(
+    step: u64,
+    level: u64,
+    decorrelation: u64,
+    w: Walk,
+    loud: bool,
+    block: &[i32],
+    times: &mut [u32],
+) -> Walk
+    requires { ⌜ Ready step decorrelation w (length (now block)) × (loud ≡ anyAbove level (now block)) × (1 ≤ length (now block)) ⌝ }
+    ensures { λ v. ⌜ noting v (now (times .exit)) ≡ foldl (noted step level decorrelation) (noting w (now (times .entry))) (now (block .entry)) ⌝ }
+{
+    if loud {
+        return along(step, level, decorrelation, w, block, times);
+    }
+    passed(step, decorrelation, w, block.len())
+}
+
+// The walk over all timed samples, up to the first bad one.
+fn pass(step: u64, level: u64, decorrelation: u64, timed: &[i32], times: &mut [u32]) -> Found
+    requires { ⌜ Ready step decorrelation start (length (now timed)) × (level ≤ 1000000) ⌝ }
+    ensures { λ r. ⌜ Passes step level decorrelation (now (timed .entry)) (now (times .entry)) r (now (times .exit)) ⌝ }
+{
+    let mut w = start();
+    let mut i = 0;
+    while i < timed.len() {
+        let end = block::end(i, timed.len());
+        let part = &timed[i..end];
+        let loud = block::loud(level, part);
+        let bad = range::first_bad_if(loud, part);
+        if bad < part.len() {
+            return Found::Bad((i + bad) as u64);
+        }
+        w = advance(step, level, decorrelation, w, loud, part, times);
+        i = end;
+    }
+    Found::Count(w.count)
+}
+
+// Copies the first k times.
+fn copy(kept: &[u32], k: usize, times: &mut [u32])
+    requires { ⌜ (k ≤ length (now kept)) × (k ≤ length (now times)) ⌝ }
+    ensures { λ u. ⌜ now (times .exit) ≡ paste (now (times .entry)) 0 (now (kept .entry)) k ⌝ }
+{
+    let mut i = 0;
+    while i < k {
+        times[i] = kept[i];
+        i += 1;
+    }
+}
+
+// Writes the counted times, if there are places for them: those kept aside, if they are all there, else by a second pass.
+fn write(
+    step: u64,
+    level: u64,
+    decorrelation: u64,
+    timed: &[i32],
+    count: u64,
+    kept: &[u32],
+    times: &mut [u32],
+) -> Listed
+    requires { ⌜ Ready step decorrelation start (length (now timed)) × (level ≤ 1000000) × (firstBad (now timed) ≡ length (now timed)) × (count ≡ length (countedTimes step 0 level decorrelation (now timed))) × (count ≤ length (now kept) → take count (now kept) ≡ countedTimes step 0 level decorrelation (now timed)) ⌝ }
+    ensures { λ r. ⌜ WritesTo (countedTimes step 0 level decorrelation (now (timed .entry))) (now (times .entry)) r (now (times .exit)) ⌝ }
+{
+    if (times.len() as u64) < count {
+        return Listed::Refused(Refusal::Room(count));
+    }
+    if count <= kept.len() as u64 {
+        copy(kept, count as usize, times);
+        return Listed::Times(count);
+    }
+    pass(step, level, decorrelation, timed, times);
+    Listed::Times(count)
+}
+
+// What the first pass, which noted into `kept`, comes to.
+fn settle(
+    step: u64,
+    ramp: u64,
+    level: u64,
+    decorrelation: u64,
+    timed: &[i32],
+    found: Found,
+    kept: &[u32],
+    times: &mut [u32],
+) -> Listed
+    requires { ⌜ Ready step decorrelation start (length (now timed)) × (ramp ≤ 1000000) × (level ≤ 1000000) × Heard step level decorrelation (now timed) found (now kept) ⌝ }
+    ensures { λ r. ⌜ ListsTimed step ramp level decorrelation (now (timed .entry)) (now (times .entry)) r (now (times .exit)) ⌝ }
+{
+    match found {
+        Found::Bad(k) => Listed::Refused(Refusal::Sample(ramp + k)),
+        Found::Count(n) => write(step, level, decorrelation, timed, n, kept, times),
+    }
+}
+
+// The timed samples, listed.
+fn list_timed(
+    step: u64,
+    ramp: u64,
+    level: u64,
+    decorrelation: u64,
+    timed: &[i32],
+    times: &mut [u32],
+) -> Listed
+    requires { ⌜ Ready step decorrelation start (length (now timed)) × (ramp ≤ 1000000) × (level ≤ 1000000) ⌝ }
+    ensures { λ r. ⌜ ListsTimed step ramp level decorrelation (now (timed .entry)) (now (times .entry)) r (now (times .exit)) ⌝ }
+{
+    let mut kept = [0u32; KEPT];
+    let found = pass(step, level, decorrelation, timed, &mut kept);
+    settle(step, ramp, level, decorrelation, timed, found, &kept, times)
+}
+
+// A whole record at once: the counted times, in order, from the start of `times`, whose rest stays, and their number; or refusal 1, 2, 3, 4
+// or 7 with the places needed, and `times` as it stood.
+pub fn list(
+    step: u64,
+    ramp: u64,
+    level: u64,
+    decorrelation: u64,
+    samples: &[i32],
+    times: &mut [u32],
+) -> Listed
+    ensures { λ r. ⌜ ListsTo step ramp level decorrelation (now (samples .entry)) (now (times .entry)) r (now (times .exit)) ⌝ }
+{
+    let size = whole::judge(step, ramp, level, decorrelation, samples);
+    if let Size::Refused(f) = size {
+        return Listed::Refused(f);
+    }
+    let from = ramp as usize;
+    let bad = range::first_bad(&samples[..from]);
+    if bad < from {
+        return Listed::Refused(Refusal::Sample(bad as u64));
+    }
+    list_timed(step, ramp, level, decorrelation, &samples[from..], times)
+}

@@ -1,0 +1,56 @@
+// The range of a sample, and the first of several that is outside it.
+ghost use mathlib.Core.Path.{_≡_};
+ghost use mathlib.Core.Bool.{cond};
+ghost use lib.ListN.{length};
+ghost use Rattle.range.specs.Range.{sampleInRange, firstBad};
+
+// Document 01, "Numbers a job may carry".
+pub const SAMPLE_LIMIT: u32 = 1_000_000;
+
+pub fn in_range(x: i32) -> bool
+    ensures { λ r. ⌜ r ≡ sampleInRange x ⌝ }
+{
+    magnitude::magnitude(x) <= SAMPLE_LIMIT
+}
+
+// The place of the first sample outside its range, looked for one by one; the length if there is none.
+fn first_of(block: &[i32]) -> usize
+    ensures { λ r. ⌜ r ≡ firstBad (now (block .entry)) ⌝ }
+{
+    let mut i = 0;
+    while i < block.len() {
+        if !in_range(block[i]) {
+            return i;
+        }
+        i += 1;
+    }
+    i
+}
+
+// The place of the first sample outside its range, the length if there is none. Block by block, so that samples in range are passed over at the speed of `loud`.
+pub fn first_bad(samples: &[i32]) -> usize
+    ensures { λ r. ⌜ r ≡ firstBad (now (samples .entry)) ⌝ }
+{
+    let mut i = 0;
+    while i < samples.len() {
+        let end = block::end(i, samples.len());
+        let part = &samples[i..end];
+        if block::loud(SAMPLE_LIMIT as u64, part) {
+            let bad = first_of(part);
+            return i + bad;
+        }
+        i = end;
+    }
+    i
+}
+
+// The same where a sample may be bad; the length, with no sample looked at, where it is known that none is.
+pub fn first_bad_if(doubtful: bool, samples: &[i32]) -> usize
+    ensures { λ r. ⌜ r ≡ cond doubtful (firstBad (now (samples .entry))) (length (now (samples .entry))) ⌝ }
+{
+    if doubtful {
+        first_bad(samples)
+    } else {
+        samples.len()
+    }
+}

@@ -1,0 +1,5 @@
+pub mod First
+pub mod Places
+pub mod Scan
+pub mod Timed
+pub mod Unique

@@ -1,0 +1,20 @@
+-- `reading::rises` meets its contract, which it follows word for word. Assumes nothing.
+use borrow.Author.Needs.{needs}
+use mir.Facts.{toZ-ofZ}
+use Rattle.reading.proofs.rises.Statement.{statement}
+use Rattle.reading.proofs.rises.Tie as tie
+
+above-requires : tie.Need-above-requires
+above-requires c κs = search needs
+
+above-requires-2 : tie.Need-above-requires-2
+above-requires-2 c κs = search needs
+
+both-requires : tie.Need-both-requires
+both-requires c κs = search needs
+
+returns : tie.Need-returns
+returns c = cc (toZ-ofZ (c .before .before .before .fits .x), toZ-ofZ (c .before .before .before .fits .y))
+
+pub rises-spec : {M : Type 1} → statement M
+rises-spec = tie.close (tie.spec above-requires above-requires-2 both-requires returns)

@@ -1,0 +1,10 @@
+-- Two answers that the promise allows are the same answer: the promise is an equation. Assumes nothing.
+use Prim.Native.Nat.{ℕ}
+use mathlib.Core.Path.{_≡_, sym, _∙_}
+use mathlib.Core.List.{List}
+use lib.IntN.{ℤ}
+use Rattle.whole.specs.declared.Size.{Size}
+use Rattle.whole.specs.Tests.{sized}
+
+pub judge-unique : (D R a τ : ℕ) (xs : List ℤ) (x y : Size) → x ≡ sized D R a τ xs → y ≡ sized D R a τ xs → x ≡ y
+judge-unique D R a τ xs x y e f = e ∙ sym f

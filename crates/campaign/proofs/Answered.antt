@@ -8,7 +8,7 @@ use borrow.Author.Tests.{eqb-false, ltb-false, not-false}
 use Rattle.refusal.specs.declared.Refusal.{Refusal}
 use Rattle.refusal.specs.declared.Refusal.the-variants.{BrokenState, CampaignFull, Item, RowsUsedUp, TooLong, TooShort}
 use Rattle.record.specs.declared.Record.{Record}
-use Rattle.record.specs.Limits.{longestTime}
+use Rattle.limits.specs.Limits.{longestTime}
 use Rattle.record.specs.State.{failed, tooShort}
 use Rattle.record.specs.State as reading
 use Rattle.truth.proofs.Laws.{holds}

@@ -7,7 +7,7 @@ use native.Mathlib.Omega.{arith}
 use lib.Dec.{T, leb→le}
 use lib.Ieee.Fits.{and-l, and-r}
 use Rattle.record.specs.declared.Record.{Record}
-use Rattle.record.specs.Limits.{longestTime}
+use Rattle.limits.specs.Limits.{longestTime}
 use Rattle.record.specs.State.{failed, firstTime, tooShort, wholeTime}
 use Rattle.record.specs.State as reading
 use Rattle.record.proofs.Times.{first-time, whole-time}

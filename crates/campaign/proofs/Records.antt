@@ -8,7 +8,7 @@ use native.Mathlib.Omega.{arith}
 use lib.ListN.{length, length-append}
 use borrow.Author.Tests.{le-ltb, ne-eqb}
 use Rattle.record.specs.declared.Record.{Record}
-use Rattle.record.specs.Limits.{longestTime}
+use Rattle.limits.specs.Limits.{longestTime}
 use Rattle.record.specs.State.{failed, tooShort}
 use Rattle.record.specs.State as reading
 use Rattle.campaign.specs.declared.Answer.the-variants.{Taken}

@@ -3,7 +3,7 @@ use mathlib.Core.Bool.{Bool, cond, not}
 use Prim.Native.Nat.{ℕ}
 use lib.Dec.{eqb, ltb}
 use Rattle.poisson.specs.Rows.{rows}
-use Rattle.record.specs.Limits.{longestTime}
+use Rattle.limits.specs.Limits.{longestTime}
 use Rattle.record.specs.State.{failed, firstTime, tooShort, wholeTime}
 use Rattle.record.specs.declared.Record.{Record}
 use Rattle.refusal.specs.declared.Refusal.the-variants.{BrokenState, CampaignFull, Item, RowsUsedUp, TooLong, TooShort}

@@ -3,7 +3,7 @@ use mathlib.Core.Bool.{Bool, cond, false, not, _&&_, _||_}
 use Prim.Native.Nat.{ℕ, _+_, _-_, _*_}
 use lib.Dec.{eqb, leb, ltb}
 use Rattle.poisson.specs.Rows.{rows}
-use Rattle.record.specs.Limits.{longestTime, within}
+use Rattle.limits.specs.Limits.{longestTime, within}
 use Rattle.campaign.specs.declared.Campaign.{Campaign}
 
 -- item 5, the standard: one failure in q ms

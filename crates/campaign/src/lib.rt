@@ -4,7 +4,7 @@
 ghost use mathlib.Core.Path.{_≡_};
 ghost use mathlib.Core.Bool.{true};
 ghost use Prim.Native.Nat.{_+_, _≤_};
-ghost use Rattle.record.specs.Limits.{longestTime};
+ghost use Rattle.limits.specs.Limits.{longestTime};
 ghost use Rattle.record.specs.State as reading;
 ghost use Rattle.campaign.specs.Kept.{Kept};
 ghost use Rattle.campaign.specs.State.{figuresKept, lastKept, mostRecords, sound};
@@ -59,7 +59,7 @@ fn figures_kept(c: Campaign) -> bool
         truth::both(c.failures <= ROWS, c.failures <= c.records),
         truth::both(
             c.records <= c.exposure,
-            c.exposure <= c.records * record::LONGEST_TIME,
+            c.exposure <= c.records * limits::LONGEST_TIME,
         ),
     )
 }
@@ -155,7 +155,7 @@ impl Campaign {
         if exposure == 0 {
             return Answer::Refused(Refusal::TooShort);
         }
-        if exposure > record::LONGEST_TIME {
+        if exposure > limits::LONGEST_TIME {
             return Answer::Refused(Refusal::TooLong);
         }
         take(self, failed, exposure)

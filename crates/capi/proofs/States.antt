@@ -7,7 +7,7 @@ use borrow.Author.Tests.{eq-eqb, le-leb, leb-true}
 use lib.Dec.{leb}
 use lib.ListN.{length}
 use Rattle.record.proofs.Relations.{kept-from}
-use Rattle.record.specs.Limits.{itemOutside}
+use Rattle.limits.specs.Limits.{itemOutside}
 use Rattle.record.specs.State as state
 use Rattle.record.specs.declared.Answer.{Answer as Reading}
 use Rattle.record.specs.declared.Answer.the-variants as read

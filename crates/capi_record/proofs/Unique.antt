@@ -5,7 +5,7 @@ use mathlib.Core.List.{List}
 use lib.IntN.{ℤ}
 use lib.ListN.{length}
 use Rattle.truth.proofs.Unique.{settled}
-use Rattle.record.specs.Reading.{firstCrossing}
+use Rattle.reading.specs.Reading.{firstCrossing}
 use Rattle.capi.specs.Told.{Told}
 use Rattle.capi_record.specs.Told.{recordFed, recordListed, recordOpened}
 

@@ -3,10 +3,11 @@ use Prim.Native.Nat.{ℕ}
 use mathlib.Core.List.{List}
 use lib.IntN.{ℤ}
 use lib.ListN.{length}
-use Rattle.record.specs.Answers.{fed, listed, opened, written}
-use Rattle.record.specs.Reading.{countedTimes}
-use Rattle.record.specs.declared.Listed.{Listed}
-use Rattle.record.specs.declared.Listed.the-variants.{Refused, Times}
+use Rattle.listing.specs.Answers.{listed, written}
+use Rattle.record.specs.Answers.{fed, opened}
+use Rattle.reading.specs.Reading.{countedTimes}
+use Rattle.listing.specs.declared.Listed.{Listed}
+use Rattle.listing.specs.declared.Listed.the-variants.{Refused, Times}
 use Rattle.capi.specs.Numbers.{recordOf}
 use Rattle.capi.specs.Told.{Told, recordKept, refused, told}
 

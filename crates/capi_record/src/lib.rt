@@ -2,7 +2,7 @@
 // writes what goes with it to `carried`; a refusal leaves every lent array as it stood.
 ghost use mathlib.Core.Path.{_≡_};
 ghost use lib.ListN.{length};
-ghost use Rattle.record.specs.Reading.{firstCrossing};
+ghost use Rattle.reading.specs.Reading.{firstCrossing};
 ghost use Rattle.capi.specs.Told.{told};
 ghost use Rattle.capi_record.specs.Told.{recordFed, recordListed, recordOpened};
 
@@ -39,7 +39,7 @@ pub extern "C" fn chim_record_feed(state: &mut [u64], piece: &[i32], carried: &m
 pub extern "C" fn chim_record_first_crossing(samples: &[i32], ramp: u64, level: u64) -> usize
     ensures { λ r. ⌜ r ≡ firstCrossing (length (now (samples .entry))) ramp level (now (samples .entry)) ⌝ }
 {
-    record::first_crossing(samples, ramp, level)
+    search::first_crossing(samples, ramp, level)
 }
 
 // The counted times of a whole record, in order, from the start of `times`, and their number; or refusal 1, 2, 3, 4, 7 with the places needed.
@@ -55,9 +55,9 @@ pub extern "C" fn chim_record_list(
 ) -> u64
     ensures { λ n. ⌜ told n (now (carried .exit)) (now (times .exit)) ≡ recordListed step ramp level decorrelation (now (samples .entry)) (now (times .entry)) ⌝ }
 {
-    let a = record::list(step, ramp, level, decorrelation, samples, times);
+    let a = listing::list(step, ramp, level, decorrelation, samples, times);
     match a {
-        record::Listed::Times(k) => capi::give(k, carried),
-        record::Listed::Refused(f) => capi::refuse(f, carried),
+        listing::Listed::Times(k) => capi::give(k, carried),
+        listing::Listed::Refused(f) => capi::refuse(f, carried),
     }
 }

@@ -17,11 +17,13 @@ use Rattle.refusal.specs.declared.Refusal.{Refusal}
 use Rattle.refusal.specs.declared.Refusal.the-variants.{BrokenState, CampaignFull, Item, Room, RowsUsedUp, Sample, TooLong, TooShort}
 use Rattle.poisson.specs.Rows.{rows}
 use Rattle.record.specs.declared.Answer.the-variants.{Refused, Taken}
-use Rattle.record.specs.declared.Listed.the-variants as listing
 use Rattle.record.specs.declared.Record.{Record}
-use Rattle.record.specs.Answers.{ListsTo, fed, firstBad, listed, opened, written}
-use Rattle.record.specs.Limits.{decorrelationInRange, itemOutside, levelInRange, longestTime, mostSamples, rampInRange, stepInRange}
-use Rattle.record.specs.Reading.{counted, tooFew}
+use Rattle.record.specs.Answers.{fed, opened}
+use Rattle.limits.specs.Limits.{decorrelationInRange, itemOutside, levelInRange, longestTime, mostSamples, rampInRange, stepInRange}
+use Rattle.range.specs.Range.{firstBad}
+use Rattle.reading.specs.Reading.{counted, tooFew}
+use Rattle.listing.specs.declared.Listed.the-variants as listing
+use Rattle.listing.specs.Answers.{ListsTo, listed, written}
 use Rattle.record.specs.State.{failed, sound, stateOf, tooShort}
 use Rattle.record.specs.Step.{stepped}
 use Rattle.campaign.specs.declared.Answer.the-variants as campaigned

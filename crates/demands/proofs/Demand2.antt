@@ -2,21 +2,21 @@
 -- of crossings pairwise at least the decorrelation time apart; and a campaign's figures are document 000's over its list of records.
 --
 -- D is the step, R the ramp, a the level and τ the decorrelation time. The proof gathers what the crates `record` and `campaign` show. Assumes nothing.
-use mathlib.Core.Path.{_≡_}
+use mathlib.Core.Path.{_≡_, ap}
 use mathlib.Core.Bool.{false, true}
 use mathlib.Core.List.{List, map}
 use Prim.Native.Nat.{ℕ, _<_}
 use lib.IntN.{ℤ}
 use lib.ListN.{length}
 use Rattle.refusal.specs.declared.Refusal.the-variants.{BrokenState}
-use Rattle.largest.specs.Choice.{Apart, Largest}
+use Rattle.largest.specs.Choice.{Apart, LargestSet}
+use Rattle.reading.specs.Reading.{counted, countedTimes, crossings, firstCrossing, timeAt}
+use Rattle.reading.proofs.Places.{itself}
 use Rattle.record.specs.declared.Answer.the-variants.{Refused, Taken}
 use Rattle.record.specs.declared.Record.{Record}
 use Rattle.record.specs.Answers.{fed, opened}
 use Rattle.record.specs.Pieces.{AllTaken, joined}
-use Rattle.record.specs.Reading.{countedTimes, crossings, firstCrossing, timeAt}
 use Rattle.record.specs.State.{failed, stateOf}
-use Rattle.record.proofs.Places.{itself}
 use Rattle.record.proofs.Theorems.{counted-largest, every-cutting, join-taken, never-broken, opened-sound, pieces-whole, search-found, search-none, times-apart}
 use Rattle.campaign.specs.declared.Campaign.{Campaign}
 use Rattle.campaign.specs.Answers as campaigns
@@ -30,8 +30,9 @@ use Rattle.campaign.proofs.Records.{censored-grown, grown-by-closing}
 pub record ReadsWhole (D R a τ : ℕ) (s t : Record) (ps : List (List ℤ)) (xs : List ℤ) : Type 0 where
   -- crossings, counted failures, first failure, last counted place, n and the last sample are those of the joined record
   pub figures : t ≡ stateOf D R a τ xs
-  -- no choice of crossings pairwise τ apart is larger than the number counted, and some choice is as large
-  pub largest : Largest (timeAt D R) τ (crossings R a xs) (t .counted)
+  -- the counted places are a choice of the crossings, pairwise τ apart, and no such choice has more members; the state has their number
+  pub largest : LargestSet (timeAt D R) τ (crossings R a xs) (counted D R a τ xs)
+  pub number : t .counted ≡ length (counted D R a τ xs)
   -- any other cutting of the joined record is taken too, and ends in the same state
   pub cuttings : (qs : List (List ℤ)) → joined qs ≡ xs → AllTaken s qs t
   -- the state is never refused as broken
@@ -49,12 +50,17 @@ pub record Demand2 : Type 0 where
   pub censored : (q : ℕ) (c d : Campaign) (rs : List Record) → campaigns.opened q ≡ campaigned.Taken c → AllClosed c rs d → censored d ≡ censoredIn (map outcome rs)
 
 -- ---- the proof
+number : (D R a τ : ℕ) (xs : List ℤ) {t : Record} → t ≡ stateOf D R a τ xs → t .counted ≡ length (counted D R a τ xs)
+unfolding stateOf
+number D R a τ xs e = ap (λ (r : Record). r .counted) e
+
 whole : (D R a τ : ℕ) (s t : Record) (ps : List (List ℤ)) → opened D R a τ ≡ Taken s → AllTaken s ps t → ReadsWhole D R a τ s t ps (joined ps)
 whole D R a τ s t ps e f =
     let figures = pieces-whole D R a τ s e f in
     record {
       figures = figures;
-      largest = rw figures (counted-largest D R a τ (joined ps));
+      largest = counted-largest D R a τ (joined ps);
+      number = number D R a τ (joined ps) figures;
       cuttings = λ qs j. every-cutting s qs t (rw j (join-taken (opened-sound D R a τ s e) f));
       unbroken = never-broken D R a τ s e f;
     }

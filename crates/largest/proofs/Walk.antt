@@ -1,4 +1,4 @@
--- The walk counts a largest choice. It is a choice, its members are apart, and no choice of members apart is longer: by induction on the
+-- The walk finds a largest set. It is a choice, its members are apart, and no choice of members apart is longer: by induction on the
 -- list, a choice that lies wholly after p is no longer than what the walk finds after p (`Bound`). Where the walk takes x, a choice
 -- without x loses only its first member when cut down to those after x (`one-more`), and the walk has gained x. Assumes nothing.
 use Prim.Native.Nat.{ℕ, suc, _+_, _≤_, zero-le, suc-le-suc}
@@ -8,7 +8,7 @@ use mathlib.Core.Bool.{Bool, true, false, cond}
 use native.Mathlib.Omega.{arith}
 use lib.ListN.{length}
 use borrow.Author.Tests.{leb-true, le-leb}
-use Rattle.largest.specs.Choice.{Choice, none, keep, skip, After, Apart, Largest}
+use Rattle.largest.specs.Choice.{Choice, none, keep, skip, After, Apart, LargestSet}
 use Rattle.largest.specs.Walk.{since, later, walk}
 use Rattle.largest.proofs.Rising.{From, Rising}
 
@@ -22,7 +22,7 @@ module _ (time : ℕ → ℕ) (τ : ℕ) where
       go true h k = keep h
       go false h k = skip k
 
-  pub walk-chosen : (l : List ℕ) → Choice (walk time τ l) l
+  walk-chosen : (l : List ℕ) → Choice (walk time τ l) l
   unfolding walk
   walk-chosen [] = none
   walk-chosen (x ∷ l) = keep (later-chosen x l)
@@ -88,6 +88,6 @@ module _ (time : ℕ → ℕ) (τ : ℕ) where
   walk-most (x ∷ l) r s (keep {s = t} h) a = suc-le-suc (later-most l (r .1) x t h (a .1) (a .0))
   walk-most (x ∷ l) r s (skip h) a = one-more x s l (r .0) h a (later-most l (r .1) x)
 
-  -- the walk over moments in order counts the largest number of members pairwise at least τ apart
-  pub walk-largest : (l : List ℕ) → Rising time l → Largest time τ l (length (walk time τ l))
-  walk-largest l r = record { reached = (walk time τ l, walk-chosen l, walk-apart l r, refl); most = walk-most l r }
+  -- the walk over moments in order finds a largest set of members pairwise at least τ apart
+  pub walk-largest : (l : List ℕ) → Rising time l → LargestSet time τ l (walk time τ l)
+  walk-largest l r = record { chosen = walk-chosen l; apart = walk-apart l r; most = walk-most l r }

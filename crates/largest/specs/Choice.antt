@@ -1,7 +1,6 @@
 -- Document 01, "Reading a record": the largest number of crossings pairwise at least the decorrelation time apart, defined without
 -- the walk. A crossing is known by its place; `time` gives the moment of a place and τ is the decorrelation time. Assumes nothing.
 use Prim.Native.Nat.{ℕ, _+_, _≤_}
-use mathlib.Core.Path.{_≡_}
 use mathlib.Core.List.{List, [], _∷_}
 use lib.ListN.{length}
 
@@ -22,7 +21,8 @@ module _ (time : ℕ → ℕ) (τ : ℕ) where
   Apart [] = Unit {0}
   Apart (x ∷ l) = After x l × Apart l
 
-  -- some choice whose members are pairwise apart has k members, and no such choice has more
-  pub record Largest (l : List ℕ) (k : ℕ) : Type 0 where
-    pub reached : (s : List ℕ) × Choice s l × Apart s × (length s ≡ k)
-    pub most : (s : List ℕ) → Choice s l → Apart s → length s ≤ k
+  -- s is a choice from l whose members are pairwise apart, and no such choice has more
+  pub record LargestSet (l s : List ℕ) : Type 0 where
+    pub chosen : Choice s l
+    pub apart : Apart s
+    pub most : (t : List ℕ) → Choice t l → Apart t → length t ≤ length s

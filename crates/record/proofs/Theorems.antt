@@ -8,7 +8,7 @@ use native.Mathlib.Omega.{arith}
 use lib.ListN.{length}
 use lib.IntN.{ℤ}
 use Rattle.refusal.specs.declared.Refusal.the-variants.{BrokenState}
-use Rattle.largest.specs.Choice.{Apart, Largest}
+use Rattle.largest.specs.Choice.{Apart, LargestSet}
 use Rattle.largest.proofs.Walk.{walk-largest, walk-apart}
 use Rattle.record.specs.declared.Record.{Record}
 use Rattle.record.specs.declared.Answer.the-variants.{Taken, Refused}
@@ -65,9 +65,8 @@ module _ (D R a τ : ℕ) (s : Record) (fresh : opened D R a τ ≡ Taken s) whe
   pub never-broken : {ps : List (List ℤ)} {t : Record} → AllTaken s ps t → (p : List ℤ) → fed t p ≡ Refused BrokenState → ⊥
   never-broken {t = t} f p = not-broken t p (all-sound (opened-sound D R a τ s fresh) f)
 
--- 3: the number counted is the size of the largest set; the listed times are pairwise at least τ apart
-pub counted-largest : (D R a τ : ℕ) (xs : List ℤ) → Largest (timeAt D R) τ (crossings R a xs) (stateOf D R a τ xs .counted)
-unfolding stateOf
+-- 3: the counted places are a largest set; the listed times are pairwise at least τ apart
+pub counted-largest : (D R a τ : ℕ) (xs : List ℤ) → LargestSet (timeAt D R) τ (crossings R a xs) (counted D R a τ xs)
 counted-largest D R a τ xs = walk-largest (timeAt D R) τ (crossings R a xs) (rising-passing D R (crossesAt R a xs) 0 (length xs))
 
 pub times-apart : (D R a τ : ℕ) (xs : List ℤ) → Apart itself τ (countedTimes D R a τ xs)

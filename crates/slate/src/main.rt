@@ -1,7 +1,7 @@
 // Document 01's marked cases A to H and the other cases that it names for a record, run through the code: a row of the table for each, and a line for each
 // row. slate_cases has A to H of the definitions.
+use listing::Listed;
 use record::Answer;
-use record::Listed;
 use record::Record;
 use refusal::Refusal;
 
@@ -134,7 +134,7 @@ fn fed(items: [u64; 9], samples: &[i32]) {
 
 // Its counted times, listed into the lent places, and what these then hold.
 fn listed(items: [u64; 9], samples: &[i32], slice: &mut [u32]) {
-    let l = record::list(items[0], items[1], items[2], items[3], samples, slice);
+    let l = listing::list(items[0], items[1], items[2], items[3], samples, slice);
     match l {
         Listed::Times(k) => number(b" times ", k),
         Listed::Refused(f) => refused(f),
@@ -153,7 +153,7 @@ fn case(items: [u64; 9], samples: &[i32]) {
     }
     number(
         b" found ",
-        record::first_crossing(samples, items[1], items[2]) as u64,
+        search::first_crossing(samples, items[1], items[2]) as u64,
     );
 }
 

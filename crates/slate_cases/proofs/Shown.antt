@@ -3,7 +3,7 @@ use mathlib.Core.Path.{_≡_, refl}
 use mathlib.Core.Bool.{true}
 use Rattle.largest.specs.Walk.{later, walk}
 use Rattle.poisson.specs.Tables.{l, lowerRows, u, upperRows}
-use Rattle.record.specs.Reading.{passing}
+use Rattle.reading.specs.Reading.{passing}
 use Rattle.campaign.specs.State.{censored}
 use Rattle.slate_cases.specs.Slate.{same, right, allRight, slate}
 

@@ -10,7 +10,7 @@ use Rattle.campaign.specs.declared.Campaign.{Campaign}
 use Rattle.verdict.specs.declared.Verdict.{Verdict}
 use Rattle.verdict.specs.declared.Verdict.the-variants.{Accept, Continue, NoRecord, Reject}
 use Rattle.verdict.specs.Figures.{verdictOf}
-use Rattle.record.specs.Reading.{timeAt, crossings, countedTimes, fullTime}
+use Rattle.reading.specs.Reading.{timeAt, crossings, countedTimes, fullTime}
 
 -- a marked case
 pub data Row : Type 0 where

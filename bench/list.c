@@ -1,0 +1,93 @@
+/* Listing a whole record, and searching it for its first crossing, beside plain C doing the same: nanoseconds a sample, best of several runs. */
+#include <stddef.h>
+#include <stdint.h>
+#include <stdio.h>
+#include <stdlib.h>
+#include <string.h>
+#include <time.h>
+
+#include "chimenickel.h"
+
+uint64_t plain_list(uint64_t step, uint64_t ramp, uint64_t level, uint64_t decorrelation, const int32_t *samples, size_t n, uint32_t *times,
+                    size_t places);
+size_t plain_search(const int32_t *samples, size_t n, uint64_t ramp, uint64_t level);
+
+enum { MOST = 10000000, STEP = 1, RAMP = 0, LEVEL = 40000 };
+
+static double now(void) {
+    struct timespec t;
+    clock_gettime(CLOCK_MONOTONIC, &t);
+    return t.tv_sec * 1e9 + t.tv_nsec;
+}
+
+/* a roll within 39 degrees, and above the level at every `every`-th sample (0: never) */
+static void fill(int32_t *samples, size_t n, size_t every) {
+    uint32_t seed = 12345;
+    for (size_t i = 0; i < n; i++) {
+        seed = seed * 1664525u + 1013904223u;
+        int32_t x = (int32_t)(seed >> 16) % 39000;
+        samples[i] = every != 0 && i % every == every - 1 ? 41000 : (seed & 128 ? -x : x);
+    }
+}
+
+static void least(double *best, double t) {
+    if (t < *best)
+        *best = t;
+}
+
+int main(void) {
+    static const struct {
+        const char *name;
+        size_t n, every;
+        uint64_t decorrelation;
+    } kinds[] = {{"10,000,000: never above", MOST, 0, 5000},
+                 {"10,000,000: every 100,000th", MOST, 100000, 5000},
+                 {"10,000,000: every 1,000th", MOST, 1000, 5000},
+                 {"10,000,000: every second", MOST, 2, 5000},
+                 {"10,000,000: every second, all counted", MOST, 2, 0},
+                 {"100,000: never above", 100000, 0, 5000},
+                 {"100,000: every 10,000th", 100000, 10000, 5000},
+                 {"100,000: every second", 100000, 2, 5000}};
+    int32_t *samples = malloc(MOST * sizeof *samples);
+    uint32_t *ours = malloc(MOST * sizeof *ours), *theirs = malloc(MOST * sizeof *theirs);
+    if (samples == NULL || ours == NULL || theirs == NULL)
+        return 1;
+    memset(ours, 0, MOST * sizeof *ours);
+    memset(theirs, 0, MOST * sizeof *theirs);
+    printf("%-38s %9s %9s %6s %11s %9s %6s\n", "samples: above the level", "list", "plain C", "ratio", "search", "plain C", "ratio");
+    for (size_t k = 0; k < sizeof kinds / sizeof *kinds; k++) {
+        size_t n = kinds[k].n;
+        fill(samples, n, kinds[k].every);
+        double list = 1e18, plain = 1e18, search = 1e18, plainly = 1e18;
+        for (int run = 0; run < (n == MOST ? 15 : 400); run++) {
+            uint64_t number = 0;
+            double t0 = now();
+            uint64_t answer = chim_record_list(STEP, RAMP, LEVEL, kinds[k].decorrelation, samples, n, ours, MOST, &number);
+            double t1 = now();
+            uint64_t counted = plain_list(STEP, RAMP, LEVEL, kinds[k].decorrelation, samples, n, theirs, MOST);
+            double t2 = now();
+            size_t place = chim_record_first_crossing(samples, n, RAMP, LEVEL);
+            double t3 = now();
+            size_t at = plain_search(samples, n, RAMP, LEVEL);
+            double t4 = now();
+            if (answer != CHIM_TAKEN || number != counted || memcmp(ours, theirs, counted * sizeof *ours) != 0 || place != at) {
+                printf("the answers differ\n");
+                return 1;
+            }
+            least(&list, t1 - t0);
+            least(&plain, t2 - t1);
+            least(&search, t3 - t2);
+            least(&plainly, t4 - t3);
+        }
+        printf("%-38s %6.3f ns %6.3f ns %6.2f", kinds[k].name, list / n, plain / n, plain / list);
+        /* where a crossing stands at the second sample there is nothing to search */
+        if (kinds[k].every == 2)
+            printf("\n");
+        else
+            printf(" %8.3f ns %6.3f ns %6.2f\n", search / n, plainly / n, plainly / search);
+    }
+    free(samples);
+    free(ours);
+    free(theirs);
+    return 0;
+}

@@ -1,5 +1,5 @@
-// Document 01's cases of a campaign, run through the code: a line for each. J and K are weighed on both sides of their edge; the others close records
-// until a refusal. q = 7,200,000, D = 500, a = 40,000. slate_cases has J and K of the definitions.
+// Document 01's cases of a campaign, run through the code: a row of the table for each, and a line for each row. J and K are weighed on both sides of their
+// edge; the others close records until a refusal. D = 500, a = 40,000. slate_cases has J and K of the definitions.
 use campaign::Answer;
 use campaign::Campaign;
 use record::Record;
@@ -9,7 +9,33 @@ use verdict::Judged;
 use verdict::Rated;
 use verdict::Verdict;
 
-const STANDARD: u64 = 7_200_000;
+// Of each row: the campaign's standard, M, N, T, and 1 if the last record failed; a campaign without a record is opened. Then a record, by its
+// number (`numbered`), and how often it is closed into the campaign; and the number of one record more, 9 for none.
+const ROWS: [[u64; 8]; 18] = [
+    // J and K, and one ms more of each
+    [7_200_000, 3, 0, 26_559_936, 0, 0, 0, 9],
+    [7_200_000, 3, 0, 26_559_937, 0, 0, 0, 9],
+    [7_200_000, 1, 1, 182_282, 1, 0, 0, 9],
+    [7_200_000, 1, 1, 182_283, 1, 0, 0, 9],
+    // N above M; 64 failures, and the last record none
+    [7_200_000, 1, 2, 1_000, 1, 0, 0, 9],
+    [7_200_000, 65, 64, 1_000, 0, 0, 0, 9],
+    // the standard at the ends of its range and past them
+    [0, 0, 0, 0, 0, 0, 0, 9],
+    [1, 0, 0, 0, 0, 0, 0, 9],
+    [100_000_000_000, 0, 0, 0, 0, 0, 0, 9],
+    [100_000_000_001, 0, 0, 0, 0, 0, 0, 9],
+    // one sample closed, two, a failure; a broken record
+    [7_200_000, 0, 0, 0, 0, 0, 1, 9],
+    [7_200_000, 0, 0, 0, 0, 1, 1, 9],
+    [7_200_000, 0, 0, 0, 0, 2, 1, 9],
+    [7_200_000, 0, 0, 0, 0, 3, 1, 9],
+    // 64 failures, and one record more; 100,000 records, and one more
+    [7_200_000, 0, 0, 0, 0, 2, 64, 9],
+    [7_200_000, 0, 0, 0, 0, 2, 64, 1],
+    [7_200_000, 0, 0, 0, 0, 1, 100_000, 9],
+    [7_200_000, 0, 0, 0, 0, 1, 100_000, 2],
+];
 
 fn text(s: &[u8]) {
     io::write_all(1, s);
@@ -77,12 +103,6 @@ fn answer(a: Answer) {
     }
 }
 
-fn line(name: &[u8], a: Answer) {
-    text(name);
-    answer(a);
-    text(b"\n");
-}
-
 fn broken() -> Record {
     Record {
         step: 0,
@@ -98,15 +118,24 @@ fn broken() -> Record {
     }
 }
 
-// A record fed as one piece; a refusal of it is told, and the record left broken so that closing refuses it too.
-fn fed(ramp: u64, samples: &[i32]) -> Record {
-    let record::Answer::Taken(r) = record::open(500, ramp, 40_000, 2000) else {
+// A record fed as one piece; one that was refused is left broken, so that closing refuses it too.
+fn fed(samples: &[i32]) -> Record {
+    let record::Answer::Taken(r) = record::open(500, 0, 40_000, 2000) else {
         return broken();
     };
     let record::Answer::Taken(s) = r.feed(samples) else {
         return broken();
     };
     s
+}
+
+fn numbered(i: u64) -> Record {
+    match i {
+        0 => fed(&[0i32]),
+        1 => fed(&[0i32, 0]),
+        2 => fed(&[0i32, 41000, 0]),
+        _ => fed(&[2_000_000i32]),
+    }
 }
 
 // What closing a record gives after an answer; a refusal stays.
@@ -126,65 +155,41 @@ fn again(a: Answer, r: Record, times: u64) -> Answer {
     b
 }
 
-// A campaign of these figures, weighed.
-fn weighed(name: &[u8], records: u64, failures: u64, failed: bool, exposure: u64) {
-    text(name);
-    figures(Campaign {
-        standard: STANDARD,
-        records: records,
-        failures: failures,
-        exposure: exposure,
-        failed: failed,
-    });
+// The campaign that a row starts from.
+fn start(row: [u64; 8]) -> Answer {
+    if row[1] == 0 {
+        return campaign::open(row[0]);
+    }
+    Answer::Taken(Campaign {
+        standard: row[0],
+        records: row[1],
+        failures: row[2],
+        exposure: row[3],
+        failed: row[4] == 1,
+    })
+}
+
+fn closed(row: [u64; 8]) -> Answer {
+    let a = again(start(row), numbered(row[5]), row[6]);
+    if row[7] == 9 {
+        return a;
+    }
+    then(a, numbered(row[7]))
+}
+
+fn case(i: usize) {
+    if 18 <= i {
+        return;
+    }
+    number(b"row ", (i as u64) + 1);
+    answer(closed(ROWS[i]));
     text(b"\n");
 }
 
-fn edges() {
-    weighed(b"J", 3, 0, false, 26_559_936);
-    weighed(b"J, one ms more", 3, 0, false, 26_559_937);
-    weighed(b"K", 1, 1, true, 182_282);
-    weighed(b"K, one ms more", 1, 1, true, 182_283);
-    weighed(b"no record", 0, 0, false, 0);
-    weighed(b"N above M", 1, 2, true, 1000);
-    weighed(b"64 failures, the last record none", 65, 64, false, 1000);
-}
-
-// The record that does not fail, and the one that does.
-fn quiet() -> Record {
-    fed(0, &[0i32, 0])
-}
-
-fn failing() -> Record {
-    fed(0, &[0i32, 41000, 0])
-}
-
-fn opened() {
-    line(b"q = 0", campaign::open(0));
-    line(b"q too large", campaign::open(100_000_000_001));
-    line(b"opened", campaign::open(STANDARD));
-}
-
-fn closed() {
-    let empty = campaign::open(STANDARD);
-    line(b"one sample closed", then(empty, fed(0, &[0i32])));
-    line(b"two samples closed", then(empty, quiet()));
-    line(b"a failure closed", then(empty, failing()));
-    line(b"a broken record", then(empty, fed(0, &[2_000_000i32])));
-}
-
-fn limits() {
-    let empty = campaign::open(STANDARD);
-    let most = again(empty, failing(), 64);
-    line(b"64 failures", most);
-    line(b"one record more", then(most, quiet()));
-    let full = again(empty, quiet(), 100_000);
-    line(b"100,000 records", full);
-    line(b"one record more", then(full, failing()));
-}
-
 fn main() {
-    edges();
-    opened();
-    closed();
-    limits();
+    let mut i = 0;
+    while i < 18 {
+        case(i);
+        i += 1;
+    }
 }

@@ -31,13 +31,13 @@ and-assoc false b c = refl
 module _ (D a τ : ℕ) where
   -- a turn: whether the sample crosses the level, and whether a crossing is due
   turn : (w : Walk) (ts : List ℕ) (x : ℤ) (s : Noting) (cs : List ℕ) (k : Bool) → (w .below && above a x) ≡ k
-      → Adds s (stepped D a τ w x) (noted D a τ (noting w ts) x .times) (from τ (stepped D a τ w x .due) cs)
+      → Adds s (stepped D τ w (above a x)) (noted D a τ (noting w ts) x .times) (from τ (stepped D τ w (above a x) .due) cs)
       → Adds s w ts (from τ (w .due) (cond k (w .time ∷ cs) cs))
   unfolding noted stepped from
   turn w ts x s cs k e = go k (leb (w .due) (w .time)) refl (ap (λ (b : Bool). b && leb (w .due) (w .time)) e)
     where
-      go : (k d : Bool) → leb (w .due) (w .time) ≡ d → counts a w x ≡ (k && leb (w .due) (w .time))
-          → Adds s (stepped D a τ w x) (noted D a τ (noting w ts) x .times) (from τ (stepped D a τ w x .due) cs)
+      go : (k d : Bool) → leb (w .due) (w .time) ≡ d → counts w (above a x) ≡ (k && leb (w .due) (w .time))
+          → Adds s (stepped D τ w (above a x)) (noted D a τ (noting w ts) x .times) (from τ (stepped D τ w (above a x) .due) cs)
           → Adds s w ts (from τ (w .due) (cond k (w .time ∷ cs) cs))
       go true true e f i =
           let c = f ∙ e in
@@ -63,7 +63,7 @@ module _ (D a τ : ℕ) where
       let d : timeAt D 0 j ≡ w .time = ap (λ (n : ℕ). n * D) n ∙ sym t in
       let s = foldl (noted D a τ) (noting w ts) (x ∷ xs) in
       let ps = placesFrom 0 a (j + 1) x xs in
-      let i = walks (j + 1) x (stepped D a τ w x) (noted D a τ (noting w ts) x .times) xs (omega arith) (rw (lt-ltb 0 (j + 1) (omega arith))) in
+      let i = walks (j + 1) x (stepped D τ w (above a x)) (noted D a τ (noting w ts) x .times) xs (omega arith) (rw (lt-ltb 0 (j + 1) (omega arith))) in
       rw k (placed s w ts ps j (w .below && above a x) d (turn w ts x s (map (timeAt D 0) ps) (w .below && above a x) refl i))
 
   -- the samples noted from the start on

@@ -27,13 +27,13 @@ counted-next : (b : Bool) (c t D : ℕ) → c ≤ t → 1 ≤ D → cond b (c + 
 counted-next true c t D l h = omega arith
 counted-next false c t D l h = omega arith
 
-pub ready-next : {D τ : ℕ} (a : ℕ) {w : Walk} (x : ℤ) {n : ℕ} → Ready D τ w (suc n) → Ready D τ (stepped D a τ w x) n
+pub ready-next : {D τ : ℕ} {w : Walk} (up : Bool) {n : ℕ} → Ready D τ w (suc n) → Ready D τ (stepped D τ w up) n
 unfolding stepped
-ready-next {D} {τ} a {w} x {n} r =
+ready-next {D} {τ} {w} up {n} r =
     record {
       step = r .step;
       decorrelation = r .decorrelation;
-      counted = counted-next (counts a w x) (w .count) (w .time) D (r .counted) (r .step);
+      counted = counted-next (counts w up) (w .count) (w .time) D (r .counted) (r .step);
       room = omega (arith, r .room);
     }
 
@@ -42,12 +42,12 @@ unfolding noted
 ready-after a ts [] n e r = rw (e ∙ zero-add n) at r
 ready-after a {w} ts (x ∷ xs) n {m} e r =
     let f : m ≡ suc (length xs + n) = omega arith in
-    ready-after a (cond (counts a w x) (set ts (w .count) (w .time)) ts) xs n refl (ready-next a x (rw f at r))
+    ready-after a (cond (counts w (above a x)) (set ts (w .count) (w .time)) ts) xs n refl (ready-next (above a x) (rw f at r))
 
 -- noting leaves the slice's length
 pub noted-length : (D a τ : ℕ) (s : Noting) (x : ℤ) → length (noted D a τ s x .times) ≡ length (s .times)
 unfolding noted
-noted-length D a τ s x = go (counts a (s .walk) x)
+noted-length D a τ s x = go (counts (s .walk) (above a x))
   where
     go : (b : Bool) → length (cond b (set (s .times) (s .walk .count) (s .walk .time)) (s .times)) ≡ length (s .times)
     go true = length-set (s .times) (s .walk .count) (s .walk .time)

@@ -16,18 +16,18 @@ use Rattle.listing.specs.declared.Found.the-variants.{Count, Bad}
 abbrev pub start : Walk
 start = record { below = false; time = 0; count = 0; due = 0 }
 
--- a failure is counted at the sample x
-abbrev pub counts : ℕ → Walk → ℤ → Bool
-counts a w x = (w .below && above a x) && leb (w .due) (w .time)
+-- a failure is counted at a sample that is above the level or not
+abbrev pub counts : Walk → Bool → Bool
+counts w up = (w .below && up) && leb (w .due) (w .time)
 
 -- the walk after it; one counted puts the next off by τ
-unfoldable pub stepped : ℕ → ℕ → ℕ → Walk → ℤ → Walk
-stepped D a τ w x =
+unfoldable pub stepped : ℕ → ℕ → Walk → Bool → Walk
+stepped D τ w up =
     record {
-      below = not (above a x);
+      below = not up;
       time = w .time + D;
-      count = cond (counts a w x) (w .count + 1) (w .count);
-      due = cond (counts a w x) (w .time + τ) (w .due);
+      count = cond (counts w up) (w .count + 1) (w .count);
+      due = cond (counts w up) (w .time + τ) (w .due);
     }
 
 -- the walk after k samples at most the level
@@ -45,7 +45,7 @@ noting w ts = record { walk = w; times = ts }
 -- one counted has its time in the next place
 unfoldable pub noted : ℕ → ℕ → ℕ → Noting → ℤ → Noting
 noted D a τ s x =
-    noting (stepped D a τ (s .walk) x) (cond (counts a (s .walk) x) (set (s .times) (s .walk .count) (s .walk .time)) (s .times))
+    noting (stepped D τ (s .walk) (above a x)) (cond (counts (s .walk) (above a x)) (set (s .times) (s .walk .count) (s .walk .time)) (s .times))
 
 -- n more samples stay within the longest record
 pub record Ready (D τ : ℕ) (w : Walk) (n : ℕ) : Type 0 where

@@ -48,27 +48,23 @@ fn start() -> Walk
     }
 }
 
-// Whether a failure is counted at a sample.
-fn counts(level: u64, w: Walk, x: i32) -> bool
-    ensures { λ k. ⌜ k ≡ counts level w x ⌝ }
+// Whether a failure is counted at a sample that is above the level or not.
+fn counts(w: Walk, up: bool) -> bool
+    ensures { λ k. ⌜ k ≡ counts w up ⌝ }
 {
-    truth::both(
-        truth::both(w.below, magnitude::above(level, x)),
-        w.due <= w.time,
-    )
+    truth::both(truth::both(w.below, up), w.due <= w.time)
 }
 
-// The walk after a sample.
-fn stepped(step: u64, level: u64, decorrelation: u64, w: Walk, x: i32) -> Walk
-    requires { ⌜ Ready step decorrelation w 1 ⌝ }
-    ensures { λ v. ⌜ v ≡ stepped step level decorrelation w x ⌝ }
+// The walk after such a sample.
+fn stepped(step: u64, decorrelation: u64, w: Walk, up: bool, counted: bool) -> Walk
+    requires { ⌜ Ready step decorrelation w 1 × (counted ≡ counts w up) ⌝ }
+    ensures { λ v. ⌜ v ≡ stepped step decorrelation w up ⌝ }
 {
-    let c = counts(level, w, x);
     Walk {
-        below: !magnitude::above(level, x),
+        below: !up,
         time: w.time + step,
-        count: truth::pick(c, w.count + 1, w.count),
-        due: truth::pick(c, w.time + decorrelation, w.due),
+        count: truth::pick(counted, w.count + 1, w.count),
+        due: truth::pick(counted, w.time + decorrelation, w.due),
     }
 }
 
@@ -97,11 +93,11 @@ fn put(time: u64, place: u64, times: &mut [u32])
 }
 
 // Puts the time of a sample into the next place if a failure is counted there.
-fn note(level: u64, w: Walk, x: i32, times: &mut [u32])
+fn note(counted: bool, w: Walk, times: &mut [u32])
     requires { ⌜ w .time ≤ 20000000 ⌝ }
-    ensures { λ u. ⌜ now (times .exit) ≡ cond (counts level w x) (set (now (times .entry)) (w .count) (w .time)) (now (times .entry)) ⌝ }
+    ensures { λ u. ⌜ now (times .exit) ≡ cond counted (set (now (times .entry)) (w .count) (w .time)) (now (times .entry)) ⌝ }
 {
-    if counts(level, w, x) {
+    if counted {
         put(w.time, w.count, times);
     }
 }
@@ -121,9 +117,10 @@ fn along(
     let mut v = w;
     let mut i = 0;
     while i < block.len() {
-        let x = block[i];
-        note(level, v, x, times);
-        v = stepped(step, level, decorrelation, v, x);
+        let up = magnitude::above(level, block[i]);
+        let counted = counts(v, up);
+        note(counted, v, times);
+        v = stepped(step, decorrelation, v, up, counted);
         i += 1;
     }
     v

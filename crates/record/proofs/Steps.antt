@@ -1,19 +1,20 @@
 -- What is kept by a step: a sound state is sound after a sample in range, while there is room for it. Assumes nothing.
 use Prim.Native.Nat.{ℕ, _+_, _-_, _≤_, _<_}
 use mathlib.Core.Path.{_≡_, refl}
-use mathlib.Core.Bool.{Bool, true, false, cond, _||_}
+use mathlib.Core.Bool.{Bool, true, false, cond, not, _&&_, _||_}
 use mathlib.Core.Logic.{_⊎_, inl, inr}
 use native.Mathlib.Omega.{arith}
 use lib.Dec.{eqb, ltb}
 use lib.IntN.{ℤ}
 use borrow.Author.Tests.{eqb-true, eqb-false, ltb-true}
+use Rattle.magnitude.specs.Above.{above}
 use Rattle.largest.specs.Walk.{since}
 use Rattle.record.specs.declared.Record.{Record}
 use Rattle.limits.specs.Limits.{mostSamples, mostInRange}
 use Rattle.range.specs.Range.{sampleInRange}
 use Rattle.reading.specs.Reading.{timeAt, rises}
 use Rattle.record.specs.State.{sound}
-use Rattle.record.specs.Step.{moved, counts, crossed, crosses, stepped}
+use Rattle.record.specs.Step.{moved, counts, crossed, below, crosses, stepped}
 use Rattle.truth.proofs.Laws.{and-true}
 use Rattle.limits.proofs.Items.{Items, items, most-in-range, most-small}
 use Rattle.record.proofs.Relations.{None, Failure, Kept, kept-from, kept-sound}
@@ -136,5 +137,14 @@ unfolding stepped
 stepped-most r x = go (crosses r x)
   where
     go : (b : Bool) → mostSamples (cond b (crossed r x) (moved r 1 x) .step) (cond b (crossed r x) (moved r 1 x) .ramp) ≡ mostSamples (r .step) (r .ramp)
+    go true = refl
+    go false = refl
+
+-- after a sample: whether it is timed and at most the level
+pub stepped-below : (r : Record) (x : ℤ) → below (stepped r x) ≡ (ltb (stepped r x .ramp) (stepped r x .n) && not (above (r .level) x))
+unfolding stepped
+stepped-below r x = go (crosses r x)
+  where
+    go : (b : Bool) → below (cond b (crossed r x) (moved r 1 x)) ≡ (ltb (cond b (crossed r x) (moved r 1 x) .ramp) (cond b (crossed r x) (moved r 1 x) .n) && not (above (r .level) x))
     go true = refl
     go false = refl

@@ -1,8 +1,9 @@
 -- One sample more: the state after sample n, which is x, from the state r before it. Assumes nothing.
 use Prim.Native.Nat.{ℕ, _+_}
-use mathlib.Core.Bool.{Bool, cond, _&&_, _||_}
+use mathlib.Core.Bool.{Bool, cond, not, _&&_, _||_}
 use lib.Dec.{ltb, eqb}
 use lib.IntN.{ℤ}
+use Rattle.magnitude.specs.Above.{above}
 use Rattle.largest.specs.Walk.{since}
 use Rattle.reading.specs.Reading.{timeAt, rises}
 use Rattle.record.specs.declared.Record.{Record}
@@ -46,6 +47,10 @@ crossed r x =
 -- sample n crosses the level
 abbrev pub crosses : Record → ℤ → Bool
 crosses r x = ltb (r .ramp) (r .n) && rises (r .level) (r .last) x
+
+-- sample n - 1, from which it would, is timed and at most the level
+abbrev pub below : Record → Bool
+below r = ltb (r .ramp) (r .n) && not (above (r .level) (r .last))
 
 unfoldable pub stepped : Record → ℤ → Record
 stepped r x = cond (crosses r x) (crossed r x) (moved r 1 x)

@@ -8,9 +8,8 @@ ghost use lib.ListN.{length};
 ghost use Rattle.block.specs.Block.{anyAbove};
 ghost use Rattle.limits.specs.Limits.{mostSamples};
 ghost use Rattle.range.specs.Range.{firstBad};
-ghost use Rattle.reading.specs.Reading.{timeAt};
 ghost use Rattle.record.specs.State.{stateOf, lastKept, noneKept, failureKept, figuresKept, sound};
-ghost use Rattle.record.specs.Step.{moved, counts, crossed, crosses, stepped};
+ghost use Rattle.record.specs.Step.{moved, counts, crossed, below, crosses, stepped};
 ghost use Rattle.record.specs.Answers.{opened, fed};
 use refusal::Refusal;
 
@@ -128,14 +127,6 @@ pub fn sound(r: Record) -> bool
     )
 }
 
-// When the sample at a place stands, in ms.
-fn time_at(step: u64, ramp: u64, place: u64) -> u64
-    requires { ⌜ (step ≤ 10000) × (ramp ≤ place) × (place ≤ 20000000) ⌝ }
-    ensures { λ t. ⌜ (t ≡ timeAt step ramp place) × (t ≤ 200000000000) ⌝ }
-{
-    (place - ramp) * step
-}
-
 // Whether a crossing at sample n is counted.
 fn counts(r: Record) -> bool
     requires { ⌜ (sound r ≡ true) × (r .ramp < r .n) ⌝ }
@@ -144,7 +135,7 @@ fn counts(r: Record) -> bool
     if r.crossings == 0 {
         return true;
     }
-    time_at(r.step, r.ramp, r.latest) + r.decorrelation <= time_at(r.step, r.ramp, r.n)
+    r.decorrelation <= (r.n - r.latest) * r.step
 }
 
 // The state after a crossing at sample n, which is x.
@@ -186,20 +177,20 @@ fn moved(r: Record, k: u64, last: i32) -> Record
     }
 }
 
-// Whether sample n, which is x, crosses the level.
-fn crosses(r: Record, x: i32) -> bool
-    ensures { λ k. ⌜ k ≡ crosses r x ⌝ }
+// Whether sample n - 1 is timed and at most the level.
+fn below(r: Record) -> bool
+    ensures { λ k. ⌜ k ≡ below r ⌝ }
 {
     let last = r.last;
-    truth::both(r.ramp < r.n, reading::rises(r.level, last, x))
+    truth::both(r.ramp < r.n, !magnitude::above(r.level, last))
 }
 
-// The state after one sample more.
-fn step(r: Record, x: i32) -> Record
-    requires { ⌜ (sound r ≡ true) × (r .n < mostSamples (r .step) (r .ramp)) ⌝ }
+// The state after sample n, which is x, of which it is known whether it crosses the level.
+fn step(r: Record, crossing: bool, x: i32) -> Record
+    requires { ⌜ (sound r ≡ true) × (r .n < mostSamples (r .step) (r .ramp)) × (crossing ≡ crosses r x) ⌝ }
     ensures { λ s. ⌜ s ≡ stepped r x ⌝ }
 {
-    if crosses(r, x) {
+    if crossing {
         crossed(r, x)
     } else {
         moved(r, 1, x)
@@ -212,9 +203,13 @@ fn run(r: Record, piece: &[i32]) -> Record
     ensures { λ s. ⌜ s ≡ foldl stepped r (now (piece .entry)) ⌝ }
 {
     let mut s = r;
+    let mut low = below(r);
     let mut i = 0;
     while i < piece.len() {
-        s = step(s, piece[i]);
+        let x = piece[i];
+        let up = magnitude::above(s.level, x);
+        s = step(s, truth::both(low, up), x);
+        low = truth::both(s.ramp < s.n, !up);
         i += 1;
     }
     s

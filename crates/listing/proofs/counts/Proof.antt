@@ -1,11 +1,7 @@
 -- `listing::counts` meets its contract, which it follows word for word. Assumes nothing.
-use mir.Facts.{toZ-ofZ}
 use borrow.Author.Needs.{needs}
 use Rattle.listing.proofs.counts.Statement.{statement}
 use Rattle.listing.proofs.counts.Tie as tie
-
-above-requires : tie.Need-above-requires
-above-requires c κs = search needs
 
 both-requires : tie.Need-both-requires
 both-requires c κs = search needs
@@ -14,7 +10,7 @@ both-requires-2 : tie.Need-both-requires-2
 both-requires-2 c κs = search needs
 
 returns : tie.Need-returns
-returns c = cc (toZ-ofZ (c .before .before .before .before .fits .x))
+returns c = cc
 
 pub counts-spec : {M : Type 1} → statement M
-counts-spec = tie.close (tie.spec above-requires both-requires both-requires-2 returns)
+counts-spec = tie.close (tie.spec both-requires both-requires-2 returns)

@@ -1,33 +1,48 @@
--- `record::counts` meets its contract: a state with a crossing has a last counted place between the ramp and n, so both times are
--- there and fit. Assumes nothing.
+-- `record::counts` meets its contract: a state with a crossing has a last counted place between the ramp and n, and the times of two places are as far
+-- apart as so many samples are long. Assumes nothing.
+use Prim.Native.Nat.{ℕ, _+_, _-_, _*_, _≤_}
+use mathlib.Core.Path.{_≡_, refl, sym, ap, _∙_}
+use mathlib.Core.Bool.{Bool, true, false}
+use native.Mathlib.Nat.{mul-le-mul}
 use native.Mathlib.Omega.{arith}
-use borrow.Author.Tests.{eq-eqb, ne-eqb}
+use lib.Dec.{leb}
+use borrow.Author.Tests.{eq-eqb, ne-eqb, leb-true, leb-false, le-leb, lt-leb}
 use Rattle.record.proofs.Relations.{kept-from}
 use Rattle.record.proofs.Steps.{items-of, small, failure}
 use Rattle.record.proofs.counts.Statement.{statement}
 use Rattle.record.proofs.counts.Tie as tie
 
+-- of p + q samples the last q are long enough
+apart : (D τ p q m : ℕ) → m ≡ p + q → leb (p * D + τ) (m * D) ≡ leb τ (q * D)
+apart D τ p q m e = go (leb τ (q * D)) refl (ap (λ (k : ℕ). k * D) e)
+  where
+    go : (b : Bool) → leb τ (q * D) ≡ b → m * D ≡ (p + q) * D → leb (p * D + τ) (m * D) ≡ b
+    go true t d = let l = leb-true τ (q * D) t in le-leb (p * D + τ) (m * D) (omega arith)
+    go false t d = let l = leb-false τ (q * D) t in lt-leb (p * D + τ) (m * D) (omega arith)
+
 returns : tie.Need-returns
 returns c = simp (eq-eqb _ _ (c .if1 .taken))
 
-time-at-requires : tie.Need-time-at-requires
-time-at-requires c κs =
-    let k = kept-from (c .before .before .args .r) (c .before .before .pre .0) in
-    let f = failure k (c .if1 .left) in
-    (items-of k .step-high, omega (arith, f .above, f .ordered), omega (arith, f .below, k .length, small k))
+-- the last counted place
+facts : (c : tie.Else1) → (c .before .before .args .r .ramp ≤ c .before .before .args .r .latest) × (c .before .before .args .r .latest ≤ c .before .before .args .r .n)
+facts c =
+    let f = failure (kept-from (c .before .before .args .r) (c .before .before .pre .0)) (c .if1 .left) in
+    (omega (arith, f .above, f .ordered), omega (arith, f .below))
 
-add-result : tie.Need-add-result
-add-result c =
-    let k = kept-from (c .before .before .before .before .args .r) (c .before .before .before .before .pre .0) in
-    omega (arith, items-of k .decorrelation, c .before .time-at .ensures .1)
+sub-result : tie.Need-sub-result
+sub-result c = facts (c .before) .1
 
-time-at-requires-2 : tie.Need-time-at-requires-2
-time-at-requires-2 c κs =
-    let k = kept-from (c .before .before .before .before .args .r) (c .before .before .before .before .pre .0) in
-    (items-of k .step-high, omega arith, omega (arith, k .length, small k))
+mul-result : tie.Need-mul-result
+mul-result c =
+    let r = c .before .before .before .before .args .r in
+    let k = kept-from r (c .before .before .before .before .pre .0) in
+    omega (arith, mul-le-mul {n₁ = r .n - r .latest} {m₁ = r .step} {n₂ = 11000001} {m₂ = 10000} (omega (arith, k .length, small k)) (items-of k .step-high))
 
 returns-2 : tie.Need-returns-2
-returns-2 c = rw (ne-eqb _ _ (c .before .before .before .if1 .left), c .before .before .time-at .ensures .0, c .time-at2 .ensures .0)
+returns-2 c =
+    let r = c .before .before .before .before .before .args .r in
+    let f = facts (c .before .before .before) in
+    rw (ne-eqb _ _ (c .before .before .before .if1 .left), apart (r .step) (r .decorrelation) (r .latest - r .ramp) (r .n - r .latest) (r .n - r .ramp) (omega arith))
 
 pub counts-spec : {M : Type 1} → statement M
-counts-spec = tie.close (tie.spec returns time-at-requires add-result time-at-requires-2 returns-2)
+counts-spec = tie.close (tie.spec returns sub-result mul-result returns-2)

@@ -1,46 +1,74 @@
--- `record::run` meets its contract. The invariant: what is left, run from the state so far, ends where the whole piece does; the state is
--- sound, and there is room for what is left, which is in range. The measure is what is left. Assumes nothing.
+-- `record::run` meets its contract. The invariant: what is left, run from the state so far, ends where the whole piece does; the state is sound, it is
+-- known whether its last sample is timed and at most the level, and there is room for what is left, which is in range. The measure is what is left.
+-- Assumes nothing.
 use Prim.Native.Nat.{_+_, _-_, _≤_}
 use mathlib.Core.Path.{_≡_, refl, sym, ap, _∙_}
-use mathlib.Core.Bool.{true}
+use mathlib.Core.Bool.{Bool, true, false, not, _&&_}
 use mathlib.Core.List.{foldl, []}
 use native.Mathlib.Omega.{arith}
 use borrow.Author.Needs.{needs}
 use lib.ListN.{length, drop, length-drop, drop-of-length-le}
+use lib.Dec.{ltb}
+use mir.Syntax.{w32}
+use mir.Val.{toZ, ofZ}
 use mir.Facts.{toZ-ofZ}
+use Rattle.magnitude.specs.Above.{above}
 use Rattle.magnitude.proofs.Turn.{turn}
 use Rattle.limits.specs.Limits.{mostSamples}
+use Rattle.range.specs.Range.{firstBad}
+use Rattle.range.proofs.Bad.{good-head}
 use Rattle.reading.specs.Reading.{sampleAt}
 use Rattle.record.specs.State.{sound}
-use Rattle.record.specs.Step.{stepped}
-use Rattle.range.specs.Range.{firstBad}
-use Rattle.record.proofs.Steps.{stepped-sound, stepped-n, stepped-most}
-use Rattle.range.proofs.Bad.{good-head}
+use Rattle.record.specs.Step.{below, crosses, stepped}
+use Rattle.record.proofs.Steps.{stepped-sound, stepped-n, stepped-most, stepped-below}
 use Rattle.record.proofs.run.Statement.{statement}
 use Rattle.record.proofs.run.Tie as tie
 
+and-assoc : (a b c : Bool) → ((a && b) && c) ≡ (a && (b && c))
+and-assoc true b c = refl
+and-assoc false b c = refl
+
 abbrev Inv-loop : tie.InvT-loop
-Inv-loop piece s₀ i₀ s i =
+Inv-loop piece s₀ low₀ i₀ s low i =
     (sound s ≡ true)
     × (i ≤ length piece)
     × (firstBad (drop i piece) ≡ length piece - i)
     × (s .n + (length piece - i) ≤ mostSamples (s .step) (s .ramp))
+    × (low ≡ below s)
     × (foldl stepped s (drop i piece) ≡ foldl stepped s₀ piece)
 
 abbrev μ-loop : tie.MeasureT-loop
-μ-loop piece s₀ i₀ s i = length piece - i
+μ-loop piece s₀ low₀ i₀ s low i = length piece - i
+
+below-requires : tie.Need-below-requires Inv-loop μ-loop
+below-requires c κs = search needs
 
 loop-holds : tie.Need-loop-holds Inv-loop μ-loop
-loop-holds c = (c .pre .0, omega arith, omega arith, omega arith, refl)
+loop-holds c = (c .before .pre .0, omega arith, omega arith, omega arith, c .below .ensures, refl)
 
-mul-step : tie.Need-mul-step Inv-loop μ-loop
-mul-step c = omega arith
+mul-x : tie.Need-mul-x Inv-loop μ-loop
+mul-x c = omega arith
 
-shared-slice-copy-out-step : tie.Need-shared-slice-copy-out-step Inv-loop μ-loop
-shared-slice-copy-out-step c = omega arith
+shared-slice-copy-out-x : tie.Need-shared-slice-copy-out-x Inv-loop μ-loop
+shared-slice-copy-out-x c = omega arith
+
+above-requires : tie.Need-above-requires Inv-loop μ-loop
+above-requires c κs = search needs
+
+both-requires : tie.Need-both-requires Inv-loop μ-loop
+both-requires c κs = search needs
 
 step-requires : tie.Need-step-requires Inv-loop μ-loop
-step-requires c κs = (c .before .before .loop .inv .0, omega arith)
+step-requires c κs =
+    let s = c .before .before .before .before .loop .s in
+    let v = c .before .before .before .before .loop .inv in
+    let x = sampleAt (c .before .before .before .before .before .before .args .piece .now) (c .before .before .before .before .loop .i) in
+    let z : toZ w32 (ofZ w32 x) ≡ x = toZ-ofZ (search needs) in
+    let u : c .before .above .result ≡ above (s .level) x = cc z in
+    rw z (v .0, omega (arith, v .3), c .both .ensures ∙ ap (λ (y : Bool). y && c .before .above .result) (v .4) ∙ ap (λ (y : Bool). below s && y) u ∙ and-assoc (ltb (s .ramp) (s .n)) (not (above (s .level) (s .last))) (above (s .level) x))
+
+both-requires-2 : tie.Need-both-requires-2 Inv-loop μ-loop
+both-requires-2 c κs = search needs
 
 add-i : tie.Need-add-i Inv-loop μ-loop
 add-i c = omega arith
@@ -50,22 +78,25 @@ loop-less c = omega arith
 
 loop-again : tie.Need-loop-again Inv-loop μ-loop
 loop-again c =
-    let p = c .before .before .before .before .args .piece .now in
-    let i = c .before .before .before .loop .i in
-    let s = c .before .before .before .loop .s in
-    let v = c .before .before .before .loop .inv in
+    let p = c .before .before .before .before .before .before .before .before .before .args .piece .now in
+    let i = c .before .before .before .before .before .before .before .loop .i in
+    let s = c .before .before .before .before .before .before .before .loop .s in
+    let v = c .before .before .before .before .before .before .before .loop .inv in
     let x = sampleAt p i in
-    let e : c .step .result ≡ stepped s x = c .step .ensures ∙ ap (stepped s) (toZ-ofZ (search needs)) in
+    let z : toZ w32 (ofZ w32 x) ≡ x = toZ-ofZ (search needs) in
+    let e : c .before .before .step .result ≡ stepped s x = cc z in
+    let u : c .before .before .before .before .above .result ≡ above (s .level) x = cc z in
     let g = good-head x (drop (i + 1) p) (sym (turn firstBad p i (omega arith)) ∙ v .2 ∙ omega (arith, length-drop (i + 1) p)) in
     let k = stepped-sound s x (v .0) (g .0) (omega (arith, v .3)) in
     let m = stepped-most s x in
-    rw e (k, omega arith, omega (arith, g .1, length-drop (i + 1) p), omega (arith, v .3, stepped-n s x), sym (turn (foldl stepped s) p i (omega arith)) ∙ v .4)
+    let l : c .both2 .result ≡ below (stepped s x) = c .both2 .ensures ∙ rw (e, u) (sym (stepped-below s x)) in
+    rw (l, e) (k, omega arith, omega (arith, g .1, length-drop (i + 1) p), omega (arith, v .3, stepped-n s x), refl, sym (turn (foldl stepped s) p i (omega arith)) ∙ v .5)
 
 returns : tie.Need-returns Inv-loop μ-loop
 returns c =
-    let p = c .before .before .args .piece .now in
+    let p = c .before .before .before .args .piece .now in
     let e : drop (c .before .loop .i) p ≡ [] = drop-of-length-le p {i = c .before .loop .i} (omega arith) in
-    sym (ap (foldl stepped (c .before .loop .s)) e) ∙ c .before .loop .inv .4
+    sym (ap (foldl stepped (c .before .loop .s)) e) ∙ c .before .loop .inv .5
 
 pub run-spec : {M : Type 1} → statement M
 run-spec =
@@ -73,10 +104,14 @@ run-spec =
     (tie.spec
     Inv-loop
     μ-loop
+    below-requires
     loop-holds
-    mul-step
-    shared-slice-copy-out-step
+    mul-x
+    shared-slice-copy-out-x
+    above-requires
+    both-requires
     step-requires
+    both-requires-2
     add-i
     loop-less
     loop-again

@@ -43,9 +43,13 @@ abbrev pub noting : Walk → List ℕ → Noting
 noting w ts = record { walk = w; times = ts }
 
 -- one counted has its time in the next place
+abbrev pub marked : ℕ → ℕ → Noting → Bool → Noting
+marked D τ s up =
+    noting (stepped D τ (s .walk) up) (cond (counts (s .walk) up) (set (s .times) (s .walk .count) (s .walk .time)) (s .times))
+
+-- after the sample x
 unfoldable pub noted : ℕ → ℕ → ℕ → Noting → ℤ → Noting
-noted D a τ s x =
-    noting (stepped D τ (s .walk) (above a x)) (cond (counts (s .walk) (above a x)) (set (s .times) (s .walk .count) (s .walk .time)) (s .times))
+noted D a τ s x = marked D τ s (above a x)
 
 -- n more samples stay within the longest record
 pub record Ready (D τ : ℕ) (w : Walk) (n : ℕ) : Type 0 where

@@ -1,7 +1,6 @@
 // The counted times of a whole record, listed into lent memory. The timed samples are read once, block by block, and a quiet block is passed over. The times
 // found on the way are kept aside, since refusal 7 must know their number before anything is written; only if they are too many is the record read again.
 ghost use mathlib.Core.Path.{_≡_};
-ghost use mathlib.Core.Bool.{cond};
 ghost use mathlib.Core.List.{foldl};
 ghost use Prim.Native.Nat.{_*_, _≤_};
 ghost use lib.ListN.{length, set, take};
@@ -9,7 +8,7 @@ ghost use lib.Seq.{paste};
 ghost use Rattle.block.specs.Block.{anyAbove};
 ghost use Rattle.range.specs.Range.{firstBad};
 ghost use Rattle.reading.specs.Reading.{countedTimes};
-ghost use Rattle.listing.specs.Walk.{counts, stepped, passed, start, noting, noted, Ready, Passes, Heard};
+ghost use Rattle.listing.specs.Walk.{counts, passed, start, noting, marked, noted, Ready, Passes, Heard};
 ghost use Rattle.listing.specs.Answers.{WritesTo, ListsTimed, ListsTo};
 use refusal::Refusal;
 use whole::Size;
@@ -55,19 +54,6 @@ fn counts(w: Walk, up: bool) -> bool
     truth::both(truth::both(w.below, up), w.due <= w.time)
 }
 
-// The walk after such a sample.
-fn stepped(step: u64, decorrelation: u64, w: Walk, up: bool, counted: bool) -> Walk
-    requires { ⌜ Ready step decorrelation w 1 × (counted ≡ counts w up) ⌝ }
-    ensures { λ v. ⌜ v ≡ stepped step decorrelation w up ⌝ }
-{
-    Walk {
-        below: !up,
-        time: w.time + step,
-        count: truth::pick(counted, w.count + 1, w.count),
-        due: truth::pick(counted, w.time + decorrelation, w.due),
-    }
-}
-
 // The walk after k samples at most the level.
 fn passed(step: u64, decorrelation: u64, w: Walk, k: usize) -> Walk
     requires { ⌜ Ready step decorrelation w k ⌝ }
@@ -92,13 +78,25 @@ fn put(time: u64, place: u64, times: &mut [u32])
     }
 }
 
-// Puts the time of a sample into the next place if a failure is counted there.
-fn note(counted: bool, w: Walk, times: &mut [u32])
-    requires { ⌜ w .time ≤ 20000000 ⌝ }
-    ensures { λ u. ⌜ now (times .exit) ≡ cond counted (set (now (times .entry)) (w .count) (w .time)) (now (times .entry)) ⌝ }
+// The walk after a sample that is above the level or not; the time of a failure counted there is put into the next place.
+fn stepped(step: u64, decorrelation: u64, w: Walk, up: bool, times: &mut [u32]) -> Walk
+    requires { ⌜ Ready step decorrelation w 1 ⌝ }
+    ensures { λ v. ⌜ noting v (now (times .exit)) ≡ marked step decorrelation (noting w (now (times .entry))) up ⌝ }
 {
-    if counted {
+    if counts(w, up) {
         put(w.time, w.count, times);
+        return Walk {
+            below: !up,
+            time: w.time + step,
+            count: w.count + 1,
+            due: w.time + decorrelation,
+        };
+    }
+    Walk {
+        below: !up,
+        time: w.time + step,
+        count: w.count,
+        due: w.due,
     }
 }
 
@@ -118,9 +116,7 @@ fn along(
     let mut i = 0;
     while i < block.len() {
         let up = magnitude::above(level, block[i]);
-        let counted = counts(v, up);
-        note(counted, v, times);
-        v = stepped(step, decorrelation, v, up, counted);
+        v = stepped(step, decorrelation, v, up, times);
         i += 1;
     }
     v

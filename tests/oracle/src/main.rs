@@ -417,6 +417,14 @@ impl Bench {
             let places = self.random.of(&[0, 200, 400]);
             self.record_list(items, &samples, places);
         }
+        // more times than the library keeps aside on its first pass
+        for _ in 0..20 {
+            let items = [1, self.random.within(0, 3), 40_000, self.random.within(0, 2)];
+            let length = self.random.within(6_000, 20_000) as usize;
+            let samples = self.samples(length, items[2], 50_000);
+            let places = self.random.of(&[0, 2_047, 2_048, 2_049, 20_000]);
+            self.record_list(items, &samples, places);
+        }
     }
 
     fn table(&mut self) {

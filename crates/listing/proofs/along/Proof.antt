@@ -2,18 +2,17 @@
 -- is left. The measure is what is left. Assumes nothing.
 use Prim.Native.Nat.{suc, _+_, _-_, _≤_}
 use mathlib.Core.Path.{_≡_, refl, sym, ap, _∙_}
-use mathlib.Core.Bool.{Bool, cond}
 use mathlib.Core.List.{foldl, []}
 use native.Mathlib.Omega.{arith}
 use borrow.Author.Needs.{needs}
-use lib.ListN.{length, getD, set, drop, drop-of-length-le}
+use lib.ListN.{length, getD, drop, drop-of-length-le}
 use lib.IntN.{pos}
 use mir.Syntax.{w32}
 use mir.Val.{toZ, ofZ}
 use mir.Facts.{toZ-ofZ}
 use Rattle.magnitude.specs.Above.{above}
 use Rattle.magnitude.proofs.Turn.{turn}
-use Rattle.listing.specs.Walk.{counts, stepped, noting, noted, Ready}
+use Rattle.listing.specs.Walk.{Noting, noting, marked, noted, Ready}
 use Rattle.listing.proofs.Steps.{ready-less, ready-next, noted-length}
 use Rattle.listing.proofs.along.Statement.{statement}
 use Rattle.listing.proofs.along.Tie as tie
@@ -42,14 +41,8 @@ shared-slice-copy-out-above c = omega arith
 above-requires : tie.Need-above-requires Inv-loop μ-loop
 above-requires c κs = search needs
 
-counts-requires : tie.Need-counts-requires Inv-loop μ-loop
-counts-requires c κs = search needs
-
-note-requires : tie.Need-note-requires Inv-loop μ-loop
-note-requires c κs = omega (arith, c .before .before .before .before .before .loop .inv .1 .room)
-
 stepped-requires : tie.Need-stepped-requires Inv-loop μ-loop
-stepped-requires c κs = (ready-less (omega arith) (c .before .before .before .before .before .before .before .before .loop .inv .1), c .before .before .before .before .counts .ensures)
+stepped-requires c κs = ready-less (omega arith) (c .before .before .before .before .loop .inv .1)
 
 add-i : tie.Need-add-i Inv-loop μ-loop
 add-i c = omega arith
@@ -60,25 +53,22 @@ loop-less c = omega arith
 loop-again : tie.Need-loop-again Inv-loop μ-loop
 unfolding noted
 loop-again c =
-    let g = c .before .before .before .before .before .before .before .before .before .before .before .args in
+    let g = c .before .before .before .before .before .before .before .before .before .args in
     let p = g .block .now in
-    let i = c .before .before .before .before .before .before .before .before .before .loop .i in
-    let v = c .before .before .before .before .before .before .before .before .before .loop .v in
-    let ts = c .before .before .before .before .before .before .before .before .before .loop .times in
-    let inv = c .before .before .before .before .before .before .before .before .before .loop .inv in
+    let i = c .before .before .before .before .before .before .before .loop .i in
+    let v = c .before .before .before .before .before .before .before .loop .v in
+    let ts = c .before .before .before .before .before .before .before .loop .times in
+    let inv = c .before .before .before .before .before .before .before .loop .inv in
     let x = getD p i (pos 0) in
     let z : toZ w32 (ofZ w32 x) ≡ x = toZ-ofZ (search needs) in
-    let u : c .before .before .before .before .before .before .above .result ≡ above (g .level) x = c .before .before .before .before .before .before .above .ensures ∙ ap (above (g .level)) z in
-    let e : c .stepped .result ≡ stepped (g .step) (g .decorrelation) v (above (g .level) x) = c .stepped .ensures ∙ ap (stepped (g .step) (g .decorrelation) v) u in
-    let n : c .before .before .before .before .before .counts .result ≡ counts v (above (g .level) x) = c .before .before .before .before .before .counts .ensures ∙ ap (counts v) u in
+    let u : c .before .before .before .before .above .result ≡ above (g .level) x = c .before .before .before .before .above .ensures ∙ ap (above (g .level)) z in
+    let e : noting (c .before .before .stepped .result) (c .before .before .stepped .last .1 .1 .1 .1 .0) ≡ noted (g .step) (g .level) (g .decorrelation) (noting v ts) x = c .before .before .stepped .ensures ∙ ap (marked (g .step) (g .decorrelation) (noting v ts)) u in
     let k : length p - i ≡ suc (length p - (i + 1)) = omega arith in
-    let r : Ready (g .step) (g .decorrelation) v (suc (length p - (i + 1))) = rw k at (inv .1) in
-    let f : c .before .before .before .note .last .1 .1 .0 ≡ cond (counts v (above (g .level) x)) (set ts (v .count) (v .time)) ts = c .before .before .before .note .ensures ∙ ap (λ (y : Bool). cond y (set ts (v .count) (v .time)) ts) n in
-    rw (e, f) (
+    let r : Ready (g .step) (g .decorrelation) v (suc (length p - (i + 1))) = rw k at (inv .1) in (
       omega arith,
-      ready-next (above (g .level) x) r,
-      noted-length (g .step) (g .level) (g .decorrelation) (noting v ts) x ∙ inv .2,
-      sym (turn (foldl (noted (g .step) (g .level) (g .decorrelation)) (noting v ts)) p i (omega arith)) ∙ inv .3,
+      rw (ap (λ (s : Noting). s .walk) e) (ready-next (above (g .level) x) r),
+      ap (λ (s : Noting). length (s .times)) e ∙ noted-length (g .step) (g .level) (g .decorrelation) (noting v ts) x ∙ inv .2,
+      ap (λ (s : Noting). foldl (noted (g .step) (g .level) (g .decorrelation)) s (drop (i + 1) p)) e ∙ sym (turn (foldl (noted (g .step) (g .level) (g .decorrelation)) (noting v ts)) p i (omega arith)) ∙ inv .3,
     )
 
 same-length : tie.Need-same-length Inv-loop μ-loop
@@ -100,8 +90,6 @@ along-spec =
     mul-above
     shared-slice-copy-out-above
     above-requires
-    counts-requires
-    note-requires
     stepped-requires
     add-i
     loop-less

@@ -6,13 +6,13 @@
  *   No.  given exactly when                                                     *carried
  *   1    an opening item is outside its range                                   the item's number, the lowest
  *   2    a sample is outside -1,000,000 to 1,000,000                            its place in the piece, the first
- *   3    the timed length of the record, or an exposure, would pass 10,000,000 ms   0
- *   4    closing or listing with fewer than ramp + 2 samples; an exposure of 0  0
- *   5    closing or entering into a campaign of 100,000 records                 0
- *   6    closing or entering into a campaign with 64 failures                   0
+ *   3    the timed length of the record would pass 10,000,000 ms, on a sheet an exposure   0
+ *   4    ending or listing with fewer than ramp + 2 samples; on a sheet exposure 0  0
+ *   5    entering into a campaign of 100,000 records                            0
+ *   6    entering into a campaign with 64 failures                              0
  *   7    more counted times than the lent slice has places                      the number of places needed
  *   8    a state's array has another length, or numbers that are no state;      0
- *        a flag is neither 0 nor 1
+ *        a flag is neither 0 nor 1, or a result's exposure not 1 to 10,000,000
  *   9    a line of a job sheet is malformed                                     the line's number
  *
  * Where several hold, the first in the order that stands at the function is given.
@@ -36,19 +36,23 @@
  *   8  place of the first crossing, 0 for none
  *   9  place of the last counted crossing, 0 for none
  *
+ * A result, 4 numbers, is what a record comes to when it is ended: crossings, counted failures, the first failure's place (0 for none), exposure in ms. A
+ * campaign takes of it whether there is a first failure and the exposure, and nothing else.
+ *
  * Levels and samples are in thousandths of a degree or in mm/s2, times in ms, rates in failures a second. Items 1 to 4 are a record's first four
  * numbers, item 5 is the standard.
  *
- * Example: the start of examples/c/campaign.c, which CI compiles and runs. A roll that crosses 40 degrees, fed in two pieces, is closed into a
- * campaign at one failure in two hours; the verdict then is CHIM_REJECT.
+ * Example: the start of examples/c/campaign.c, which CI compiles and runs. A roll that crosses 40 degrees, fed in two pieces, is ended; its
+ * result can be looked at before it enters a campaign at one failure in two hours. The verdict then is CHIM_REJECT.
  *
- *   uint64_t campaign[CHIM_CAMPAIGN_NUMBERS], record[CHIM_RECORD_NUMBERS], carried;
+ *   uint64_t campaign[CHIM_CAMPAIGN_NUMBERS], record[CHIM_RECORD_NUMBERS], result[CHIM_RESULT_NUMBERS], carried;
  *   chim_campaign_open(7200000, campaign, CHIM_CAMPAIGN_NUMBERS, &carried);
  *   chim_record_open(500, 0, 40000, 2000, record, CHIM_RECORD_NUMBERS, &carried);
  *   const int32_t roll[] = {0, 41000, 39000, 41000, 39000, 41000, 0};
  *   chim_record_feed(record, CHIM_RECORD_NUMBERS, roll, 3, &carried);
  *   chim_record_feed(record, CHIM_RECORD_NUMBERS, roll + 3, 4, &carried);
- *   chim_campaign_close(record, CHIM_RECORD_NUMBERS, campaign, CHIM_CAMPAIGN_NUMBERS, &carried);
+ *   chim_record_end(record, CHIM_RECORD_NUMBERS, result, CHIM_RESULT_NUMBERS, &carried);
+ *   chim_campaign_enter(campaign, CHIM_CAMPAIGN_NUMBERS, result[CHIM_FIRST] != 0, result[CHIM_EXPOSURE], &carried);
  */
 #ifndef CHIMENICKEL_H
 #define CHIMENICKEL_H
@@ -60,7 +64,10 @@
 extern "C" {
 #endif
 
-enum { CHIM_RECORD_NUMBERS = 10, CHIM_CAMPAIGN_NUMBERS = 5 };
+enum { CHIM_RECORD_NUMBERS = 10, CHIM_RESULT_NUMBERS = 4, CHIM_CAMPAIGN_NUMBERS = 5 };
+
+/* The places of a result. */
+enum { CHIM_CROSSINGS = 0, CHIM_COUNTED = 1, CHIM_FIRST = 2, CHIM_EXPOSURE = 3 };
 
 enum {
     CHIM_TAKEN = 0,
@@ -86,6 +93,9 @@ uint64_t chim_record_open(uint64_t step, uint64_t ramp, uint64_t level, uint64_t
 /* Feeds the next piece of the record; cut anywhere, the pieces of a record lead to the state of the whole. Refuses 8, 2, 3. */
 uint64_t chim_record_feed(uint64_t *state, size_t state_len, const int32_t *piece, size_t piece_len, uint64_t *carried);
 
+/* Ends the record in `state`, which is read and not changed: its result into `result`. Refuses 8 (the record, or the result's length), 4. */
+uint64_t chim_record_end(const uint64_t *state, size_t state_len, uint64_t *result, size_t result_len, uint64_t *carried);
+
 /* The place of the first crossing of a whole record, and samples_len if there is none. It never refuses: samples and numbers of any size are
  * compared as they are. */
 size_t chim_record_first_crossing(const int32_t *samples, size_t samples_len, uint64_t ramp, uint64_t level);
@@ -100,11 +110,8 @@ uint64_t chim_record_list(uint64_t step, uint64_t ramp, uint64_t level, uint64_t
 /* Puts a campaign without a record into `state`. Refuses 8 (the array's length), 1 with item 5. */
 uint64_t chim_campaign_open(uint64_t standard, uint64_t *state, size_t state_len, uint64_t *carried);
 
-/* Enters a record, which is read and not changed, into the campaign in `state`. Refuses 8 (either state), 4, 5, 6. */
-uint64_t chim_campaign_close(const uint64_t *record, size_t record_len, uint64_t *state, size_t state_len, uint64_t *carried);
-
-/* Enters a record of which only this is known: whether it failed (1) or not (0), and its exposure, 1 to 10,000,000 ms. Refuses 8 (the state or the
- * flag), 4, 3, 5, 6. */
+/* Enters a result into the campaign in `state` by what a campaign takes of it: whether there is a first failure (1) or not (0), and the exposure, 1 to
+ * 10,000,000 ms. Refuses 8 (the state, the flag, the exposure), 5, 6. */
 uint64_t chim_campaign_enter(uint64_t *state, size_t state_len, uint64_t failed, uint64_t exposure, uint64_t *carried);
 
 /* *carried is the censored count N*. Refuses 8. */

@@ -21,7 +21,11 @@ campaign = Campaign(7_200_000)
 record = Record(**items)
 record.feed(roll[:3])
 record.feed(roll[3:])
-campaign.close(record)
+result = record.end()
+print(
+    f"crossings {result.crossings}, counted {result.counted}, first failure at sample {result.first}, exposure {result.exposure} ms"
+)
+campaign.enter(result.failed, result.exposure)
 show(campaign)
 for i in range(25):
     campaign.enter(False, 1_800_000)

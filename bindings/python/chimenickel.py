@@ -1,6 +1,7 @@
 """Failures in ship-stability campaigns, counted by a proved library (include/chimenickel.h), by ctypes alone.
 
-A Record is one channel of roll or acceleration, fed whole or in pieces; a Campaign closes records and gives the verdict. Samples and levels are in
+A Record is one channel of roll or acceleration, fed whole or in pieces; a record's Result is seen before it enters a
+Campaign, which gives the verdict. Samples and levels are in
 thousandths of a degree or in mm/s2, times in ms, rates in failures a second. What the library cannot take raises Refusal, and then nothing has
 changed. A number that is no 64-bit whole number, or a sample that is no 32-bit one, raises OverflowError before the library is asked.
 
@@ -27,10 +28,10 @@ _size = ctypes.c_size_t
 for _name, _result, _parameters in [
     ("chim_record_open", _u64, [_u64, _u64, _u64, _u64, _numbers, _size, _numbers]),
     ("chim_record_feed", _u64, [_numbers, _size, _samples, _size, _numbers]),
+    ("chim_record_end", _u64, [_numbers, _size, _numbers, _size, _numbers]),
     ("chim_record_first_crossing", _size, [_samples, _size, _u64, _u64]),
     ("chim_record_list", _u64, [_u64, _u64, _u64, _u64, _samples, _size, _times, _size, _numbers]),
     ("chim_campaign_open", _u64, [_u64, _numbers, _size, _numbers]),
-    ("chim_campaign_close", _u64, [_numbers, _size, _numbers, _size, _numbers]),
     ("chim_campaign_enter", _u64, [_numbers, _size, _u64, _u64, _numbers]),
     ("chim_campaign_censored", _u64, [_numbers, _size, _numbers]),
     ("chim_campaign_verdict", _u64, [_numbers, _size, _rate, _rate, _numbers]),
@@ -49,12 +50,12 @@ class Refusal(Exception):
     MEANINGS = {
         1: "opening item {} is outside its range",
         2: "the sample at place {} is outside its range",
-        3: "the timed length or the exposure would pass 10,000,000 ms",
-        4: "there are fewer than two timed samples, or the exposure is 0",
+        3: "the timed length, or a sheet's exposure, would pass 10,000,000 ms",
+        4: "there are fewer than two timed samples, or a sheet's exposure is 0",
         5: "the campaign has 100,000 records",
         6: "the campaign has 64 failures",
         7: "{} places are needed",
-        8: "the numbers are no state",
+        8: "the numbers are no state, or no result",
         9: "line {} is malformed",
     }
 
@@ -115,6 +116,20 @@ class _State:
         return list(self._state)
 
 
+class Result(NamedTuple):
+    """What a record comes to: crossings, counted failures, the first failure's place or None, and the exposure in ms."""
+
+    crossings: int
+    counted: int
+    first: Optional[int]
+    exposure: int
+
+    @property
+    def failed(self):
+        """Whether there is a first failure: with the exposure all that a campaign takes of a result."""
+        return self.first is not None
+
+
 class Record(_State):
     """One channel of samples, so far. The step is 1 to 10,000 ms, the ramp 0 to 1,000,000 samples, the level 1 to 1,000,000, the decorrelation time 0 to
     10,000,000 ms."""
@@ -128,6 +143,13 @@ class Record(_State):
     def feed(self, piece):
         """The next piece. Cut anywhere, the pieces of a record lead to the state of the whole."""
         _ask(_lib.chim_record_feed, self._state, self.LENGTH, *_slice(piece))
+
+    def end(self):
+        """The record's result, to be seen before it enters a campaign."""
+        result = (_u64 * 4)()
+        _ask(_lib.chim_record_end, self._state, self.LENGTH, result, len(result))
+        crossings, counted, first, exposure = result
+        return Result(crossings, counted, first or None, exposure)
 
     @property
     def samples(self):
@@ -211,12 +233,8 @@ class Campaign(_State):
             raise
         return cls.from_numbers(list(state))
 
-    def close(self, record):
-        """Enters a record."""
-        _ask(_lib.chim_campaign_close, record._state, record.LENGTH, self._state, self.LENGTH)
-
     def enter(self, failed, exposure):
-        """Enters a record by whether it failed and its exposure, 1 to 10,000,000 ms."""
+        """Enters a result by what a campaign takes of it: whether there is a first failure, and the exposure, 1 to 10,000,000 ms."""
         _ask(_lib.chim_campaign_enter, self._state, self.LENGTH, int(bool(failed)), _number(exposure))
 
     @property

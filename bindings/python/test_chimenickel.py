@@ -58,7 +58,8 @@ class Records(unittest.TestCase):
         self.assertEqual((campaign.records, campaign.failures, campaign.exposure, campaign.censored()), (3, 0, 26_559_937, 1))
         self.assertEqual(campaign.verdict().case, Case.ACCEPT)
         self.assertEqual(campaign.rates().upper, campaign.verdict().upper)
-        self.refused(3, 0, campaign.enter, False, 10_000_001)
+        self.refused(8, 0, campaign.enter, False, 0)
+        self.refused(8, 0, campaign.enter, False, 10_000_001)
 
     def test_a_sheet_is_its_records(self):
         campaign = Campaign(7_200_000)

@@ -18,13 +18,16 @@ static void verdict(const uint64_t *campaign) {
 }
 
 int main(void) {
-    uint64_t campaign[CHIM_CAMPAIGN_NUMBERS], record[CHIM_RECORD_NUMBERS], carried;
+    uint64_t campaign[CHIM_CAMPAIGN_NUMBERS], record[CHIM_RECORD_NUMBERS], result[CHIM_RESULT_NUMBERS], carried;
     chim_campaign_open(7200000, campaign, CHIM_CAMPAIGN_NUMBERS, &carried);
     chim_record_open(500, 0, 40000, 2000, record, CHIM_RECORD_NUMBERS, &carried);
     const int32_t roll[] = {0, 41000, 39000, 41000, 39000, 41000, 0};
     chim_record_feed(record, CHIM_RECORD_NUMBERS, roll, 3, &carried);
     chim_record_feed(record, CHIM_RECORD_NUMBERS, roll + 3, 4, &carried);
-    chim_campaign_close(record, CHIM_RECORD_NUMBERS, campaign, CHIM_CAMPAIGN_NUMBERS, &carried);
+    chim_record_end(record, CHIM_RECORD_NUMBERS, result, CHIM_RESULT_NUMBERS, &carried);
+    printf("crossings %" PRIu64 ", counted %" PRIu64 ", first failure at sample %" PRIu64 ", exposure %" PRIu64 " ms\n", result[CHIM_CROSSINGS],
+           result[CHIM_COUNTED], result[CHIM_FIRST], result[CHIM_EXPOSURE]);
+    chim_campaign_enter(campaign, CHIM_CAMPAIGN_NUMBERS, result[CHIM_FIRST] != 0, result[CHIM_EXPOSURE], &carried);
     verdict(campaign);
 
     for (int i = 0; i < 25; i++) {

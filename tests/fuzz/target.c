@@ -69,10 +69,13 @@ static void record(void) {
     hold(chim_record_feed(cut, CHIM_RECORD_NUMBERS, samples, at, &carried) == CHIM_TAKEN);
     hold(chim_record_feed(cut, CHIM_RECORD_NUMBERS, samples + at, n - at, &carried) == CHIM_TAKEN);
     hold(memcmp(cut, whole, sizeof whole) == 0);
-    uint64_t campaign[CHIM_CAMPAIGN_NUMBERS];
-    hold(chim_campaign_open(7200000, campaign, CHIM_CAMPAIGN_NUMBERS, &carried) == CHIM_TAKEN);
-    answer = chim_campaign_close(whole, CHIM_RECORD_NUMBERS, campaign, CHIM_CAMPAIGN_NUMBERS, &carried);
+    uint64_t campaign[CHIM_CAMPAIGN_NUMBERS], result[CHIM_RESULT_NUMBERS];
+    answer = chim_record_end(whole, CHIM_RECORD_NUMBERS, result, CHIM_RESULT_NUMBERS, &carried);
     hold(answer == CHIM_TAKEN || answer == CHIM_TOO_SHORT);
+    if (answer != CHIM_TAKEN)
+        return;
+    hold(chim_campaign_open(7200000, campaign, CHIM_CAMPAIGN_NUMBERS, &carried) == CHIM_TAKEN);
+    hold(chim_campaign_enter(campaign, CHIM_CAMPAIGN_NUMBERS, result[CHIM_FIRST] != 0, result[CHIM_EXPOSURE], &carried) == CHIM_TAKEN);
 }
 
 /* listing into a slice of any length: beyond its places nothing is written, and a refusal writes nothing */

@@ -22,7 +22,15 @@ fn main() -> Result<(), Refusal> {
     for piece in roll.chunks(3) {
         record.feed(piece)?;
     }
-    campaign.close(&record)?;
+    let ended = record.end()?;
+    println!(
+        "crossings {}, counted {}, first failure at sample {}, exposure {} ms",
+        ended.crossings,
+        ended.counted,
+        ended.first.unwrap_or(0),
+        ended.exposure
+    );
+    campaign.enter(ended.failed(), ended.exposure)?;
     show(&campaign)?;
     for i in 0..25 {
         campaign.enter(false, 1_800_000)?;

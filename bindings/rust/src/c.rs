@@ -3,6 +3,7 @@
 extern "C" {
     pub fn chim_record_open(step: u64, ramp: u64, level: u64, decorrelation: u64, state: *mut u64, state_len: usize, carried: *mut u64) -> u64;
     pub fn chim_record_feed(state: *mut u64, state_len: usize, piece: *const i32, piece_len: usize, carried: *mut u64) -> u64;
+    pub fn chim_record_end(state: *const u64, state_len: usize, result: *mut u64, result_len: usize, carried: *mut u64) -> u64;
     pub fn chim_record_first_crossing(samples: *const i32, samples_len: usize, ramp: u64, level: u64) -> usize;
     pub fn chim_record_list(
         step: u64,
@@ -16,7 +17,6 @@ extern "C" {
         carried: *mut u64,
     ) -> u64;
     pub fn chim_campaign_open(standard: u64, state: *mut u64, state_len: usize, carried: *mut u64) -> u64;
-    pub fn chim_campaign_close(record: *const u64, record_len: usize, state: *mut u64, state_len: usize, carried: *mut u64) -> u64;
     pub fn chim_campaign_enter(state: *mut u64, state_len: usize, failed: u64, exposure: u64, carried: *mut u64) -> u64;
     pub fn chim_campaign_censored(state: *const u64, state_len: usize, carried: *mut u64) -> u64;
     pub fn chim_campaign_verdict(state: *const u64, state_len: usize, lower: *mut f64, upper: *mut f64, carried: *mut u64) -> u64;

@@ -1,6 +1,7 @@
 //! Failures in ship-stability campaigns, counted by a proved library.
 //!
-//! A [`Record`] is one channel of roll or acceleration, fed whole or in pieces; a [`Campaign`] closes records and gives the [`Verdict`]. Samples and
+//! A [`Record`] is one channel of roll or acceleration, fed whole or in pieces; what it comes to is [`Ended`], seen before it enters
+//! a [`Campaign`], which gives the [`Verdict`]. Samples and
 //! levels are in thousandths of a degree or in mm/s², times in ms, rates in failures a second. What the library cannot take it refuses by a
 //! [`Refusal`], and then nothing has changed.
 //!
@@ -14,7 +15,9 @@
 //! assert_eq!((record.crossings(), record.counted(), record.first()), (3, 2, Some(1)));
 //!
 //! let mut campaign = Campaign::open(7_200_000)?;
-//! campaign.close(&record)?;
+//! let ended = record.end()?;
+//! assert_eq!((ended.counted, ended.exposure), (2, 500));
+//! campaign.enter(ended.failed(), ended.exposure)?;
 //! assert!(matches!(campaign.verdict()?, Verdict::Reject { .. }));
 //! # Ok(())
 //! # }
@@ -31,9 +34,9 @@ pub enum Refusal {
     Item(u64),
     /// 2: a sample is outside -1,000,000 to 1,000,000; its place in the piece.
     Sample(u64),
-    /// 3: the timed length of the record, or the exposure, would pass 10,000,000 ms.
+    /// 3: the timed length of the record, or a sheet's exposure, would pass 10,000,000 ms.
     TooLong,
-    /// 4: fewer than two timed samples, or an exposure of 0.
+    /// 4: fewer than two timed samples, or a sheet's exposure of 0.
     TooShort,
     /// 5: the campaign has 100,000 records.
     CampaignFull,
@@ -41,7 +44,7 @@ pub enum Refusal {
     RowsUsedUp,
     /// 7: the lent slice is too short; the places needed.
     Room(u64),
-    /// 8: the numbers are no state.
+    /// 8: the numbers are no state, or a result's exposure is not from 1 to 10,000,000 ms.
     BrokenState,
     /// 9: a line of a job sheet is malformed; its number.
     Line(u64),
@@ -141,6 +144,14 @@ impl Record {
         Ok(())
     }
 
+    /// The record's result, to be seen before it enters a campaign.
+    pub fn end(&self) -> Result<Ended, Refusal> {
+        let (s, mut x) = (&self.numbers, [0; 4]);
+        answer(|carried| unsafe { c::chim_record_end(s.as_ptr(), s.len(), x.as_mut_ptr(), x.len(), carried) })?;
+        let [crossings, counted, first, exposure] = x;
+        Ok(Ended { crossings, counted, first: Some(first).filter(|&place| place != 0), exposure })
+    }
+
     pub fn samples(&self) -> u64 {
         self.numbers[4]
     }
@@ -167,6 +178,25 @@ impl Record {
     /// A stored state; numbers that are no state are refused at their first use.
     pub fn from_numbers(numbers: [u64; 10]) -> Record {
         Record { numbers }
+    }
+}
+
+/// What a record comes to: its result.
+#[derive(Clone, Copy, Debug, PartialEq, Eq)]
+pub struct Ended {
+    pub crossings: u64,
+    /// The failures counted apart.
+    pub counted: u64,
+    /// The place of the first failure.
+    pub first: Option<u64>,
+    /// In ms: the time of the first failure, or else the full time.
+    pub exposure: u64,
+}
+
+impl Ended {
+    /// Whether there is a first failure: with the exposure all that a campaign takes of a result.
+    pub fn failed(&self) -> bool {
+        self.first.is_some()
     }
 }
 
@@ -243,14 +273,7 @@ impl Campaign {
         read.map(|_| Campaign { numbers: s }).map_err(|refusal| (line, refusal))
     }
 
-    /// Enters a record.
-    pub fn close(&mut self, record: &Record) -> Result<(), Refusal> {
-        let (r, s) = (&record.numbers, &mut self.numbers);
-        answer(|carried| unsafe { c::chim_campaign_close(r.as_ptr(), r.len(), s.as_mut_ptr(), s.len(), carried) })?;
-        Ok(())
-    }
-
-    /// Enters a record by whether it failed and its exposure, 1 to 10,000,000 ms.
+    /// Enters a result by what a campaign takes of it: whether there is a first failure, and the exposure, 1 to 10,000,000 ms.
     pub fn enter(&mut self, failed: bool, exposure: u64) -> Result<(), Refusal> {
         let s = &mut self.numbers;
         answer(|carried| unsafe { c::chim_campaign_enter(s.as_mut_ptr(), s.len(), u64::from(failed), exposure, carried) })?;
@@ -392,7 +415,8 @@ mod tests {
         assert_eq!((c.records(), c.failures(), c.exposure(), c.censored()), (3, 0, 26_559_936, Ok(1)));
         assert!(matches!(c.verdict(), Ok(Verdict::Continue { .. })));
         assert_eq!(c.rates().unwrap().unwrap().lower, 0.0);
-        assert_eq!(c.enter(false, 10_000_001), Err(Refusal::TooLong));
+        assert_eq!(c.enter(false, 0), Err(Refusal::BrokenState));
+        assert_eq!(c.enter(false, 10_000_001), Err(Refusal::BrokenState));
     }
 
     #[test]

@@ -3,19 +3,17 @@ use mathlib.Core.Path.{_≡_, refl}
 use mathlib.Core.Bool.{Bool, cond, false, not, true}
 use Prim.Native.Nat.{ℕ, _≤_}
 use native.Mathlib.Omega.{arith}
-use lib.Dec.{T, eqb, ltb}
-use borrow.Author.Tests.{eqb-false, ltb-false, not-false}
+use lib.Dec.{T, eqb}
+use borrow.Author.Tests.{eqb-false, leb-true, not-false}
 use Rattle.refusal.specs.declared.Refusal.{Refusal}
-use Rattle.refusal.specs.declared.Refusal.the-variants.{BrokenState, CampaignFull, Item, RowsUsedUp, TooLong, TooShort}
-use Rattle.record.specs.declared.Record.{Record}
+use Rattle.refusal.specs.declared.Refusal.the-variants.{BrokenState, CampaignFull, Item, RowsUsedUp}
 use Rattle.limits.specs.Limits.{longestTime}
-use Rattle.record.specs.State.{failed, tooShort}
-use Rattle.record.specs.State as reading
-use Rattle.truth.proofs.Laws.{holds}
+use Rattle.truth.proofs.Laws.{and-true, holds}
+use Rattle.result.specs.declared.Outcome.{Outcome}
 use Rattle.campaign.specs.declared.Answer.{Answer}
 use Rattle.campaign.specs.declared.Answer.the-variants.{Refused, Taken}
 use Rattle.campaign.specs.declared.Campaign.{Campaign}
-use Rattle.campaign.specs.Answers.{closing, entering, exposureOf, opened, taken}
+use Rattle.campaign.specs.Answers.{entering, opened, outcomeKept, taken}
 use Rattle.campaign.specs.State.{empty, entered, mostRecords, sound, standardInRange}
 
 -- a refusal is no answer
@@ -39,36 +37,25 @@ taken-room c f t d e =
     let q = past (eqb (c .failures) 64) RowsUsedUp (Taken (entered c f t)) (p .1) in
     record { records = eqb-false _ _ (p .0); failures = eqb-false _ _ (q .0); after = cc }
 
-pub record Entered (c : Campaign) (f : Bool) (t : ℕ) (d : Campaign) : Type 0 where
+pub record Entered (c : Campaign) (o : Outcome) (d : Campaign) : Type 0 where
   pub sound : T (sound c)
-  pub some : ¬ (t ≡ 0)
-  pub short : t ≤ longestTime
-  pub room : Room c f t d
+  pub low : 1 ≤ o .exposure
+  pub high : o .exposure ≤ longestTime
+  pub room : Room c (o .failed) (o .exposure) d
 
-pub entered-from : (c : Campaign) (f : Bool) (t : ℕ) (d : Campaign) → entering c f t ≡ Taken d → Entered c f t d
+pub entered-from : (c : Campaign) (o : Outcome) (d : Campaign) → entering c o ≡ Taken d → Entered c o d
 unfolding entering
-entered-from c f t d e =
-    let long = cond (ltb longestTime t) (Refused TooLong) (taken c f t) in
-    let p = past (not (sound c)) BrokenState (cond (eqb t 0) (Refused TooShort) long) e in
-    let q = past (eqb t 0) TooShort long (p .1) in
-    let r = past (ltb longestTime t) TooLong (taken c f t) (q .1) in
-    record { sound = holds {b = sound c} (not-false _ (p .0)); some = eqb-false _ _ (q .0); short = ltb-false _ _ (r .0); room = taken-room c f t d (r .1) }
-
-pub record Closed (r : Record) (c d : Campaign) : Type 0 where
-  pub record-sound : reading.sound r ≡ true
-  pub sound : T (sound c)
-  pub long : tooShort r ≡ false
-  pub room : Room c (failed r) (exposureOf r) d
-
-pub closed-from : (r : Record) (c d : Campaign) → closing r c ≡ Taken d → Closed r c d
-unfolding closing
-closed-from r c d e =
-    let enters = taken c (failed r) (exposureOf r) in
-    let short = cond (tooShort r) (Refused TooShort) enters in
-    let p = past (not (reading.sound r)) BrokenState (cond (not (sound c)) (Refused BrokenState) short) e in
-    let q = past (not (sound c)) BrokenState short (p .1) in
-    let s = past (tooShort r) TooShort enters (q .1) in
-    record { record-sound = not-false _ (p .0); sound = holds {b = sound c} (not-false _ (q .0)); long = s .0; room = taken-room c (failed r) (exposureOf r) d (s .1) }
+entered-from c o d e =
+    let enters = taken c (o .failed) (o .exposure) in
+    let p = past (not (sound c)) BrokenState (cond (not (outcomeKept o)) (Refused BrokenState) enters) e in
+    let q = past (not (outcomeKept o)) BrokenState enters (p .1) in
+    let k = and-true _ _ (not-false _ (q .0)) in
+    record {
+      sound = holds {b = sound c} (not-false _ (p .0));
+      low = leb-true _ _ (k .0);
+      high = leb-true _ _ (k .1);
+      room = taken-room c (o .failed) (o .exposure) d (q .1);
+    }
 
 pub opened-from : (q : ℕ) (d : Campaign) → opened q ≡ Taken d → T (standardInRange q) × (d ≡ empty q)
 opened-from q d e = go (standardInRange q) e

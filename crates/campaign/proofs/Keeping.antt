@@ -1,22 +1,18 @@
--- What is handed out keeps document 01's relations: opening, entering and closing do, so a campaign grown by them is never refused with 8.
--- Assumes nothing.
-use mathlib.Core.Path.{_≡_, refl}
-use mathlib.Core.Bool.{Bool, cond, false, true}
+-- What is handed out keeps document 01's relations: opening and entering do, so a campaign grown by them is never refused with 8. Assumes nothing.
+use mathlib.Core.Path.{_≡_}
+use mathlib.Core.Bool.{Bool, false, true}
 use Prim.Native.Nat.{ℕ, _≤_, zero-le}
 use native.Mathlib.Omega.{arith}
 use lib.Dec.{T, leb→le}
 use lib.Ieee.Fits.{and-l, and-r}
-use Rattle.record.specs.declared.Record.{Record}
 use Rattle.limits.specs.Limits.{longestTime}
-use Rattle.record.specs.State.{failed, firstTime, tooShort, wholeTime}
-use Rattle.record.specs.State as reading
-use Rattle.record.proofs.Times.{first-time, whole-time}
+use Rattle.result.specs.declared.Outcome.{Outcome}
 use Rattle.campaign.specs.declared.Answer.the-variants.{Taken}
 use Rattle.campaign.specs.declared.Campaign.{Campaign}
-use Rattle.campaign.specs.Answers.{closing, entering, exposureOf, opened}
+use Rattle.campaign.specs.Answers.{entering, opened}
 use Rattle.campaign.specs.Kept.{Kept}
 use Rattle.campaign.specs.State.{empty, entered, sound, standardInRange}
-use Rattle.campaign.proofs.Answered.{Room, closed-from, entered-from, opened-from}
+use Rattle.campaign.proofs.Answered.{Room, entered-from, opened-from}
 use Rattle.campaign.proofs.Relations.{kept-from, sound-from}
 
 empty-kept : (q : ℕ) → T (standardInRange q) → Kept (empty q)
@@ -66,14 +62,6 @@ entered-kept c false t k m n low high =
       full = λ e. absurd (n e);
     }
 
--- the exposure of a record that may be closed
-pub exposure-bounds : (r : Record) → reading.sound r ≡ true → tooShort r ≡ false → (1 ≤ exposureOf r) × (exposureOf r ≤ longestTime)
-exposure-bounds r s l = go (failed r) (first-time r s)
-  where
-    go : (b : Bool) → (b ≡ true → (1 ≤ firstTime r) × (firstTime r ≤ longestTime)) → (1 ≤ cond b (firstTime r) (wholeTime r)) × (cond b (firstTime r) (wholeTime r) ≤ longestTime)
-    go true f = f refl
-    go false f = whole-time r s l
-
 room-kept : {c : Campaign} {f : Bool} {t : ℕ} {d : Campaign} → T (sound c) → Room c f t d → 1 ≤ t → t ≤ longestTime → T (sound d)
 room-kept {c} {f} {t} {d} s o low high =
     sound-from d (rw (o .after) (entered-kept c f t (kept-from c s) (o .records) (o .failures) low high))
@@ -81,11 +69,5 @@ room-kept {c} {f} {t} {d} s o low high =
 pub opened-sound : (q : ℕ) (d : Campaign) → opened q ≡ Taken d → T (sound d)
 opened-sound q d e = let o = opened-from q d e in sound-from d (rw (o .1) (empty-kept q (o .0)))
 
-pub entering-sound : (c : Campaign) (f : Bool) (t : ℕ) (d : Campaign) → entering c f t ≡ Taken d → T (sound d)
-entering-sound c f t d e = let o = entered-from c f t d e in room-kept (o .sound) (o .room) (omega (arith, o .some)) (o .short)
-
-pub closing-sound : (r : Record) (c d : Campaign) → closing r c ≡ Taken d → T (sound d)
-closing-sound r c d e =
-    let o = closed-from r c d e in
-    let b = exposure-bounds r (o .record-sound) (o .long) in
-    room-kept (o .sound) (o .room) (b .0) (b .1)
+pub entering-sound : (c : Campaign) (o : Outcome) (d : Campaign) → entering c o ≡ Taken d → T (sound d)
+entering-sound c o d e = let a = entered-from c o d e in room-kept (a .sound) (a .room) (a .low) (a .high)

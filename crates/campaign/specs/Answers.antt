@@ -1,17 +1,15 @@
 -- What each entry answers, in the order of refusals of document 01, "Refusal numbers". Assumes nothing.
 use mathlib.Core.Bool.{Bool, cond, not}
 use Prim.Native.Nat.{ℕ}
-use lib.Dec.{eqb, ltb}
+use lib.Dec.{eqb}
 use Rattle.poisson.specs.Rows.{rows}
-use Rattle.limits.specs.Limits.{longestTime}
-use Rattle.record.specs.State.{failed, firstTime, tooShort, wholeTime}
-use Rattle.record.specs.declared.Record.{Record}
-use Rattle.refusal.specs.declared.Refusal.the-variants.{BrokenState, CampaignFull, Item, RowsUsedUp, TooLong, TooShort}
+use Rattle.limits.specs.Limits.{longestTime, within}
+use Rattle.refusal.specs.declared.Refusal.the-variants.{BrokenState, CampaignFull, Item, RowsUsedUp}
+use Rattle.result.specs.declared.Outcome.{Outcome}
 use Rattle.campaign.specs.declared.Answer.{Answer}
 use Rattle.campaign.specs.declared.Answer.the-variants.{Refused, Taken}
 use Rattle.campaign.specs.declared.Campaign.{Campaign}
 use Rattle.campaign.specs.State.{empty, entered, mostRecords, sound, standardInRange}
-use Rattle.record.specs.State as reading
 
 -- Opening 1: item 5
 abbrev pub opened : ℕ → Answer
@@ -24,22 +22,13 @@ taken c f t =
     (cond (eqb (c .failures) rows) (Refused RowsUsedUp)
     (Taken (entered c f t)))
 
--- a sheet's record: 8; exposure 0 gives 4, above 10,000,000 gives 3; then 5, 6
-unfoldable pub entering : Campaign → Bool → ℕ → Answer
-entering c f t =
+-- document 02, [4]: a result needs exposure from 1 to 10,000,000
+abbrev pub outcomeKept : Outcome → Bool
+outcomeKept o = within 1 longestTime (o .exposure)
+
+-- Entering 8 (the campaign, the result), 5, 6
+unfoldable pub entering : Campaign → Outcome → Answer
+entering c o =
     cond (not (sound c)) (Refused BrokenState)
-    (cond (eqb t 0) (Refused TooShort)
-    (cond (ltb longestTime t) (Refused TooLong)
-    (taken c f t)))
-
--- the exposure of a record: the time of its first failure, or else the full time
-abbrev pub exposureOf : Record → ℕ
-exposureOf r = cond (failed r) (firstTime r) (wholeTime r)
-
--- Closing 8 (either state), 4, 5, 6
-unfoldable pub closing : Record → Campaign → Answer
-closing r c =
-    cond (not (reading.sound r)) (Refused BrokenState)
-    (cond (not (sound c)) (Refused BrokenState)
-    (cond (tooShort r) (Refused TooShort)
-    (taken c (failed r) (exposureOf r))))
+    (cond (not (outcomeKept o)) (Refused BrokenState)
+    (taken c (o .failed) (o .exposure)))

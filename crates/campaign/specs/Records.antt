@@ -5,18 +5,17 @@ use mathlib.Core.List.{List, [], _∷_}
 use Prim.Native.Nat.{ℕ, _+_}
 use lib.ListN.{length}
 use Rattle.record.specs.declared.Record.{Record}
-use Rattle.record.specs.State.{failed}
+use Rattle.result.specs.Result.{ending, outcomeOf, resultOf}
+use Rattle.result.specs.declared.Ended.the-variants.{Given}
+use Rattle.result.specs.declared.Outcome.{Outcome}
+use Rattle.result.specs.declared.Result.{Result}
 use Rattle.campaign.specs.declared.Answer.the-variants.{Taken}
 use Rattle.campaign.specs.declared.Campaign.{Campaign}
-use Rattle.campaign.specs.Answers.{closing, entering, exposureOf}
+use Rattle.campaign.specs.Answers.{entering}
 
--- what a campaign reads of a record: whether it failed, and its duration
-pub record Outcome : Type 0 where
-  pub failed : Bool
-  pub time : ℕ
-
+-- what a campaign takes of a record
 abbrev pub outcome : Record → Outcome
-outcome r = record { failed = failed r; time = exposureOf r }
+outcome r = outcomeOf (resultOf r)
 
 -- n: how many records failed
 unfoldable pub failuresIn : List Outcome → ℕ
@@ -26,7 +25,7 @@ failuresIn (o ∷ os) = cond (o .failed) 1 0 + failuresIn os
 -- the sum of the durations
 unfoldable pub exposureIn : List Outcome → ℕ
 exposureIn [] = 0
-exposureIn (o ∷ os) = o .time + exposureIn os
+exposureIn (o ∷ os) = o .exposure + exposureIn os
 
 -- the records but the last
 unfoldable pub butLast : List Outcome → List Outcome
@@ -58,9 +57,14 @@ campaignOf q os =
 -- outcomes entered one after the other, all taken, lead from c to d
 pub data AllEntered : Campaign → List Outcome → Campaign → Type 0 where
   none : {c : Campaign} → AllEntered c [] c
-  one : {c d e : Campaign} {o : Outcome} {os : List Outcome} → entering c (o .failed) (o .time) ≡ Taken d → AllEntered d os e → AllEntered c (o ∷ os) e
+  one : {c d e : Campaign} {o : Outcome} {os : List Outcome} → entering c o ≡ Taken d → AllEntered d os e → AllEntered c (o ∷ os) e
 
--- records closed one after the other, all taken, lead from c to d
-pub data AllClosed : Campaign → List Record → Campaign → Type 0 where
-  none : {c : Campaign} → AllClosed c [] c
-  one : {c d e : Campaign} {r : Record} {rs : List Record} → closing r c ≡ Taken d → AllClosed d rs e → AllClosed c (r ∷ rs) e
+-- records ended and their results entered one after the other, all taken, lead from c to d
+pub data AllEnded : Campaign → List Record → Campaign → Type 0 where
+  none : {c : Campaign} → AllEnded c [] c
+  one :
+      {c d e : Campaign} {r : Record} {x : Result} {rs : List Record}
+      → ending r ≡ Given x
+      → entering c (outcomeOf x) ≡ Taken d
+      → AllEnded d rs e
+      → AllEnded c (r ∷ rs) e

@@ -1,16 +1,14 @@
-// The campaign: many records by the exponential method (document 000, section 4), with document 01 deciding. Opening, closing a record, entering one. The
-// state goes in by value and comes back in the answer, so a refusal leaves the caller's as it stood. What a record does to a campaign depends on two things
-// alone: whether it failed, and its exposure.
+// The campaign: many records by the exponential method (document 000, section 4), with document 01 deciding. Opening, and entering a record's outcome, which
+// is all that a campaign takes of a record (document 02, [4]). The state goes in by value and comes back in the answer, so a refusal leaves the caller's as it
+// stood.
 ghost use mathlib.Core.Path.{_≡_};
-ghost use mathlib.Core.Bool.{true};
-ghost use Prim.Native.Nat.{_+_, _≤_};
+ghost use Prim.Native.Nat.{_≤_};
 ghost use Rattle.limits.specs.Limits.{longestTime};
-ghost use Rattle.record.specs.State as reading;
 ghost use Rattle.campaign.specs.Kept.{Kept};
 ghost use Rattle.campaign.specs.State.{figuresKept, lastKept, mostRecords, sound};
-ghost use Rattle.campaign.specs.Answers.{closing, entering, exposureOf, opened, taken};
-use record::Record;
+ghost use Rattle.campaign.specs.Answers.{entering, opened, taken};
 use refusal::Refusal;
+use result::Outcome;
 
 // Document 01, "Numbers a job may carry".
 pub const LONGEST_STANDARD: u64 = 100_000_000_000;
@@ -116,48 +114,17 @@ fn take(c: Campaign, failed: bool, exposure: u64) -> Answer
     })
 }
 
-// The exposure of a record: the time of its first failure, or else the full time.
-fn exposure_of(r: Record) -> u64
-    requires { ⌜ (reading.sound r ≡ true) × (r .ramp + 2 ≤ r .n) ⌝ }
-    ensures { λ t. ⌜ (t ≡ exposureOf r) × (t ≤ longestTime) ⌝ }
-{
-    if r.first == 0 {
-        (r.n - 1 - r.ramp) * r.step
-    } else {
-        (r.first - r.ramp) * r.step
-    }
-}
-
-// The campaign with the record entered; or refusal 8 for either state, 4 for a record that is too short, 5, 6.
-pub fn close(r: Record, c: Campaign) -> Answer
-    ensures { λ a. ⌜ a ≡ closing r c ⌝ }
-{
-    if !record::sound(r) {
-        return Answer::Refused(Refusal::BrokenState);
-    }
-    if !sound(c) {
-        return Answer::Refused(Refusal::BrokenState);
-    }
-    if r.n < r.ramp + 2 {
-        return Answer::Refused(Refusal::TooShort);
-    }
-    take(c, r.first != 0, exposure_of(r))
-}
-
 impl Campaign {
-    // The campaign with a record of this exposure entered; or refusal 8, 4 for no exposure, 3 for too long a one, 5, 6.
-    pub fn enter(self, failed: bool, exposure: u64) -> Answer
-        ensures { λ r. ⌜ r ≡ entering self failed exposure ⌝ }
+    // The campaign with a record's outcome entered; or refusal 8 for the campaign, or for an exposure that is not from 1 to 10,000,000 ms, 5, 6.
+    pub fn enter(self, o: Outcome) -> Answer
+        ensures { λ r. ⌜ r ≡ entering self o ⌝ }
     {
         if !sound(self) {
             return Answer::Refused(Refusal::BrokenState);
         }
-        if exposure == 0 {
-            return Answer::Refused(Refusal::TooShort);
+        if !truth::both(1 <= o.exposure, o.exposure <= limits::LONGEST_TIME) {
+            return Answer::Refused(Refusal::BrokenState);
         }
-        if exposure > limits::LONGEST_TIME {
-            return Answer::Refused(Refusal::TooLong);
-        }
-        take(self, failed, exposure)
+        take(self, o.failed, o.exposure)
     }
 }

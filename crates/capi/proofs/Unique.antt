@@ -9,10 +9,11 @@ use Rattle.refusal.specs.Numbers.{numberOf, valueOf}
 use Rattle.refusal.specs.declared.Refusal.{Refusal}
 use Rattle.record.specs.declared.Answer.{Answer as Reading}
 use Rattle.record.specs.declared.Record.{Record}
+use Rattle.result.specs.declared.Ended.{Ended}
 use Rattle.campaign.specs.declared.Answer.{Answer}
 use Rattle.campaign.specs.declared.Campaign.{Campaign}
 use Rattle.capi.specs.Numbers.{campaignOf, flag, recordOf}
-use Rattle.capi.specs.Told.{Told, campaignKept, placed, recordKept, told}
+use Rattle.capi.specs.Told.{Told, campaignKept, placed, recordKept, resultKept, told}
 
 pub record-of-unique : (s : List ℕ) (x y : Record) → x ≡ recordOf s → y ≡ recordOf s → x ≡ y
 record-of-unique s x y = settled
@@ -34,6 +35,9 @@ refuse-unique f n m c d p q = (settled (p .0) (q .0), settled (p .1) (q .1))
 
 pub keep-record-unique : (a : Reading) (s : List ℕ) (x y : Told) → x ≡ recordKept a s → y ≡ recordKept a s → x ≡ y
 keep-record-unique a s x y = settled
+
+pub keep-result-unique : (a : Ended) (s : List ℕ) (x y : Told) → x ≡ resultKept a s → y ≡ resultKept a s → x ≡ y
+keep-result-unique a s x y = settled
 
 pub keep-campaign-unique : (a : Answer) (s : List ℕ) (x y : Told) → x ≡ campaignKept a s → y ≡ campaignKept a s → x ≡ y
 keep-campaign-unique a s x y = settled

@@ -1,4 +1,4 @@
--- A state as the numbers of a lent array, in both directions: ten for a record, five for a campaign. An array that holds no state stands for one whose
+-- A state as the numbers of a lent array, in both directions: ten for a record, five for a campaign; and a result as four. An array that holds no state stands for one whose
 -- first number is 0, which no state has, so that every entry refuses it by 8. Assumes nothing.
 use Prim.Native.Nat.{ℕ, _+_, _/_, _%_}
 use mathlib.Core.Bool.{Bool, cond, false, _&&_}
@@ -8,6 +8,7 @@ use lib.IntN.{ℤ, pos, negsuc}
 use lib.ListN.{length, getD}
 use Rattle.campaign.specs.declared.Campaign.{Campaign}
 use Rattle.record.specs.declared.Record.{Record}
+use Rattle.result.specs.declared.Result.{Result}
 
 abbrev pub numberAt : List ℕ → ℕ → ℕ
 numberAt s i = getD s i 0
@@ -67,6 +68,13 @@ isRecord s = eqb (length s) recordNumbers && leb (numberAt s 5) highestCode
 
 unfoldable pub recordOf : List ℕ → Record
 recordOf s = cond (isRecord s) (recordAt s) noRecord
+
+-- ---- a result: four numbers
+abbrev pub resultNumbers : ℕ
+resultNumbers = 4
+
+abbrev pub ofResult : Result → List ℕ
+ofResult x = x .crossings ∷ x .counted ∷ x .first ∷ x .exposure ∷ []
 
 -- ---- a campaign: five numbers, of which number 4 is 1 if the last record failed, else 0
 abbrev pub campaignNumbers : ℕ

@@ -10,9 +10,11 @@ use Rattle.refusal.specs.declared.Refusal.{Refusal}
 use Rattle.refusal.specs.declared.Refusal.the-variants.{BrokenState}
 use Rattle.record.specs.declared.Answer.{Answer as Reading}
 use Rattle.record.specs.declared.Answer.the-variants as read
+use Rattle.result.specs.declared.Ended.{Ended}
+use Rattle.result.specs.declared.Ended.the-variants as ended
 use Rattle.campaign.specs.declared.Answer.{Answer}
 use Rattle.campaign.specs.declared.Answer.the-variants.{Taken, Refused}
-use Rattle.capi.specs.Numbers.{recordNumbers, ofRecord, campaignNumbers, ofCampaign}
+use Rattle.capi.specs.Numbers.{recordNumbers, ofRecord, resultNumbers, ofResult, campaignNumbers, ofCampaign}
 
 -- the number, what it carries, and a lent array afterwards
 pub record Told : Type 0 where
@@ -35,6 +37,10 @@ unfoldable pub recordTold : Reading → List ℕ → Told
 recordTold (read.Taken r) s = told 0 0 (ofRecord r)
 recordTold (read.Refused f) s = refused f s
 
+unfoldable pub resultTold : Ended → List ℕ → Told
+resultTold (ended.Given x) s = told 0 0 (ofResult x)
+resultTold (ended.Refused f) s = refused f s
+
 unfoldable pub campaignTold : Answer → List ℕ → Told
 campaignTold (Taken c) s = told 0 0 (ofCampaign c)
 campaignTold (Refused f) s = refused f s
@@ -42,6 +48,9 @@ campaignTold (Refused f) s = refused f s
 -- an array of another length is 8, before any other refusal
 unfoldable pub recordKept : Reading → List ℕ → Told
 recordKept a s = cond (eqb (length s) recordNumbers) (recordTold a s) (refused BrokenState s)
+
+unfoldable pub resultKept : Ended → List ℕ → Told
+resultKept a s = cond (eqb (length s) resultNumbers) (resultTold a s) (refused BrokenState s)
 
 unfoldable pub campaignKept : Answer → List ℕ → Told
 campaignKept a s = cond (eqb (length s) campaignNumbers) (campaignTold a s) (refused BrokenState s)

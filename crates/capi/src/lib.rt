@@ -1,17 +1,21 @@
-// States as numbers, for C and whatever calls C: a record's state is an array of ten numbers, a campaign's of five. Here is what a lent array holds, what it
+// States as numbers, for C and whatever calls C: a record's state is an array of ten numbers, a campaign's of five, a result of four. Here is what a lent array holds, what it
 // is left with after an answer, and how a refusal is told: its number is answered, and what goes with it is written to `carried`. Any numbers are taken: those
 // that are no state are read as one that every entry refuses by 8.
 ghost use mathlib.Core.Path.{_≡_};
 ghost use Prim.Native.Nat.{_≤_};
 ghost use Rattle.refusal.specs.Numbers.{numberOf, valueOf};
-ghost use Rattle.capi.specs.Numbers.{codeOf, sampleOf, highestCode, noRecord, recordOf, ofRecord, noCampaign, campaignOf, ofCampaign, flag};
-ghost use Rattle.capi.specs.Told.{told, placed, recordKept, campaignKept};
+ghost use Rattle.capi.specs.Numbers.{codeOf, sampleOf, highestCode, noRecord, recordOf, ofRecord, ofResult, noCampaign, campaignOf, ofCampaign, flag};
+ghost use Rattle.capi.specs.Told.{told, placed, recordKept, resultKept, campaignKept};
 use campaign::Campaign;
 use record::Record;
 use refusal::Refusal;
+use result::Ended;
+use result::Result;
 
 // How many numbers a state has.
 pub const RECORD_NUMBERS: usize = 10;
+
+pub const RESULT_NUMBERS: usize = 4;
 
 pub const CAMPAIGN_NUMBERS: usize = 5;
 
@@ -94,6 +98,12 @@ fn of_record(r: Record) -> [u64; 10]
         r.first,
         r.latest,
     ]
+}
+
+fn of_result(x: Result) -> [u64; 4]
+    ensures { λ s. ⌜ s ≡ ofResult x ⌝ }
+{
+    [x.crossings, x.counted, x.first, x.exposure]
 }
 
 // A state that no campaign has.
@@ -191,6 +201,23 @@ pub fn keep_record(a: record::Answer, state: &mut [u64], carried: &mut u64) -> u
             give(0, carried)
         }
         record::Answer::Refused(f) => refuse(f, carried),
+    }
+}
+
+// The result of an answer in `result`; or refusal 8 for an array of another length, else the answer's.
+pub fn keep_result(a: Ended, result: &mut [u64], carried: &mut u64) -> u64
+    ensures { λ n. ⌜ told n (now (carried .exit)) (now (result .exit)) ≡ resultKept a (now (result .entry)) ⌝ }
+{
+    if result.len() != RESULT_NUMBERS {
+        return refuse(Refusal::BrokenState, carried);
+    }
+    match a {
+        Ended::Given(x) => {
+            let numbers = of_result(x);
+            put(&numbers, result);
+            give(0, carried)
+        }
+        Ended::Refused(f) => refuse(f, carried),
     }
 }
 

@@ -4,13 +4,10 @@ use mathlib.Core.Path.{_≡_}
 use mathlib.Core.List.{List}
 use Rattle.truth.proofs.Unique.{settled}
 use Rattle.capi.specs.Told.{Told}
-use Rattle.capi_campaign.specs.Told.{campaignClosed, campaignEntered, campaignOpened}
+use Rattle.capi_campaign.specs.Told.{campaignEntered, campaignOpened}
 
 pub campaign-open-unique : (q : ℕ) (s : List ℕ) (x y : Told) → x ≡ campaignOpened q s → y ≡ campaignOpened q s → x ≡ y
 campaign-open-unique q s x y = settled
-
-pub campaign-close-unique : (r s : List ℕ) (x y : Told) → x ≡ campaignClosed r s → y ≡ campaignClosed r s → x ≡ y
-campaign-close-unique r s x y = settled
 
 pub campaign-enter-unique : (s : List ℕ) (f t : ℕ) (x y : Told) → x ≡ campaignEntered s f t → y ≡ campaignEntered s f t → x ≡ y
 campaign-enter-unique s f t x y = settled

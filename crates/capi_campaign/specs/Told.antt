@@ -4,16 +4,17 @@ use mathlib.Core.Bool.{cond}
 use mathlib.Core.List.{List}
 use lib.Dec.{eqb, leb}
 use Rattle.refusal.specs.declared.Refusal.the-variants.{BrokenState}
-use Rattle.campaign.specs.Answers.{closing, entering, opened}
-use Rattle.capi.specs.Numbers.{campaignOf, recordOf}
+use Rattle.result.specs.declared.Outcome.{Outcome}
+use Rattle.campaign.specs.Answers.{entering, opened}
+use Rattle.capi.specs.Numbers.{campaignOf}
 use Rattle.capi.specs.Told.{Told, campaignKept, refused}
 
 abbrev pub campaignOpened : ℕ → List ℕ → Told
 campaignOpened q s = campaignKept (opened q) s
 
-abbrev pub campaignClosed : List ℕ → List ℕ → Told
-campaignClosed r s = campaignKept (closing (recordOf r) (campaignOf s)) s
-
 -- a flag is 0 or 1
+abbrev pub outcome : ℕ → ℕ → Outcome
+outcome f t = record { failed = eqb f 1; exposure = t }
+
 unfoldable pub campaignEntered : List ℕ → ℕ → ℕ → Told
-campaignEntered s f t = cond (leb f 1) (campaignKept (entering (campaignOf s) (eqb f 1) t) s) (refused BrokenState s)
+campaignEntered s f t = cond (leb f 1) (campaignKept (entering (campaignOf s) (outcome f t)) s) (refused BrokenState s)

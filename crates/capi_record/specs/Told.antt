@@ -8,14 +8,19 @@ use Rattle.record.specs.Answers.{fed, opened}
 use Rattle.reading.specs.Reading.{countedTimes}
 use Rattle.listing.specs.declared.Listed.{Listed}
 use Rattle.listing.specs.declared.Listed.the-variants.{Refused, Times}
+use Rattle.result.specs.Result.{ending}
 use Rattle.capi.specs.Numbers.{recordOf}
-use Rattle.capi.specs.Told.{Told, recordKept, refused, told}
+use Rattle.capi.specs.Told.{Told, recordKept, refused, resultKept, told}
 
 abbrev pub recordOpened : ℕ → ℕ → ℕ → ℕ → List ℕ → Told
 recordOpened D R a τ s = recordKept (opened D R a τ) s
 
 abbrev pub recordFed : List ℕ → List ℤ → Told
 recordFed s p = recordKept (fed (recordOf s) p) s
+
+-- the lent array is that of the result
+abbrev pub recordEnded : List ℕ → List ℕ → Told
+recordEnded s x = resultKept (ending (recordOf s)) x
 
 -- the number of times is carried, and the lent array is that of the times
 unfoldable pub listTold : Listed → List ℕ → Told

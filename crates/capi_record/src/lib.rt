@@ -1,10 +1,10 @@
-// A record for C: opening, feeding, the search for the first crossing, listing. Each function that may refuse answers 0 or document 01's refusal number and
+// A record for C: opening, feeding, ending, the search for the first crossing, listing. Each function that may refuse answers 0 or document 01's refusal number and
 // writes what goes with it to `carried`; a refusal leaves every lent array as it stood.
 ghost use mathlib.Core.Path.{_≡_};
 ghost use lib.ListN.{length};
 ghost use Rattle.reading.specs.Reading.{firstCrossing};
 ghost use Rattle.capi.specs.Told.{told};
-ghost use Rattle.capi_record.specs.Told.{recordFed, recordListed, recordOpened};
+ghost use Rattle.capi_record.specs.Told.{recordEnded, recordFed, recordListed, recordOpened};
 
 // A fresh record in `state`; or refusal 8 for an array of another length, 1 with the lowest item outside its range.
 #[no_mangle]
@@ -32,6 +32,14 @@ pub extern "C" fn chim_record_feed(state: &mut [u64], piece: &[i32], carried: &m
 {
     let r = capi::record_of(state);
     capi::keep_record(r.feed(piece), state, carried)
+}
+
+// The result of the record in `state`: crossings, counted failures, the first failure's place or 0, exposure; or refusal 8, 4. The record stays as it is.
+#[no_mangle]
+pub extern "C" fn chim_record_end(state: &[u64], result: &mut [u64], carried: &mut u64) -> u64
+    ensures { λ n. ⌜ told n (now (carried .exit)) (now (result .exit)) ≡ recordEnded (now (state .entry)) (now (result .entry)) ⌝ }
+{
+    capi::keep_result(result::end(capi::record_of(state)), result, carried)
 }
 
 // The place of the first crossing of a whole record; the number of samples, which is no place, if there is none.

@@ -1,40 +1,50 @@
 // Document 01's cases of a campaign, run through the code: a row of the table for each, and a line for each row. J and K are weighed on both sides of their
-// edge; the others close records until a refusal. D = 500, a = 40,000. slate_cases has J and K of the definitions.
+// edge; the others end
+// records, show their results and enter them, until a refusal. D = 500, a = 40,000. slate_cases has J and K of the definitions.
 use campaign::Answer;
 use campaign::Campaign;
 use record::Record;
 use refusal::Refusal;
+use result::Ended;
+use result::Outcome;
 use verdict::Counted;
 use verdict::Judged;
 use verdict::Rated;
 use verdict::Verdict;
 
 // Of each row: the campaign's standard, M, N, T, and 1 if the last record failed; a campaign without a record is opened. Then a record, by its
-// number (`numbered`), and how often it is closed into the campaign; and the number of one record more, 9 for none.
-const ROWS: [[u64; 8]; 18] = [
+// number (`numbered`), and how often its result is entered; the number of one record more, 8 for an outcome told by hand, 9 for none; and that one's exposure.
+const ROWS: [[u64; 9]; 23] = [
     // J and K, and one ms more of each
-    [7_200_000, 3, 0, 26_559_936, 0, 0, 0, 9],
-    [7_200_000, 3, 0, 26_559_937, 0, 0, 0, 9],
-    [7_200_000, 1, 1, 182_282, 1, 0, 0, 9],
-    [7_200_000, 1, 1, 182_283, 1, 0, 0, 9],
+    [7_200_000, 3, 0, 26_559_936, 0, 0, 0, 9, 0],
+    [7_200_000, 3, 0, 26_559_937, 0, 0, 0, 9, 0],
+    [7_200_000, 1, 1, 182_282, 1, 0, 0, 9, 0],
+    [7_200_000, 1, 1, 182_283, 1, 0, 0, 9, 0],
     // N above M; 64 failures, and the last record none
-    [7_200_000, 1, 2, 1_000, 1, 0, 0, 9],
-    [7_200_000, 65, 64, 1_000, 0, 0, 0, 9],
+    [7_200_000, 1, 2, 1_000, 1, 0, 0, 9, 0],
+    [7_200_000, 65, 64, 1_000, 0, 0, 0, 9, 0],
     // the standard at the ends of its range and past them
-    [0, 0, 0, 0, 0, 0, 0, 9],
-    [1, 0, 0, 0, 0, 0, 0, 9],
-    [100_000_000_000, 0, 0, 0, 0, 0, 0, 9],
-    [100_000_000_001, 0, 0, 0, 0, 0, 0, 9],
-    // one sample closed, two, a failure; a broken record
-    [7_200_000, 0, 0, 0, 0, 0, 1, 9],
-    [7_200_000, 0, 0, 0, 0, 1, 1, 9],
-    [7_200_000, 0, 0, 0, 0, 2, 1, 9],
-    [7_200_000, 0, 0, 0, 0, 3, 1, 9],
+    [0, 0, 0, 0, 0, 0, 0, 9, 0],
+    [1, 0, 0, 0, 0, 0, 0, 9, 0],
+    [100_000_000_000, 0, 0, 0, 0, 0, 0, 9, 0],
+    [100_000_000_001, 0, 0, 0, 0, 0, 0, 9, 0],
+    // one sample ended, two, a failure; a broken record
+    [7_200_000, 0, 0, 0, 0, 0, 1, 9, 0],
+    [7_200_000, 0, 0, 0, 0, 1, 1, 9, 0],
+    [7_200_000, 0, 0, 0, 0, 2, 1, 9, 0],
+    [7_200_000, 0, 0, 0, 0, 3, 1, 9, 0],
+    // outcomes told by hand: no exposure, the least, the most, and one ms more
+    [7_200_000, 0, 0, 0, 0, 0, 0, 8, 0],
+    [7_200_000, 0, 0, 0, 0, 0, 0, 8, 1],
+    [7_200_000, 0, 0, 0, 0, 0, 0, 8, 10_000_000],
+    [7_200_000, 0, 0, 0, 0, 0, 0, 8, 10_000_001],
     // 64 failures, and one record more; 100,000 records, and one more
-    [7_200_000, 0, 0, 0, 0, 2, 64, 9],
-    [7_200_000, 0, 0, 0, 0, 2, 64, 1],
-    [7_200_000, 0, 0, 0, 0, 1, 100_000, 9],
-    [7_200_000, 0, 0, 0, 0, 1, 100_000, 2],
+    [7_200_000, 0, 0, 0, 0, 2, 64, 9, 0],
+    [7_200_000, 0, 0, 0, 0, 2, 64, 1, 0],
+    [7_200_000, 0, 0, 0, 0, 1, 100_000, 9, 0],
+    [7_200_000, 0, 0, 0, 0, 1, 100_000, 2, 0],
+    // a broken result into a full campaign
+    [7_200_000, 0, 0, 0, 0, 1, 100_000, 8, 0],
 ];
 
 fn text(s: &[u8]) {
@@ -118,7 +128,7 @@ fn broken() -> Record {
     }
 }
 
-// A record fed as one piece; one that was refused is left broken, so that closing refuses it too.
+// A record fed as one piece; one that was refused is left broken, so that ending refuses it too.
 fn fed(samples: &[i32]) -> Record {
     let record::Answer::Taken(r) = record::open(500, 0, 40_000, 2000) else {
         return broken();
@@ -138,25 +148,45 @@ fn numbered(i: u64) -> Record {
     }
 }
 
-// What closing a record gives after an answer; a refusal stays.
-fn then(a: Answer, r: Record) -> Answer {
+fn seen(a: Ended) {
     match a {
-        Answer::Taken(c) => campaign::close(r, c),
+        Ended::Given(x) => {
+            number(b" crossings ", x.crossings);
+            number(b" counted ", x.counted);
+            number(b" first ", x.first);
+            number(b" exposure ", x.exposure);
+        }
+        Ended::Refused(f) => refused(f),
+    }
+}
+
+// What entering an outcome gives after an answer; a refusal stays.
+fn told(a: Answer, o: Outcome) -> Answer {
+    match a {
+        Answer::Taken(c) => c.enter(o),
         Answer::Refused(f) => Answer::Refused(f),
     }
 }
 
-// The same record so many times over.
-fn again(a: Answer, r: Record, times: u64) -> Answer {
+// What entering a result gives after an answer; a refusal stays.
+fn then(a: Answer, e: Ended) -> Answer {
+    match e {
+        Ended::Given(x) => told(a, x.outcome()),
+        Ended::Refused(f) => Answer::Refused(f),
+    }
+}
+
+// The same result so many times over.
+fn again(a: Answer, e: Ended, times: u64) -> Answer {
     let mut b = a;
     for _ in 0..times {
-        b = then(b, r);
+        b = then(b, e);
     }
     b
 }
 
 // The campaign that a row starts from.
-fn start(row: [u64; 8]) -> Answer {
+fn start(row: [u64; 9]) -> Answer {
     if row[1] == 0 {
         return campaign::open(row[0]);
     }
@@ -169,26 +199,43 @@ fn start(row: [u64; 8]) -> Answer {
     })
 }
 
-fn closed(row: [u64; 8]) -> Answer {
-    let a = again(start(row), numbered(row[5]), row[6]);
+// One more, after an answer.
+fn more(row: [u64; 9], a: Answer) -> Answer {
     if row[7] == 9 {
         return a;
     }
-    then(a, numbered(row[7]))
+    if row[7] == 8 {
+        return told(
+            a,
+            Outcome {
+                failed: false,
+                exposure: row[8],
+            },
+        );
+    }
+    then(a, result::end(numbered(row[7])))
+}
+
+fn entered(row: [u64; 9]) {
+    let e = result::end(numbered(row[5]));
+    if row[6] > 0 {
+        seen(e);
+    }
+    answer(more(row, again(start(row), e, row[6])));
 }
 
 fn case(i: usize) {
-    if 18 <= i {
+    if 23 <= i {
         return;
     }
     number(b"row ", (i as u64) + 1);
-    answer(closed(ROWS[i]));
+    entered(ROWS[i]);
     text(b"\n");
 }
 
 fn main() {
     let mut i = 0;
-    while i < 18 {
+    while i < 23 {
         case(i);
         i += 1;
     }

@@ -8,8 +8,9 @@
 use mathlib.Core.Path.{_≡_, refl, sym, _∙_}
 use mathlib.Core.Bool.{Bool, cond, false, not, true}
 use mathlib.Core.List.{List, [], _∷_, foldl}
-use Prim.Native.Nat.{ℕ, _+_}
+use Prim.Native.Nat.{ℕ, _+_, _≤_}
 use native.Mathlib.Omega.{arith}
+use borrow.Author.Tests.{eqb-false, le-leb, ltb-false}
 use lib.Dec.{eqb, ltb}
 use lib.IntN.{ℤ}
 use lib.ListN.{length}
@@ -24,26 +25,30 @@ use Rattle.range.specs.Range.{firstBad}
 use Rattle.reading.specs.Reading.{counted, tooFew}
 use Rattle.listing.specs.declared.Listed.the-variants as listing
 use Rattle.listing.specs.Answers.{ListsTo, listed, written}
-use Rattle.record.specs.State.{failed, sound, stateOf, tooShort}
+use Rattle.record.specs.State.{sound, stateOf, tooShort}
 use Rattle.record.specs.Step.{stepped}
+use Rattle.result.specs.declared.Ended.the-variants as ended
+use Rattle.result.specs.declared.Outcome.{Outcome}
+use Rattle.result.specs.declared.Result.{Result}
+use Rattle.result.specs.Result.{ending, outcomeOf, resultOf}
 use Rattle.campaign.specs.declared.Answer.the-variants as campaigned
 use Rattle.campaign.specs.declared.Campaign.{Campaign}
 use Rattle.verdict.specs.declared.Counted.the-variants as counting
 use Rattle.verdict.specs.declared.Judged.the-variants as judging
 use Rattle.verdict.specs.declared.Rated.the-variants as rating
 use Rattle.campaign.specs.Answers as campaigns
-use Rattle.campaign.specs.Answers.{closing, entering, exposureOf}
+use Rattle.campaign.specs.Answers.{entering, outcomeKept, taken}
 use Rattle.verdict.specs.Answers as verdicts
 use Rattle.verdict.specs.Figures.{ratesOf, verdictOf}
 use Rattle.campaign.specs.State.{censored, empty, entered, mostRecords, standardInRange}
 use Rattle.campaign.specs.State as campaigning
 use Rattle.line.specs.declared.Sheet.the-variants.{Fresh, Open}
-use Rattle.line.specs.Line.{lineAfter, outcome, stepping}
+use Rattle.line.specs.Line.{lineAfter, outcome, stepping, telling, told}
 use Rattle.sheet.specs.Pieces.{feeding, joined}
 use Rattle.sheet.specs.Sheet.{meaning}
 use Rattle.line.proofs.Entries.{recordBytes}
 use Rattle.sheet.proofs.Pieces.{cut-anywhere}
-use Rattle.line.proofs.Theorems.{closing-line}
+use Rattle.line.proofs.Theorems.{result-line}
 
 -- ---- the statement
 -- a condition, and the refusal that it gives
@@ -89,6 +94,14 @@ listTests D R a τ xs places =
     ∷ (ltb places (length (counted D R a τ xs)) gives Room (length (counted D R a τ xs))
     ∷ [])))
 
+-- room in a campaign: 5, then 6
+abbrev pub roomTests : Campaign → List Test
+roomTests c = eqb (c .records) mostRecords gives CampaignFull ∷ (eqb (c .failures) rows gives RowsUsedUp ∷ [])
+
+-- a result that is broken goes before them
+abbrev pub resultTests : Campaign → Outcome → List Test
+resultTests c o = not (outcomeKept o) gives BrokenState ∷ roomTests c
+
 -- "Order", entry by entry
 pub record Demand1 : Type 0 where
   -- opening 1
@@ -104,30 +117,12 @@ pub record Demand1 : Type 0 where
       ∷ [])))
       (Taken (foldl stepped r p))
       (fed r p)
-  -- closing 8, 4, 5, 6
-  pub close :
-      (r : Record) (c : Campaign)
-      → Decides campaigned.Refused
-      (not (sound r) gives BrokenState
-      ∷ (not (campaigning.sound c) gives BrokenState
-      ∷ (tooShort r gives TooShort
-      ∷ (eqb (c .records) mostRecords gives CampaignFull
-      ∷ (eqb (c .failures) rows gives RowsUsedUp
-      ∷ [])))))
-      (campaigned.Taken (entered c (failed r) (exposureOf r)))
-      (closing r c)
-  -- entering as on a sheet: 8, then exposure 0 gives 4, above 10,000,000 gives 3, then 5, 6
+  -- ending 8, 4
+  pub end : (r : Record) → Decides ended.Refused (not (sound r) gives BrokenState ∷ (tooShort r gives TooShort ∷ [])) (ended.Given (resultOf r)) (ending r)
+  -- entering 8, for the campaign and for the result, then 5, 6
   pub enter :
-      (c : Campaign) (f : Bool) (t : ℕ)
-      → Decides campaigned.Refused
-      (not (campaigning.sound c) gives BrokenState
-      ∷ (eqb t 0 gives TooShort
-      ∷ (ltb longestTime t gives TooLong
-      ∷ (eqb (c .records) mostRecords gives CampaignFull
-      ∷ (eqb (c .failures) rows gives RowsUsedUp
-      ∷ [])))))
-      (campaigned.Taken (entered c f t))
-      (entering c f t)
+      (c : Campaign) (o : Outcome)
+      → Decides campaigned.Refused (not (campaigning.sound c) gives BrokenState ∷ resultTests c o) (campaigned.Taken (entered c (o .failed) (o .exposure))) (entering c o)
   -- listing 1, 2, 3, 4, 7; and a refusal leaves the slice as it stood
   pub list :
       (D R a τ : ℕ) (xs : List ℤ) (places : ℕ)
@@ -140,14 +135,18 @@ pub record Demand1 : Type 0 where
       → Decides rating.Refused (not (campaigning.sound c) gives BrokenState ∷ []) (rating.Given (not (eqb (c .records) 0)) (ratesOf c)) (verdicts.rating c)
   pub censored : (c : Campaign) → Decides counting.Refused (not (campaigning.sound c) gives BrokenState ∷ []) (counting.Count (censored c)) (verdicts.counting c)
   -- a job sheet: reading a line after what came before decides it, and however the text is cut into pieces, what is written and what the reading ends in
-  -- are those of its meaning; a record's own line comes to what closing the record answers, refusals and all
+  -- are those of its meaning; of a record that a line tells of, exposure 0 gives 4, above 10,000,000 gives 3, then 5, 6; and the line of a record that was ended
+  -- comes to what entering its result answers, refusals and all
   pub sheet : (pieces : List (List ℕ)) → feeding pieces Fresh [] ≡ meaning (joined pieces)
-  pub sheet-line :
-      (r : Record) (c : Campaign)
+  pub sheet-record :
+      (c : Campaign) (f : Bool) (t : ℕ)
       → campaigning.sound c ≡ true
-      → sound r ≡ true
-      → tooShort r ≡ false
-      → stepping (Open c) (recordBytes (c .records + 1) (cond (failed r) 1 0) (exposureOf r)) ≡ outcome (lineAfter c) (closing r c)
+      → Decides campaigned.Refused (eqb t 0 gives TooShort ∷ (ltb longestTime t gives TooLong ∷ roomTests c)) (campaigned.Taken (entered c f t)) (telling c f t)
+  pub sheet-line :
+      (r : Record) (x : Result) (c : Campaign)
+      → campaigning.sound c ≡ true
+      → ending r ≡ ended.Given x
+      → stepping (Open c) (recordBytes (c .records + 1) (cond (outcomeOf x .failed) 1 0) (x .exposure)) ≡ outcome (lineAfter c) (entering c (outcomeOf x))
 
 -- ---- the proof
 -- what the tests decide, computed
@@ -208,6 +207,9 @@ module _ (r s : Refusal) where
   own-campaign : campaigned.Refused r ≡ campaigned.Refused s → r ≡ s
   own-campaign e = cc
 
+  own-result : ended.Refused r ≡ ended.Refused s → r ≡ s
+  own-result e = cc
+
   own-verdict : judging.Refused r ≡ judging.Refused s → r ≡ s
   own-verdict e = cc
 
@@ -221,8 +223,23 @@ module _ (r s : Refusal) where
 no : _≡_ {A = ℕ} 0 1 → ⊥
 no e = omega arith
 
+some : (n : ℕ) → ¬ (n ≡ 0) → 1 ≤ n
+some n h = omega arith
+
+-- a line's own tests, then those of entering, of which 8 is settled
+tells : (c : Campaign) (f : Bool) (t : ℕ) → campaigning.sound c ≡ true
+    → telling c f t ≡ cond (eqb t 0) (campaigned.Refused TooShort) (cond (ltb longestTime t) (campaigned.Refused TooLong) (taken c f t))
+unfolding telling entering
+tells c f t g = go (eqb t 0) refl (ltb longestTime t) refl
+  where
+    go : (a : Bool) → eqb t 0 ≡ a → (b : Bool) → ltb longestTime t ≡ b
+        → cond a (campaigned.Refused TooShort) (cond b (campaigned.Refused TooLong) (entering c (told f t))) ≡ cond a (campaigned.Refused TooShort) (cond b (campaigned.Refused TooLong) (taken c f t))
+    go true e b l = refl
+    go false e true l = refl
+    go false e false l = rw (g, le-leb 1 t (some t (eqb-false t 0 e)), le-leb t longestTime (ltb-false longestTime t l))
+
 pub demand-1 : Demand1
-unfolding decide opened fed listed itemOutside written closing entering verdicts.judging verdicts.rating verdicts.counting
+unfolding decide opened fed listed itemOutside written ending entering verdicts.judging verdicts.rating verdicts.counting
 demand-1 =
     record {
       open-record =
@@ -231,8 +248,8 @@ demand-1 =
           (swapped (eqb (itemOutside D R a τ) 0) _ _ ∙ first-item Refused [] (Taken (stateOf D R a τ [])) (stepInRange D) (rampInRange R) (levelInRange a) (decorrelationInRange τ) (itemOutside D R a τ) refl);
       open-campaign = λ q. decided campaigned.Refused (campaigned.Taken (empty q)) own-campaign (λ r e. no (cc)) _ (campaigns.opened q) (swapped (standardInRange q) _ _);
       feed = λ r p. decided Refused (Taken (foldl stepped r p)) own-record (λ f e. no (cc)) _ (fed r p) refl;
-      close = λ r c. decided campaigned.Refused (campaigned.Taken (entered c (failed r) (exposureOf r))) own-campaign (λ f e. no (cc)) _ (closing r c) refl;
-      enter = λ c f t. decided campaigned.Refused (campaigned.Taken (entered c f t)) own-campaign (λ r e. no (cc)) _ (entering c f t) refl;
+      end = λ r. decided ended.Refused (ended.Given (resultOf r)) own-result (λ f e. no (cc)) _ (ending r) refl;
+      enter = λ c o. decided campaigned.Refused (campaigned.Taken (entered c (o .failed) (o .exposure))) own-campaign (λ r e. no (cc)) _ (entering c o) refl;
       list =
           λ D R a τ xs places.
           decided listing.Refused (listing.Times (length (counted D R a τ xs))) own-list (λ r e. no (cc)) _ (listed D R a τ xs places)
@@ -241,6 +258,7 @@ demand-1 =
       verdict = λ c. decided judging.Refused (judging.Given (verdictOf c)) own-verdict (λ r e. no (cc)) _ (verdicts.judging c) (swapped (campaigning.sound c) _ _);
       rates = λ c. decided rating.Refused (rating.Given (not (eqb (c .records) 0)) (ratesOf c)) own-rates (λ r e. no (cc)) _ (verdicts.rating c) (swapped (campaigning.sound c) _ _);
       sheet = cut-anywhere;
-      sheet-line = closing-line;
+      sheet-record = λ c f t g. decided campaigned.Refused (campaigned.Taken (entered c f t)) own-campaign (λ r e. no (cc)) _ (telling c f t) (tells c f t g);
+      sheet-line = result-line;
       censored = λ c. decided counting.Refused (counting.Count (censored c)) own-count (λ r e. no (cc)) _ (verdicts.counting c) (swapped (campaigning.sound c) _ _);
     }

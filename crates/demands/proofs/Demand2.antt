@@ -21,9 +21,9 @@ use Rattle.record.proofs.Theorems.{counted-largest, every-cutting, join-taken, 
 use Rattle.campaign.specs.declared.Campaign.{Campaign}
 use Rattle.campaign.specs.Answers as campaigns
 use Rattle.campaign.specs.declared.Answer.the-variants as campaigned
-use Rattle.campaign.specs.Records.{AllClosed, campaignOf, censoredIn, outcome}
+use Rattle.campaign.specs.Records.{AllEnded, campaignOf, censoredIn, outcome}
 use Rattle.campaign.specs.State.{censored}
-use Rattle.campaign.proofs.Records.{censored-grown, grown-by-closing}
+use Rattle.campaign.proofs.Records.{censored-grown, grown-by-results}
 
 -- ---- the statement
 -- a record opened as s and fed the pieces ps, each taken, up to the state t; xs is the joined record
@@ -45,9 +45,9 @@ pub record Demand2 : Type 0 where
   -- the search finds the state's first failure, or the length of the record where there is none
   pub found : (D R a τ : ℕ) (xs : List ℤ) → failed (stateOf D R a τ xs) ≡ true → (firstCrossing (length xs) R a xs ≡ stateOf D R a τ xs .first) × (stateOf D R a τ xs .first < length xs)
   pub missed : (D R a τ : ℕ) (xs : List ℤ) → failed (stateOf D R a τ xs) ≡ false → firstCrossing (length xs) R a xs ≡ length xs
-  -- records closed one after the other: the campaign's figures over the list of them, and its censored count by document 000's recurrence
-  pub campaign : (q : ℕ) (c d : Campaign) (rs : List Record) → campaigns.opened q ≡ campaigned.Taken c → AllClosed c rs d → d ≡ campaignOf q (map outcome rs)
-  pub censored : (q : ℕ) (c d : Campaign) (rs : List Record) → campaigns.opened q ≡ campaigned.Taken c → AllClosed c rs d → censored d ≡ censoredIn (map outcome rs)
+  -- records ended and their results entered, one after the other: the campaign's figures over the list of them, and its censored count by document 000's recurrence
+  pub campaign : (q : ℕ) (c d : Campaign) (rs : List Record) → campaigns.opened q ≡ campaigned.Taken c → AllEnded c rs d → d ≡ campaignOf q (map outcome rs)
+  pub censored : (q : ℕ) (c d : Campaign) (rs : List Record) → campaigns.opened q ≡ campaigned.Taken c → AllEnded c rs d → censored d ≡ censoredIn (map outcome rs)
 
 -- ---- the proof
 number : (D R a τ : ℕ) (xs : List ℤ) {t : Record} → t ≡ stateOf D R a τ xs → t .counted ≡ length (counted D R a τ xs)
@@ -72,6 +72,6 @@ demand-2 =
       times = times-apart;
       found = search-found;
       missed = search-none;
-      campaign = grown-by-closing;
-      censored = λ q c d rs e a. rw (grown-by-closing q c d rs e a) (censored-grown q (map outcome rs));
+      campaign = grown-by-results;
+      censored = λ q c d rs e a. rw (grown-by-results q c d rs e a) (censored-grown q (map outcome rs));
     }

@@ -1,5 +1,5 @@
 -- What a line that is taken says, and which line a refusal names. A record's line is its number, flag and exposure and nothing else, and it enters
--- the campaign as `entering` does; so does line 1 open it. Assumes nothing.
+-- the campaign as `telling` says; so does line 1 open it. Assumes nothing.
 use Prim.Native.Nat.{ℕ, _+_, _≤_}
 use mathlib.Core.Path.{_≡_, refl, subst, _∙_}
 use mathlib.Core.Bool.{Bool, true, false, cond, _&&_}
@@ -17,12 +17,12 @@ use Rattle.decimal.specs.declared.Field.the-variants.{Number, Bad}
 use Rattle.campaign.specs.declared.Answer.{Answer}
 use Rattle.campaign.specs.declared.Answer.the-variants.{Taken, Refused}
 use Rattle.campaign.specs.declared.Campaign.{Campaign}
-use Rattle.campaign.specs.Answers.{opened, entering}
+use Rattle.campaign.specs.Answers.{opened}
 use Rattle.line.specs.declared.Sheet.{Sheet}
 use Rattle.line.specs.declared.Sheet.the-variants.{Open}
 use Rattle.line.specs.declared.Step.{Step}
 use Rattle.line.specs.declared.Step.the-variants.{Next, Stop}
-use Rattle.line.specs.Line.{standardWord, begins, fieldThen, isLine, isRecord, lineAfter, outcome, recordLine, standardLine, withNumber}
+use Rattle.line.specs.Line.{standardWord, begins, fieldThen, isLine, isRecord, lineAfter, outcome, recordLine, standardLine, telling, withNumber}
 use Rattle.line.proofs.Fields.{begins-with, field-of}
 
 -- a step that is taken leads to a sheet of which P holds; one that is refused names the line
@@ -74,7 +74,7 @@ pub record Entry (c : Campaign) (line : List ℕ) (s : Sheet) : Type 0 where
   pub after : Campaign
   pub flag-kept : flag ≤ 1
   pub bytes : line ≡ recordBytes (c .records + 1) flag exposure
-  pub taken : entering c (eqb flag 1) exposure ≡ Taken after
+  pub taken : telling c (eqb flag 1) exposure ≡ Taken after
   pub next : s ≡ Open after
 
 three-fields : (line : List ℕ) (n f t second third end : ℕ)
@@ -99,12 +99,12 @@ record-says c line =
     says-number (fieldThen lineFeed line third) stops
     (λ t end e₃.
     says-if (isRecord c line n f end)
-    (λ r. says-outcome (entering c (eqb f 1) t) (entry n f t second third end e₁ e₂ e₃ r)) stops))))
+    (λ r. says-outcome (telling c (eqb f 1) t) (entry n f t second third end e₁ e₂ e₃ r)) stops))))
     stops
   where
     entry : (n f t second third end : ℕ)
         → fieldThen tab line 0 ≡ Number n second → fieldThen tab line second ≡ Number f third → fieldThen lineFeed line third ≡ Number t end → isRecord c line n f end ≡ true
-        → (d : Campaign) → entering c (eqb f 1) t ≡ Taken d → Entry c line (Open d)
+        → (d : Campaign) → telling c (eqb f 1) t ≡ Taken d → Entry c line (Open d)
     entry n f t second third end e₁ e₂ e₃ r d e =
         let (r₁, last) = and-true (eqb n (c .records + 1) && leb f 1) (eqb end (length line)) r in
         let (number, flag) = and-true (eqb n (c .records + 1)) (leb f 1) r₁ in

@@ -1,36 +1,40 @@
--- A sheet's lines and closed records do the same. A line that is taken is a record number, a flag and an exposure, and closing any record with that
--- failure and that exposure gives the same campaign (`line-closes`); the line of a record that may be closed is never malformed, and enters as closing
--- does, refusals and all (`closing-line`). Assumes nothing.
+-- A sheet's lines and results do the same. A line that is taken is a record number, a flag and an exposure, and any result with that failure and that exposure
+-- enters to the same campaign (`line-results`); the line of a record that was ended is never malformed, and comes to what entering its result answers, refusals
+-- and all (`result-line`). Assumes nothing.
 use Prim.Native.Nat.{ℕ, _+_, _-_, _^_, _≤_, _<_}
-use mathlib.Core.Path.{_≡_, refl, sym, ap, _∙_}
+use mathlib.Core.Path.{_≡_, refl, ap, _∙_}
 use mathlib.Core.Bool.{Bool, true, false, cond}
 use mathlib.Core.List.{List, [], _∷_, _++_, append-assoc, append-nil}
 use native.Mathlib.Omega.{arith}
-use lib.Dec.{eqb}
+use lib.Dec.{eqb, ltb}
 use lib.ListN.{length, drop, length-append}
 use lib.Seq.{drop-append-add, drop-append-seam, getD-append-seam}
 use native.Mathlib.Nat.{add-assoc, zero-add}
-use borrow.Author.Tests.{le-leb, eq-eqb}
+use borrow.Author.Tests.{le-leb, le-ltb, eq-eqb, ne-eqb}
 use Rattle.truth.proofs.Laws.{holds}
 use Rattle.record.specs.declared.Record.{Record}
-use Rattle.record.specs.State.{failed, tooShort}
-use Rattle.record.specs.State as recorded
+use Rattle.limits.specs.Limits.{longestTime}
+use Rattle.refusal.specs.declared.Refusal.{Refusal}
+use Rattle.refusal.specs.declared.Refusal.the-variants.{TooLong, TooShort}
+use Rattle.result.specs.Result.{ending, outcomeOf}
+use Rattle.result.specs.declared.Ended.the-variants.{Given}
+use Rattle.result.specs.declared.Result.{Result}
+use Rattle.result.proofs.Given.{given-bounds}
 use Rattle.decimal.specs.Decimal.{digitsOf, longest}
 use Rattle.decimal.specs.Field.{tab, lineFeed, isEnd, endsHere, fieldText}
 use Rattle.decimal.specs.declared.Field.the-variants.{Number}
 use Rattle.decimal.proofs.Back.{read-back}
 use Rattle.decimal.proofs.Text.{field-few}
-use Rattle.campaign.specs.declared.Answer.the-variants.{Taken}
+use Rattle.campaign.specs.declared.Answer.{Answer}
+use Rattle.campaign.specs.declared.Answer.the-variants.{Refused, Taken}
 use Rattle.campaign.specs.declared.Campaign.{Campaign}
-use Rattle.campaign.specs.Answers.{closing, entering, exposureOf}
+use Rattle.campaign.specs.Answers.{entering}
 use Rattle.campaign.specs.State.{sound}
-use Rattle.campaign.proofs.Keeping.{exposure-bounds}
-use Rattle.campaign.proofs.Records.{closing-enters}
 use Rattle.campaign.proofs.Relations.{kept-from}
 use Rattle.line.specs.declared.Sheet.{Sheet}
 use Rattle.line.specs.declared.Sheet.the-variants.{Open}
 use Rattle.line.specs.declared.Step.the-variants.{Next}
-use Rattle.line.specs.Line.{longestLine, endsLine, isLine, endedBy, fieldThen, lineAfter, outcome, recordLine, startsWith, stepping}
+use Rattle.line.specs.Line.{longestLine, endsLine, isLine, endedBy, fieldThen, lineAfter, outcome, recordLine, startsWith, stepping, telling, told}
 use Rattle.line.proofs.Entries.{Entry, recordBytes, record-says, says-next}
 
 -- what a line that is taken says
@@ -38,9 +42,23 @@ pub line-enters : (c : Campaign) (line : List ℕ) (s : Sheet) → sound c ≡ t
 unfolding stepping
 line-enters c line s g e = says-next (record-says c line) (rw g at e)
 
-pub line-closes : (c : Campaign) (line : List ℕ) (s : Sheet) (e : Entry c line s) (r : Record)
-    → recorded.sound r ≡ true → tooShort r ≡ false → failed r ≡ eqb (e .flag) 1 → exposureOf r ≡ e .exposure → closing r c ≡ Taken (e .after)
-line-closes c line s e r g l f t = closing-enters r c g l ∙ ap (λ b. entering c b (exposureOf r)) f ∙ ap (entering c (eqb (e .flag) 1)) t ∙ e .taken
+-- a record that a line tells of is entered by its outcome
+module _ (c : Campaign) (f : Bool) (t : ℕ) where
+  pub telling-enters : 1 ≤ t → t ≤ longestTime → telling c f t ≡ entering c (told f t)
+  unfolding telling
+  telling-enters low high = rw (ne-eqb t 0 (λ e. omega arith), le-ltb longestTime t high)
+
+  pub told-entered : (d : Campaign) → telling c f t ≡ Taken d → entering c (told f t) ≡ Taken d
+  unfolding telling
+  told-entered d e = past (ltb longestTime t) TooLong _ (past (eqb t 0) TooShort _ e)
+    where
+      past : (b : Bool) (r : Refusal) (a : Answer) → cond b (Refused r) a ≡ Taken d → a ≡ Taken d
+      past true r a e = let z : _≡_ {A = ℕ} 0 1 = cc in absurd (omega arith)
+      past false r a e = e
+
+-- and so is any result with that failure and that exposure
+pub line-results : (c : Campaign) (line : List ℕ) (s : Sheet) (e : Entry c line s) (x : Result) → outcomeOf x ≡ told (eqb (e .flag) 1) (e .exposure) → entering c (outcomeOf x) ≡ Taken (e .after)
+line-results c line s e x o = rw o (told-entered c (eqb (e .flag) 1) (e .exposure) (e .after) (e .taken))
 
 -- ---- a field that was written reads back
 field-back : (before : List ℕ) (v end : ℕ) (after : List ℕ) → v < 10 ^ longest → isEnd end ≡ true
@@ -106,7 +124,7 @@ module _ (n f t : ℕ) (hn : n < 10 ^ longest) (hf : f < 10 ^ longest) (ht : t <
   line-is = rw (le-leb (length bytes) longestLine short) ends
 
 pub line-back : (c : Campaign) (flag exposure : ℕ) → sound c ≡ true → flag ≤ 1 → exposure < 10 ^ longest
-    → stepping (Open c) (recordBytes (c .records + 1) flag exposure) ≡ outcome (lineAfter c) (entering c (eqb flag 1) exposure)
+    → stepping (Open c) (recordBytes (c .records + 1) flag exposure) ≡ outcome (lineAfter c) (telling c (eqb flag 1) exposure)
 unfolding stepping recordLine bytes a b
 line-back c flag exposure g h k =
     let n = c .records + 1 in
@@ -127,8 +145,10 @@ flag-of : (b : Bool) → (eqb (cond b 1 0) 1 ≡ b) × (cond b 1 0 ≤ 1)
 flag-of true = (refl, omega arith)
 flag-of false = (refl, omega arith)
 
-pub closing-line : (r : Record) (c : Campaign) → sound c ≡ true → recorded.sound r ≡ true → tooShort r ≡ false
-    → stepping (Open c) (recordBytes (c .records + 1) (cond (failed r) 1 0) (exposureOf r)) ≡ outcome (lineAfter c) (closing r c)
-closing-line r c g s l =
-    line-back c (cond (failed r) 1 0) (exposureOf r) g (flag-of (failed r) .1) (omega (arith, exposure-bounds r s l .1))
-    ∙ ap (outcome (lineAfter c)) (ap (λ b. entering c b (exposureOf r)) (flag-of (failed r) .0) ∙ sym (closing-enters r c s l))
+pub result-line : (r : Record) (x : Result) (c : Campaign) → sound c ≡ true → ending r ≡ Given x
+    → stepping (Open c) (recordBytes (c .records + 1) (cond (outcomeOf x .failed) 1 0) (x .exposure)) ≡ outcome (lineAfter c) (entering c (outcomeOf x))
+result-line r x c g e =
+    let f = outcomeOf x .failed in
+    let b = given-bounds r x e in
+    line-back c (cond f 1 0) (x .exposure) g (flag-of f .1) (omega (arith, b .1))
+    ∙ ap (outcome (lineAfter c)) (ap (λ y. telling c y (x .exposure)) (flag-of f .0) ∙ telling-enters c f (x .exposure) (b .0) (b .1))

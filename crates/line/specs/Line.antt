@@ -3,8 +3,10 @@ use Prim.Native.Nat.{ℕ, _+_, _-_}
 use mathlib.Core.Bool.{Bool, true, false, cond, _&&_}
 use mathlib.Core.List.{List, [], _∷_}
 use lib.ListN.{length, drop, getD}
-use lib.Dec.{eqb, leb}
-use Rattle.refusal.specs.declared.Refusal.the-variants.{BrokenState, Line}
+use lib.Dec.{eqb, leb, ltb}
+use Rattle.refusal.specs.declared.Refusal.the-variants.{BrokenState, Line, TooLong, TooShort}
+use Rattle.limits.specs.Limits.{longestTime}
+use Rattle.result.specs.declared.Outcome.{Outcome}
 use Rattle.decimal.specs.declared.Field.{Field}
 use Rattle.decimal.specs.declared.Field.the-variants.{Number, Bad}
 use Rattle.decimal.specs.Field.{tab, lineFeed, fieldAt}
@@ -88,13 +90,21 @@ lineAfter c = c .records + 2
 abbrev pub isRecord : Campaign → List ℕ → ℕ → ℕ → ℕ → Bool
 isRecord c line number flag end = (eqb number (c .records + 1) && leb flag 1) && eqb end (length line)
 
+-- what a line tells of a record is its outcome, and nothing else
+abbrev pub told : Bool → ℕ → Outcome
+told f t = record { failed = f; exposure = t }
+
+-- exposure 0 gives 4, above 10,000,000 gives 3; else the outcome enters: 5, 6
+unfoldable pub telling : Campaign → Bool → ℕ → Answer
+telling c f t = cond (eqb t 0) (Refused TooShort) (cond (ltb longestTime t) (Refused TooLong) (entering c (told f t)))
+
 unfoldable pub recordLine : Campaign → List ℕ → Step
 recordLine c line =
     ofLine (lineAfter c) line
     (withNumber (malformed (lineAfter c)) (fieldThen tab line 0) (λ number second.
     withNumber (malformed (lineAfter c)) (fieldThen tab line second) (λ flag third.
     withNumber (malformed (lineAfter c)) (fieldThen lineFeed line third) (λ exposure end.
-    cond (isRecord c line number flag end) (outcome (lineAfter c) (entering c (eqb flag 1) exposure)) (malformed (lineAfter c))))))
+    cond (isRecord c line number flag end) (outcome (lineAfter c) (telling c (eqb flag 1) exposure)) (malformed (lineAfter c))))))
 
 -- ---- a line, where the reading stands: before line 1, or at a campaign; a campaign that was never handed out is refusal 8, on no line
 unfoldable pub stepping : Sheet → List ℕ → Step

@@ -3,11 +3,12 @@
 ghost use mathlib.Core.Path.{_≡_};
 ghost use mathlib.Core.Bool.{true};
 ghost use Rattle.campaign.specs.State.{sound};
-ghost use Rattle.line.specs.Line.{isLine, begins, fieldThen, outcome, standardLine, recordLine, stepping};
+ghost use Rattle.line.specs.Line.{isLine, begins, fieldThen, outcome, standardLine, recordLine, stepping, telling};
 use campaign::Answer;
 use campaign::Campaign;
 use decimal::Field;
 use refusal::Refusal;
+use result::Outcome;
 
 const TAB: u8 = 9;
 
@@ -97,6 +98,22 @@ fn standard_line(text: &[u8]) -> Step
     outcome(1, campaign::open(q))
 }
 
+// The record that a line tells of, entered by its outcome; or refusal 4 for no exposure, 3 for too long a one, 5, 6.
+fn tell(c: Campaign, failed: bool, exposure: u64) -> Answer
+    ensures { λ r. ⌜ r ≡ telling c failed exposure ⌝ }
+{
+    if exposure == 0 {
+        return Answer::Refused(Refusal::TooShort);
+    }
+    if exposure > limits::LONGEST_TIME {
+        return Answer::Refused(Refusal::TooLong);
+    }
+    c.enter(Outcome {
+        failed: failed,
+        exposure: exposure,
+    })
+}
+
 // A later line, of the campaign's next record.
 fn record_line(c: Campaign, text: &[u8]) -> Step
     requires { ⌜ sound c ≡ true ⌝ }
@@ -121,7 +138,7 @@ fn record_line(c: Campaign, text: &[u8]) -> Step
     ) {
         return Step::Stop(line, Refusal::Line(line));
     }
-    outcome(line, c.enter(flag == 1, exposure))
+    outcome(line, tell(c, flag == 1, exposure))
 }
 
 // What an answer about a line comes to.

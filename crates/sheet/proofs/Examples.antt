@@ -10,7 +10,7 @@ use Rattle.decimal.specs.Field.{fieldOf, fieldText, readAs, fieldAt}
 use Rattle.campaign.specs.Answers.{entering}
 use Rattle.campaign.specs.State.{censored, sound}
 use Rattle.sheet.specs.declared.Reading.the-variants.{Stopped}
-use Rattle.line.specs.Line.{startsWith, begins, endedBy, fieldThen, recordLine, standardLine, stepping}
+use Rattle.line.specs.Line.{startsWith, begins, endedBy, fieldThen, recordLine, standardLine, stepping, telling}
 use Rattle.reply.specs.Written.{figures, letterFor, recordText, refusedText}
 use Rattle.sheet.specs.Sheet.{linesOf, reading, meaning}
 
@@ -30,5 +30,5 @@ answer =
     ++ (114 ∷ 101 ∷ 102 ∷ 117 ∷ 115 ∷ 101 ∷ 100 ∷ 9 ∷ 52 ∷ 9 ∷ 52 ∷ 10 ∷ []))
 
 pub whole-case : meaning sheet ≡ record { text = answer; end = Stopped 4 TooShort }
-unfolding meaning reading linesOf stepping standardLine recordLine fieldThen endedBy startsWith begins fieldAt readAs fieldOf isNumber allDigits valueOf entering sound censored recordText figures letterFor fieldText digitsOf digitsWithin refusedText l u lowerRows upperRows
+unfolding meaning reading linesOf stepping standardLine recordLine fieldThen endedBy startsWith begins fieldAt readAs fieldOf isNumber allDigits valueOf telling entering sound censored recordText figures letterFor fieldText digitsOf digitsWithin refusedText l u lowerRows upperRows
 whole-case = refl

@@ -18,8 +18,9 @@ use Rattle.campaign.proofs.Relations.{kept-from}
 use Rattle.line.specs.declared.Sheet.{Sheet}
 use Rattle.line.specs.declared.Sheet.the-variants.{Fresh, Open}
 use Rattle.line.specs.declared.Step.the-variants.{Next, Stop}
-use Rattle.line.specs.Line.{soundSheet, stepping}
+use Rattle.line.specs.Line.{soundSheet, stepping, told}
 use Rattle.line.proofs.Entries.{Entry, Opening, record-says, says-next, says-stop, standard-says}
+use Rattle.line.proofs.Theorems.{told-entered}
 use Rattle.reply.specs.Written.{recordText}
 use Rattle.reply.proofs.Few.{record-few}
 use Rattle.sheet.specs.Sheet.{textOf}
@@ -41,8 +42,10 @@ pub record Led (s : Sheet) (line : List ℕ) (t : Sheet) : Type 0 where
 
 entry-kept : (c : Campaign) (line : List ℕ) (t : Sheet) → Entry c line t → Led (Open c) line t
 entry-kept c line t o =
-    let good : sound (o .after) ≡ true = is-true _ (entering-sound c (eqb (o .flag) 1) (o .exposure) (o .after) (o .taken)) in
-    let one-more : o .after .records ≡ c .records + 1 = ap (λ d. d .records) (entered-from c (eqb (o .flag) 1) (o .exposure) (o .after) (o .taken) .room .after) in
+    let e = told-entered c (eqb (o .flag) 1) (o .exposure) (o .after) (o .taken) in
+    let says = told (eqb (o .flag) 1) (o .exposure) in
+    let good : sound (o .after) ≡ true = is-true _ (entering-sound c says (o .after) e) in
+    let one-more : o .after .records ≡ c .records + 1 = ap (λ d. d .records) (entered-from c says (o .after) e .room .after) in
     let long : 6 ≤ length line = rw (o .bytes) (simp length-append (omega (arith, field-some (c .records + 1) 9, field-some (o .flag) 9, field-some (o .exposure) 10))) in
     let few = record-few (o .after) good in
     rw (o .next) (record { sound = good; few = omega arith; grows = omega arith })

@@ -4,6 +4,7 @@
 use campaign::Answer;
 use campaign::Campaign;
 use libc::STDOUT_FILENO;
+use result::Outcome;
 use verdict::Counted;
 use verdict::Rated;
 use verdict::Rates;
@@ -198,7 +199,11 @@ fn write_line(c: Campaign) {
 
 // The campaign with the record entered and its line written; unchanged if it is refused.
 fn enter(c: Campaign, failed: bool, exposure: u64) -> Campaign {
-    let Answer::Taken(next) = c.enter(failed, exposure) else {
+    let o = Outcome {
+        failed: failed,
+        exposure: exposure,
+    };
+    let Answer::Taken(next) = c.enter(o) else {
         return c;
     };
     write_line(next);

@@ -8,7 +8,7 @@ mod c {
         #[rustfmt::skip]
         pub fn chim_record_list(step: u64, ramp: u64, level: u64, decorrelation: u64, samples: *const i32, samples_len: usize, times: *mut u32, times_len: usize, carried: *mut u64) -> u64;
         pub fn chim_campaign_open(standard: u64, state: *mut u64, state_len: usize, carried: *mut u64) -> u64;
-        pub fn chim_campaign_close(record: *const u64, record_len: usize, state: *mut u64, state_len: usize, carried: *mut u64) -> u64;
+        pub fn chim_record_end(state: *const u64, state_len: usize, result: *mut u64, result_len: usize, carried: *mut u64) -> u64;
         pub fn chim_campaign_enter(state: *mut u64, state_len: usize, failed: u64, exposure: u64, carried: *mut u64) -> u64;
         pub fn chim_campaign_censored(state: *const u64, state_len: usize, carried: *mut u64) -> u64;
         pub fn chim_campaign_verdict(state: *const u64, state_len: usize, lower: *mut f64, upper: *mut f64, carried: *mut u64) -> u64;
@@ -54,8 +54,8 @@ pub fn campaign_open(standard: u64, state: &mut [u64]) -> Told {
     told(|carried| unsafe { c::chim_campaign_open(standard, state.as_mut_ptr(), state.len(), carried) })
 }
 
-pub fn campaign_close(record: &[u64], state: &mut [u64]) -> Told {
-    told(|carried| unsafe { c::chim_campaign_close(record.as_ptr(), record.len(), state.as_mut_ptr(), state.len(), carried) })
+pub fn record_end(record: &[u64], result: &mut [u64]) -> Told {
+    told(|carried| unsafe { c::chim_record_end(record.as_ptr(), record.len(), result.as_mut_ptr(), result.len(), carried) })
 }
 
 pub fn campaign_enter(state: &mut [u64], failed: u64, exposure: u64) -> Told {

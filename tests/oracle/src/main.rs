@@ -15,8 +15,8 @@ const EXPECTED: [(&str, &[u64]); 9] = [
     ("record_feed", &[0, 2, 3, 8]),
     ("record_list", &[0, 1, 2, 3, 4, 7]),
     ("campaign_open", &[0, 1, 8]),
-    ("campaign_close", &[0, 4, 5, 6, 8]),
-    ("campaign_enter", &[0, 3, 4, 5, 6, 8]),
+    ("record_end", &[0, 4, 8]),
+    ("campaign_enter", &[0, 5, 6, 8]),
     ("campaign_censored", &[0, 8]),
     ("campaign_verdict", &[0, 8]),
     ("campaign_rates", &[0, 8]),
@@ -123,21 +123,26 @@ impl Bench {
         self.same("campaign_open", number, &standard, expected, (number, carried, state.clone()));
     }
 
-    fn campaign_close(&mut self, record: &[u64], state: &mut Vec<u64>) {
-        let before = state.clone();
-        let answer = match (record_in(record), campaign_in(state)) {
-            (Some(r), Some(c)) => paper::closed(&r, &c),
+    /// A record ended into an array of any length; and its result, where there is one, entered.
+    fn record_end(&mut self, record: &[u64], places: usize, campaign: &[u64]) {
+        let before: Vec<u64> = (0..places as u64).map(|k| u64::MAX - k).collect();
+        let answer = match record_in(record) {
+            Some(r) if places == 4 => paper::ended(&r),
             _ => Err((8, 0)),
         };
-        let expected = told(answer, campaign_numbers, state);
-        let (number, carried) = library::campaign_close(record, state);
-        self.same("campaign_close", number, &(record, before), expected, (number, carried, state.clone()));
+        let expected = told(answer, |x| x.to_vec(), &before);
+        let mut result = before;
+        let (number, carried) = library::record_end(record, &mut result);
+        self.same("record_end", number, &(record, places), expected, (number, carried, result.clone()));
+        if number == 0 {
+            self.campaign_enter(&mut campaign.to_vec(), u64::from(result[2] != 0), result[3]);
+        }
     }
 
     fn campaign_enter(&mut self, state: &mut Vec<u64>, failed: u64, exposure: u64) {
         let before = state.clone();
         let answer = match campaign_in(state) {
-            Some(c) if failed <= 1 => paper::sheet_entered(&c, failed == 1, exposure),
+            Some(c) if failed <= 1 => paper::entered(&c, failed == 1, exposure),
             _ => Err((8, 0)),
         };
         let expected = told(answer, campaign_numbers, state);
@@ -360,7 +365,7 @@ impl Bench {
         s
     }
 
-    /// Sound states, and the same with each number in turn damaged: fed and closed.
+    /// Sound states, and the same with each number in turn damaged: fed, ended and entered.
     fn states(&mut self, times: u64) {
         for _ in 0..times {
             let r = self.sound_record();
@@ -369,15 +374,16 @@ impl Bench {
             let length = self.random.within(0, 6) as usize;
             let piece = self.samples(length, r.items[2], 8);
             self.record_feed(&mut record.clone(), &piece);
-            self.campaign_close(&record, &mut campaign.clone());
+            let places = if self.random.one_in(5) { self.random.within(0, 6) as usize } else { 4 };
+            self.record_end(&record, places, &campaign);
             for place in 0..=record.len() {
                 let mut broken = self.damaged(&record, place);
-                self.campaign_close(&broken, &mut campaign.clone());
+                self.record_end(&broken, 4, &campaign);
                 self.record_feed(&mut broken, &piece);
             }
             for place in 0..=campaign.len() {
-                let mut broken = self.damaged(&campaign, place);
-                self.campaign_close(&record, &mut broken);
+                let broken = self.damaged(&campaign, place);
+                self.record_end(&record, 4, &broken);
             }
         }
     }
@@ -387,7 +393,7 @@ impl Bench {
         for _ in 0..times {
             let state = campaign_numbers(&self.sound_campaign());
             let failed = self.random.of(&[0, 0, 1, 1, 2, u64::MAX]);
-            let exposure = self.item(1, LONGEST);
+            let exposure = if self.random.one_in(3) { self.random.of(&[0, 1, LONGEST, LONGEST + 1]) } else { self.item(1, LONGEST) };
             self.campaign_read(&state);
             self.campaign_enter(&mut state.clone(), failed, exposure);
             for place in 0..=state.len() {

@@ -221,7 +221,24 @@ pub fn campaign_ok(c: &Campaign) -> bool {
         && !(n == ROWS && !c.failed)
 }
 
-fn entered(c: &Campaign, failed: bool, exposure: u64) -> Result<Campaign, Refused> {
+/// Document 02, [4], the first step: crossings, count, first failure and exposure.
+pub fn ended(r: &Record) -> Result<[u64; 4], Refused> {
+    if !record_ok(r) {
+        return Err((8, 0));
+    }
+    let [step, ramp, ..] = r.items;
+    if r.n < ramp + 2 {
+        return Err((4, 0));
+    }
+    let last = if r.first == 0 { r.n - 1 } else { r.first };
+    Ok([r.crossings, r.counted, r.first, (last - ramp) * step])
+}
+
+/// The second step, which reads only whether there is a first failure and the exposure: 8 for the campaign or the result, 5, 6.
+pub fn entered(c: &Campaign, failed: bool, exposure: u64) -> Result<Campaign, Refused> {
+    if !campaign_ok(c) || !(1..=LONGEST).contains(&exposure) {
+        return Err((8, 0));
+    }
     if c.records == MOST_RECORDS {
         return Err((5, 0));
     }
@@ -235,32 +252,6 @@ fn entered(c: &Campaign, failed: bool, exposure: u64) -> Result<Campaign, Refuse
         exposure: c.exposure + exposure,
         failed,
     })
-}
-
-pub fn closed(r: &Record, c: &Campaign) -> Result<Campaign, Refused> {
-    if !record_ok(r) || !campaign_ok(c) {
-        return Err((8, 0));
-    }
-    let [step, ramp, ..] = r.items;
-    if r.n < ramp + 2 {
-        return Err((4, 0));
-    }
-    let failed = r.first != 0;
-    entered(c, failed, if failed { (r.first - ramp) * step } else { (r.n - 1 - ramp) * step })
-}
-
-/// A sheet's record.
-pub fn sheet_entered(c: &Campaign, failed: bool, exposure: u64) -> Result<Campaign, Refused> {
-    if !campaign_ok(c) {
-        return Err((8, 0));
-    }
-    if exposure == 0 {
-        return Err((4, 0));
-    }
-    if exposure > LONGEST {
-        return Err((3, 0));
-    }
-    entered(c, failed, exposure)
 }
 
 /// N*: N before the last record, plus 1.

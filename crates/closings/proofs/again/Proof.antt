@@ -5,10 +5,10 @@ use Rattle.closings.proofs.again.Statement.{statement}
 use Rattle.closings.proofs.again.Tie as tie
 
 abbrev Inv-loop : tie.InvT-loop
-Inv-loop r times b₀ counter₀ b counter = counter ≤ times
+Inv-loop e times b₀ counter₀ b counter = counter ≤ times
 
 abbrev μ-loop : tie.MeasureT-loop
-μ-loop r times b₀ counter₀ b counter = times - counter
+μ-loop e times b₀ counter₀ b counter = times - counter
 
 loop-holds : tie.Need-loop-holds Inv-loop μ-loop
 loop-holds c = search needs

@@ -1,14 +1,14 @@
--- `closings::main` is safe and ends: i is at most 18, and what is left to 18 falls. Assumes nothing.
+-- `closings::main` is safe and ends: i is at most 23, and what is left to 23 falls. Assumes nothing.
 use Prim.Native.Nat.{_≤_, _-_}
 use borrow.Author.Needs.{needs}
 use Rattle.closings.proofs.main.Statement.{statement}
 use Rattle.closings.proofs.main.Tie as tie
 
 abbrev Inv-loop : tie.InvT-loop
-Inv-loop i₀ i = i ≤ 18
+Inv-loop i₀ i = i ≤ 23
 
 abbrev μ-loop : tie.MeasureT-loop
-μ-loop i₀ i = 18 - i
+μ-loop i₀ i = 23 - i
 
 loop-holds : tie.Need-loop-holds Inv-loop μ-loop
 loop-holds c = search needs

@@ -134,8 +134,8 @@ returns-5 c =
     let s = second-of t in
     rw (within (line-of (first-of s)), first (first-of s), second s, third t, said-no (sym (tests (c .before))) (c .if2 .taken))
 
-enter-requires : tie.Need-enter-requires
-enter-requires c κs = search needs
+tell-requires : tie.Need-tell-requires
+tell-requires c κs = search needs
 
 outcome-requires : tie.Need-outcome-requires
 outcome-requires c κs = search needs
@@ -148,7 +148,7 @@ returns-6 c =
     let s = second-of t in
     let f = first-of s in
     rw (within (line-of f), first f, second s, third t, said-yes (sym (tests b)) (c .before .before .if2 .left))
-    (c .outcome .ensures ∙ ap (outcome (lineAfter (start (line-of f) .args .c))) (c .before .enter .ensures))
+    (c .outcome .ensures ∙ ap (outcome (lineAfter (start (line-of f) .args .c))) (c .before .tell .ensures))
 
 pub record-line-spec : {M : Type 1} → statement M
 record-line-spec =
@@ -173,6 +173,6 @@ record-line-spec =
     both-requires
     both-requires-2
     returns-5
-    enter-requires
+    tell-requires
     outcome-requires
     returns-6)

@@ -1,4 +1,4 @@
--- `campaign::exposure_of` meets its contract: the record's laws bound both times. Assumes nothing.
+-- `result::exposure_of` meets its contract: the record's laws bound both times. Assumes nothing.
 use native.Mathlib.Omega.{arith}
 use mathlib.Core.Path.{_≡_, ap, refl}
 use mathlib.Core.Bool.{not, true}
@@ -8,8 +8,8 @@ use Rattle.record.specs.declared.Record.{Record}
 use Rattle.record.specs.State.{failed}
 use Rattle.record.proofs.Times.{failed-failure, first-time, whole-time}
 use borrow.Author.Needs.{needs}
-use Rattle.campaign.proofs.exposure_of.Statement.{statement}
-use Rattle.campaign.proofs.exposure_of.Tie as tie
+use Rattle.result.proofs.exposure_of.Statement.{statement}
+use Rattle.result.proofs.exposure_of.Tie as tie
 
 -- a first place other than 0 is a failure
 failed-of : (r : Record) → ¬ (r .first ≡ 0) → failed r ≡ true
@@ -31,10 +31,10 @@ mul-result-2 : tie.Need-mul-result-2
 mul-result-2 c = let r = c .before .before .before .before .args .r in let e = failed-of r (c .before .before .if1 .left) in let t = first-time r (c .before .before .before .before .pre .0) e in omega arith
 
 returns : tie.Need-returns
-returns c = let r = c .before .before .before .before .before .args .r in let t = whole-time r (c .before .before .before .before .before .pre .0) (le-ltb (r .n) (r .ramp + 2) (c .before .before .before .before .before .pre .1)) in (rw (eq-eqb _ _ (c .before .before .before .if1 .taken)) refl, t .1)
+returns c = rw (eq-eqb _ _ (c .before .before .before .if1 .taken)) refl
 
 returns-2 : tie.Need-returns-2
-returns-2 c = let r = c .before .before .before .before .args .r in let e = failed-of r (c .before .before .if1 .left) in let t = first-time r (c .before .before .before .before .pre .0) e in (rw e refl, t .1)
+returns-2 c = rw (failed-of (c .before .before .before .before .args .r) (c .before .before .if1 .left)) refl
 
 pub exposure-of-spec : {M : Type 1} → statement M
 exposure-of-spec =

@@ -61,6 +61,28 @@ class Records(unittest.TestCase):
         self.refused(8, 0, campaign.enter, False, 0)
         self.refused(8, 0, campaign.enter, False, 10_000_001)
 
+    def test_what_a_customer_may_rely_on(self):
+        """The numbers of docs/RELY.md."""
+
+        def verdict(standard, records, failures, exposure, failed):
+            return Campaign.from_numbers([standard, records, failures, exposure, failed]).verdict()
+
+        accepted = verdict(7_200_000, 3, 0, 26_559_937, 0)
+        self.assertEqual(accepted.case, Case.ACCEPT)
+        self.assertEqual(verdict(3_600_000, 3, 0, 26_559_937, 0), accepted)
+        self.assertEqual(verdict(7_200_001, 3, 0, 26_559_937, 0).case, Case.CONTINUE)
+        rejected = verdict(7_200_000, 1, 1, 182_282, 1)
+        self.assertEqual(rejected.case, Case.REJECT)
+        self.assertEqual(verdict(14_400_000, 1, 1, 182_282, 1), rejected)
+        self.assertEqual(verdict(7_199_984, 1, 1, 182_282, 1).case, Case.CONTINUE)
+        self.assertEqual(verdict(7_200_000, 4, 0, 26_560_937, 0).case, Case.ACCEPT)
+        campaign = Campaign(7_200_000)
+        for failed, exposure in ((False, 10_000_000), (False, 10_000_000), (True, 6_559_937)):
+            campaign.enter(failed, exposure)
+        self.assertEqual((campaign.failures, campaign.exposure, campaign.verdict().case), (1, 26_559_937, Case.ACCEPT))
+        campaign.enter(False, 1_000)
+        self.assertEqual((campaign.censored(), campaign.verdict().case), (2, Case.CONTINUE))
+
     def test_a_sheet_is_its_records(self):
         campaign = Campaign(7_200_000)
         campaign.enter(False, 1_800_000)

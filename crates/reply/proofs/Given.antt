@@ -10,8 +10,9 @@ use Rattle.verdict.specs.declared.Counted.the-variants as counted
 use Rattle.verdict.specs.declared.Judged.{Judged}
 use Rattle.verdict.specs.declared.Judged.the-variants as judged
 use Rattle.verdict.specs.declared.Verdict.{Verdict}
-use Rattle.verdict.specs.Answers.{counting, judging}
+use Rattle.verdict.specs.Answers.{Judges, counting, judging}
 use Rattle.verdict.specs.Figures.{verdictOf}
+use Rattle.verdict.proofs.Only.{only}
 use Rattle.campaign.specs.State.{censored, sound}
 
 never-given : {w : Verdict} {r : Refusal} → ¬ (judged.Given w ≡ judged.Refused r)
@@ -27,13 +28,13 @@ same-count : {n m : ℕ} → counted.Count n ≡ counted.Count m → m ≡ n
 same-count e = cc
 
 module _ (c : Campaign) (s : sound c ≡ true) where
-  pub has-verdict : {j : Judged} {v : Verdict} → j ≡ judging c → j ≡ judged.Given v → v ≡ verdictOf c
+  pub has-verdict : (j : Judged) {v : Verdict} → Judges c j → j ≡ judged.Given v → v ≡ verdictOf c
   unfolding judging
-  has-verdict e f = same-verdict (rw (e, s) at f)
+  has-verdict j p f = same-verdict (rw (only c j p, s) at f)
 
-  pub not-refused : {j : Judged} {r : Refusal} → j ≡ judging c → j ≡ judged.Refused r → ⊥
+  pub not-refused : (j : Judged) {r : Refusal} → Judges c j → j ≡ judged.Refused r → ⊥
   unfolding judging
-  not-refused e f = never-given (rw (e, s) at f)
+  not-refused j p f = never-given (rw (only c j p, s) at f)
 
   pub has-count : {j : Counted} {n : ℕ} → j ≡ counting c → j ≡ counted.Count n → n ≡ censored c
   unfolding counting

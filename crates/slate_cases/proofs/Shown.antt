@@ -4,9 +4,10 @@ use mathlib.Core.Bool.{true}
 use Rattle.largest.specs.Walk.{later, walk}
 use Rattle.poisson.specs.Tables.{l, lowerRows, u, upperRows}
 use Rattle.reading.specs.Reading.{passing}
-use Rattle.campaign.specs.State.{censored}
+use Rattle.campaign.specs.Answers.{entering}
+use Rattle.campaign.specs.State.{censored, sound}
 use Rattle.slate_cases.specs.Slate.{same, right, allRight, slate}
 
 pub shown : allRight slate ≡ true
-unfolding same right allRight slate passing walk later u l upperRows lowerRows censored
+unfolding same right allRight slate passing walk later u l upperRows lowerRows censored entering sound
 shown = refl

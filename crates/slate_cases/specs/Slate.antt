@@ -1,4 +1,4 @@
--- Document 01, "Sums on the slate": the marked cases as one table, and what makes a row right. Assumes nothing.
+-- Document 01, "Sums on the slate", and document 02, [6]: the marked cases as one table, and what makes a row right. Assumes nothing.
 use Prim.Native.Nat.{ℕ}
 use mathlib.Core.Bool.{Bool, true, false, _&&_}
 use mathlib.Core.List.{List, [], _∷_, map}
@@ -6,7 +6,10 @@ use lib.ListN.{length}
 use lib.Dec.{eqb}
 use lib.IntN.{ℤ, pos, negsuc}
 use Rattle.poisson.specs.Tables.{l, u}
+use Rattle.campaign.specs.declared.Answer.{Answer}
+use Rattle.campaign.specs.declared.Answer.the-variants.{Refused, Taken}
 use Rattle.campaign.specs.declared.Campaign.{Campaign}
+use Rattle.campaign.specs.Answers.{entering}
 use Rattle.verdict.specs.declared.Verdict.{Verdict}
 use Rattle.verdict.specs.declared.Verdict.the-variants.{Accept, Continue, NoRecord, Reject}
 use Rattle.verdict.specs.Figures.{verdictOf}
@@ -21,6 +24,8 @@ pub data Row : Type 0 where
   bounds : (n upper lower : ℕ) → Row
   -- the verdict of a campaign, by its letter
   weighing : Campaign → ℕ → Row
+  -- and after one more record without failure, of so many ms, was taken
+  weighingLater : Campaign → ℕ → ℕ → Row
 
 unfoldable pub same : List ℕ → List ℕ → Bool
 same [] [] = true
@@ -35,12 +40,18 @@ letterOf (Reject r) = 82
 letterOf (Continue r s) = 67
 letterOf NoRecord = 69
 
+-- 0 where the record was refused
+abbrev pub letterAfter : Answer → ℕ
+letterAfter (Taken c) = letterOf (verdictOf c)
+letterAfter (Refused r) = 0
+
 -- what a row says is so by the definitions
 unfoldable pub right : Row → Bool
 right (reading D R a τ xs crossed counted full) =
     same (map (timeAt D R) (crossings R a xs)) crossed && (same (countedTimes D R a τ xs) counted && eqb (fullTime D R (length xs)) full)
 right (bounds n upper lower) = eqb (u n) upper && eqb (l n) lower
 right (weighing c letter) = eqb (letterOf (verdictOf c)) letter
+right (weighingLater c t letter) = eqb (letterAfter (entering c (record { failed = false; exposure = t }))) letter
 
 unfoldable pub allRight : List Row → Bool
 allRight [] = true
@@ -53,7 +64,7 @@ bobbing = pos 0 ∷ pos 41000 ∷ pos 39000 ∷ pos 41000 ∷ pos 39000 ∷ pos 
 abbrev pub at : ℕ → ℕ → Bool → ℕ → Campaign
 at M N f T = record { standard = 7200000; records = M; failures = N; exposure = T; failed = f }
 
--- A to K
+-- A to K, then document 02's case of [6]
 unfoldable pub slate : List Row
 slate =
     reading 500 0 40000 2000 bobbing (500 ∷ 1500 ∷ 2500 ∷ []) (500 ∷ 2500 ∷ []) 3000
@@ -69,4 +80,6 @@ slate =
     ∷ weighing (at 3 0 false 26559937) 65
     ∷ weighing (at 1 1 true 182282) 82
     ∷ weighing (at 1 1 true 182283) 67
+    ∷ weighing (at 3 1 true 26559937) 65
+    ∷ weighingLater (at 3 1 true 26559937) 1000 67
     ∷ []

@@ -1,5 +1,6 @@
 -- What each entry answers (document 01, "Refusal numbers"). Assumes nothing.
-use mathlib.Core.Bool.{cond, not}
+use mathlib.Core.Path.{_≡_}
+use mathlib.Core.Bool.{cond, false, not, true}
 use lib.Dec.{eqb}
 use Rattle.refusal.specs.declared.Refusal.the-variants.{BrokenState}
 use Rattle.campaign.specs.declared.Campaign.{Campaign}
@@ -10,9 +11,14 @@ use Rattle.verdict.specs.declared.Judged.{Judged}
 use Rattle.verdict.specs.declared.Judged.the-variants as judged
 use Rattle.verdict.specs.declared.Rated.{Rated}
 use Rattle.verdict.specs.declared.Rated.the-variants as rated
-use Rattle.verdict.specs.Figures.{ratesOf, verdictOf}
+use Rattle.verdict.specs.Figures.{IsVerdict, ratesOf, verdictOf}
 
 -- Verdict and rates 8
+abbrev pub Judges : Campaign → Judged → Type 0
+Judges c (judged.Given v) = (sound c ≡ true) × IsVerdict c v
+Judges c (judged.Refused r) = (sound c ≡ false) × (r ≡ BrokenState)
+
+-- the one answer that this allows, for those who compute with it
 unfoldable pub judging : Campaign → Judged
 judging c = cond (sound c) (judged.Given (verdictOf c)) (judged.Refused BrokenState)
 

@@ -1,7 +1,8 @@
 -- Document 01, "The campaign": the rates and the verdict of a campaign's state. u and l are the upper and the lower rows, proved to meet their rule in
 -- the crate `poisson`. Assumes nothing.
-use mathlib.Core.Bool.{Bool, cond}
-use Prim.Native.Nat.{ℕ, _*_}
+use mathlib.Core.Path.{_≡_}
+use mathlib.Core.Bool.{Bool, cond, false, not, true, _&&_}
+use Prim.Native.Nat.{ℕ, _*_, _≤_}
 use lib.Dec.{eqb, ltb}
 use lib.Ieee.{Float, binary64, div, ofBits, ofInt}
 use lib.IntN.{pos}
@@ -46,11 +47,18 @@ rejects c = ltb (c .exposure * million) (l (c .failures) * c .standard)
 abbrev pub accepts : Campaign → Bool
 accepts c = ltb (u (censored c) * c .standard) (c .exposure * million)
 
--- with a record: reject is tried first
+-- which verdict a campaign has, and the rates that it carries. The two tests never both hold in a state that we take, so there is one (proofs/Only)
+abbrev pub IsVerdict : Campaign → Verdict → Type 0
+IsVerdict c (Reject x) = (1 ≤ c .records) × (rejects c ≡ true) × (x ≡ lowerRate c)
+IsVerdict c (Accept y) = (1 ≤ c .records) × (accepts c ≡ true) × (y ≡ upperRate c)
+IsVerdict c (Continue x y) = (1 ≤ c .records) × (rejects c ≡ false) × (accepts c ≡ false) × (x ≡ lowerRate c) × (y ≡ upperRate c)
+IsVerdict c NoRecord = c .records ≡ 0
+
+-- that one verdict, for those who compute with it: the test that holds alone decides, else continue
 abbrev pub weighed : Campaign → Verdict
 weighed c =
-    cond (rejects c) (Reject (lowerRate c))
-    (cond (accepts c) (Accept (upperRate c))
+    cond (rejects c && not (accepts c)) (Reject (lowerRate c))
+    (cond (accepts c && not (rejects c)) (Accept (upperRate c))
     (Continue (lowerRate c) (upperRate c)))
 
 abbrev pub verdictOf : Campaign → Verdict

@@ -5,8 +5,8 @@ ghost use Prim.Native.Nat.{_≤_};
 ghost use Rattle.poisson.specs.Tables.{l, u};
 ghost use Rattle.campaign.specs.Kept.{Kept};
 ghost use Rattle.campaign.specs.State.{censored};
-ghost use Rattle.verdict.specs.Answers.{counting, judging, rating};
-ghost use Rattle.verdict.specs.Figures.{accepts, lowerRate, quotient, rejects, three, upperRate, weighed};
+ghost use Rattle.verdict.specs.Answers.{Judges, counting, rating};
+ghost use Rattle.verdict.specs.Figures.{IsVerdict, accepts, lowerRate, quotient, rejects, three, upperRate};
 use campaign::Campaign;
 use refusal::Refusal;
 
@@ -103,10 +103,10 @@ fn upper_rate(c: Campaign) -> f64
     quotient(high(c), c.exposure * 1_000)
 }
 
-// The verdict of a state with a record: reject is tried first.
+// The verdict of a state with a record.
 fn weigh(c: Campaign) -> Verdict
-    requires { ⌜ Kept c ⌝ }
-    ensures { λ r. ⌜ r ≡ weighed c ⌝ }
+    requires { ⌜ Kept c × (1 ≤ c .records) ⌝ }
+    ensures { λ r. ⌜ IsVerdict c r ⌝ }
 {
     if rejects(c) {
         return Verdict::Reject(lower_rate(c));
@@ -141,7 +141,7 @@ pub fn censored(c: Campaign) -> Counted
 
 // The verdict; or refusal 8.
 pub fn judge(c: Campaign) -> Judged
-    ensures { λ r. ⌜ r ≡ judging c ⌝ }
+    ensures { λ r. ⌜ Judges c r ⌝ }
 {
     if !campaign::sound(c) {
         return Judged::Refused(Refusal::BrokenState);

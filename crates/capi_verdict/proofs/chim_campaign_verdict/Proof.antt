@@ -1,4 +1,5 @@
 -- `capi_verdict::chim_campaign_verdict` meets its contract: what the campaign answered is known in each arm. Assumes nothing.
+use Rattle.verdict.proofs.Only.{only}
 use Rattle.capi_verdict.specs.Told.{judgedTold}
 use borrow.Author.Needs.{needs}
 use Rattle.capi_verdict.proofs.chim_campaign_verdict.Statement.{statement}
@@ -24,11 +25,11 @@ refuse-requires c κs = search needs
 
 returns : tie.Need-returns
 unfolding judgedTold
-returns c = rw (← c .before .before .before .before .before .before .before .before .campaign-of .ensures, ← c .before .before .before .before .before .before .before .judge .ensures, c .before .before .before .before .before .a .given .1, c .tell .ensures)
+returns c = rw (← c .before .before .before .before .before .before .before .before .campaign-of .ensures, ← only _ (c .before .before .before .before .before .before .before .judge .result) (c .before .before .before .before .before .before .before .judge .ensures), c .before .before .before .before .before .a .given .1, c .tell .ensures)
 
 returns-2 : tie.Need-returns-2
 unfolding judgedTold
-returns-2 c = rw (← c .before .before .before .before .before .before .campaign-of .ensures, ← c .before .before .before .before .before .judge .ensures, c .before .before .before .a2 .given .1, c .refuse .ensures .0, c .refuse .ensures .1)
+returns-2 c = rw (← c .before .before .before .before .before .before .campaign-of .ensures, ← only _ (c .before .before .before .before .before .judge .result) (c .before .before .before .before .before .judge .ensures), c .before .before .before .a2 .given .1, c .refuse .ensures .0, c .refuse .ensures .1)
 
 pub chim-campaign-verdict-spec : {M : Type 1} → statement M
 chim-campaign-verdict-spec =

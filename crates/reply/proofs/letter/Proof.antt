@@ -8,7 +8,7 @@ use Rattle.reply.proofs.letter.Statement.{statement}
 use Rattle.reply.proofs.letter.Tie as tie
 
 given : (c : tie.After-known-told) → c .before .v .given .0 .0 ≡ verdictOf (c .before .before .before .before .args .c)
-given c = has-verdict (c .before .before .before .before .args .c) (c .before .before .before .before .pre) (c .before .before .before .judge .ensures) (c .before .v .given .1)
+given c = has-verdict (c .before .before .before .before .args .c) (c .before .before .before .before .pre) (c .before .before .before .judge .result) (c .before .before .before .judge .ensures) (c .before .v .given .1)
 
 judge-requires : tie.Need-judge-requires
 judge-requires c κs = search needs
@@ -20,7 +20,7 @@ enum-told : tie.Need-enum-told
 enum-told c = search needs
 
 returns : tie.Need-returns
-returns c = absurd (not-refused (c .before .before .before .args .c) (c .before .before .before .pre) (c .before .before .judge .ensures) (c .enum-told .given .1))
+returns c = absurd (not-refused (c .before .before .before .args .c) (c .before .before .before .pre) (c .before .before .judge .result) (c .before .before .judge .ensures) (c .enum-told .given .1))
 
 enum-told-2 : tie.Need-enum-told-2
 enum-told-2 c = search needs

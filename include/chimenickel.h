@@ -126,8 +126,10 @@ uint64_t chim_campaign_rates(const uint64_t *state, size_t state_len, double *es
 /* ---- a job sheet: `text` is the whole of it, as bin/tally reads it */
 
 /* Puts the campaign that the sheet ends in into `state`; *line is then 0. Refuses 8 (the array's length; *line is 0), then by the sheet's first bad
- * line, whose number is in *line: 9, then on line 1 1, on later lines 4, 3, 5, 6. */
-uint64_t chim_sheet_read(const uint8_t *text, size_t text_len, uint64_t *state, size_t state_len, uint64_t *line, uint64_t *carried);
+ * line, whose number is in *line: 9, then on line 1 1, on later lines 4, 3, 5, 6. *column is where a malformed line (9) is at fault, in bytes, 1 for the
+ * first: the first strange byte of the first bad field, or that field's start; 0 where the line as a whole is at fault (absent, over 64 bytes, no LF, wrong
+ * number of fields), and 0 for every other answer. */
+uint64_t chim_sheet_read(const uint8_t *text, size_t text_len, uint64_t *state, size_t state_len, uint64_t *line, uint64_t *column, uint64_t *carried);
 
 /* ---- the quantile table, in millionths of an expected failure: row n from 1 to 64, and 0 for any other n */
 uint32_t chim_upper_row(uint64_t n);

@@ -36,7 +36,7 @@ for _name, _result, _parameters in [
     ("chim_campaign_censored", _u64, [_numbers, _size, _numbers]),
     ("chim_campaign_verdict", _u64, [_numbers, _size, _rate, _rate, _numbers]),
     ("chim_campaign_rates", _u64, [_numbers, _size, _rate, _rate, _rate, _numbers]),
-    ("chim_sheet_read", _u64, [ctypes.c_char_p, _size, _numbers, _size, _numbers, _numbers]),
+    ("chim_sheet_read", _u64, [ctypes.c_char_p, _size, _numbers, _size, _numbers, _numbers, _numbers]),
     ("chim_upper_row", ctypes.c_uint32, [_u64]),
     ("chim_lower_row", ctypes.c_uint32, [_u64]),
 ]:
@@ -45,7 +45,8 @@ for _name, _result, _parameters in [
 
 
 class Refusal(Exception):
-    """Why nothing was done: the refusal's number, from 1 to 9, and what it carries; for a job sheet also the line that it stands on."""
+    """Why nothing was done: the refusal's number, from 1 to 9, and what it carries; for a job sheet also the line that it stands on, and the
+    column where a malformed line is at fault (0 where the line as a whole is)."""
 
     MEANINGS = {
         1: "opening item {} is outside its range",
@@ -64,6 +65,7 @@ class Refusal(Exception):
         self.number = number
         self.carried = carried
         self.line = None
+        self.column = None
 
 
 def _number(x):
@@ -224,12 +226,12 @@ class Campaign(_State):
 
     @classmethod
     def read_sheet(cls, text):
-        """The campaign of a whole job sheet, as bytes; a Refusal knows its line."""
-        state, line = (_u64 * cls.LENGTH)(), _u64()
+        """The campaign of a whole job sheet, as bytes; a Refusal knows its line and column."""
+        state, line, column = (_u64 * cls.LENGTH)(), _u64(), _u64()
         try:
-            _ask(_lib.chim_sheet_read, bytes(text), len(text), state, cls.LENGTH, ctypes.byref(line))
+            _ask(_lib.chim_sheet_read, bytes(text), len(text), state, cls.LENGTH, ctypes.byref(line), ctypes.byref(column))
         except Refusal as refusal:
-            refusal.line = line.value
+            refusal.line, refusal.column = line.value, column.value
             raise
         return cls.from_numbers(list(state))
 

@@ -91,6 +91,9 @@ class Records(unittest.TestCase):
         with self.assertRaises(Refusal) as caught:
             Campaign.read_sheet(b"standard\t7200000\n1\t0\t0\n")
         self.assertEqual((caught.exception.number, caught.exception.line), (4, 2))
+        with self.assertRaises(Refusal) as caught:
+            Campaign.read_sheet(b"standard\t7200000\n1\t0\t18x0\n")
+        self.assertEqual((caught.exception.number, caught.exception.line, caught.exception.column), (9, 2, 7))
         self.refused(9, 1, Campaign.read_sheet, b"")
 
     def test_numbers_that_are_no_state(self):

@@ -24,17 +24,17 @@ static uint64_t number(size_t bytes) {
 }
 
 static void sheet(void) {
-    uint64_t state[CHIM_CAMPAIGN_NUMBERS] = {7, 7, 7, 7, 7}, before[CHIM_CAMPAIGN_NUMBERS], line = 7, carried = 7;
+    uint64_t state[CHIM_CAMPAIGN_NUMBERS] = {7, 7, 7, 7, 7}, before[CHIM_CAMPAIGN_NUMBERS], line = 7, column = 7, carried = 7;
     memcpy(before, state, sizeof state);
-    uint64_t answer = chim_sheet_read(in, left, state, CHIM_CAMPAIGN_NUMBERS, &line, &carried);
+    uint64_t answer = chim_sheet_read(in, left, state, CHIM_CAMPAIGN_NUMBERS, &line, &column, &carried);
     if (answer == CHIM_TAKEN) {
         double lower, upper;
-        hold(line == 0);
+        hold(line == 0 && column == 0);
         hold(chim_campaign_verdict(state, CHIM_CAMPAIGN_NUMBERS, &lower, &upper, &carried) == CHIM_TAKEN);
     } else {
         hold(answer != CHIM_BROKEN_STATE && answer != CHIM_SAMPLE && answer != CHIM_ROOM && answer <= CHIM_LINE);
         hold(line >= 1 && line <= left + 1);
-        hold(answer != CHIM_LINE || carried == line);
+        hold(answer == CHIM_LINE ? carried == line && column <= 64 : column == 0);
         hold(memcmp(before, state, sizeof state) == 0);
     }
 }

@@ -34,6 +34,7 @@ extern "C" {
         state: *mut u64,
         state_len: usize,
         line: *mut u64,
+        column: *mut u64,
         carried: *mut u64,
     ) -> u64;
     pub fn chim_upper_row(n: u64) -> u32;

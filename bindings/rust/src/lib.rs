@@ -252,6 +252,16 @@ pub struct Rates {
     pub upper: f64,
 }
 
+/// A line of a job sheet that was refused.
+#[derive(Clone, Copy, Debug, PartialEq, Eq)]
+pub struct BadLine {
+    /// Its number, 1 for the first.
+    pub line: u64,
+    /// Where a malformed line (refusal 9) is at fault, in bytes, 1 for the first; 0 where the line as a whole is, and for every other refusal.
+    pub column: u64,
+    pub refusal: Refusal,
+}
+
 /// Many records.
 #[derive(Clone, Debug, PartialEq, Eq)]
 pub struct Campaign {
@@ -266,11 +276,11 @@ impl Campaign {
         Ok(Campaign { numbers: s })
     }
 
-    /// The campaign of a whole job sheet; or its first bad line's number and refusal.
-    pub fn read_sheet(text: &[u8]) -> Result<Campaign, (u64, Refusal)> {
-        let (mut s, mut line) = ([0; 5], 0);
-        let read = answer(|carried| unsafe { c::chim_sheet_read(text.as_ptr(), text.len(), s.as_mut_ptr(), s.len(), &mut line, carried) });
-        read.map(|_| Campaign { numbers: s }).map_err(|refusal| (line, refusal))
+    /// The campaign of a whole job sheet; or its first bad line.
+    pub fn read_sheet(text: &[u8]) -> Result<Campaign, BadLine> {
+        let (mut s, mut line, mut column) = ([0; 5], 0, 0);
+        let read = answer(|carried| unsafe { c::chim_sheet_read(text.as_ptr(), text.len(), s.as_mut_ptr(), s.len(), &mut line, &mut column, carried) });
+        read.map(|_| Campaign { numbers: s }).map_err(|refusal| BadLine { line, column, refusal })
     }
 
     /// Enters a result by what a campaign takes of it: whether there is a first failure, and the exposure, 1 to 10,000,000 ms.
@@ -381,8 +391,9 @@ mod tests {
         c.enter(false, 1_800_000).unwrap();
         c.enter(true, 933_980).unwrap();
         assert_eq!(Campaign::read_sheet(b"standard\t7200000\n1\t0\t1800000\n2\t1\t933980\n"), Ok(c));
-        assert_eq!(Campaign::read_sheet(b"standard\t7200000\n1\t0\t0\n"), Err((2, Refusal::TooShort)));
-        assert_eq!(Campaign::read_sheet(b""), Err((1, Refusal::Line(1))));
+        assert_eq!(Campaign::read_sheet(b"standard\t7200000\n1\t0\t0\n"), Err(BadLine { line: 2, column: 0, refusal: Refusal::TooShort }));
+        assert_eq!(Campaign::read_sheet(b""), Err(BadLine { line: 1, column: 0, refusal: Refusal::Line(1) }));
+        assert_eq!(Campaign::read_sheet(b"standard\t7200000\n1\t0\t18x0\n"), Err(BadLine { line: 2, column: 7, refusal: Refusal::Line(2) }));
     }
 
     #[test]

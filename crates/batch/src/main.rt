@@ -98,6 +98,6 @@ fn all(text: &mut [u8], out: &mut [u8]) {
 
 fn main() {
     let mut text = [0u8; 65536];
-    let mut out = [0u8; 327713];
+    let mut out = [0u8; 327715];
     all(&mut text, &mut out);
 }

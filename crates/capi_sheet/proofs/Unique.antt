@@ -4,8 +4,14 @@ use mathlib.Core.Path.{_≡_}
 use mathlib.Core.List.{List}
 use Rattle.truth.proofs.Unique.{settled}
 use Rattle.capi.specs.Told.{Told}
-use Rattle.capi_sheet.specs.Told.{sheetLine, sheetRead}
+use Rattle.capi_sheet.specs.Told.{sheetColumn, sheetLine, sheetRead}
 
--- the number, what is carried and the array, and the line
-pub sheet-read-unique : (text s : List ℕ) (x y : Told) (k l : ℕ) → x ≡ sheetRead text s → y ≡ sheetRead text s → k ≡ sheetLine text s → l ≡ sheetLine text s → (x ≡ y) × (k ≡ l)
-sheet-read-unique text s x y k l p q e f = (settled p q, settled e f)
+-- the number, what is carried and the array; the line; the column
+pub sheet-read-unique : (text s : List ℕ) (x y : Told) → x ≡ sheetRead text s → y ≡ sheetRead text s → x ≡ y
+sheet-read-unique text s x y = settled
+
+pub sheet-line-unique : (text s : List ℕ) (k l : ℕ) → k ≡ sheetLine text s → l ≡ sheetLine text s → k ≡ l
+sheet-line-unique text s k l = settled
+
+pub sheet-column-unique : (text s : List ℕ) (k l : ℕ) → k ≡ sheetColumn text s → l ≡ sheetColumn text s → k ≡ l
+sheet-column-unique text s k l = settled

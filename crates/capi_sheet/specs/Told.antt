@@ -1,5 +1,5 @@
--- What reading a whole sheet leaves: the campaign that its meaning ends in, in the lent array, or the number of its first refusal and the line that it
--- stands on. Assumes nothing.
+-- What reading a whole sheet leaves: the campaign that its meaning ends in, in the lent array, or the number of its first refusal, the line that it
+-- stands on and its column. Assumes nothing.
 use Prim.Native.Nat.{ℕ}
 use mathlib.Core.Bool.{cond}
 use mathlib.Core.List.{List}
@@ -17,18 +17,27 @@ use Rattle.capi.specs.Told.{Told, campaignKept}
 -- what a reading ends in; a whole text never waits for more
 abbrev pub answerOf : Reading → Answer
 answerOf (Read c) = Taken c
-answerOf (Stopped line r) = Refused r
+answerOf (Stopped line column r) = Refused r
 answerOf (Waiting s left) = Refused BrokenState
 
 -- the line of the first refusal, 0 where there is none
 abbrev pub lineOf : Reading → ℕ
 lineOf (Read c) = 0
-lineOf (Stopped line r) = line
+lineOf (Stopped line column r) = line
 lineOf (Waiting s left) = 0
+
+-- the column of a malformed line's fault, 0 for any other refusal and where there is none
+abbrev pub columnOf : Reading → ℕ
+columnOf (Read c) = 0
+columnOf (Stopped line column r) = column
+columnOf (Waiting s left) = 0
 
 abbrev pub sheetRead : List ℕ → List ℕ → Told
 sheetRead text s = campaignKept (answerOf (meaning text .end)) s
 
--- an array of another length is refused on no line
+-- an array of another length is refused on no line, at no column
 unfoldable pub sheetLine : List ℕ → List ℕ → ℕ
 sheetLine text s = cond (eqb (length s) campaignNumbers) (lineOf (meaning text .end)) 0
+
+unfoldable pub sheetColumn : List ℕ → List ℕ → ℕ
+sheetColumn text s = cond (eqb (length s) campaignNumbers) (columnOf (meaning text .end)) 0

@@ -2,19 +2,21 @@
 -- end, read as that number. `read-only`: a field that reads as a number is its digits and nothing else, so that no two texts read as one
 -- number. Assumes nothing.
 use mathlib.Core.Path.{_≡_, refl, sym, ap, _∙_}
-use mathlib.Core.Bool.{true}
+use mathlib.Core.Bool.{Bool, true, false, false≢true}
 use mathlib.Core.List.{List, [], _∷_, _++_}
 use Prim.Native.Nat.{ℕ, _+_, _^_, _≤_, _<_}
 use native.Mathlib.Omega.{arith}
+use lib.Dec.{eqb}
 use lib.ListN.{length, take, drop, length-append, length-drop}
 use lib.Seq.{length-take-le, take-append-seam, drop-append-seam, drop-drop}
 use Rattle.text.specs.Write.{laid, written, placeAfter}
 use Rattle.truth.proofs.Cases.{by-test}
 use Rattle.truth.proofs.Laws.{and-true}
 use Rattle.text.proofs.Laws.{written-fits, after-fits}
-use Rattle.decimal.specs.Decimal.{longest, isDigit, allDigits, isNumber, valueOf, digitsOf}
-use Rattle.decimal.specs.Field.{isEnd, endsHere, fieldOf, readAs, fieldAt}
-use Rattle.decimal.specs.declared.Field.the-variants.{Number, Bad}
+use Rattle.decimal.specs.Decimal.{longest, isDigit, allDigits, isNumber, leadingZero, valueOf, digitsOf}
+use Rattle.decimal.specs.Field.{isEnd, endsHere, fieldOf, faultIn, readAs, fieldAt}
+use Rattle.decimal.specs.declared.Field.{Field}
+use Rattle.decimal.specs.declared.Field.the-variants.{Number, Empty, Strange, LeadingZero, TooLong}
 use Rattle.decimal.proofs.Text.{value-digits, all-digits, number-digits, sound, digits-value, number-below}
 use Rattle.decimal.proofs.Reading.{digit-no-end}
 
@@ -65,15 +67,27 @@ pub record ReadAs (text : List ℕ) (at v next : ℕ) : Type 0 where
   pub bytes : take (length (digitsOf v)) (drop at text) ≡ digitsOf v
   pub ended : endsHere (drop next text) ≡ true
 
+-- a fault is no number
+abbrev numbered : Field → Bool
+numbered (Number v next) = true
+numbered Empty = false
+numbered (Strange place) = false
+numbered LeadingZero = false
+numbered TooLong = false
+
+fault : (field : List ℕ) (at : ℕ) → numbered (faultIn field at) ≡ false
+unfolding faultIn
+fault field at =
+    by-test (eqb (length field) 0)
+    (λ e. rw e)
+    (λ e. by-test (allDigits field) (λ f. by-test (leadingZero field) (λ g. rw (e, f, g)) (λ g. rw (e, f, g))) (λ f. rw (e, f)))
+
 pub read-only : (text : List ℕ) (at v next : ℕ) → fieldAt text at ≡ Number v next → ReadAs text at v next
 unfolding fieldAt readAs
-read-only text at v next r = by-test (isNumber field) (λ n. number n (rw n at r)) (λ n. absurd (bad (rw n at r)))
+read-only text at v next r = by-test (isNumber field) (λ n. number n (rw n at r)) (λ n. absurd (false≢true (sym (fault field at) ∙ ap numbered (rw n at r))))
   where
     field : List ℕ
     field = fieldOf (drop at text)
-
-    bad : Bad ≡ Number v next → ⊥
-    bad e = let z : _≡_ {A = ℕ} 0 1 = cc in omega arith
 
     number : isNumber field ≡ true → Number (valueOf field) (at + length field) ≡ Number v next → ReadAs text at v next
     number n e =

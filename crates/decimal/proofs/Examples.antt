@@ -4,8 +4,8 @@ use mathlib.Core.Path.{_≡_, refl}
 use mathlib.Core.List.{List, [], _∷_, map}
 use Prim.Native.Nat.{ℕ}
 use Rattle.decimal.specs.Decimal.{allDigits, isNumber, valueOf, digitsWithin, digitsOf}
-use Rattle.decimal.specs.Field.{fieldOf, readAs, fieldAt}
-use Rattle.decimal.specs.declared.Field.the-variants.{Number, Bad}
+use Rattle.decimal.specs.Field.{fieldOf, strangeIn, faultIn, readAs, fieldAt}
+use Rattle.decimal.specs.declared.Field.the-variants.{Number, Empty, Strange, LeadingZero, TooLong}
 
 abbrev texts : List (List ℕ)
 texts =
@@ -19,10 +19,13 @@ texts =
     ∷ (9 ∷ 52 ∷ 10 ∷ [])  -- nothing before the tab
     ∷ (52 ∷ 13 ∷ 10 ∷ [])  -- 4, CR LF
     ∷ (45 ∷ 52 ∷ 10 ∷ [])  -- -4
+    ∷ (48 ∷ 120 ∷ 121 ∷ 10 ∷ [])  -- 0xy
+    ∷ (48 ∷ 57 ∷ 57 ∷ 57 ∷ 57 ∷ 57 ∷ 57 ∷ 57 ∷ 57 ∷ 57 ∷ 57 ∷ 57 ∷ 57 ∷ 10 ∷ [])  -- 13 digits, the first of them 0
+    ∷ (57 ∷ 57 ∷ 57 ∷ 57 ∷ 57 ∷ 57 ∷ 57 ∷ 57 ∷ 57 ∷ 57 ∷ 57 ∷ 57 ∷ 57 ∷ 32 ∷ 10 ∷ [])  -- 13 digits and a blank
     ∷ []
 
-pub readings : map (λ text. fieldAt text 0) texts ≡ Number 0 1 ∷ Number 40 2 ∷ Number 40 2 ∷ Number 999999999999 12 ∷ Bad ∷ Bad ∷ Bad ∷ Bad ∷ Bad ∷ Bad ∷ []
-unfolding fieldAt readAs fieldOf isNumber allDigits valueOf
+pub readings : map (λ text. fieldAt text 0) texts ≡ Number 0 1 ∷ Number 40 2 ∷ Number 40 2 ∷ Number 999999999999 12 ∷ TooLong ∷ LeadingZero ∷ LeadingZero ∷ Empty ∷ Strange 1 ∷ Strange 0 ∷ Strange 1 ∷ LeadingZero ∷ Strange 13 ∷ []
+unfolding fieldAt readAs faultIn strangeIn fieldOf isNumber allDigits valueOf
 readings = refl
 
 pub exposure-written : digitsOf 2733980 ≡ 50 ∷ 55 ∷ 51 ∷ 51 ∷ 57 ∷ 56 ∷ 48 ∷ []

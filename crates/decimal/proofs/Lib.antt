@@ -1,5 +1,6 @@
 pub mod Text
 pub mod Reading
+pub mod Faults
 pub mod Back
 pub mod Unique
 pub mod Examples

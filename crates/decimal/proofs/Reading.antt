@@ -14,7 +14,7 @@ use borrow.Author.Tests.{lt-leb, le-leb, ne-eqb}
 use Rattle.truth.proofs.Cases.{by-order, by-test}
 use Rattle.decimal.specs.Decimal.{zeroByte, longest, isDigit, allDigits, leadingDigits, isNumber, valueOf}
 use Rattle.decimal.specs.Field.{isEnd, endsHere, fieldOf, readAs, fieldAt}
-use Rattle.decimal.specs.declared.Field.the-variants.{Number, Bad}
+use Rattle.decimal.specs.declared.Field.the-variants.{Number}
 use Rattle.decimal.proofs.Text.{digit-range}
 
 pub digit-no-end : (b : ℕ) → isDigit b ≡ true → isEnd b ≡ false
@@ -86,23 +86,26 @@ module _ (s : List ℕ) (at : ℕ) where
   pub run-within : 1 ≤ length run → at < length s
   run-within h = omega (arith, leading-within longest (drop at s), length-drop at s)
 
-  pub read-bad : (end : ℕ) → end ≡ at + length run → endsHere (drop end s) ≡ false → fieldAt s at ≡ Bad
-  unfolding fieldAt readAs isNumber
-  read-bad end e goes-on =
-      rw (without (allDigits (fieldOf (drop at s))) _ _ _ (field-goes-on longest (drop at s) (rw (drop-drop, ← e) goes-on)))
+  abbrev pub isOne : Bool
+  isOne = isNumber (fieldOf (drop at s))
 
-  pub read-ended : (value end : ℕ) → value ≡ valueOf run → end ≡ at + length run → endsHere (drop end s) ≡ true
-      → fieldAt s at ≡ cond (leb 1 (length run) && not (ltb 1 (length run) && eqb (getD s at 0) zeroByte)) (Number value end) Bad
-  unfolding fieldAt readAs isNumber
-  read-ended value end v e ends =
-      rw (
-        v,
-        e,
-        field-ends longest (drop at s) (rw (drop-drop, ← e) ends),
-        leading-all longest (drop at s),
-        le-leb (length run) longest (leading-few longest (drop at s)),
-      )
-      (by-order (length run) 1 (λ l. rw (lt-leb 1 (length run) l)) (λ l. rw (leading-first longest (drop at s) l, getD-drop, add-zero)))
+  pub no-number : (end : ℕ) → end ≡ at + length run → endsHere (drop end s) ≡ false → isOne ≡ false
+  unfolding isNumber
+  no-number end e goes-on = rw (without (allDigits (fieldOf (drop at s))) _ _ _ (field-goes-on longest (drop at s) (rw (drop-drop, ← e) goes-on)))
+
+  module _ (end : ℕ) (e : end ≡ at + length run) (ends : endsHere (drop end s) ≡ true) where
+    field-run : fieldOf (drop at s) ≡ run
+    field-run = field-ends longest (drop at s) (rw (drop-drop, ← e) ends)
+
+    pub number-is : isOne ≡ (leb 1 (length run) && not (ltb 1 (length run) && eqb (getD s at 0) zeroByte))
+    unfolding isNumber
+    number-is =
+        rw (field-run, leading-all longest (drop at s), le-leb (length run) longest (leading-few longest (drop at s)))
+        (by-order (length run) 1 (λ l. rw (lt-leb 1 (length run) l)) (λ l. rw (leading-first longest (drop at s) l, getD-drop, add-zero)))
+
+    pub read-number : (value : ℕ) → value ≡ valueOf run → isOne ≡ true → Number value end ≡ fieldAt s at
+    unfolding fieldAt readAs
+    read-number value v n = rw (n, field-run, v, e)
 
 -- one turn of the run of digits: what is left of it at i, of 12 from `at` on
 module _ (s : List ℕ) (at i : ℕ) where

@@ -44,9 +44,11 @@ use Rattle.campaign.specs.State.{censored, empty, entered, mostRecords, standar
 use Rattle.campaign.specs.State as campaigning
 use Rattle.line.specs.declared.Sheet.the-variants.{Fresh, Open}
 use Rattle.line.specs.Line.{lineAfter, outcome, stepping, telling, told}
+use Rattle.sheet.specs.Before.{WithoutColumns, meaningBefore}
 use Rattle.sheet.specs.Pieces.{feeding, joined}
 use Rattle.sheet.specs.Sheet.{meaning}
 use Rattle.line.proofs.Entries.{recordBytes}
+use Rattle.sheet.proofs.Before.{columns-aside}
 use Rattle.sheet.proofs.Pieces.{cut-anywhere}
 use Rattle.line.proofs.Theorems.{result-line}
 
@@ -138,6 +140,8 @@ pub record Demand1 : Type 0 where
   -- are those of its meaning; of a record that a line tells of, exposure 0 gives 4, above 10,000,000 gives 3, then 5, 6; and the line of a record that was ended
   -- comes to what entering its result answers, refusals and all
   pub sheet : (pieces : List (List ℕ)) → feeding pieces Fresh [] ≡ meaning (joined pieces)
+  -- the columns of document 02, request 10, are all that it changed: without them the meaning of a text is document 01's
+  pub sheet-columns : (text : List ℕ) → WithoutColumns (meaning text) (meaningBefore text)
   pub sheet-record :
       (c : Campaign) (f : Bool) (t : ℕ)
       → campaigning.sound c ≡ true
@@ -258,6 +262,7 @@ demand-1 =
       verdict = λ c. decided judging.Refused (judging.Given (verdictOf c)) own-verdict (λ r e. no (cc)) _ (verdicts.judging c) (swapped (campaigning.sound c) _ _);
       rates = λ c. decided rating.Refused (rating.Given (not (eqb (c .records) 0)) (ratesOf c)) own-rates (λ r e. no (cc)) _ (verdicts.rating c) (swapped (campaigning.sound c) _ _);
       sheet = cut-anywhere;
+      sheet-columns = columns-aside;
       sheet-record = λ c f t g. decided campaigned.Refused (campaigned.Taken (entered c f t)) own-campaign (λ r e. no (cc)) _ (telling c f t) (tells c f t g);
       sheet-line = result-line;
       censored = λ c. decided counting.Refused (counting.Count (censored c)) own-count (λ r e. no (cc)) _ (verdicts.counting c) (swapped (campaigning.sound c) _ _);

@@ -3,7 +3,10 @@ use Prim.Native.Nat.{ℕ, _+_, _^_, _<_}
 use mathlib.Core.Path.{_≡_, refl, sym, ap, _∙_}
 use mathlib.Core.Bool.{true, false≢true}
 use mathlib.Core.List.{List, [], _∷_, _++_, append-assoc}
+use mathlib.Core.Logic.{inl, inr}
 use native.Mathlib.Omega.{arith}
+use types.Run.{OneOf}
+use denote.Enum.Declared.{tagOf}
 use lib.Dec.{eqb}
 use lib.ListN.{length, drop, take-append-drop}
 use lib.Seq.{drop-drop}
@@ -13,9 +16,12 @@ use Rattle.truth.proofs.Laws.{and-true}
 use Rattle.decimal.specs.Decimal.{longest, digitsOf}
 use Rattle.decimal.specs.Field.{fieldAt, fieldText}
 use Rattle.decimal.specs.declared.Field.{Field}
-use Rattle.decimal.specs.declared.Field.the-variants.{Number, Bad}
+use Rattle.decimal.specs.declared.Field.the-variants.{Number, Empty, Strange, LeadingZero, TooLong}
 use Rattle.decimal.proofs.Back.{read-only}
-use Rattle.line.specs.Line.{startsWith, begins, endedBy, fieldThen}
+use Rattle.form.specs.Form.{begins}
+use Rattle.decimal.proofs.Field.{the-type}
+use Rattle.line.specs.declared.Step.{Step}
+use Rattle.line.specs.Line.{startsWith, endedBy, fieldThen, withNumber}
 
 starts-with : (byte : ℕ) (text : List ℕ) → startsWith byte text ≡ true → text ≡ byte ∷ drop 1 text
 unfolding startsWith
@@ -35,8 +41,16 @@ pub record FieldOf (end : ℕ) (line : List ℕ) (at v next : ℕ) : Type 0 wher
   pub small : v < 10 ^ longest
   pub bytes : drop at line ≡ fieldText v end ++ drop next line
 
-never : {v next : ℕ} → ¬ (Bad ≡ Number v next)
-never e = let z : _≡_ {A = ℕ} 0 1 = cc in absurd (omega arith)
+abbrev numbers : Field → ℕ
+numbers (Number v next) = 1
+numbers Empty = 0
+numbers (Strange p) = 0
+numbers LeadingZero = 0
+numbers TooLong = 0
+
+-- a fault is no number
+never : (f : Field) {v next : ℕ} → numbers f ≡ 0 → ¬ (f ≡ Number v next)
+never f z e = omega (arith, ap numbers e)
 
 module _ (end : ℕ) (line : List ℕ) (at v next : ℕ) where
   ended-field : (w place : ℕ) → fieldAt line at ≡ Number w place → startsWith end (drop place line) ≡ true → Number w (place + 1) ≡ Number v next → FieldOf end line at v next
@@ -57,8 +71,22 @@ module _ (end : ℕ) (line : List ℕ) (at v next : ℕ) where
   field-of e = go (fieldAt line at) refl e
     where
       go : (f : Field) → fieldAt line at ≡ f → endedBy end line f ≡ Number v next → FieldOf end line at v next
-      go Bad f e = absurd (never e)
+      go Empty f e = absurd (never Empty refl e)
+      go (Strange p) f e = absurd (never (Strange p) refl e)
+      go LeadingZero f e = absurd (never LeadingZero refl e)
+      go TooLong f e = absurd (never TooLong refl e)
       go (Number w place) f e =
           by-test (startsWith end (drop place line))
           (λ s. ended-field w place f s (rw s at e))
-          (λ s. absurd (never (rw s at e)))
+          (λ s. absurd (never (Strange place) refl (rw s at e)))
+
+-- what a `let Field::Number(..) = .. else` tells of the field in its else
+pub other-field : (f : Field) (bad : Step) (go : ℕ → ℕ → Step) → OneOf (1 ∷ 2 ∷ 3 ∷ 4 ∷ []) (tagOf the-type f) → withNumber bad f go ≡ bad
+other-field (Number v next) bad go (inl e) = absurd (omega arith)
+other-field (Number v next) bad go (inr (inl e)) = absurd (omega arith)
+other-field (Number v next) bad go (inr (inr (inl e))) = absurd (omega arith)
+other-field (Number v next) bad go (inr (inr (inr e))) = absurd (omega arith)
+other-field Empty bad go keys = refl
+other-field (Strange p) bad go keys = refl
+other-field LeadingZero bad go keys = refl
+other-field TooLong bad go keys = refl

@@ -34,13 +34,15 @@ use Rattle.campaign.proofs.Relations.{kept-from}
 use Rattle.line.specs.declared.Sheet.{Sheet}
 use Rattle.line.specs.declared.Sheet.the-variants.{Open}
 use Rattle.line.specs.declared.Step.the-variants.{Next}
-use Rattle.line.specs.Line.{longestLine, endsLine, isLine, endedBy, fieldThen, lineAfter, outcome, recordLine, startsWith, stepping, telling, told}
+use Rattle.form.specs.Form.{longestLine, endsLine, isLine}
+use Rattle.form.proofs.Columns.{record-few}
+use Rattle.line.specs.Line.{endedBy, fieldThen, lineAfter, outcome, recordLine, startsWith, stepping, telling, told}
 use Rattle.line.proofs.Entries.{Entry, recordBytes, record-says, says-next}
 
 -- what a line that is taken says
 pub line-enters : (c : Campaign) (line : List ℕ) (s : Sheet) → sound c ≡ true → stepping (Open c) line ≡ Next s → Entry c line s
 unfolding stepping
-line-enters c line s g e = says-next (record-says c line) (rw g at e)
+line-enters c line s g e = says-next (record-says _ c line (record-few (c .records + 1) line)) (rw g at e)
 
 -- a record that a line tells of is entered by its outcome
 module _ (c : Campaign) (f : Bool) (t : ℕ) where

@@ -1,15 +1,17 @@
 -- Document 01, "The job sheet": what one line of a sheet says. A line is its bytes, the LF with them. Assumes nothing.
-use Prim.Native.Nat.{ℕ, _+_, _-_}
+use Prim.Native.Nat.{ℕ, _+_}
 use mathlib.Core.Bool.{Bool, true, false, cond, _&&_}
 use mathlib.Core.List.{List, [], _∷_}
-use lib.ListN.{length, drop, getD}
+use lib.ListN.{length, drop}
 use lib.Dec.{eqb, leb, ltb}
 use Rattle.refusal.specs.declared.Refusal.the-variants.{BrokenState, Line, TooLong, TooShort}
 use Rattle.limits.specs.Limits.{longestTime}
 use Rattle.result.specs.declared.Outcome.{Outcome}
 use Rattle.decimal.specs.declared.Field.{Field}
-use Rattle.decimal.specs.declared.Field.the-variants.{Number, Bad}
+use Rattle.decimal.specs.declared.Field.the-variants.{Number, Empty, Strange, LeadingZero, TooLong}
 use Rattle.decimal.specs.Field.{tab, lineFeed, fieldAt}
+use Rattle.form.specs.Form.{isLine, begins, standardWord}
+use Rattle.form.specs.Column.{standardColumn, recordColumn}
 use Rattle.campaign.specs.declared.Answer.{Answer}
 use Rattle.campaign.specs.declared.Answer.the-variants.{Taken, Refused}
 use Rattle.campaign.specs.declared.Campaign.{Campaign}
@@ -20,66 +22,52 @@ use Rattle.line.specs.declared.Sheet.the-variants.{Fresh, Open}
 use Rattle.line.specs.declared.Step.{Step}
 use Rattle.line.specs.declared.Step.the-variants.{Next, Stop}
 
--- the most bytes of a line, with its LF
-abbrev pub longestLine : ℕ
-longestLine = 64
-
 -- ---- fields
 -- the text starts with the byte
 unfoldable pub startsWith : ℕ → List ℕ → Bool
 startsWith byte [] = false
 startsWith byte (b ∷ text) = eqb b byte
 
--- the text starts with the word
-unfoldable pub begins : List ℕ → List ℕ → Bool
-begins [] text = true
-begins (w ∷ word) [] = false
-begins (w ∷ word) (b ∷ text) = eqb b w && begins word text
-
--- a field with its end: a number, and the place after the byte that has to end it
+-- a field with its end: a number, and the place after the byte that has to end it, any other byte there being strange
 unfoldable pub endedBy : ℕ → List ℕ → Field → Field
-endedBy end line Bad = Bad
-endedBy end line (Number v place) = cond (startsWith end (drop place line)) (Number v (place + 1)) Bad
+endedBy end line (Number v place) = cond (startsWith end (drop place line)) (Number v (place + 1)) (Strange place)
+endedBy end line Empty = Empty
+endedBy end line (Strange place) = Strange place
+endedBy end line LeadingZero = LeadingZero
+endedBy end line TooLong = TooLong
 
 unfoldable pub fieldThen : ℕ → List ℕ → ℕ → Field
 fieldThen end line at = endedBy end line (fieldAt line at)
 
 -- what a number field goes on with: its number and the place after it; anything else is bad
 abbrev pub withNumber : Step → Field → (ℕ → ℕ → Step) → Step
-withNumber bad Bad go = bad
 withNumber bad (Number v next) go = go v next
+withNumber bad Empty go = bad
+withNumber bad (Strange place) go = bad
+withNumber bad LeadingZero go = bad
+withNumber bad TooLong go = bad
 
 -- ---- refusals
--- anything else is refusal 9, with the line number
-abbrev pub malformed : ℕ → Step
-malformed line = Stop line (Line line)
+-- anything else is refusal 9, with the line number, and by document 02, request 10, with the column
+abbrev pub malformed : ℕ → ℕ → Step
+malformed line column = Stop line column (Line line)
 
--- the campaign that the line leads to, or its refusal on that line
+-- the campaign that the line leads to, or its refusal on that line, which has no column
 abbrev pub outcome : ℕ → Answer → Step
 outcome line (Taken c) = Next (Open c)
-outcome line (Refused r) = Stop line r
+outcome line (Refused r) = Stop line 0 r
 
--- a line is ended by LF and has at most 64 bytes with it; what it says is up to its fields
-abbrev pub endsLine : List ℕ → Bool
-endsLine line = eqb (getD line (length line - 1) 0) lineFeed
+abbrev pub ofLine : Step → List ℕ → Step → Step
+ofLine bad line step = cond (isLine line) step bad
 
-abbrev pub isLine : List ℕ → Bool
-isLine line = leb (length line) longestLine && endsLine line
-
-abbrev pub ofLine : ℕ → List ℕ → Step → Step
-ofLine number line step = cond (isLine line) step (malformed number)
-
--- ---- line 1: the word standard, then q; then refusal 1
-abbrev pub standardWord : List ℕ
-standardWord = 115 ∷ 116 ∷ 97 ∷ 110 ∷ 100 ∷ 97 ∷ 114 ∷ 100 ∷ tab ∷ []
-
-unfoldable pub standardLine : List ℕ → Step
-standardLine line =
-    ofLine 1 line
+-- ---- line 1: the word standard, then q; then refusal 1. A malformed one is given the column
+unfoldable pub standardLine : ℕ → List ℕ → Step
+standardLine column line =
+    ofLine (malformed 1 column) line
     (cond (begins standardWord line)
-    (withNumber (malformed 1) (fieldThen lineFeed line (length standardWord)) (λ q end.
-    cond (eqb end (length line)) (outcome 1 (opened q)) (malformed 1)))
-    (malformed 1))
+    (withNumber (malformed 1 column) (fieldThen lineFeed line (length standardWord)) (λ q end.
+    cond (eqb end (length line)) (outcome 1 (opened q)) (malformed 1 column)))
+    (malformed 1 column))
 
 -- ---- later lines: record number, 1 for failed or 0, exposure; then 4, 3, 5, 6
 -- the line after those of the standard and the records so far
@@ -98,18 +86,18 @@ told f t = record { failed = f; exposure = t }
 unfoldable pub telling : Campaign → Bool → ℕ → Answer
 telling c f t = cond (eqb t 0) (Refused TooShort) (cond (ltb longestTime t) (Refused TooLong) (entering c (told f t)))
 
-unfoldable pub recordLine : Campaign → List ℕ → Step
-recordLine c line =
-    ofLine (lineAfter c) line
-    (withNumber (malformed (lineAfter c)) (fieldThen tab line 0) (λ number second.
-    withNumber (malformed (lineAfter c)) (fieldThen tab line second) (λ flag third.
-    withNumber (malformed (lineAfter c)) (fieldThen lineFeed line third) (λ exposure end.
-    cond (isRecord c line number flag end) (outcome (lineAfter c) (telling c (eqb flag 1) exposure)) (malformed (lineAfter c))))))
+unfoldable pub recordLine : ℕ → Campaign → List ℕ → Step
+recordLine column c line =
+    ofLine (malformed (lineAfter c) column) line
+    (withNumber (malformed (lineAfter c) column) (fieldThen tab line 0) (λ number second.
+    withNumber (malformed (lineAfter c) column) (fieldThen tab line second) (λ flag third.
+    withNumber (malformed (lineAfter c) column) (fieldThen lineFeed line third) (λ exposure end.
+    cond (isRecord c line number flag end) (outcome (lineAfter c) (telling c (eqb flag 1) exposure)) (malformed (lineAfter c) column)))))
 
 -- ---- a line, where the reading stands: before line 1, or at a campaign; a campaign that was never handed out is refusal 8, on no line
 unfoldable pub stepping : Sheet → List ℕ → Step
-stepping Fresh line = standardLine line
-stepping (Open c) line = cond (sound c) (recordLine c line) (Stop 0 BrokenState)
+stepping Fresh line = standardLine (standardColumn line) line
+stepping (Open c) line = cond (sound c) (recordLine (recordColumn (c .records + 1) line) c line) (Stop 0 0 BrokenState)
 
 -- the reading stands at a campaign that keeps its relations
 abbrev pub soundSheet : Sheet → Bool

@@ -2,8 +2,10 @@
 // in by value and comes back in the answer; the line's number follows from the campaign's records.
 ghost use mathlib.Core.Path.{_≡_};
 ghost use mathlib.Core.Bool.{true};
+ghost use Prim.Native.Nat.{_+_};
+ghost use Rattle.form.specs.Column.{standardColumn, recordColumn};
 ghost use Rattle.campaign.specs.State.{sound};
-ghost use Rattle.line.specs.Line.{isLine, begins, fieldThen, outcome, standardLine, recordLine, stepping, telling};
+ghost use Rattle.line.specs.Line.{fieldThen, lineAfter, malformed, outcome, standardLine, recordLine, stepping, telling};
 use campaign::Answer;
 use campaign::Campaign;
 use decimal::Field;
@@ -13,9 +15,6 @@ use result::Outcome;
 const TAB: u8 = 9;
 
 const LF: u8 = 10;
-
-// The most bytes of a line, with its LF.
-const LONGEST_LINE: usize = 64;
 
 // Where the reading of a sheet stands.
 pub enum Sheet {
@@ -28,72 +27,54 @@ pub enum Sheet {
 // What a line comes to.
 pub enum Step {
     Next(Sheet),
-    // The line's number, and its refusal.
-    Stop(u64, Refusal),
-}
-
-// Whether `text` is ended by LF and no longer than a line may be.
-fn is_line(text: &[u8]) -> bool
-    ensures { λ r. ⌜ r ≡ isLine (now (text .entry)) ⌝ }
-{
-    let n = text.len();
-    if n == 0 {
-        return false;
-    }
-    if n > LONGEST_LINE {
-        return false;
-    }
-    text[n - 1] == LF
-}
-
-// Whether `text` starts with `word`.
-fn begins(text: &[u8], word: &[u8]) -> bool
-    ensures { λ r. ⌜ r ≡ begins (now (word .entry)) (now (text .entry)) ⌝ }
-{
-    let mut i = 0;
-    while i < word.len() {
-        if text.len() <= i {
-            return false;
-        }
-        if text[i] != word[i] {
-            return false;
-        }
-        i += 1;
-    }
-    true
+    // The line's number, the column of a malformed line's fault or 0, and the refusal.
+    Stop(u64, u64, Refusal),
 }
 
 // The number field of `text` at `at` that the byte `end` ends, and the place after that byte.
 fn field_then(end: u8, text: &[u8], at: usize) -> Field
     ensures { λ r. ⌜ r ≡ fieldThen end (now (text .entry)) at ⌝ }
 {
-    let Field::Number(value, next) = decimal::number_at(text, at) else {
-        return Field::Bad;
-    };
-    if text.len() <= next {
-        return Field::Bad;
+    let field = decimal::number_at(text, at);
+    match field {
+        Field::Number(value, next) => {
+            if text.len() <= next {
+                return Field::Strange(next);
+            }
+            if text[next] != end {
+                return Field::Strange(next);
+            }
+            Field::Number(value, next + 1)
+        }
+        Field::Empty => field,
+        Field::Strange(_) => field,
+        Field::LeadingZero => field,
+        Field::TooLong => field,
     }
-    if text[next] != end {
-        return Field::Bad;
-    }
-    Field::Number(value, next + 1)
+}
+
+// A malformed line 1.
+fn bad_standard(text: &[u8]) -> Step
+    ensures { λ r. ⌜ r ≡ malformed 1 (standardColumn (now (text .entry))) ⌝ }
+{
+    Step::Stop(1, form::standard_column(text), Refusal::Line(1))
 }
 
 // Line 1.
 fn standard_line(text: &[u8]) -> Step
-    ensures { λ r. ⌜ r ≡ standardLine (now (text .entry)) ⌝ }
+    ensures { λ r. ⌜ r ≡ standardLine (standardColumn (now (text .entry))) (now (text .entry)) ⌝ }
 {
-    if !is_line(text) {
-        return Step::Stop(1, Refusal::Line(1));
+    if !form::is_line(text) {
+        return bad_standard(text);
     }
-    if !begins(text, b"standard\t") {
-        return Step::Stop(1, Refusal::Line(1));
+    if !form::begins(text, b"standard\t") {
+        return bad_standard(text);
     }
     let Field::Number(q, end) = field_then(LF, text, 9) else {
-        return Step::Stop(1, Refusal::Line(1));
+        return bad_standard(text);
     };
     if end != text.len() {
-        return Step::Stop(1, Refusal::Line(1));
+        return bad_standard(text);
     }
     outcome(1, campaign::open(q))
 }
@@ -114,31 +95,43 @@ fn tell(c: Campaign, failed: bool, exposure: u64) -> Answer
     })
 }
 
+// A malformed line of the campaign's next record.
+fn bad_record(c: Campaign, text: &[u8]) -> Step
+    requires { ⌜ sound c ≡ true ⌝ }
+    ensures { λ r. ⌜ r ≡ malformed (lineAfter c) (recordColumn (c .records + 1) (now (text .entry))) ⌝ }
+{
+    let line = c.records + 2;
+    Step::Stop(
+        line,
+        form::record_column(c.records + 1, text),
+        Refusal::Line(line),
+    )
+}
+
 // A later line, of the campaign's next record.
 fn record_line(c: Campaign, text: &[u8]) -> Step
     requires { ⌜ sound c ≡ true ⌝ }
-    ensures { λ r. ⌜ r ≡ recordLine c (now (text .entry)) ⌝ }
+    ensures { λ r. ⌜ r ≡ recordLine (recordColumn (c .records + 1) (now (text .entry))) c (now (text .entry)) ⌝ }
 {
-    let line = c.records + 2;
-    if !is_line(text) {
-        return Step::Stop(line, Refusal::Line(line));
+    if !form::is_line(text) {
+        return bad_record(c, text);
     }
     let Field::Number(number, second) = field_then(TAB, text, 0) else {
-        return Step::Stop(line, Refusal::Line(line));
+        return bad_record(c, text);
     };
     let Field::Number(flag, third) = field_then(TAB, text, second) else {
-        return Step::Stop(line, Refusal::Line(line));
+        return bad_record(c, text);
     };
     let Field::Number(exposure, end) = field_then(LF, text, third) else {
-        return Step::Stop(line, Refusal::Line(line));
+        return bad_record(c, text);
     };
     if !truth::both(
         truth::both(number == c.records + 1, flag <= 1),
         end == text.len(),
     ) {
-        return Step::Stop(line, Refusal::Line(line));
+        return bad_record(c, text);
     }
-    outcome(line, tell(c, flag == 1, exposure))
+    outcome(c.records + 2, tell(c, flag == 1, exposure))
 }
 
 // What an answer about a line comes to.
@@ -147,7 +140,7 @@ fn outcome(line: u64, a: Answer) -> Step
 {
     match a {
         Answer::Taken(c) => Step::Next(Sheet::Open(c)),
-        Answer::Refused(r) => Step::Stop(line, r),
+        Answer::Refused(r) => Step::Stop(line, 0, r),
     }
 }
 
@@ -160,7 +153,7 @@ impl Sheet {
             Sheet::Fresh => standard_line(text),
             Sheet::Open(c) => {
                 if !campaign::sound(c) {
-                    return Step::Stop(0, Refusal::BrokenState);
+                    return Step::Stop(0, 0, Refusal::BrokenState);
                 }
                 record_line(c, text)
             }

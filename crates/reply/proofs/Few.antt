@@ -1,11 +1,11 @@
--- How long the lines are: a record's has at most 30 bytes, the refused line 33. Assumes nothing.
+-- How long the lines are: a record's has at most 30 bytes, the refused line 35. Assumes nothing.
 use Prim.Native.Nat.{ℕ, _+_, _^_, _≤_, _<_}
 use mathlib.Core.Path.{_≡_}
 use mathlib.Core.Bool.{true}
 use native.Mathlib.Omega.{arith}
 use lib.Dec.{eqb}
 use lib.ListN.{length, length-append}
-use borrow.Author.Tests.{eqb-false}
+use borrow.Author.Tests.{eqb-false, eqb-true}
 use Rattle.truth.proofs.Laws.{holds}
 use Rattle.truth.proofs.Cases.{by-test}
 use Rattle.refusal.specs.declared.Refusal.{Refusal}
@@ -16,7 +16,7 @@ use Rattle.campaign.specs.declared.Campaign.{Campaign}
 use Rattle.campaign.specs.Kept.{Kept}
 use Rattle.campaign.specs.State.{censored, sound}
 use Rattle.campaign.proofs.Relations.{kept-from, censored-row}
-use Rattle.reply.specs.Written.{figures, letterFor, recordText, refusedText}
+use Rattle.reply.specs.Written.{figures, letterFor, malformedNumber, reasonText, recordText, refusedText}
 
 figures-few : (c : Campaign) (letter : ℕ) → Kept c → 1 ≤ c .records → length (figures c letter) ≤ 30
 unfolding figures
@@ -38,6 +38,13 @@ record-few c s =
     (λ e. rw e (omega arith))
     (λ e. rw e (figures-few c (letterFor c) (kept-from c (holds s)) (let ne : ¬ (c .records ≡ 0) = eqb-false (c .records) 0 e in omega arith)))
 
-pub refused-few : (line : ℕ) (r : Refusal) → line < 10 ^ 20 → length (refusedText line r) ≤ 33
+reason-few : (number column : ℕ) → number < 100 → column < 1000 → length (reasonText number column) ≤ 6
+unfolding reasonText
+reason-few number column h k =
+    by-test (eqb number malformedNumber)
+    (λ e. let nine : number ≡ malformedNumber = eqb-true number malformedNumber e in rw (e, length-append) (omega (arith, field-few number 9 0 (omega arith), field-few column 10 2 k)))
+    (λ e. rw e (omega (arith, field-few number 10 1 h)))
+
+pub refused-few : (line column : ℕ) (r : Refusal) → line < 10 ^ 20 → column < 1000 → length (refusedText line column r) ≤ 35
 unfolding refusedText
-refused-few line r h = simp length-append (omega (arith, field-few line 9 19 h, field-few (numberOf r) 10 1 (number-small r)))
+refused-few line column r h k = simp length-append (omega (arith, field-few line 9 19 h, reason-few (numberOf r) column (number-small r) k))

@@ -16,9 +16,9 @@ module _ (c : Campaign) (out : List ℕ) (at : ℕ) where
   pub write-record-left-unique : (later other : List ℕ) → later ≡ recordLeft c out at → other ≡ recordLeft c out at → later ≡ other
   write-record-left-unique later other = settled
 
-module _ (line : ℕ) (why : Refusal) (out : List ℕ) (at : ℕ) where
-  pub write-refused-unique : (r q : Written) → r ≡ writing out at (refusedText line why) → q ≡ writing out at (refusedText line why) → r ≡ q
+module _ (line column : ℕ) (why : Refusal) (out : List ℕ) (at : ℕ) where
+  pub write-refused-unique : (r q : Written) → r ≡ writing out at (refusedText line column why) → q ≡ writing out at (refusedText line column why) → r ≡ q
   write-refused-unique r q = settled
 
-  pub write-refused-left-unique : (later other : List ℕ) → later ≡ written out at (refusedText line why) → other ≡ written out at (refusedText line why) → later ≡ other
+  pub write-refused-left-unique : (later other : List ℕ) → later ≡ written out at (refusedText line column why) → other ≡ written out at (refusedText line column why) → later ≡ other
   write-refused-left-unique later other = settled

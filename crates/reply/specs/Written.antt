@@ -42,12 +42,19 @@ figures c letter =
 unfoldable pub recordText : Campaign → List ℕ
 recordText c = cond (eqb (c .records) 0) [] (figures c (letterFor c))
 
+-- the refusal number, and by document 02, request 10, for a malformed line alone the column
+abbrev pub malformedNumber : ℕ
+malformedNumber = 9
+
+unfoldable pub reasonText : ℕ → ℕ → List ℕ
+reasonText number column = cond (eqb number malformedNumber) (fieldText number tab ++ fieldText column lineFeed) (fieldText number lineFeed)
+
 -- at the first refusal: refused, line number, refusal number
 abbrev pub refusedWord : List ℕ
 refusedWord = 114 ∷ 101 ∷ 102 ∷ 117 ∷ 115 ∷ 101 ∷ 100 ∷ tab ∷ []
 
-unfoldable pub refusedText : ℕ → Refusal → List ℕ
-refusedText line r = refusedWord ++ (fieldText line tab ++ fieldText (numberOf r) lineFeed)
+unfoldable pub refusedText : ℕ → ℕ → Refusal → List ℕ
+refusedText line column r = refusedWord ++ (fieldText line tab ++ reasonText (numberOf r) column)
 
 -- the answer of a writer: the place after the text; where it has no room 7, with the bytes needed
 unfoldable pub writing : List ℕ → ℕ → List ℕ → Written

@@ -7,7 +7,7 @@ ghost use lib.ListN.{length};
 ghost use Rattle.text.specs.Write.{written, placeAfter};
 ghost use Rattle.decimal.specs.Field.{fieldText};
 ghost use Rattle.campaign.specs.State.{censored, sound};
-ghost use Rattle.reply.specs.Written.{letterFor, recordText, recordLeft, recordWriting, refusedText, writing};
+ghost use Rattle.reply.specs.Written.{letterFor, reasonText, recordText, recordLeft, recordWriting, refusedText, writing};
 use campaign::Campaign;
 use refusal::Refusal;
 use verdict::Counted;
@@ -17,6 +17,9 @@ use verdict::Verdict;
 const TAB: u8 = 9;
 
 const LF: u8 = 10;
+
+// The refusal of a malformed line.
+const MALFORMED: u64 = 9;
 
 // The most bytes of a record's line. Where there is room for them, its own are not counted first.
 const LONGEST_RECORD: usize = 30;
@@ -116,32 +119,57 @@ pub fn write_record(c: Campaign, out: &mut [u8], at: usize) -> Written
     Written::Upto(put_record(c, out, at))
 }
 
-// The bytes of the refused line.
-fn refused_length(line: u64, r: Refusal) -> usize
-    ensures { λ n. ⌜ n ≡ length (refusedText line r) ⌝ }
+// The bytes of a refusal's number and its column.
+fn reason_length(number: u64, column: u64) -> usize
+    ensures { λ n. ⌜ n ≡ length (reasonText number column) ⌝ }
+    ensures { λ n. ⌜ n ≤ 42 ⌝ }
 {
-    decimal::digits(line) + decimal::digits(refusal::number(r)) + 10
+    if number == MALFORMED {
+        return decimal::digits(number) + decimal::digits(column) + 2;
+    }
+    decimal::digits(number) + 1
+}
+
+// Writes a refusal's number and its column where they have room.
+fn put_reason(number: u64, column: u64, out: &mut [u8], at: usize) -> usize
+    requires { ⌜ at + length (reasonText number column) ≤ length (now out) ⌝ }
+    ensures { λ n. ⌜ n ≡ placeAfter (now (out .entry)) at (reasonText number column) ⌝ }
+    ensures { λ _. ⌜ now (out .exit) ≡ written (now (out .entry)) at (reasonText number column) ⌝ }
+{
+    if number == MALFORMED {
+        let next = put_field(number, TAB, out, at);
+        return put_field(column, LF, out, next);
+    }
+    put_field(number, LF, out, at)
+}
+
+// The bytes of the refused line.
+fn refused_length(line: u64, column: u64, r: Refusal) -> usize
+    ensures { λ n. ⌜ n ≡ length (refusedText line column r) ⌝ }
+{
+    decimal::digits(line) + reason_length(refusal::number(r), column) + 9
 }
 
 // Writes the refused line where it has room.
-fn put_refused(line: u64, r: Refusal, out: &mut [u8], at: usize) -> usize
-    requires { ⌜ at + length (refusedText line r) ≤ length (now out) ⌝ }
-    ensures { λ n. ⌜ n ≡ placeAfter (now (out .entry)) at (refusedText line r) ⌝ }
-    ensures { λ _. ⌜ now (out .exit) ≡ written (now (out .entry)) at (refusedText line r) ⌝ }
+fn put_refused(line: u64, column: u64, r: Refusal, out: &mut [u8], at: usize) -> usize
+    requires { ⌜ at + length (refusedText line column r) ≤ length (now out) ⌝ }
+    ensures { λ n. ⌜ n ≡ placeAfter (now (out .entry)) at (refusedText line column r) ⌝ }
+    ensures { λ _. ⌜ now (out .exit) ≡ written (now (out .entry)) at (refusedText line column r) ⌝ }
 {
     let number = text::write_bytes(b"refused\t", out, at);
     let reason = put_field(line, TAB, out, number);
-    put_field(refusal::number(r), LF, out, reason)
+    put_reason(refusal::number(r), column, out, reason)
 }
 
-// Writes the refused line into `out` from `at` on: refused, the line's number, the refusal's. Or refusal 7 with the bytes needed.
-pub fn write_refused(line: u64, r: Refusal, out: &mut [u8], at: usize) -> Written
-    ensures { λ w. ⌜ w ≡ writing (now (out .entry)) at (refusedText line r) ⌝ }
-    ensures { λ _. ⌜ now (out .exit) ≡ written (now (out .entry)) at (refusedText line r) ⌝ }
+// Writes the refused line into `out` from `at` on: refused, the line's number, the refusal's, and the column where that is 9. Or refusal 7 with the bytes
+// needed.
+pub fn write_refused(line: u64, column: u64, r: Refusal, out: &mut [u8], at: usize) -> Written
+    ensures { λ w. ⌜ w ≡ writing (now (out .entry)) at (refusedText line column r) ⌝ }
+    ensures { λ _. ⌜ now (out .exit) ≡ written (now (out .entry)) at (refusedText line column r) ⌝ }
 {
-    let needed = refused_length(line, r);
+    let needed = refused_length(line, column, r);
     if !text::has_room(out.len(), at, needed) {
         return Written::Refused(Refusal::Room(needed as u64));
     }
-    Written::Upto(put_refused(line, r, out, at))
+    Written::Upto(put_refused(line, column, r, out, at))
 }

@@ -4,14 +4,16 @@ use mathlib.Core.Path.{_≡_, refl}
 use mathlib.Core.List.{List, [], _∷_, _++_}
 use Prim.Native.Nat.{ℕ}
 use Rattle.poisson.specs.Tables.{l, u, lowerRows, upperRows}
-use Rattle.refusal.specs.declared.Refusal.the-variants.{TooShort}
+use Rattle.refusal.specs.declared.Refusal.the-variants.{Line, TooShort}
 use Rattle.decimal.specs.Decimal.{allDigits, isNumber, valueOf, digitsWithin, digitsOf}
-use Rattle.decimal.specs.Field.{fieldOf, fieldText, readAs, fieldAt}
+use Rattle.decimal.specs.Field.{faultIn, fieldOf, fieldText, readAs, fieldAt, strangeIn}
 use Rattle.campaign.specs.Answers.{entering}
 use Rattle.campaign.specs.State.{censored, sound}
 use Rattle.sheet.specs.declared.Reading.the-variants.{Stopped}
-use Rattle.line.specs.Line.{startsWith, begins, endedBy, fieldThen, recordLine, standardLine, stepping, telling}
-use Rattle.reply.specs.Written.{figures, letterFor, recordText, refusedText}
+use Rattle.form.specs.Column.{howMany, recordColumn, recordFields, standardColumn}
+use Rattle.form.specs.Form.{begins}
+use Rattle.line.specs.Line.{startsWith, endedBy, fieldThen, recordLine, standardLine, stepping, telling}
+use Rattle.reply.specs.Written.{figures, letterFor, reasonText, recordText, refusedText}
 use Rattle.sheet.specs.Sheet.{linesOf, reading, meaning}
 
 -- standard 7200000; 1 0 1800000; 2 1 933980; 3 1 0
@@ -29,6 +31,15 @@ answer =
     ++ ((50 ∷ 9 ∷ 49 ∷ 9 ∷ 49 ∷ 9 ∷ 50 ∷ 55 ∷ 51 ∷ 51 ∷ 57 ∷ 56 ∷ 48 ∷ 9 ∷ 67 ∷ 10 ∷ [])
     ++ (114 ∷ 101 ∷ 102 ∷ 117 ∷ 115 ∷ 101 ∷ 100 ∷ 9 ∷ 52 ∷ 9 ∷ 52 ∷ 10 ∷ []))
 
-pub whole-case : meaning sheet ≡ record { text = answer; end = Stopped 4 TooShort }
-unfolding meaning reading linesOf stepping standardLine recordLine fieldThen endedBy startsWith begins fieldAt readAs fieldOf isNumber allDigits valueOf telling entering sound censored recordText figures letterFor fieldText digitsOf digitsWithin refusedText l u lowerRows upperRows
+pub whole-case : meaning sheet ≡ record { text = answer; end = Stopped 4 0 TooShort }
+unfolding meaning reading linesOf stepping standardLine recordLine fieldThen endedBy startsWith begins fieldAt readAs fieldOf isNumber allDigits valueOf telling entering sound censored recordText figures letterFor fieldText digitsOf digitsWithin refusedText reasonText l u lowerRows upperRows
 whole-case = refl
+
+-- document 02, request 10: the column of a strange byte. standard 5; 1 0 4x7
+abbrev typed : List ℕ
+typed = (115 ∷ 116 ∷ 97 ∷ 110 ∷ 100 ∷ 97 ∷ 114 ∷ 100 ∷ 9 ∷ 53 ∷ 10 ∷ []) ++ (49 ∷ 9 ∷ 48 ∷ 9 ∷ 52 ∷ 120 ∷ 55 ∷ 10 ∷ [])
+
+-- refused 2 9 6
+pub strange-case : meaning typed ≡ record { text = 114 ∷ 101 ∷ 102 ∷ 117 ∷ 115 ∷ 101 ∷ 100 ∷ 9 ∷ 50 ∷ 9 ∷ 57 ∷ 9 ∷ 54 ∷ 10 ∷ []; end = Stopped 2 6 (Line 2) }
+unfolding meaning reading linesOf stepping standardLine recordLine standardColumn recordColumn recordFields howMany fieldThen endedBy startsWith begins fieldAt readAs faultIn strangeIn fieldOf isNumber allDigits valueOf entering sound censored recordText figures letterFor fieldText digitsOf digitsWithin refusedText reasonText
+strange-case = refl

@@ -1,4 +1,5 @@
 pub mod Along
+pub mod Before
 pub mod Promised
 pub mod Put
 pub mod Enough

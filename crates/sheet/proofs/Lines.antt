@@ -22,7 +22,9 @@ use Rattle.line.specs.declared.Sheet.the-variants.{Fresh, Open}
 use Rattle.sheet.specs.declared.Reading.the-variants.{Waiting}
 use Rattle.line.specs.declared.Step.{Step}
 use Rattle.line.specs.declared.Step.the-variants.{Stop}
-use Rattle.line.specs.Line.{longestLine, endsLine, isLine, lineAfter, malformed, recordLine, standardLine, stepping}
+use Rattle.form.specs.Column.{recordColumn, standardColumn}
+use Rattle.form.specs.Form.{longestLine, endsLine, isLine}
+use Rattle.line.specs.Line.{lineAfter, malformed, recordLine, standardLine, stepping}
 use Rattle.sheet.specs.Sheet.{Account, linesOf, ended, afterStep, waits, reading}
 use Rattle.sheet.specs.Cut.{cut, firstLine}
 
@@ -169,11 +171,11 @@ module _ (text : List ℕ) (at end : ℕ) (found : end ≡ at + cut longestLine 
 
 -- a line that is none is bad whatever it says, and a bad line ends the reading
 abbrev bad : Sheet → Step
-bad Fresh = malformed 1
-bad (Open c) = cond (sound c) (malformed (lineAfter c)) (Stop 0 BrokenState)
+bad Fresh = malformed 1 0
+bad (Open c) = cond (sound c) (malformed (lineAfter c) 0) (Stop 0 0 BrokenState)
 
 stepping-bad : (s : Sheet) (line : List ℕ) → isLine line ≡ false → stepping s line ≡ bad s
-unfolding stepping standardLine recordLine
+unfolding stepping standardLine recordLine standardColumn recordColumn
 stepping-bad Fresh line e = rw e
 stepping-bad (Open c) line e = rw e
 

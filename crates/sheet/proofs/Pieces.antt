@@ -20,7 +20,8 @@ use Rattle.line.specs.declared.Sheet.{Sheet}
 use Rattle.line.specs.declared.Sheet.the-variants.{Fresh}
 use Rattle.line.specs.declared.Step.{Step}
 use Rattle.line.specs.declared.Step.the-variants.{Next, Stop}
-use Rattle.line.specs.Line.{longestLine, endsLine, stepping}
+use Rattle.form.specs.Form.{longestLine, endsLine}
+use Rattle.line.specs.Line.{stepping}
 use Rattle.sheet.specs.Sheet.{Account, linesOf, prefixed, ended, afterStep, textOf, waits, reading, leftIn, meaning}
 use Rattle.sheet.specs.Cut.{cut, firstLine}
 use Rattle.sheet.specs.Pieces.{joined, lastBytes, onward, feeding}
@@ -83,7 +84,7 @@ module _ (more : Bool) (text after : List ℕ) (s : Sheet) (some : 0 < length te
       let all : length text - length line ≡ 0 = omega (arith, waits-whole text w) in
       record { goes = rw (e, all); left = rw e (omega (arith, waits-whole text w)) }
 
-  cut-stops : {l : ℕ} {r : Refusal} → waits true line ≡ false → stepping s line ≡ Stop l r → Cut more text after s
+  cut-stops : {l k : ℕ} {r : Refusal} → waits true line ≡ false → stepping s line ≡ Stop l k r → Cut more text after s
   cut-stops w f = record { goes = rw (turn w, f) (sym (turn-after w ∙ rw f)); left = rw (turn w, f) (omega arith) }
 
   cut-next : {t : Sheet} → waits true line ≡ false → stepping s line ≡ Next t → Cut more rest after t → Cut more text after s
@@ -102,7 +103,7 @@ module _ (more : Bool) (text after : List ℕ) (s : Sheet) (some : 0 < length te
           let place : cut longestLine text + (length rest - n) ≡ length text - n = omega (arith, length-drop (cut longestLine text) text, cut-within longestLine text) in
           let kept : lastBytes n rest ≡ lastBytes n text = rw (drop-drop, place) in
           sym (ap (prefixed (textOf t)) (sym (rw (f, kept) at (c .goes))) ∙ rw append-assoc)
-      by-end (Stopped l r) f = ap (prefixed (textOf t)) (rw f at (c .goes))
+      by-end (Stopped l k r) f = ap (prefixed (textOf t)) (rw f at (c .goes))
       by-end (Read d) f = ap (prefixed (textOf t)) (rw f at (c .goes))
 
 -- a text of no bytes, or one with a line, from what holds of shorter texts
@@ -121,7 +122,7 @@ module _ (more : Bool) (after : List ℕ) where
 
       by-step : waits true (firstLine text) ≡ false → (step : Step) → stepping s (firstLine text) ≡ step → Cut more text after s
       by-step w (Next t) f = cut-next more text after s some w f (shorter _ t less)
-      by-step w (Stop l r) f = cut-stops more text after s some w f
+      by-step w (Stop l k r) f = cut-stops more text after s some w f
 
   cut-text : (n : ℕ) (text : List ℕ) (s : Sheet) → length text ≤ suc n → ((rest : List ℕ) (t : Sheet) → length rest ≤ n → Cut more rest after t) → Cut more text after s
   cut-text n [] s h shorter = cut-none s
@@ -142,7 +143,7 @@ one-cut more text after s = cuts more after (length text) text s (omega arith) .
 -- ---- the theorem, for any number of cuts
 onward-same : (a : Account) (e : Reading) (text : List ℕ) {go other : Sheet → List ℕ → Account} → ((s : Sheet) (kept : List ℕ) → go s kept ≡ other s kept) → onward a e text go ≡ onward a e text other
 onward-same a (Waiting s n) text h = ap (prefixed (a .text)) (h s (lastBytes n text))
-onward-same a (Stopped line r) text h = refl
+onward-same a (Stopped line column r) text h = refl
 onward-same a (Read c) text h = refl
 
 fed : (pieces : List (List ℕ)) (s : Sheet) (kept : List ℕ) → feeding pieces s kept ≡ reading false (linesOf (kept ++ joined pieces)) s

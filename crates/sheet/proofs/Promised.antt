@@ -8,7 +8,8 @@ use lib.ListN.{length}
 use borrow.Author.Tests.{le-leb, lt-leb}
 use Rattle.refusal.specs.declared.Refusal.the-variants.{BrokenState, Room}
 use Rattle.line.specs.declared.Sheet.{Sheet}
-use Rattle.line.specs.Line.{longestLine, soundSheet}
+use Rattle.form.specs.Form.{longestLine}
+use Rattle.line.specs.Line.{soundSheet}
 use Rattle.sheet.specs.declared.Ran.{Ran}
 use Rattle.sheet.specs.declared.Ran.the-variants.{Came, Refused}
 use Rattle.sheet.specs.declared.Reading.{Reading}

@@ -13,7 +13,8 @@ use Rattle.text.specs.Write.{laid, written}
 use Rattle.text.proofs.Laws.{laid-none, laid-join, length-written, written-fits}
 use Rattle.line.specs.declared.Sheet.{Sheet}
 use Rattle.line.specs.declared.Sheet.the-variants.{Fresh, Open}
-use Rattle.line.specs.Line.{longestLine, soundSheet}
+use Rattle.form.specs.Form.{longestLine}
+use Rattle.line.specs.Line.{soundSheet}
 use Rattle.reply.proofs.Few.{refused-few}
 use Rattle.sheet.specs.declared.Found.the-variants.{Taken}
 use Rattle.sheet.specs.declared.Reading.{Reading}
@@ -63,7 +64,7 @@ module _ {more : Bool} {text : List ℕ} {from : Sheet} {lent out : List ℕ} {s
         }
 
   -- the end of the rest is the end of the whole
-  pub running-end : {end : Reading} {later : List ℕ} {n : ℕ} → here more text at s ≡ ended end → length (endText end) ≤ 33 → (leftIn end ≤ length text) × (leftIn end < longestLine)
+  pub running-end : {end : Reading} {later : List ℕ} {n : ℕ} → here more text at s ≡ ended end → length (endText end) ≤ 35 → (leftIn end ≤ length text) × (leftIn end < longestLine)
       → (n ≡ put + length (endText end)) × (later ≡ written out put (endText end)) → Passed more text from lent end n later
   running-end {end} e few left (p, b) =
       let text-is = whole-text (r .along) e in
@@ -78,9 +79,9 @@ module _ {more : Bool} {text : List ℕ} {from : Sheet} {lent out : List ℕ} {s
       }
 
 -- an end has a short line, and leaves less than a line unread
-pub last-few : (more : Bool) (s : Sheet) → length (endText (lastOf more s)) ≤ 33
+pub last-few : (more : Bool) (s : Sheet) → length (endText (lastOf more s)) ≤ 35
 last-few true s = omega arith
-last-few false Fresh = refused-few 1 (Line 1) (omega arith)
+last-few false Fresh = refused-few 1 0 (Line 1) (omega arith) (omega arith)
 last-few false (Open c) = omega arith
 
 pub last-left : (more : Bool) (s : Sheet) → leftIn (lastOf more s) ≡ 0

@@ -19,6 +19,8 @@ use Rattle.line.specs.declared.Sheet.{Sheet}
 use Rattle.line.specs.declared.Sheet.the-variants.{Fresh, Open}
 use Rattle.line.specs.declared.Step.the-variants.{Next, Stop}
 use Rattle.line.specs.Line.{soundSheet, stepping, told}
+use Rattle.form.proofs.Columns.{standard-few}
+use Rattle.form.proofs.Columns.{record-few as column-few}
 use Rattle.line.proofs.Entries.{Entry, Opening, record-says, says-next, says-stop, standard-says}
 use Rattle.line.proofs.Theorems.{told-entered}
 use Rattle.reply.specs.Written.{recordText}
@@ -63,13 +65,17 @@ module _ (s : Sheet) (line : List ℕ) where
   step-led {t} g e = go s g e
     where
       go : (s : Sheet) → soundSheet s ≡ true → stepping s line ≡ Next t → Led s line t
-      go Fresh g e = opening-kept line t (says-next (standard-says line) e)
-      go (Open c) g e = entry-kept c line t (says-next (record-says c line) (rw g at e))
+      go Fresh g e = opening-kept line t (says-next (standard-says _ line (standard-few line)) e)
+      go (Open c) g e = entry-kept c line t (says-next (record-says _ c line (column-few (c .records + 1) line)) (rw g at e))
 
-  pub step-line : {l : ℕ} {r : Refusal} → soundSheet s ≡ true → stepping s line ≡ Stop l r → l < 10 ^ 20
+  pub step-line : {l k : ℕ} {r : Refusal} → soundSheet s ≡ true → stepping s line ≡ Stop l k r → (l < 10 ^ 20) × (k < 1000)
   unfolding stepping
-  step-line {l} {r} g e = go s g e
+  step-line {l} {k} {r} g e = go s g e
     where
-      go : (s : Sheet) → soundSheet s ≡ true → stepping s line ≡ Stop l r → l < 10 ^ 20
-      go Fresh g e = omega (arith, says-stop (standard-says line) e)
-      go (Open c) g e = omega (arith, says-stop (record-says c line) (rw g at e), kept-from c (holds g) .records)
+      go : (s : Sheet) → soundSheet s ≡ true → stepping s line ≡ Stop l k r → (l < 10 ^ 20) × (k < 1000)
+      go Fresh g e =
+          let (named, small) = says-stop (standard-says _ line (standard-few line)) e in
+          (omega arith, small)
+      go (Open c) g e =
+          let (named, small) = says-stop (record-says _ c line (column-few (c .records + 1) line)) (rw g at e) in
+          (omega (arith, kept-from c (holds g) .records), small)

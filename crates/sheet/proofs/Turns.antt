@@ -15,7 +15,8 @@ use Rattle.sheet.specs.declared.Reading.the-variants.{Stopped, Waiting}
 use Rattle.line.specs.declared.Sheet.{Sheet}
 use Rattle.line.specs.declared.Step.{Step}
 use Rattle.line.specs.declared.Step.the-variants.{Next, Stop}
-use Rattle.line.specs.Line.{endsLine, longestLine, soundSheet, stepping}
+use Rattle.form.specs.Form.{endsLine, longestLine}
+use Rattle.line.specs.Line.{soundSheet, stepping}
 use Rattle.sheet.specs.Sheet.{Account, linesOf, prefixed, ended, afterStep, textOf, waits, reading}
 use Rattle.sheet.specs.Cut.{firstLine, foundAt, found}
 use Rattle.sheet.proofs.Lines.{cut-within, cut-some, length-first, reading-turn}
@@ -25,19 +26,19 @@ use Rattle.sheet.proofs.Steps.{most, step-led, step-line}
 not-taken : {n : ℕ} {t : Sheet} {next : ℕ} → ¬ (Waits n ≡ Taken t next)
 not-taken e = let z : _≡_ {A = ℕ} 0 1 = cc in absurd (omega arith)
 
-not-taken′ : {l : ℕ} {r : Refusal} {t : Sheet} {next : ℕ} → ¬ (Bad l r ≡ Taken t next)
+not-taken′ : {l k : ℕ} {r : Refusal} {t : Sheet} {next : ℕ} → ¬ (Bad l k r ≡ Taken t next)
 not-taken′ e = let z : _≡_ {A = ℕ} 0 1 = cc in absurd (omega arith)
 
 not-waits : {t : Sheet} {next n : ℕ} → ¬ (Taken t next ≡ Waits n)
 not-waits e = let z : _≡_ {A = ℕ} 0 1 = cc in absurd (omega arith)
 
-not-waits′ : {l : ℕ} {r : Refusal} {n : ℕ} → ¬ (Bad l r ≡ Waits n)
+not-waits′ : {l k : ℕ} {r : Refusal} {n : ℕ} → ¬ (Bad l k r ≡ Waits n)
 not-waits′ e = let z : _≡_ {A = ℕ} 0 1 = cc in absurd (omega arith)
 
-not-bad : {n : ℕ} {l : ℕ} {r : Refusal} → ¬ (Waits n ≡ Bad l r)
+not-bad : {n l k : ℕ} {r : Refusal} → ¬ (Waits n ≡ Bad l k r)
 not-bad e = let z : _≡_ {A = ℕ} 0 1 = cc in absurd (omega arith)
 
-not-bad′ : {t : Sheet} {next : ℕ} {l : ℕ} {r : Refusal} → ¬ (Taken t next ≡ Bad l r)
+not-bad′ : {t : Sheet} {next l k : ℕ} {r : Refusal} → ¬ (Taken t next ≡ Bad l k r)
 not-bad′ e = let z : _≡_ {A = ℕ} 0 1 = cc in absurd (omega arith)
 
 module _ (more : Bool) (text : List ℕ) (at : ℕ) (s : Sheet) where
@@ -74,7 +75,7 @@ module _ (more : Bool) (text : List ℕ) (at : ℕ) (s : Sheet) where
       where
         go : (w : Bool) (step : Step) → waits more part ≡ w → stepping s part ≡ step → cond w (Waits (length part)) (foundAt (at + length part) step) ≡ Taken t next → Took t next
         go true step w f e = absurd (not-taken e)
-        go false (Stop l r) w f e = absurd (not-taken′ e)
+        go false (Stop l k r) w f e = absurd (not-taken′ e)
         go false (Next u) w f e =
             let sheet : u ≡ t = cc (e) in
             let place : at + length part ≡ next = cc (e) in
@@ -98,18 +99,20 @@ module _ (more : Bool) (text : List ℕ) (at : ℕ) (s : Sheet) where
             let open-line = and-true more (not (endsLine part) && ltb (length part) longestLine) w .1 in
             let short = ltb-true (length part) longestLine (and-true (not (endsLine part)) (ltb (length part) longestLine) open-line .1) in
             (turn ∙ rw (w, bytes), omega (arith, ends), omega arith)
-        go false (Stop l r) w f e = absurd (not-waits′ e)
+        go false (Stop l k r) w f e = absurd (not-waits′ e)
         go false (Next u) w f e = absurd (not-waits e)
 
-    pub found-bad : {l : ℕ} {r : Refusal} → soundSheet s ≡ true → found more text at s ≡ Bad l r → (here ≡ ended (Stopped l r)) × (l < 10 ^ 20)
+    pub found-bad : {l k : ℕ} {r : Refusal} → soundSheet s ≡ true → found more text at s ≡ Bad l k r → (here ≡ ended (Stopped l k r)) × (l < 10 ^ 20) × (k < 1000)
     unfolding found
-    found-bad {l} {r} g e = go (waits more part) (stepping s part) refl refl e
+    found-bad {l} {k} {r} g e = go (waits more part) (stepping s part) refl refl e
       where
-        go : (w : Bool) (step : Step) → waits more part ≡ w → stepping s part ≡ step → cond w (Waits (length part)) (foundAt (at + length part) step) ≡ Bad l r
-            → (here ≡ ended (Stopped l r)) × (l < 10 ^ 20)
+        go : (w : Bool) (step : Step) → waits more part ≡ w → stepping s part ≡ step → cond w (Waits (length part)) (foundAt (at + length part) step) ≡ Bad l k r
+            → (here ≡ ended (Stopped l k r)) × (l < 10 ^ 20) × (k < 1000)
         go true step w f e = absurd (not-bad e)
         go false (Next u) w f e = absurd (not-bad′ e)
-        go false (Stop k q) w f e =
-            let line : k ≡ l = cc (e) in
+        go false (Stop m n q) w f e =
+            let line : m ≡ l = cc (e) in
+            let column : n ≡ k = cc (e) in
             let why : q ≡ r = cc (e) in
-            (turn ∙ rw (w, f, line, why), step-line s part {l = l} {r = r} g (f ∙ rw (line, why)))
+            let small = step-line s part {l = l} {k = k} {r = r} g (f ∙ rw (line, column, why)) in
+            (turn ∙ rw (w, f, line, column, why), small .0, small .1)

@@ -16,7 +16,8 @@ use Rattle.sheet.specs.declared.Found.the-variants.{Taken, Waits, Bad}
 use Rattle.line.specs.declared.Sheet.{Sheet}
 use Rattle.line.specs.declared.Step.{Step}
 use Rattle.line.specs.declared.Step.the-variants.{Next, Stop}
-use Rattle.line.specs.Line.{longestLine, stepping}
+use Rattle.form.specs.Form.{longestLine}
+use Rattle.line.specs.Line.{stepping}
 use Rattle.sheet.specs.declared.Reading.{Reading}
 use Rattle.sheet.specs.Sheet.{leftIn, linesOf, reading, waits}
 
@@ -32,7 +33,7 @@ firstLine text = take (cut longestLine text) text
 
 abbrev pub foundAt : ℕ → Step → Found
 foundAt next (Next s) = Taken s next
-foundAt next (Stop line r) = Bad line r
+foundAt next (Stop line column r) = Bad line column r
 
 -- what stands at a place of a text: a line that waits, with its bytes, or that is taken, with the place behind it, or that is bad
 unfoldable pub found : Bool → List ℕ → ℕ → Sheet → Found

@@ -1,3 +1,4 @@
 pub mod Sheet
+pub mod Before
 pub mod Cut
 pub mod Pieces

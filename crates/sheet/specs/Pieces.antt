@@ -21,7 +21,7 @@ lastBytes n text = drop (length text - n) text
 -- how the reading of a text goes on, by its end: where it waits, with the bytes that it left unread; else it is over
 abbrev pub onward : Account → Reading → List ℕ → (Sheet → List ℕ → Account) → Account
 onward a (Waiting s n) text go = prefixed (a .text) (go s (lastBytes n text))
-onward a (Stopped line r) text go = a
+onward a (Stopped line column r) text go = a
 onward a (Read c) text go = a
 
 -- piece after piece, `kept` being the bytes of a line begun; behind the last piece the sheet ends

@@ -15,7 +15,8 @@ use Rattle.line.specs.declared.Sheet.{Sheet}
 use Rattle.line.specs.declared.Sheet.the-variants.{Fresh, Open}
 use Rattle.line.specs.declared.Step.{Step}
 use Rattle.line.specs.declared.Step.the-variants.{Next, Stop}
-use Rattle.line.specs.Line.{endsLine, longestLine, soundSheet, stepping}
+use Rattle.form.specs.Form.{endsLine, longestLine}
+use Rattle.line.specs.Line.{soundSheet, stepping}
 use Rattle.reply.specs.Written.{recordText, refusedText}
 
 -- ---- the lines of a text: each goes up to an LF and has it; what stands behind the last LF is a line too, without one
@@ -39,7 +40,7 @@ prefixed text a = record { text = text ++ a .text; end = a .end }
 
 -- at the first refusal the program writes the refused line and stops
 abbrev pub endText : Reading → List ℕ
-endText (Stopped line r) = refusedText line r
+endText (Stopped line column r) = refusedText line column r
 endText (Read c) = []
 endText (Waiting s left) = []
 
@@ -53,12 +54,12 @@ textOf (Open c) = recordText c
 
 abbrev pub afterStep : Step → (Sheet → Account) → Account
 afterStep (Next s) go = prefixed (textOf s) (go s)
-afterStep (Stop line r) go = ended (Stopped line r)
+afterStep (Stop line column r) go = ended (Stopped line column r)
 
 -- behind the last line: an absent line 1 is refusal 9; where more may follow the reading waits
 abbrev pub lastOf : Bool → Sheet → Reading
 lastOf true s = Waiting s 0
-lastOf false Fresh = Stopped 1 (Line 1)
+lastOf false Fresh = Stopped 1 0 (Line 1)
 lastOf false (Open c) = Read c
 
 -- where more may follow, a line without its LF waits for it, its bytes unread; not one that is as long as a line may be without it
@@ -76,7 +77,7 @@ meaning text = reading false (linesOf text) Fresh
 
 -- ---- what the readers of a lent text answer; a campaign that was never handed out is refusal 8
 unfoldable pub readingEnd : Bool → List ℕ → Sheet → Reading
-readingEnd more text s = cond (soundSheet s) (reading more (linesOf text) s .end) (Stopped 0 BrokenState)
+readingEnd more text s = cond (soundSheet s) (reading more (linesOf text) s .end) (Stopped 0 0 BrokenState)
 
 -- a run writes what its lines give: 8, 7 with the bytes needed; a refusal leaves the lent bytes as they were
 unfoldable pub running : Bool → List ℕ → Sheet → List ℕ → Ran
@@ -98,7 +99,7 @@ putBy (Refused r) = 0
 abbrev pub leftIn : Reading → ℕ
 leftIn (Waiting s left) = left
 leftIn (Read c) = 0
-leftIn (Stopped line r) = 0
+leftIn (Stopped line column r) = 0
 
 abbrev pub leftBy : Ran → ℕ
 leftBy (Came end put) = leftIn end

@@ -5,7 +5,8 @@ ghost use mathlib.Core.Bool.{true};
 ghost use Prim.Native.Nat.{_+_, _*_, _^_, _≤_, _<_, min};
 ghost use lib.ListN.{length, drop};
 ghost use Rattle.text.specs.Write.{written};
-ghost use Rattle.line.specs.Line.{longestLine, soundSheet};
+ghost use Rattle.form.specs.Form.{longestLine};
+ghost use Rattle.line.specs.Line.{soundSheet};
 ghost use Rattle.sheet.specs.Sheet.{endText, lastOf, leftBy, linesOf, putBy, reading, readingEnd, runLeft, running, textOf, waits};
 ghost use Rattle.sheet.specs.Cut.{Passed, behindOf, cut, found};
 use campaign::Campaign;
@@ -23,8 +24,8 @@ const LONGEST_LINE: usize = 64;
 pub enum Reading {
     // The whole sheet was read.
     Read(Campaign),
-    // The number of the first bad line, and its refusal.
-    Stopped(u64, Refusal),
+    // The number of the first bad line, the column of its fault or 0, and its refusal.
+    Stopped(u64, u64, Refusal),
     // Where the reading stands, and how many bytes at the piece's end are left unread.
     Waiting(Sheet, usize),
 }
@@ -41,8 +42,8 @@ enum Found {
     Taken(Sheet, usize),
     // The bytes of a line that waits for its LF.
     Waits(usize),
-    // A bad line's number, and its refusal.
-    Bad(u64, Refusal),
+    // A bad line's number, its column, and its refusal.
+    Bad(u64, u64, Refusal),
 }
 
 // The furthest that a line from `at` on can reach in `len` bytes.
@@ -96,11 +97,12 @@ fn find(s: Sheet, text: &[u8], at: usize, more: bool) -> Found
 {
     let end = line_end(text, at);
     if waits(more, &text[at..end]) {
-        return Found::Waits(end - at);
+        let bytes = end - at;
+        return Found::Waits(bytes);
     }
     match s.line(&text[at..end]) {
         Step::Next(t) => Found::Taken(t, end),
-        Step::Stop(line, r) => Found::Bad(line, r),
+        Step::Stop(line, column, r) => Found::Bad(line, column, r),
     }
 }
 
@@ -112,7 +114,7 @@ fn last(s: Sheet, more: bool) -> Reading
         return Reading::Waiting(s, 0);
     }
     match s {
-        Sheet::Fresh => Reading::Stopped(1, Refusal::Line(1)),
+        Sheet::Fresh => Reading::Stopped(1, 0, Refusal::Line(1)),
         Sheet::Open(c) => Reading::Read(c),
     }
 }
@@ -133,7 +135,7 @@ pub fn read(s: Sheet, text: &[u8], more: bool) -> Reading
     ensures { λ r. ⌜ r ≡ readingEnd more (now (text .entry)) s ⌝ }
 {
     if !sound(s) {
-        return Reading::Stopped(0, Refusal::BrokenState);
+        return Reading::Stopped(0, 0, Refusal::BrokenState);
     }
     let mut sheet = s;
     let mut at = 0;
@@ -146,8 +148,8 @@ pub fn read(s: Sheet, text: &[u8], more: bool) -> Reading
             Found::Waits(left) => {
                 return Reading::Waiting(sheet, left);
             }
-            Found::Bad(line, r) => {
-                return Reading::Stopped(line, r);
+            Found::Bad(line, column, r) => {
+                return Reading::Stopped(line, column, r);
             }
         }
     }
@@ -185,7 +187,10 @@ fn put_end(end: Reading, out: &mut [u8], at: usize) -> usize
 {
     match end {
         Reading::Read(_) => at,
-        Reading::Stopped(line, r) => behind(at, reply::write_refused(line, r, out, at)),
+        Reading::Stopped(line, column, r) => behind(
+            at,
+            reply::write_refused(line, column, r, out, at),
+        ),
         Reading::Waiting(_, _) => at,
     }
 }
@@ -217,10 +222,10 @@ fn pass(s: Sheet, text: &[u8], more: bool, out: &mut [u8]) -> End
                     put: put,
                 };
             }
-            Found::Bad(line, r) => {
-                let end = put_end(Reading::Stopped(line, r), out, put);
+            Found::Bad(line, column, r) => {
+                let end = put_end(Reading::Stopped(line, column, r), out, put);
                 return End {
-                    came: Reading::Stopped(line, r),
+                    came: Reading::Stopped(line, column, r),
                     put: end,
                 };
             }
@@ -236,12 +241,12 @@ fn pass(s: Sheet, text: &[u8], more: bool, out: &mut [u8]) -> End
 
 // Whether `len` bytes are room for anything that `n` bytes of text may give.
 fn has_any_room(len: usize, n: usize) -> bool
-    ensures { λ r. ⌜ (r ≡ true → 5 * n + 33 ≤ len) ⌝ }
+    ensures { λ r. ⌜ (r ≡ true → 5 * n + 35 ≤ len) ⌝ }
 {
-    if len < 33 {
+    if len < 35 {
         return false;
     }
-    n <= (len - 33) / 5
+    n <= (len - 35) / 5
 }
 
 // The bytes that are written for the lines of `text`.

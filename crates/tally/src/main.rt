@@ -5,7 +5,7 @@
 ghost use mathlib.Core.Path.{_≡_};
 ghost use Prim.Native.Nat.{_+_, _≤_, _<_};
 ghost use lib.ListN.{length, take, drop};
-ghost use Rattle.line.specs.Line.{longestLine};
+ghost use Rattle.form.specs.Form.{longestLine};
 ghost use Rattle.tally.specs.Kept.{keptBy};
 use libc::STDIN_FILENO;
 use libc::STDOUT_FILENO;
@@ -44,7 +44,7 @@ fn keep(text: &mut [u8], from: usize, count: usize)
 fn ended(reading: Reading) -> u8 {
     match reading {
         Reading::Read(_) => READ,
-        Reading::Stopped(_, _) => REFUSED,
+        Reading::Stopped(_, _, _) => REFUSED,
         Reading::Waiting(_, _) => FAILED,
     }
 }
@@ -104,10 +104,10 @@ fn serve(text: &mut [u8], out: &mut [u8]) -> u8
     FAILED
 }
 
-// `out` has room for whatever `text` may give: five bytes for each, and 33; so each turn is a single pass.
+// `out` has room for whatever `text` may give: five bytes for each, and 35; so each turn is a single pass.
 fn main() {
     let mut text = [0u8; 16384];
-    let mut out = [0u8; 81953];
+    let mut out = [0u8; 81955];
     let end = [serve(&mut text, &mut out); 1];
     io::write_all(END_FILENO, &end);
 }

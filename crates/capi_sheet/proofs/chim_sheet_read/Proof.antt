@@ -3,7 +3,7 @@ use mathlib.Core.Path.{ap, _∙_}
 use borrow.Author.Tests.{eq-eqb, ne-eqb}
 use Rattle.sheet.specs.Sheet.{meaning, readingEnd}
 use Rattle.capi.specs.Told.{campaignKept}
-use Rattle.capi_sheet.specs.Told.{answerOf, lineOf, sheetLine}
+use Rattle.capi_sheet.specs.Told.{answerOf, columnOf, lineOf, sheetColumn, sheetLine}
 use borrow.Author.Needs.{needs}
 use Rattle.capi_sheet.proofs.chim_sheet_read.Statement.{statement}
 use Rattle.capi_sheet.proofs.chim_sheet_read.Tie as tie
@@ -12,14 +12,19 @@ refuse-requires : tie.Need-refuse-requires
 refuse-requires c κs = search needs
 
 returns : tie.Need-returns
-unfolding campaignKept sheetLine
-returns c = (rw (ne-eqb _ _ (c .before .before .if1 .taken), c .refuse .ensures .0, c .refuse .ensures .1), rw (ne-eqb _ _ (c .before .before .if1 .taken)))
+unfolding campaignKept sheetLine sheetColumn
+returns c =
+    let other = ne-eqb _ _ (c .before .before .if1 .taken) in
+    (rw (other, c .refuse .ensures .0, c .refuse .ensures .1), (rw other, rw other))
 
 read-requires : tie.Need-read-requires
 read-requires c κs = search needs
 
 stopped-on-requires : tie.Need-stopped-on-requires
 stopped-on-requires c κs = search needs
+
+column-of-requires : tie.Need-column-of-requires
+column-of-requires c κs = search needs
 
 ended-requires : tie.Need-ended-requires
 ended-requires c κs = search needs
@@ -31,11 +36,14 @@ same-length : tie.Need-same-length
 same-length c = search needs
 
 returns-2 : tie.Need-returns-2
-unfolding sheetLine meaning readingEnd
+unfolding sheetLine sheetColumn meaning readingEnd
 returns-2 c =
-    let e = c .before .before .before .before .before .before .before .read .ensures in (
-      c .before .before .keep-campaign .ensures ∙ ap (λ a. campaignKept a (c .before .before .before .before .before .before .before .before .before .before .before .args .state .now)) (c .before .before .before .before .before .ended .ensures ∙ ap answerOf e),
-      rw (eq-eqb _ _ (c .before .before .before .before .before .before .before .before .if1 .left)) (c .before .before .before .before .before .before .stopped-on .ensures ∙ ap lineOf e),
+    let k = c .before .before in
+    let o = k .before .before .before .before in
+    let r = o .before .before in
+    let right = eq-eqb _ _ (r .before .if1 .left) in (
+      k .keep-campaign .ensures ∙ ap (λ a. campaignKept a (r .before .before .before .before .args .state .now)) (k .before .before .before .ended .ensures ∙ ap answerOf (r .read .ensures)),
+      (rw right (o .before .stopped-on .ensures ∙ ap lineOf (r .read .ensures)), rw right (o .column-of .ensures ∙ ap columnOf (r .read .ensures))),
     )
 
 pub chim-sheet-read-spec : {M : Type 1} → statement M
@@ -46,6 +54,7 @@ chim-sheet-read-spec =
     returns
     read-requires
     stopped-on-requires
+    column-of-requires
     ended-requires
     keep-campaign-requires
     same-length

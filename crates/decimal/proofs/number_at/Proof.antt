@@ -1,19 +1,18 @@
 -- `decimal::number_at` meets its contract. What the run of digits and the byte behind it make of the field is `Reading`'s law; each return
 -- has the tests that pick its case. Assumes nothing.
 use mathlib.Core.Path.{_≡_, sym, _∙_}
-use mathlib.Core.Bool.{cond, not, _&&_}
+use mathlib.Core.Bool.{true, false, not, _&&_}
 use mathlib.Core.List.{List}
 use Prim.Native.Nat.{ℕ, _+_, _<_}
 use native.Mathlib.Omega.{arith}
 use borrow.Author.Needs.{needs}
 use borrow.Author.Tests.{le-leb, lt-leb, lt-ltb, le-ltb, eq-eqb, ne-eqb, not-true, not-false}
 use lib.Dec.{leb, ltb, eqb}
-use lib.ListN.{length, getD}
+use lib.ListN.{length, getD, drop}
 use denote.Ref.{now}
-use Rattle.decimal.specs.Decimal.{zeroByte, valueOf}
-use Rattle.decimal.specs.Field.{fieldAt}
-use Rattle.decimal.specs.declared.Field.the-variants.{Number, Bad}
-use Rattle.decimal.proofs.Reading.{run, run-within, read-bad, read-ended}
+use Rattle.decimal.specs.Decimal.{zeroByte}
+use Rattle.decimal.specs.Field.{endsHere}
+use Rattle.decimal.proofs.Reading.{run, run-within, isOne, no-number, number-is, read-number}
 use Rattle.decimal.proofs.number_at.Statement.{statement}
 use Rattle.decimal.proofs.number_at.Tie as tie
 
@@ -23,12 +22,14 @@ run-at-requires c κs = search needs
 ended-requires : tie.Need-ended-requires
 ended-requires c κs = search needs
 
-returns : tie.Need-returns
-returns c =
+fault-at-requires : tie.Need-fault-at-requires
+fault-at-requires c κs =
     let a = c .before .before .before .before .args in
     let r = c .before .before .run-at in
-    sym
-    (read-bad (now (a .s)) (a .at) (r .result .end) (r .ensures .1) (sym (c .before .ended .ensures) ∙ not-true (c .before .ended .result) (c .if1 .taken)))
+    no-number (now (a .s)) (a .at) (r .result .end) (r .ensures .1) (sym (c .before .ended .ensures) ∙ not-true (c .before .ended .result) (c .if1 .taken))
+
+returns : tie.Need-returns
+returns c = search needs
 
 -- past the first test the field ends behind the run, and the run alone decides
 module _ (c : tie.Else1) where
@@ -41,49 +42,51 @@ module _ (c : tie.Else1) where
   abbrev End : ℕ
   End = c .before .before .run-at .result .end
 
-  abbrev Value : ℕ
-  Value = c .before .before .run-at .result .value
-
-  value : Value ≡ valueOf (run S At)
-  value = c .before .before .run-at .ensures .0
-
   end : End ≡ At + length (run S At)
   end = c .before .before .run-at .ensures .1
 
-  by-run : fieldAt S At ≡ cond (leb 1 (length (run S At)) && not (ltb 1 (length (run S At)) && eqb (getD S At 0) zeroByte)) (Number Value End) Bad
-  by-run =
-      read-ended S At Value End value end (sym (c .before .ended .ensures) ∙ not-false (c .before .ended .result) (c .if1 .left))
+  ends : endsHere (drop End S) ≡ true
+  ends = sym (c .before .ended .ensures) ∙ not-false (c .before .ended .result) (c .if1 .left)
 
-  none : End ≡ At → Bad ≡ fieldAt S At
-  none h = rw (by-run, lt-leb 1 (length (run S At)) (omega (arith, end)))
+  none : End ≡ At → isOne S At ≡ false
+  none h = number-is S At End end ends ∙ rw (lt-leb 1 (length (run S At)) (omega (arith, end)))
 
-  one : End ≡ At + 1 → Number Value End ≡ fieldAt S At
-  one h = rw (by-run, le-leb 1 (length (run S At)) (omega (arith, end)), le-ltb 1 (length (run S At)) (omega (arith, end)))
+  one : End ≡ At + 1 → isOne S At ≡ true
+  one h = number-is S At End end ends ∙ rw (le-leb 1 (length (run S At)) (omega (arith, end)), le-ltb 1 (length (run S At)) (omega (arith, end)))
 
-  more : At + 1 < End → fieldAt S At ≡ cond (not (eqb (getD S At 0) zeroByte)) (Number Value End) Bad
-  more h = rw (by-run, le-leb 1 (length (run S At)) (omega (arith, end)), lt-ltb 1 (length (run S At)) (omega (arith, end)))
+  more : At + 1 < End → isOne S At ≡ not (eqb (getD S At 0) zeroByte)
+  more h = number-is S At End end ends ∙ rw (le-leb 1 (length (run S At)) (omega (arith, end)), lt-ltb 1 (length (run S At)) (omega (arith, end)))
+
+fault-at-requires-2 : tie.Need-fault-at-requires-2
+fault-at-requires-2 c κs = none (c .before) (c .if2 .taken)
 
 returns-2 : tie.Need-returns-2
-returns-2 c = none (c .before) (c .if2 .taken)
+returns-2 c = search needs
 
 sub-if3 : tie.Need-sub-if3
 sub-if3 c = search needs
 
 returns-3 : tie.Need-returns-3
-returns-3 c = one (c .before .before) (omega arith)
+returns-3 c =
+    let d = c .before .before in
+    read-number (S d) (At d) (End d) (end d) (ends d) _ (d .before .before .run-at .ensures .0) (one d (omega arith))
 
 shared-slice-read-if4 : tie.Need-shared-slice-read-if4
 shared-slice-read-if4 c = let d = c .before .before .before in run-within (S d) (At d) (omega (arith, end d))
 
-returns-4 : tie.Need-returns-4
-returns-4 c =
+fault-at-requires-3 : tie.Need-fault-at-requires-3
+fault-at-requires-3 c κs =
     let d = c .before .before .before .before in
-    rw (more d (omega arith), eq-eqb (getD (S d) (At d) 0) zeroByte (c .if4 .taken))
+    more d (omega arith) ∙ rw (eq-eqb (getD (S d) (At d) 0) zeroByte (c .if4 .taken))
+
+returns-4 : tie.Need-returns-4
+returns-4 c = search needs
 
 returns-5 : tie.Need-returns-5
 returns-5 c =
     let d = c .before .before .before .before in
-    rw (more d (omega arith), ne-eqb (getD (S d) (At d) 0) zeroByte (c .if4 .left))
+    read-number (S d) (At d) (End d) (end d) (ends d) _ (d .before .before .run-at .ensures .0)
+    (more d (omega arith) ∙ rw (ne-eqb (getD (S d) (At d) 0) zeroByte (c .if4 .left)))
 
 pub number-at-spec : {M : Type 1} → statement M
 number-at-spec =
@@ -91,10 +94,13 @@ number-at-spec =
     (tie.spec
     run-at-requires
     ended-requires
+    fault-at-requires
     returns
+    fault-at-requires-2
     returns-2
     sub-if3
     returns-3
     shared-slice-read-if4
+    fault-at-requires-3
     returns-4
     returns-5)

@@ -1,12 +1,12 @@
--- `reply::put_refused` meets its contract: the word, then the two numbers. Assumes nothing.
+-- `reply::put_refused` meets its contract: the word, then the line's number and the reason. Assumes nothing.
 use mathlib.Core.List.{List, _++_}
 use Prim.Native.Nat.{ℕ}
 use mathlib.Core.Path.{_≡_}
 use denote.Ref.{now}
 use Rattle.refusal.specs.Numbers.{numberOf}
-use Rattle.decimal.specs.Field.{tab, lineFeed, fieldText}
+use Rattle.decimal.specs.Field.{tab, fieldText}
 use Rattle.text.proofs.Parts.{Left, left-all, left-next, left-fits, left-room, left-last}
-use Rattle.reply.specs.Written.{refusedWord, refusedText}
+use Rattle.reply.specs.Written.{reasonText, refusedWord, refusedText}
 use borrow.Author.Needs.{needs}
 use Rattle.reply.proofs.put_refused.Statement.{statement}
 use Rattle.reply.proofs.put_refused.Tie as tie
@@ -23,19 +23,19 @@ line-of c = c .before .before .before
 
 -- of the refused line so much is left, and the lent bytes are these
 abbrev Stands : tie.After-write-bytes → List ℕ → List ℕ → ℕ → Type 0
-Stands c rest out at = Left (now (start c .args .out)) (start c .args .at) (refusedText (start c .args .line) (start c .args .r)) rest out at
+Stands c rest out at = Left (now (start c .args .out)) (start c .args .at) (refusedText (start c .args .line) (start c .args .column) (start c .args .r)) rest out at
 
 abbrev Why : tie.After-write-bytes → List ℕ
-Why c = fieldText (numberOf (start c .args .r)) lineFeed
+Why c = reasonText (numberOf (start c .args .r)) (start c .args .column)
 
 left1 : (c : tie.After-write-bytes) → Stands c (fieldText (start c .args .line) tab ++ Why c) (c .write-bytes .last .1 .0) (c .write-bytes .result)
 unfolding refusedText
-left1 c = left-next refusedWord _ (left-all _ _ (refusedText (start c .args .line) (start c .args .r)) (start c .pre)) (c .write-bytes .ensures)
+left1 c = left-next refusedWord _ (left-all _ _ (refusedText (start c .args .line) (start c .args .column) (start c .args .r)) (start c .pre)) (c .write-bytes .ensures)
 
 left2 : (c : tie.After-put-field) → Stands (word-of c) (Why (word-of c)) (c .put-field .last .1 .1 .0) (c .put-field .result)
 left2 c = left-next (fieldText (start (word-of c) .args .line) tab) _ (left1 (word-of c)) (c .put-field .ensures)
 
-left3 : (c : tie.After-put-field) {n : ℕ} → n ≡ numberOf (start (word-of c) .args .r) → Stands (word-of c) (fieldText n lineFeed) (c .put-field .last .1 .1 .0) (c .put-field .result)
+left3 : (c : tie.After-put-field) {n : ℕ} → n ≡ numberOf (start (word-of c) .args .r) → Stands (word-of c) (reasonText n (start (word-of c) .args .column)) (c .put-field .last .1 .1 .0) (c .put-field .result)
 left3 c e = rw e (left2 c)
 
 slice-aggregate-write-bytes : tie.Need-slice-aggregate-write-bytes
@@ -51,8 +51,8 @@ put-field-requires c κs =
 number-requires : tie.Need-number-requires
 number-requires c κs = search needs
 
-put-field-requires-2 : tie.Need-put-field-requires-2
-put-field-requires-2 c κs = left-fits (left3 (line-of (c .before)) (c .before .number .ensures))
+put-reason-requires : tie.Need-put-reason-requires
+put-reason-requires c κs = left-fits (left3 (line-of (c .before)) (c .before .number .ensures))
 
 same-length : tie.Need-same-length
 same-length c = search needs
@@ -60,7 +60,7 @@ same-length c = search needs
 returns : tie.Need-returns
 returns c =
     let w = c .before .before .before .before in
-    left-last (left3 (line-of w) (w .number .ensures)) (c .before .before .put-field2 .ensures)
+    left-last (left3 (line-of w) (w .number .ensures)) (c .before .before .put-reason .ensures)
 
 pub put-refused-spec : {M : Type 1} → statement M
 put-refused-spec =
@@ -70,6 +70,6 @@ put-refused-spec =
     write-bytes-requires
     put-field-requires
     number-requires
-    put-field-requires-2
+    put-reason-requires
     same-length
     returns)

@@ -5,7 +5,8 @@ use Prim.Native.Nat.{ℕ, _+_, _-_, _≤_}
 use mathlib.Core.Path.{_≡_, sym, _∙_}
 use denote.Ref.{now}
 use mathlib.Core.List.{List}
-use Rattle.line.specs.Line.{longestLine, stepping}
+use Rattle.form.specs.Form.{longestLine}
+use Rattle.line.specs.Line.{stepping}
 use Rattle.sheet.specs.Sheet.{waits}
 use Rattle.sheet.specs.Cut.{cut, firstLine, found}
 use Rattle.sheet.proofs.Lines.{end-within, part-length, part-end, part-first}
@@ -50,8 +51,8 @@ part-waits-end c = within c
 waits-requires : tie.Need-waits-requires
 waits-requires c κs = search needs
 
-sub-t14 : tie.Need-sub-t14
-sub-t14 c = search needs
+sub-bytes : tie.Need-sub-bytes
+sub-bytes c = search needs
 
 returns : tie.Need-returns
 unfolding found
@@ -99,7 +100,7 @@ find-spec =
     part-waits-start
     part-waits-end
     waits-requires
-    sub-t14
+    sub-bytes
     returns
     sub-line
     part-line-start

@@ -10,7 +10,7 @@ returns : tie.Need-returns
 returns c = λ e. absurd (false≢true e)
 
 returns-2 : tie.Need-returns-2
-returns-2 c = λ e. omega (arith, leb-true (c .before .args .n) ((c .before .args .len - 33) / 5) e)
+returns-2 c = λ e. omega (arith, leb-true (c .before .args .n) ((c .before .args .len - 35) / 5) e)
 
 pub has-any-room-spec : {M : Type 1} → statement M
 has-any-room-spec = tie.close (tie.spec returns returns-2)

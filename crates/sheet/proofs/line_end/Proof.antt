@@ -7,7 +7,7 @@ use borrow.Author.Needs.{needs}
 use borrow.Author.Tests.{eq-eqb, ne-eqb}
 use lib.ListN.{drop}
 use denote.Ref.{now}
-use Rattle.line.specs.Line.{longestLine}
+use Rattle.form.specs.Form.{longestLine}
 use Rattle.sheet.specs.Cut.{cut}
 use Rattle.sheet.proofs.Lines.{reached, reached-start, reached-found, reached-on, reached-end}
 use Rattle.sheet.proofs.line_end.Statement.{statement}

@@ -95,7 +95,7 @@ put-end-requires : tie.Need-put-end-requires Inv-loop μ-loop
 put-end-requires c κs =
     let f = c .before .before .before .before in
     let b = found-bad _ _ _ _ (inside (f .before)) (loop-of f .loop .inv .along .sound) (found-is f ∙ c .before .before .line .given .1) in
-    omega (arith, few-so-far (loop-of f .loop .inv), refused-few (c .before .before .line .given .0 .0) (c .before .before .line .given .0 .1 .0) (b .1))
+    omega (arith, few-so-far (loop-of f .loop .inv), refused-few (c .before .before .line .given .0 .0) (c .before .before .line .given .0 .1 .0) (c .before .before .line .given .0 .1 .1 .0) (b .1) (b .2))
 
 same-length-2 : tie.Need-same-length-2 Inv-loop μ-loop
 same-length-2 c = c .before .before .put-end .kept .1 .0 ∙ loop-of (c .before .before .before .before .before .before .before) .loop .inv .size
@@ -105,7 +105,7 @@ returns-2 c =
     let l = c .before .before .before .before .before in
     let f = l .before .before in
     let b = found-bad _ _ _ _ (inside (f .before)) (loop-of f .loop .inv .along .sound) (found-is f ∙ l .line .given .1) in
-    running-end (loop-of f .loop .inv) (b .0) (refused-few _ _ (b .1)) (omega arith, omega arith) (c .before .before .put-end .ensures)
+    running-end (loop-of f .loop .inv) (b .0) (refused-few _ _ _ (b .1) (b .2)) (omega arith, omega arith) (c .before .before .put-end .ensures)
 
 last-requires : tie.Need-last-requires Inv-loop μ-loop
 last-requires c κs = search needs

@@ -19,7 +19,7 @@ abbrev start : tie.After-end → tie.Start
 start c = c .before .before .before
 
 place : (c : tie.After-write-refused) → let e = end-of c in
-    behindOf (start e .args .at) (c .write-refused .result) ≡ start e .args .at + length (refusedText (e .end .given .0 .0) (e .end .given .0 .1 .0))
+    behindOf (start e .args .at) (c .write-refused .result) ≡ start e .args .at + length (refusedText (e .end .given .0 .0) (e .end .given .0 .1 .0) (e .end .given .0 .1 .1 .0))
 place c = behind-writing (now (start (end-of c) .args .out)) (start (end-of c) .args .at) _ (c .write-refused .ensures .0)
 
 enum-told : tie.Need-enum-told

@@ -6,7 +6,7 @@ use native.Mathlib.Omega.{arith}
 use borrow.Author.Tests.{le-ltb, lt-ltb, not-true, not-false}
 use lib.ListN.{length, List·getD-eq-default}
 use denote.Ref.{now}
-use Rattle.line.specs.Line.{longestLine, endsLine}
+use Rattle.form.specs.Form.{longestLine, endsLine}
 use borrow.Author.Needs.{needs}
 use Rattle.sheet.proofs.waits.Statement.{statement}
 use Rattle.sheet.proofs.waits.Tie as tie

@@ -4,7 +4,7 @@ use mathlib.Core.Path.{_≡_, refl, _∙_}
 use native.Mathlib.Omega.{arith}
 use borrow.Author.Needs.{needs}
 use lib.ListN.{length}
-use Rattle.line.specs.Line.{longestLine}
+use Rattle.form.specs.Form.{longestLine}
 use Rattle.tally.proofs.serve.Statement.{statement}
 use Rattle.tally.proofs.serve.Tie as tie
 

@@ -6,7 +6,7 @@ use native.Mathlib.Omega.{arith}
 use lib.ListN.{length}
 use lib.Seq.{length-take-le}
 use denote.Ref.{now}
-use Rattle.line.specs.Line.{longestLine}
+use Rattle.form.specs.Form.{longestLine}
 use borrow.Author.Needs.{needs}
 use Rattle.tally.proofs.work.Statement.{statement}
 use Rattle.tally.proofs.work.Tie as tie

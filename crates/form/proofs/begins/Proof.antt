@@ -1,4 +1,4 @@
--- `line::begins` meets its contract. The invariant: what is left of the word begins what is left of the text exactly if the whole word begins
+-- `form::begins` meets its contract. The invariant: what is left of the word begins what is left of the text exactly if the whole word begins
 -- the whole text. What is left of the word falls. Assumes nothing.
 use Prim.Native.Nat.{ℕ, _+_, _-_, _≤_, _<_}
 use mathlib.Core.Path.{_≡_, sym, _∙_}
@@ -12,9 +12,9 @@ use lib.Dec.{eqb}
 use lib.ListN.{length, drop, getD, drop-of-length-le}
 use lib.Seq.{drop-cons}
 use denote.Ref.{now}
-use Rattle.line.specs.Line.{begins}
-use Rattle.line.proofs.begins.Statement.{statement}
-use Rattle.line.proofs.begins.Tie as tie
+use Rattle.form.specs.Form.{begins}
+use Rattle.form.proofs.begins.Statement.{statement}
+use Rattle.form.proofs.begins.Tie as tie
 
 module _ (text word : List ℕ) (i : ℕ) where
   turn : i < length word → i < length text

@@ -1,14 +1,14 @@
--- `line::is_line` meets its contract: no bytes have no last one, and the other tests are the definition's. Assumes nothing.
+-- `form::is_line` meets its contract: no bytes have no last one, and the other tests are the definition's. Assumes nothing.
 use Prim.Native.Nat.{_-_}
 use native.Mathlib.Omega.{arith}
 use mathlib.Core.Bool.{and-false}
 use borrow.Author.Tests.{le-leb, lt-leb}
 use lib.ListN.{List·getD-eq-default, length}
 use denote.Ref.{now}
-use Rattle.line.specs.Line.{longestLine}
+use Rattle.form.specs.Form.{longestLine}
 use borrow.Author.Needs.{needs}
-use Rattle.line.proofs.is_line.Statement.{statement}
-use Rattle.line.proofs.is_line.Tie as tie
+use Rattle.form.proofs.is_line.Statement.{statement}
+use Rattle.form.proofs.is_line.Tie as tie
 
 returns : tie.Need-returns
 returns c = rw (List·getD-eq-default (now (c .before .args .text)) 0 {n = length (now (c .before .args .text)) - 1} (omega arith), and-false)

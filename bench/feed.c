@@ -1,4 +1,5 @@
-/* Feeding 11,000,000 samples as one piece, beside plain C and a sum of the same slice: nanoseconds a sample, best of several runs. */
+/* Feeding samples as one piece, beside plain C and a sum of the same slice: nanoseconds a sample, best of several runs. 11,000,000 are the most that a
+   record takes, 44 MB; 100,000 stay in the processor's cache. */
 #include <stddef.h>
 #include <stdint.h>
 #include <stdio.h>
@@ -10,16 +11,39 @@
 uint64_t plain_feed(uint64_t step, uint64_t ramp, uint64_t level, uint64_t decorrelation, const int32_t *samples, size_t n,
                     uint64_t *crossings);
 int64_t plain_sum(const int32_t *samples, size_t n);
+size_t plain_first_bad(const int32_t *samples, size_t n);
 
-enum { SAMPLES = 11000000, RUNS = 15, STEP = 1, RAMP = 1000000, LEVEL = 40000, DECORRELATION = 5000 };
+enum { MOST = 11000000, FEW = 100000, LEVEL = 40000, DECORRELATION = 5000 };
+
+/* what a record is opened by */
+typedef struct {
+    uint64_t step, ramp;
+} Job;
 
 /* the failures counted in a record that is opened and fed as one piece; a number past any count for a refusal */
-static uint64_t counted(const int32_t *samples, size_t n) {
+static uint64_t counted(Job job, const int32_t *samples, size_t n) {
     uint64_t record[CHIM_RECORD_NUMBERS], carried;
-    if (chim_record_open(STEP, RAMP, LEVEL, DECORRELATION, record, CHIM_RECORD_NUMBERS, &carried) != CHIM_TAKEN ||
+    if (chim_record_open(job.step, job.ramp, LEVEL, DECORRELATION, record, CHIM_RECORD_NUMBERS, &carried) != CHIM_TAKEN ||
         chim_record_feed(record, CHIM_RECORD_NUMBERS, samples, n, &carried) != CHIM_TAKEN)
         return UINT64_MAX;
     return record[7];
+}
+
+static uint64_t plainly_counted(Job job, const int32_t *samples, size_t n) {
+    uint64_t crossings;
+    return plain_feed(job.step, job.ramp, LEVEL, DECORRELATION, samples, n, &crossings);
+}
+
+/* the place of the first bad sample as a piece's refusal carries it; the number of samples where a piece is refused for its length alone */
+static uint64_t bad(Job job, const int32_t *samples, size_t n) {
+    uint64_t record[CHIM_RECORD_NUMBERS], carried = 0;
+    chim_record_open(job.step, job.ramp, LEVEL, DECORRELATION, record, CHIM_RECORD_NUMBERS, &carried);
+    return chim_record_feed(record, CHIM_RECORD_NUMBERS, samples, n, &carried) == CHIM_SAMPLE ? carried : n;
+}
+
+static uint64_t plainly_bad(Job job, const int32_t *samples, size_t n) {
+    (void)job;
+    return plain_first_bad(samples, n);
 }
 
 static double now(void) {
@@ -29,46 +53,71 @@ static double now(void) {
 }
 
 /* a roll within 39 degrees, and above the level at every `every`-th sample (0: never) */
-static void fill(int32_t *samples, size_t every) {
+static void fill(int32_t *samples, size_t n, size_t every) {
     uint32_t seed = 12345;
-    for (size_t i = 0; i < SAMPLES; i++) {
+    for (size_t i = 0; i < n; i++) {
         seed = seed * 1664525u + 1013904223u;
         int32_t x = (int32_t)(seed >> 16) % 39000;
         samples[i] = every != 0 && i % every == every - 1 ? 41000 : (seed & 128 ? -x : x);
     }
 }
 
-int main(void) {
-    static const struct { const char *name; size_t every; } kinds[] = {
-        {"never above", 0}, {"every 100,000th", 100000}, {"every 1,000th", 1000}, {"every second", 2}};
-    int32_t *samples = malloc(SAMPLES * sizeof *samples);
-    if (samples == NULL)
-        return 1;
-    printf("%-16s %10s %10s %10s %12s %12s\n", "above the level", "feed", "plain C", "sum", "plain/feed", "feed/sum");
-    for (size_t k = 0; k < sizeof kinds / sizeof *kinds; k++) {
-        fill(samples, kinds[k].every);
-        double feed = 1e18, plain = 1e18, sum = 1e18;
-        volatile int64_t sink = 0;
-        for (int run = 0; run < RUNS; run++) {
-            uint64_t crossings = 0;
-            double t0 = now();
-            uint64_t ours = counted(samples, SAMPLES);
-            double t1 = now();
-            uint64_t theirs = plain_feed(STEP, RAMP, LEVEL, DECORRELATION, samples, SAMPLES, &crossings);
-            double t2 = now();
-            sink += plain_sum(samples, SAMPLES);
-            double t3 = now();
-            if (ours != theirs) {
-                printf("the counts differ: %llu and %llu\n", (unsigned long long)ours, (unsigned long long)theirs);
-                return 1;
-            }
-            if (t1 - t0 < feed) feed = t1 - t0;
-            if (t2 - t1 < plain) plain = t2 - t1;
-            if (t3 - t2 < sum) sum = t3 - t2;
+static void least(double *best, double t) {
+    if (t < *best)
+        *best = t;
+}
+
+/* a row: what the library and plain C take, and a sum; 1 if their answers differ */
+static int row(const char *name, Job job, const int32_t *samples, size_t n, uint64_t (*ours)(Job, const int32_t *, size_t),
+               uint64_t (*theirs)(Job, const int32_t *, size_t)) {
+    double library = 1e18, plain = 1e18, sum = 1e18;
+    volatile int64_t sink = 0;
+    for (int run = 0; run < (n < MOST ? 400 : 15); run++) {
+        double t0 = now();
+        uint64_t a = ours(job, samples, n);
+        double t1 = now();
+        uint64_t b = theirs(job, samples, n);
+        double t2 = now();
+        sink += plain_sum(samples, n);
+        double t3 = now();
+        if (a != b) {
+            printf("the answers differ: %llu and %llu\n", (unsigned long long)a, (unsigned long long)b);
+            return 1;
         }
-        printf("%-16s %7.3f ns %7.3f ns %7.3f ns %12.2f %12.2f\n", kinds[k].name, feed / SAMPLES, plain / SAMPLES, sum / SAMPLES, plain / feed,
-               feed / sum);
+        least(&library, t1 - t0);
+        least(&plain, t2 - t1);
+        least(&sum, t3 - t2);
+    }
+    printf("%-28s %7.3f ns %7.3f ns %7.3f ns %10.2f %10.2f\n", name, library / n, plain / n, sum / n, plain / library, library / sum);
+    return 0;
+}
+
+int main(void) {
+    static const struct {
+        const char *name;
+        size_t n, every;
+    } kinds[] = {{"11,000,000: never above", MOST, 0},      {"11,000,000: every 100,000th", MOST, 100000}, {"11,000,000: every 1,000th", MOST, 1000},
+                 {"11,000,000: every second", MOST, 2},     {"100,000: never above", FEW, 0},              {"100,000: every 10,000th", FEW, 10000},
+                 {"100,000: every 1,000th", FEW, 1000},     {"100,000: every second", FEW, 2}};
+    static const Job most = {1, 1000000}, few = {1, 0}, short_of_room = {1000, 0};
+    int32_t *samples = malloc((MOST + 2) * sizeof *samples);
+    int differ = samples == NULL;
+    printf("%-28s %10s %10s %10s %10s %10s\n", "samples: above the level", "feed", "plain C", "sum", "plain/feed", "feed/sum");
+    for (size_t k = 0; k < sizeof kinds / sizeof *kinds && !differ; k++) {
+        fill(samples, kinds[k].n, kinds[k].every);
+        differ = row(kinds[k].name, kinds[k].n < MOST ? few : most, samples, kinds[k].n, counted, plainly_counted);
+    }
+    printf("%-28s %10s %10s %10s %10s %10s\n", "samples: which is bad", "look", "plain C", "sum", "plain/look", "look/sum");
+    if (!differ) {
+        fill(samples, MOST + 2, 0);
+        samples[MOST - 1] = samples[FEW - 1] = 1000001;
+        differ = row("100,000: the last", few, samples, FEW, bad, plainly_bad);
+        samples[FEW - 1] = 0;
+        differ |= row("100,000: none, no room", short_of_room, samples, FEW, bad, plainly_bad);
+        differ |= row("11,000,000: the last", most, samples, MOST, bad, plainly_bad);
+        samples[MOST - 1] = 0;
+        differ |= row("11,000,002: none, no room", most, samples, MOST + 2, bad, plainly_bad);
     }
     free(samples);
-    return 0;
+    return differ;
 }

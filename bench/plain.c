@@ -54,6 +54,13 @@ size_t plain_search(const int32_t *samples, size_t n, uint64_t ramp, uint64_t le
     return n;
 }
 
+size_t plain_first_bad(const int32_t *samples, size_t n) {
+    for (size_t i = 0; i < n; i++)
+        if (samples[i] < -1000000 || samples[i] > 1000000)
+            return i;
+    return n;
+}
+
 int64_t plain_sum(const int32_t *samples, size_t n) {
     int64_t sum = 0;
     for (size_t i = 0; i < n; i++)

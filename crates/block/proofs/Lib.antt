@@ -1,3 +1,4 @@
 pub mod Cut
 pub mod Quiet
+pub mod Ends
 pub mod Unique

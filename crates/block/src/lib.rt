@@ -2,12 +2,16 @@
 // the level, and a pass over samples goes on behind it.
 ghost use mathlib.Core.Path.{_≡_};
 ghost use Prim.Native.Nat.{min};
+ghost use lib.IntN.{pos, negℤ};
 ghost use Rattle.block.specs.Block.{blockEnd, anyAbove};
 
 // Enough samples to be worth it, few enough that one above the level costs little.
 const BLOCK: usize = 256;
 
-const LARGEST: u64 = 4_294_967_295;
+// The ends of an i32.
+const LOWEST: i32 = -2_147_483_648;
+
+const HIGHEST: i32 = 2_147_483_647;
 
 // Where the block that starts at i ends, of n samples.
 pub fn end(i: usize, n: usize) -> usize
@@ -19,26 +23,40 @@ pub fn end(i: usize, n: usize) -> usize
     if n - BLOCK < i { n } else { i + BLOCK }
 }
 
-// The level, or the largest number of 32 bits: no magnitude is above either.
-fn narrow(level: u64) -> u32
-    ensures { λ r. ⌜ r ≡ min level 4294967295 ⌝ }
+// The lower end of what is at most the level, as far down as an i32 goes.
+fn lower_end(level: u64) -> i32
+    ensures { λ r. ⌜ r ≡ negℤ (pos (min level 2147483648)) ⌝ }
 {
-    if LARGEST < level {
-        LARGEST as u32
+    if 2_147_483_647 < level {
+        LOWEST
     } else {
-        level as u32
+        0 - (level as i32)
     }
 }
 
-// Whether a sample is above the level. It looks at every sample, and at 32 bits of each, which lets a machine take several at once.
+// The upper end.
+fn upper_end(level: u64) -> i32
+    ensures { λ r. ⌜ r ≡ pos (min level 2147483647) ⌝ }
+{
+    if 2_147_483_647 < level {
+        HIGHEST
+    } else {
+        level as i32
+    }
+}
+
+// Whether a sample is above the level: past one of two ends. It looks at every sample, and compares numbers of 32 bits, which lets a machine take several at
+// once.
 pub fn loud(level: u64, samples: &[i32]) -> bool
     ensures { λ r. ⌜ r ≡ anyAbove level (now (samples .entry)) ⌝ }
 {
-    let limit = narrow(level);
+    let low = lower_end(level);
+    let high = upper_end(level);
     let mut found = false;
     let mut i = 0;
     while i < samples.len() {
-        found = truth::either(found, limit < magnitude::magnitude(samples[i]));
+        let x = samples[i];
+        found = truth::either(found, truth::either(x < low, high < x));
         i += 1;
     }
     found

@@ -5,12 +5,14 @@ ghost use lib.ListN.{length};
 ghost use Rattle.range.specs.Range.{sampleInRange, firstBad};
 
 // Document 01, "Numbers a job may carry".
-pub const SAMPLE_LIMIT: u32 = 1_000_000;
+const LOWEST: i32 = -1_000_000;
+
+const HIGHEST: i32 = 1_000_000;
 
 pub fn in_range(x: i32) -> bool
     ensures { λ r. ⌜ r ≡ sampleInRange x ⌝ }
 {
-    magnitude::magnitude(x) <= SAMPLE_LIMIT
+    truth::both(LOWEST <= x, x <= HIGHEST)
 }
 
 // The place of the first sample outside its range, looked for one by one; the length if there is none.
@@ -35,7 +37,7 @@ pub fn first_bad(samples: &[i32]) -> usize
     while i < samples.len() {
         let end = block::end(i, samples.len());
         let part = &samples[i..end];
-        if block::loud(SAMPLE_LIMIT as u64, part) {
+        if block::loud(HIGHEST as u64, part) {
             let bad = first_of(part);
             return i + bad;
         }

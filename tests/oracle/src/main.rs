@@ -433,6 +433,36 @@ impl Bench {
         }
     }
 
+    /// A bad sample, or one just within the range, at the first and the last place of the first, a middle and the last block of a library that looks at
+    /// 256 samples at a time; in a piece, in a piece that there is no room for, and in a whole record.
+    fn ends(&mut self) {
+        let values = [i32::MIN, i32::MIN + 1, -SAMPLE - 1, -SAMPLE, SAMPLE, SAMPLE + 1, i32::MAX];
+        for n in [256, 257, 700, 768] {
+            for place in [0, 1, 254, 255, 256, 257, 511, 512, n - 1].into_iter().filter(|&place| place < n) {
+                for value in values {
+                    let mut samples = vec![0; n];
+                    samples[place] = value;
+                    for (items, step_back) in [([500, 0, 40_000, 0], 0), ([500, 3, 1_000_000, 0], 0), ([10_000, 0, 40_000, 0], 400)] {
+                        let mut state = vec![0; 10];
+                        self.record_open(items, &mut state);
+                        let before: Vec<i32> = vec![0; step_back];
+                        for _ in 0..step_back / 200 {
+                            self.record_feed(&mut state, &before);
+                        }
+                        self.record_feed(&mut state, &samples);
+                        self.record_list(items, &samples, 4);
+                        self.first_crossing(&samples, items[1], items[2]);
+                    }
+                }
+            }
+        }
+        for level in [0, 999_999, 1_000_000, 1_000_001, i32::MAX as u64 - 1, i32::MAX as u64, i32::MAX as u64 + 1, u64::MAX] {
+            for value in values {
+                self.first_crossing(&[0, value], 0, level);
+            }
+        }
+    }
+
     fn table(&mut self) {
         let outside = [65, 66, 1 << 32, (1 << 32) + 1, u64::MAX];
         for n in (0..=ROWS).chain(outside) {
@@ -448,6 +478,7 @@ fn main() {
     let rows = Rows::read(&std::fs::read_to_string(rows).expect("the rows"));
     let mut b = Bench { random: Random::new(1980), rows, cases: 0, met: BTreeMap::new(), verdicts: BTreeMap::new() };
     b.table();
+    b.ends();
     b.openings(10_000);
     b.records(15_000);
     b.listings(15_000);

@@ -10,10 +10,12 @@
  *   4    ending or listing with fewer than ramp + 2 samples; on a sheet exposure 0  0
  *   5    entering into a campaign of 100,000 records                            0
  *   6    entering into a campaign with 64 failures                              0
- *   7    more counted times than the lent slice has places                      the number of places needed
+ *   7    more counted times, or more peaks, than the lent slice has places      the number of places needed
  *   8    a state's array has another length, or numbers that are no state;      0
  *        a flag is neither 0 nor 1, or a result's exposure not 1 to 10,000,000
  *   9    a line of a job sheet is malformed                                     the line's number
+ *   16   a list of more than 4,096 peaks, or k outside 2 to its length          0
+ *   17   a peak is 0 or above 1,000,000                                         its place in the list, the first
  *
  * Where several hold, the first in the order that stands at the function is given.
  *
@@ -79,7 +81,9 @@ enum {
     CHIM_ROWS_USED_UP = 6,
     CHIM_ROOM = 7,
     CHIM_BROKEN_STATE = 8,
-    CHIM_LINE = 9
+    CHIM_LINE = 9,
+    CHIM_TAIL = 16,
+    CHIM_PEAK = 17
 };
 
 enum { CHIM_NO_RECORD = 0, CHIM_ACCEPT = 1, CHIM_REJECT = 2, CHIM_CONTINUE = 3 };
@@ -130,6 +134,13 @@ uint64_t chim_campaign_rates(const uint64_t *state, size_t state_len, double *es
  * first: the first strange byte of the first bad field, or that field's start; 0 where the line as a whole is at fault (absent, over 64 bytes, no LF, wrong
  * number of fields), and 0 for every other answer. */
 uint64_t chim_sheet_read(const uint8_t *text, size_t text_len, uint64_t *state, size_t state_len, uint64_t *line, uint64_t *column, uint64_t *carried);
+
+/* ---- the tail of a list of peaks, thousandths of a degree or mm/s2 */
+
+/* Writes the peaks sorted downwards, Y(1), Y(2), .., to the start of `sorted`, whose other places stay; *carried is the Hill sum over the k largest: the
+ * logarithms to base 2 of Y(i) / Y(k), i from 1 to k, added up in units of 1/65,536. Each is never above the exact figure and at most 1 below, so the sum
+ * is at most k - 1 below. Document 001's shape of the tail (11) is xi = sum * ln 2 / (65,536 * k). Refuses 16, 17, 7. */
+uint64_t chim_tail_fit(const uint32_t *peaks, size_t peaks_len, uint64_t k, uint32_t *sorted, size_t sorted_len, uint64_t *carried);
 
 /* ---- the quantile table, in millionths of an expected failure: row n from 1 to 64, and 0 for any other n */
 uint32_t chim_upper_row(uint64_t n);

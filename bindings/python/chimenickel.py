@@ -10,6 +10,7 @@ The library is looked for in the folder that CHIMENICKEL_LIB names, or else wher
 
 import ctypes
 import enum
+import math
 import os
 import pathlib
 from array import array
@@ -37,6 +38,7 @@ for _name, _result, _parameters in [
     ("chim_campaign_verdict", _u64, [_numbers, _size, _rate, _rate, _numbers]),
     ("chim_campaign_rates", _u64, [_numbers, _size, _rate, _rate, _rate, _numbers]),
     ("chim_sheet_read", _u64, [ctypes.c_char_p, _size, _numbers, _size, _numbers, _numbers, _numbers]),
+    ("chim_tail_fit", _u64, [_times, _size, _u64, _times, _size, _numbers]),
     ("chim_upper_row", ctypes.c_uint32, [_u64]),
     ("chim_lower_row", ctypes.c_uint32, [_u64]),
 ]:
@@ -45,7 +47,7 @@ for _name, _result, _parameters in [
 
 
 class Refusal(Exception):
-    """Why nothing was done: the refusal's number, from 1 to 9, and what it carries; for a job sheet also the line that it stands on, and the
+    """Why nothing was done: the refusal's number, and what it carries; for a job sheet also the line that it stands on, and the
     column where a malformed line is at fault (0 where the line as a whole is)."""
 
     MEANINGS = {
@@ -58,6 +60,8 @@ class Refusal(Exception):
         7: "{} places are needed",
         8: "the numbers are no state, or no result",
         9: "line {} is malformed",
+        16: "there are more than 4,096 peaks, or k is outside 2 to their number",
+        17: "the peak at place {} is 0 or above 1,000,000",
     }
 
     def __init__(self, number, carried):
@@ -269,6 +273,28 @@ class Campaign(_State):
         rates = [ctypes.c_double() for _ in range(3)]
         some = _ask(_lib.chim_campaign_rates, self._state, self.LENGTH, *map(ctypes.byref, rates))
         return Rates(*(rate.value for rate in rates)) if some else None
+
+
+class Tail(NamedTuple):
+    """A tail: the peaks sorted downwards, and the Hill sum over the k largest in units of 1/65,536."""
+
+    sorted: list
+    k: int
+    sum: int
+
+    def shape(self):
+        """The tail's shape by document 001, formula (11): the mean of the natural logarithms."""
+        return self.sum * math.log(2) / (65_536 * self.k)
+
+
+def fit_tail(peaks, k):
+    """The tail of the k largest of up to 4,096 peaks, each from 1 to 1,000,000."""
+    if any(not 0 <= peak < 1 << 32 for peak in peaks):
+        raise OverflowError("a peak is no 32-bit number")
+    n = len(peaks)
+    lent, after = (ctypes.c_uint32 * max(n, 1))(*peaks), (ctypes.c_uint32 * max(n, 1))()
+    total = _ask(_lib.chim_tail_fit, lent, n, _number(k), after, n)
+    return Tail(list(after), k, total)
 
 
 def upper_row(n):

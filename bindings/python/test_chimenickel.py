@@ -1,9 +1,10 @@
 """python3 -m unittest test_chimenickel, after bin/build-lib."""
 
+import math
 import unittest
 from array import array
 
-from chimenickel import Campaign, Case, Record, Refusal, counted_times, first_crossing, lower_row, upper_row
+from chimenickel import Campaign, Case, Record, Refusal, counted_times, first_crossing, fit_tail, lower_row, upper_row
 
 ITEMS = (500, 0, 40_000, 2_000)
 ROLL = [0, 41_000, 39_000, 41_000, 39_000, 41_000, 0]
@@ -101,6 +102,15 @@ class Records(unittest.TestCase):
         self.refused(8, 0, Record.from_numbers([(1 << 64) - 1] * 10).feed, [])
         self.refused(8, 0, Campaign.from_numbers([1, 1, 1, 1, 2]).verdict)
         self.assertEqual(Record.from_numbers(fed(ROLL).numbers).numbers, fed(ROLL).numbers)
+
+    def test_tail(self):
+        tail = fit_tail([1, 4, 2, 8], 3)
+        self.assertEqual((tail.sorted, tail.sum), ([8, 4, 2, 1], 3 * 65_536))
+        self.assertAlmostEqual(tail.shape(), math.log(2))
+        self.refused(16, 0, fit_tail, [1, 2], 3)
+        self.refused(16, 0, fit_tail, [], 0)
+        self.refused(17, 1, fit_tail, [1, 0, 1_000_001], 2)
+        self.assertRaises(OverflowError, fit_tail, [1, -1], 2)
 
     def test_rows(self):
         self.assertEqual((upper_row(1), lower_row(1), upper_row(0), lower_row(65)), (3_688_880, 25_317, 0, 0))

@@ -121,13 +121,36 @@ static void campaign(void) {
     }
 }
 
+/* a tail of any peaks, into a slice of any length: sorted downwards with the same sum, k figures of less than 20 whole units each, and nothing beyond */
+static void tail(void) {
+    enum { MOST = 64 };
+    uint32_t peaks[MOST], sorted[MOST + 1];
+    uint64_t k = number(1), places = number(1) % (MOST + 1), carried = 0, before = 0, after = 0;
+    size_t n = 0;
+    while (left > 0 && n < MOST)
+        peaks[n++] = (uint32_t)number(3) % 1048576;
+    memset(sorted, 0xa5, sizeof sorted);
+    uint64_t answer = chim_tail_fit(peaks, n, k, sorted, places, &carried);
+    size_t written = answer == CHIM_TAKEN ? n : 0;
+    hold(answer == CHIM_TAKEN || answer == CHIM_TAIL || (answer == CHIM_PEAK && carried < n) || (answer == CHIM_ROOM && carried == n && places < n));
+    hold(answer != CHIM_TAKEN || (k >= 2 && k <= n && n <= places && carried < k * 20 * 65536));
+    for (size_t i = written; i <= MOST; i++)
+        hold(sorted[i] == 0xa5a5a5a5);
+    for (size_t i = 0; i < written; i++) {
+        hold(i == 0 || sorted[i] <= sorted[i - 1]);
+        before += peaks[i], after += sorted[i];
+    }
+    hold(before == after);
+}
+
 int LLVMFuzzerTestOneInput(const uint8_t *data, size_t size) {
     in = data, left = size;
-    switch (number(1) % 4) {
+    switch (number(1) % 5) {
     case 0: sheet(); break;
     case 1: record(); break;
     case 2: list(); break;
     case 3: campaign(); break;
+    case 4: tail(); break;
     }
     return 0;
 }

@@ -37,6 +37,7 @@ extern "C" {
         column: *mut u64,
         carried: *mut u64,
     ) -> u64;
+    pub fn chim_tail_fit(peaks: *const u32, peaks_len: usize, k: u64, sorted: *mut u32, sorted_len: usize, carried: *mut u64) -> u64;
     pub fn chim_upper_row(n: u64) -> u32;
     pub fn chim_lower_row(n: u64) -> u32;
 }

@@ -48,10 +48,14 @@ pub enum Refusal {
     BrokenState,
     /// 9: a line of a job sheet is malformed; its number.
     Line(u64),
+    /// 16: more than 4,096 peaks, or a k outside 2 to their number.
+    Tail,
+    /// 17: a peak is 0 or above 1,000,000; its place in the list.
+    Peak(u64),
 }
 
 impl Refusal {
-    /// The refusal's number, from 1 to 9.
+    /// The refusal's number.
     pub fn number(self) -> u64 {
         match self {
             Refusal::Item(_) => 1,
@@ -63,6 +67,8 @@ impl Refusal {
             Refusal::Room(_) => 7,
             Refusal::BrokenState => 8,
             Refusal::Line(_) => 9,
+            Refusal::Tail => 16,
+            Refusal::Peak(_) => 17,
         }
     }
 
@@ -76,6 +82,8 @@ impl Refusal {
             6 => Refusal::RowsUsedUp,
             7 => Refusal::Room(carried),
             9 => Refusal::Line(carried),
+            16 => Refusal::Tail,
+            17 => Refusal::Peak(carried),
             _ => Refusal::BrokenState,
         }
     }
@@ -93,6 +101,8 @@ impl fmt::Display for Refusal {
             Refusal::Room(places) => write!(f, "{places} places are needed"),
             Refusal::BrokenState => write!(f, "the numbers are no state"),
             Refusal::Line(line) => write!(f, "line {line} of the sheet is malformed"),
+            Refusal::Tail => write!(f, "there are more than 4,096 peaks, or k is outside 2 to their number"),
+            Refusal::Peak(place) => write!(f, "the peak at place {place} is 0 or above 1,000,000"),
         }
     }
 }
@@ -343,6 +353,30 @@ impl Campaign {
     }
 }
 
+/// A tail: the peaks sorted downwards, and the Hill sum over the k largest in units of 1/65,536.
+#[derive(Clone, Debug, PartialEq, Eq)]
+pub struct Tail {
+    pub sorted: Vec<u32>,
+    pub k: u64,
+    pub sum: u64,
+}
+
+impl Tail {
+    /// Fits the k largest of up to 4,096 peaks, each from 1 to 1,000,000.
+    pub fn fit(peaks: &[u32], k: u64) -> Result<Tail, Refusal> {
+        let mut sorted = vec![0; peaks.len()];
+        let sum = answer(|carried| unsafe {
+            c::chim_tail_fit(peaks.as_ptr(), peaks.len(), k, sorted.as_mut_ptr(), sorted.len(), carried)
+        })?;
+        Ok(Tail { sorted, k, sum })
+    }
+
+    /// The tail's shape by document 001, formula (11): the mean of the natural logarithms.
+    pub fn shape(&self) -> f64 {
+        self.sum as f64 * std::f64::consts::LN_2 / (65_536.0 * self.k as f64)
+    }
+}
+
 /// Upper row n of the quantile table in millionths of an expected failure, for n from 1 to 64.
 pub fn upper_row(n: u64) -> Option<u32> {
     Some(unsafe { c::chim_upper_row(n) }).filter(|_| (1..=64).contains(&n))
@@ -437,6 +471,16 @@ mod tests {
         assert_eq!(Campaign::from_numbers([1, 1, 1, 1, 2]).verdict(), Err(Refusal::BrokenState));
         let stored = *fed(&ROLL).numbers();
         assert_eq!(Record::from_numbers(stored), fed(&ROLL));
+    }
+
+    #[test]
+    fn a_tail_is_sorted_and_summed() {
+        let tail = Tail::fit(&[1, 4, 2, 8], 3).unwrap();
+        assert_eq!((tail.sorted.as_slice(), tail.sum), (&[8, 4, 2, 1][..], 3 * 65_536));
+        assert!((tail.shape() - std::f64::consts::LN_2).abs() < 1e-12);
+        assert_eq!(Tail::fit(&[1, 2], 3), Err(Refusal::Tail));
+        assert_eq!(Tail::fit(&[1; 4_097], 2), Err(Refusal::Tail));
+        assert_eq!(Tail::fit(&[1, 0, 1_000_001], 2), Err(Refusal::Peak(1)));
     }
 
     #[test]

@@ -154,7 +154,7 @@ pub record Demand1 : Type 0 where
 
 -- ---- the proof
 -- what the tests decide, computed
-decide : {A : Type 0} → (Refusal → A) → List Test → A → A
+unfoldable pub decide : {A : Type 0} → (Refusal → A) → List Test → A → A
 decide refused [] x = x
 decide refused (t ∷ ts) x = cond (t .holds) (refused (t .gives)) (decide refused ts x)
 
@@ -178,7 +178,7 @@ module _ {A : Type 0} (refused : Refusal → A) (proper : A) (own : (r s : Refus
   answers [] end = refl
   answers (t ∷ ts) (not-it h n) = rw h (answers ts n)
 
-  decided : (ts : List Test) (x : A) → x ≡ decide refused ts proper → Decides refused ts proper x
+  pub decided : (ts : List Test) (x : A) → x ≡ decide refused ts proper → Decides refused ts proper x
   decided ts x e =
       record {
         refuses = λ r f. e ∙ refuses ts r f;
@@ -224,7 +224,7 @@ module _ (r s : Refusal) where
   own-count e = cc
 
 -- two numbers that are not equal, from two cases of an answer that are
-no : _≡_ {A = ℕ} 0 1 → ⊥
+pub no : _≡_ {A = ℕ} 0 1 → ⊥
 no e = omega arith
 
 some : (n : ℕ) → ¬ (n ≡ 0) → 1 ≤ n

@@ -3,3 +3,4 @@ pub mod Demand2
 pub mod Demand3
 pub mod Request4
 pub mod Stays
+pub mod Tail

@@ -1,16 +1,27 @@
 -- Two refusals with the same number and value are the same refusal, so a promise that settles both settles the refusal.
--- The eighty-one pairs of cases need no telling apart: `from` makes the refusal out of its number and value. Assumes nothing.
+-- The pairs of cases need no telling apart: `from` makes the refusal out of its number and value. Assumes nothing.
 use mathlib.Core.Path.{_≡_, refl, sym, _∙_}
-use mathlib.Core.List.{[], _∷_}
-use Prim.Native.Nat.{ℕ, pred}
-use lib.ListN.{getD}
+use mathlib.Core.Bool.{cond}
+use Prim.Native.Nat.{ℕ}
+use lib.Dec.{eqb}
 use Rattle.refusal.specs.declared.Refusal.{Refusal}
-use Rattle.refusal.specs.declared.Refusal.the-variants.{Item, Sample, TooLong, TooShort, CampaignFull, RowsUsedUp, Room, BrokenState, Line}
+use Rattle.refusal.specs.declared.Refusal.the-variants.{Item, Sample, TooLong, TooShort, CampaignFull, RowsUsedUp, Room, BrokenState, Line, Tail, Peak}
 use Rattle.refusal.specs.Numbers.{numberOf, valueOf}
 
--- the refusal of a number and a value, from the table's rows in order
+-- the refusal of a number and a value, row by row
 abbrev from : ℕ → ℕ → Refusal
-from n v = getD (Item v ∷ Sample v ∷ TooLong ∷ TooShort ∷ CampaignFull ∷ RowsUsedUp ∷ Room v ∷ BrokenState ∷ []) (pred n) (Line v)
+from n v =
+    cond (eqb n 1) (Item v)
+    (cond (eqb n 2) (Sample v)
+    (cond (eqb n 3) TooLong
+    (cond (eqb n 4) TooShort
+    (cond (eqb n 5) CampaignFull
+    (cond (eqb n 6) RowsUsedUp
+    (cond (eqb n 7) (Room v)
+    (cond (eqb n 8) BrokenState
+    (cond (eqb n 9) (Line v)
+    (cond (eqb n 16) Tail
+    (Peak v))))))))))
 
 from-own : (r : Refusal) → from (numberOf r) (valueOf r) ≡ r
 from-own (Item i) = refl
@@ -22,6 +33,8 @@ from-own RowsUsedUp = refl
 from-own (Room k) = refl
 from-own BrokenState = refl
 from-own (Line l) = refl
+from-own Tail = refl
+from-own (Peak p) = refl
 
 -- the two functions' promises settle their answers
 pub number-unique : (r : Refusal) (n m : ℕ) → n ≡ numberOf r → m ≡ numberOf r → n ≡ m

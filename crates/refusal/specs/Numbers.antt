@@ -1,7 +1,7 @@
--- Document 01, "Refusal numbers": the number of each refusal, and what is returned with it. Assumes nothing.
+-- Document 01, "Refusal numbers", and document 02: the number of each refusal, and what is returned with it. Assumes nothing.
 use Prim.Native.Nat.{ℕ}
 use Rattle.refusal.specs.declared.Refusal.{Refusal}
-use Rattle.refusal.specs.declared.Refusal.the-variants.{Item, Sample, TooLong, TooShort, CampaignFull, RowsUsedUp, Room, BrokenState, Line}
+use Rattle.refusal.specs.declared.Refusal.the-variants.{Item, Sample, TooLong, TooShort, CampaignFull, RowsUsedUp, Room, BrokenState, Line, Tail, Peak}
 
 -- the column "No."
 abbrev pub numberOf : Refusal → ℕ
@@ -14,6 +14,8 @@ numberOf RowsUsedUp = 6
 numberOf (Room k) = 7
 numberOf BrokenState = 8
 numberOf (Line l) = 9
+numberOf Tail = 16
+numberOf (Peak p) = 17
 
 -- the column "Returns with it": item number, place, number needed, line number; 0 stands for nothing
 abbrev pub valueOf : Refusal → ℕ
@@ -26,3 +28,5 @@ valueOf RowsUsedUp = 0
 valueOf (Room k) = k
 valueOf BrokenState = 0
 valueOf (Line l) = l
+valueOf Tail = 0
+valueOf (Peak p) = p

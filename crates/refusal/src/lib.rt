@@ -1,4 +1,4 @@
-// The refusals of document 01: a case for each of its refusal numbers, with what 01 returns beside the number.
+// The refusals of documents 01 and 02: a case for each of their refusal numbers, with what is returned beside the number.
 // An enum and no bare number, so that a refusal cannot be made without the value that belongs to it.
 ghost use mathlib.Core.Path.{_≡_};
 ghost use Rattle.refusal.specs.Numbers.{numberOf, valueOf};
@@ -22,9 +22,13 @@ pub enum Refusal {
     BrokenState,
     // 9: a sheet line is malformed; its line number.
     Line(u64),
+    // 16: a list of peaks is too long, or the tail asked for is not from 2 to its length.
+    Tail,
+    // 17: a peak is 0 or outside its range; the first such place in the list.
+    Peak(u64),
 }
 
-// 01's number of a refusal.
+// The number of a refusal.
 pub fn number(r: Refusal) -> u64
     ensures { λ n. ⌜ n ≡ numberOf r ⌝ }
 {
@@ -38,10 +42,12 @@ pub fn number(r: Refusal) -> u64
         Refusal::Room(_) => 7,
         Refusal::BrokenState => 8,
         Refusal::Line(_) => 9,
+        Refusal::Tail => 16,
+        Refusal::Peak(_) => 17,
     }
 }
 
-// What 01 returns with the number; 0 where it returns nothing.
+// What is returned with the number; 0 where nothing is.
 pub fn carried(r: Refusal) -> u64
     ensures { λ v. ⌜ v ≡ valueOf r ⌝ }
 {
@@ -50,10 +56,12 @@ pub fn carried(r: Refusal) -> u64
         Refusal::Sample(place) => place,
         Refusal::Room(needed) => needed,
         Refusal::Line(line) => line,
+        Refusal::Peak(place) => place,
         Refusal::TooLong => 0,
         Refusal::TooShort => 0,
         Refusal::CampaignFull => 0,
         Refusal::RowsUsedUp => 0,
         Refusal::BrokenState => 0,
+        Refusal::Tail => 0,
     }
 }

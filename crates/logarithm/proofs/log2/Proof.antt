@@ -1,0 +1,79 @@
+-- `logarithm::log2` meets its contract. The invariant of its loop is `After`: after i squarings the bits taken and the number left are the
+-- state of `Squaring` at 2 ^ i. The measure is what is left of the 16 turns. Assumes nothing.
+use mathlib.Core.Path.{refl}
+use Prim.Native.Nat.{_-_}
+use native.Mathlib.Omega.{arith}
+use borrow.Author.Needs.{needs}
+use lib.Dec.{lit<}
+use Rattle.logarithm.proofs.Figure.{equal-near}
+use Rattle.logarithm.proofs.Turn.{After, ends, figure-fits, square-cut, square-fits, starts, turn}
+use Rattle.logarithm.proofs.log2.Statement.{statement}
+use Rattle.logarithm.proofs.log2.Tie as tie
+
+abbrev Inv-loop : tie.InvT-loop
+Inv-loop a b m₀ x₀ i₀ m x i = After a b i m x
+
+abbrev μ-loop : tie.MeasureT-loop
+μ-loop a b m₀ x₀ i₀ m x i = 16 - i
+
+returns : tie.Need-returns Inv-loop μ-loop
+returns c = record { near = λ h l. absurd (omega arith); no-ratio = λ h. refl; below-one = λ h. refl; bound = lit< tt }
+
+returns-2 : tie.Need-returns-2 Inv-loop μ-loop
+returns-2 c = record { near = λ h l. equal-near _ _ h (omega arith); no-ratio = λ h. refl; below-one = λ h. refl; bound = lit< tt }
+
+scale-requires : tie.Need-scale-requires Inv-loop μ-loop
+scale-requires c κs = search needs
+
+loop-holds : tie.Need-loop-holds Inv-loop μ-loop
+loop-holds c = starts _ _ _ _ (c .scale .ensures)
+
+mul-square : tie.Need-mul-square Inv-loop μ-loop
+mul-square c = record { fits = square-fits _ _ _ _ _ (c .before .loop .inv) }
+
+pick-requires : tie.Need-pick-requires Inv-loop μ-loop
+pick-requires c κs = search needs
+
+mul-m : tie.Need-mul-m Inv-loop μ-loop
+mul-m c = omega (arith, figure-fits _ _ _ _ _ (c .before .before .loop .inv))
+
+add-m : tie.Need-add-m Inv-loop μ-loop
+add-m c = omega (arith, figure-fits _ _ _ _ _ (c .before .before .loop .inv), square-cut _ _ _ _ _ (c .before .before .loop .inv) .bit)
+
+add-i : tie.Need-add-i Inv-loop μ-loop
+add-i c = omega arith
+
+loop-less : tie.Need-loop-less Inv-loop μ-loop
+loop-less c = omega arith
+
+loop-again : tie.Need-loop-again Inv-loop μ-loop
+loop-again c = rw (c .pick .ensures) (turn _ _ _ _ _ (c .before .before .loop .inv) (omega arith))
+
+returns-3 : tie.Need-returns-3 Inv-loop μ-loop
+returns-3 c =
+    let s = c .before .loop .inv in
+    record {
+      near = λ h l. ends _ _ _ _ _ s (omega arith) (omega arith);
+      no-ratio = λ h. absurd (omega arith);
+      below-one = λ h. absurd (omega arith);
+      bound = figure-fits _ _ _ _ _ s;
+    }
+
+pub log2-spec : {M : Type 1} → statement M
+log2-spec =
+    tie.close
+    (tie.spec
+    Inv-loop
+    μ-loop
+    returns
+    returns-2
+    scale-requires
+    loop-holds
+    mul-square
+    pick-requires
+    mul-m
+    add-m
+    add-i
+    loop-less
+    loop-again
+    returns-3)

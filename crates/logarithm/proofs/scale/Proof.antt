@@ -1,0 +1,93 @@
+-- `logarithm::scale` meets its contract: both values fit 32 bits once shifted, so no shift loses a bit, and `Scaling` has the quotient of
+-- the two cases. Assumes nothing.
+use Prim.Native.Nat.{_-_, _*_, _^_}
+use native.Mathlib.Nat.{mod-eq-of-lt}
+use native.Mathlib.Omega.{arith}
+use borrow.Author.Needs.{needs}
+use Rattle.logarithm.proofs.Scaling.{quotient, shift-below, shift-less}
+use Rattle.logarithm.proofs.scale.Statement.{statement}
+use Rattle.logarithm.proofs.scale.Tie as tie
+
+shift-requires : tie.Need-shift-requires
+shift-requires c κs = search needs
+
+shift-requires-2 : tie.Need-shift-requires-2
+shift-requires-2 c κs = search needs
+
+cast-top : tie.Need-cast-top
+cast-top c = search needs
+
+shl-top : tie.Need-shl-top
+shl-top c = search needs
+
+cast-bottom : tie.Need-cast-bottom
+cast-bottom c = search needs
+
+shl-bottom : tie.Need-shl-bottom
+shl-bottom c = search needs
+
+sub-whole : tie.Need-sub-whole
+sub-whole c =
+    let a = c .before .before .args in
+    let y = c .before .shift in
+    let z = c .shift2 in
+    shift-less (a .a) (a .b) (y .result) (z .result) (omega arith) (z .ensures .0) (y .ensures .1)
+
+cast-whole : tie.Need-cast-whole
+cast-whole c = search needs
+
+sub-t12 : tie.Need-sub-t12
+sub-t12 c =
+    let a = c .before .before .before .args in
+    let l = shift-below (a .a) (a .b) (c .before .before .shift .result) (c .before .shift2 .result) (omega arith) (omega arith) in
+    omega arith
+
+div-t14 : tie.Need-div-t14
+div-t14 c = search needs
+
+returns : tie.Need-returns
+returns c =
+    let a = c .before .before .before .args in
+    let y = c .before .before .shift .result in
+    let z = c .before .shift2 .result in
+    let l = shift-below (a .a) (a .b) y z (omega arith) (omega arith) in
+    rw (
+      mod-eq-of-lt {n = a .a * 2 ^ y} {m = 2 ^ 64} (omega arith),
+      mod-eq-of-lt {n = a .a * 2 ^ y * 4294967296} {m = 2 ^ 64} (omega arith),
+      mod-eq-of-lt {n = a .b * 2 ^ z} {m = 2 ^ 64} (omega arith),
+    )
+    (quotient (a .a) (a .b) y z 1 (z - y - 1) (omega arith) (omega arith) (omega arith) (omega arith) (omega arith))
+
+div-t9 : tie.Need-div-t9
+div-t9 c = search needs
+
+returns-2 : tie.Need-returns-2
+returns-2 c =
+    let a = c .before .before .before .args in
+    let y = c .before .before .shift .result in
+    let z = c .before .shift2 .result in
+    let l = shift-less (a .a) (a .b) y z (omega arith) (c .before .shift2 .ensures .0) (c .before .before .shift .ensures .1) in
+    rw (
+      mod-eq-of-lt {n = a .a * 2 ^ y} {m = 2 ^ 64} (omega arith),
+      mod-eq-of-lt {n = a .a * 2 ^ y * 2147483648} {m = 2 ^ 64} (omega arith),
+      mod-eq-of-lt {n = a .b * 2 ^ z} {m = 2 ^ 64} (omega arith),
+    )
+    (quotient (a .a) (a .b) y z 0 (z - y) (omega arith) (omega arith) (omega arith) (omega arith) (omega arith))
+
+pub scale-spec : {M : Type 1} → statement M
+scale-spec =
+    tie.close
+    (tie.spec
+    shift-requires
+    shift-requires-2
+    cast-top
+    shl-top
+    cast-bottom
+    shl-bottom
+    sub-whole
+    cast-whole
+    sub-t12
+    div-t14
+    returns
+    div-t9
+    returns-2)

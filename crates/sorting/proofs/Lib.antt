@@ -1,0 +1,4 @@
+pub mod Extracting
+pub mod Sifting
+pub mod Swapping
+pub mod Unique

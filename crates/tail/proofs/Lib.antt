@@ -1,0 +1,4 @@
+pub mod Bad
+pub mod Order
+pub mod Summing
+pub mod Unique

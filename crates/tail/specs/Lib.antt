@@ -1,0 +1,2 @@
+pub mod Hill
+pub mod Fitting

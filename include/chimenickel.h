@@ -14,6 +14,9 @@
  *   8    a state's array has another length, or numbers that are no state;      0
  *        a flag is neither 0 nor 1, or a result's exposure not 1 to 10,000,000
  *   9    a line of a job sheet is malformed                                     the line's number
+ *   13   a bureau other than 1 or 2                                             0
+ *   14   taking a job for a bureau that has 16 already                          0
+ *   15   a place that is not in the table, or not the bureau's own              0
  *   16   a list of more than 4,096 peaks, or k outside 2 to its length          0
  *   17   a peak is 0 or above 1,000,000                                         its place in the list, the first
  *
@@ -66,7 +69,7 @@
 extern "C" {
 #endif
 
-enum { CHIM_RECORD_NUMBERS = 10, CHIM_RESULT_NUMBERS = 4, CHIM_CAMPAIGN_NUMBERS = 5 };
+enum { CHIM_RECORD_NUMBERS = 10, CHIM_RESULT_NUMBERS = 4, CHIM_CAMPAIGN_NUMBERS = 5, CHIM_BENCH_PLACES = 32, CHIM_PLACE_NUMBERS = 6 };
 
 /* The places of a result. */
 enum { CHIM_CROSSINGS = 0, CHIM_COUNTED = 1, CHIM_FIRST = 2, CHIM_EXPOSURE = 3 };
@@ -82,6 +85,9 @@ enum {
     CHIM_ROOM = 7,
     CHIM_BROKEN_STATE = 8,
     CHIM_LINE = 9,
+    CHIM_NO_BUREAU = 13,
+    CHIM_BUREAU_FULL = 14,
+    CHIM_NOT_ITS_OWN = 15,
     CHIM_TAIL = 16,
     CHIM_PEAK = 17
 };
@@ -126,6 +132,31 @@ uint64_t chim_campaign_verdict(const uint64_t *state, size_t state_len, double *
 
 /* The estimate of the rate and its 95% bounds; *carried is 1, and 0 while there is no record, when the rates are 0. Refuses 8. */
 uint64_t chim_campaign_rates(const uint64_t *state, size_t state_len, double *estimate, double *lower, double *upper, uint64_t *carried);
+
+/* ---- the bench: one table of 32 places that bureaus 1 and 2 share
+ *
+ * A table is 32 rows of six numbers, 192 in all: the owner (0 free, 1 or 2), then the five of its campaign, all zeros where the place is free. 192 zeros are an
+ * empty bench: uint64_t table[CHIM_BENCH_PLACES][CHIM_PLACE_NUMBERS] = {{0}}. table_len is the number of rows, 32. Each function refuses 8 first of all, for a table of another length or one that breaks these relations (at most 16 places a bureau, every
+ * campaign sound), and 13. Whatever calls the other bureau makes in between, a bureau is answered as at a table of its own; only which place it gets depends
+ * on both. Two calls at one table must not run at the same time. */
+
+/* Takes a job at this standard: *carried is its place, the lowest that is free, which holds a campaign without a record then. Refuses 8, 13, 14, 1 with item 5. */
+uint64_t chim_bench_take(uint64_t (*table)[6], size_t table_len, uint64_t bureau, uint64_t standard, uint64_t *carried);
+
+/* Enters a result as chim_campaign_enter does, into the campaign in the bureau's place. Refuses 8, 13, 15, 8 (the flag or the exposure), 5, 6. */
+uint64_t chim_bench_enter(uint64_t (*table)[6], size_t table_len, uint64_t bureau, uint64_t place, uint64_t failed, uint64_t exposure,
+                          uint64_t *carried);
+
+/* What chim_campaign_verdict tells, of the campaign in the bureau's place. Refuses 8, 13, 15. */
+uint64_t chim_bench_verdict(uint64_t (*table)[6], size_t table_len, uint64_t bureau, uint64_t place, double *lower, double *upper,
+                            uint64_t *carried);
+
+/* What chim_campaign_rates tells, of the campaign in the bureau's place. Refuses 8, 13, 15. */
+uint64_t chim_bench_rates(uint64_t (*table)[6], size_t table_len, uint64_t bureau, uint64_t place, double *estimate, double *lower,
+                          double *upper, uint64_t *carried);
+
+/* Gives the bureau's place back: it is free and all zeros then. Refuses 8, 13, 15. */
+uint64_t chim_bench_give_back(uint64_t (*table)[6], size_t table_len, uint64_t bureau, uint64_t place, uint64_t *carried);
 
 /* ---- a job sheet: `text` is the whole of it, as bin/tally reads it */
 

@@ -25,6 +25,8 @@ _samples = ctypes.POINTER(ctypes.c_int32)
 _times = ctypes.POINTER(ctypes.c_uint32)
 _rate = ctypes.POINTER(ctypes.c_double)
 _size = ctypes.c_size_t
+_row = ctypes.c_uint64 * 6
+_rows = ctypes.POINTER(_row)
 
 for _name, _result, _parameters in [
     ("chim_record_open", _u64, [_u64, _u64, _u64, _u64, _numbers, _size, _numbers]),
@@ -38,6 +40,11 @@ for _name, _result, _parameters in [
     ("chim_campaign_verdict", _u64, [_numbers, _size, _rate, _rate, _numbers]),
     ("chim_campaign_rates", _u64, [_numbers, _size, _rate, _rate, _rate, _numbers]),
     ("chim_sheet_read", _u64, [ctypes.c_char_p, _size, _numbers, _size, _numbers, _numbers, _numbers]),
+    ("chim_bench_take", _u64, [_rows, _size, _u64, _u64, _numbers]),
+    ("chim_bench_enter", _u64, [_rows, _size, _u64, _u64, _u64, _u64, _numbers]),
+    ("chim_bench_verdict", _u64, [_rows, _size, _u64, _u64, _rate, _rate, _numbers]),
+    ("chim_bench_rates", _u64, [_rows, _size, _u64, _u64, _rate, _rate, _rate, _numbers]),
+    ("chim_bench_give_back", _u64, [_rows, _size, _u64, _u64, _numbers]),
     ("chim_tail_fit", _u64, [_times, _size, _u64, _times, _size, _numbers]),
     ("chim_upper_row", ctypes.c_uint32, [_u64]),
     ("chim_lower_row", ctypes.c_uint32, [_u64]),
@@ -60,6 +67,9 @@ class Refusal(Exception):
         7: "{} places are needed",
         8: "the numbers are no state, or no result",
         9: "line {} is malformed",
+        13: "there is no such bureau",
+        14: "the bureau has 16 jobs",
+        15: "the place is not the bureau's own",
         16: "there are more than 4,096 peaks, or k is outside 2 to their number",
         17: "the peak at place {} is 0 or above 1,000,000",
     }
@@ -219,6 +229,22 @@ class Rates(NamedTuple):
     upper: float
 
 
+def _judged(function, *arguments):
+    lower, upper = ctypes.c_double(), ctypes.c_double()
+    case = Case(_ask(function, *arguments, ctypes.byref(lower), ctypes.byref(upper)))
+    return Verdict(
+        case,
+        lower.value if case in (Case.REJECT, Case.CONTINUE) else None,
+        upper.value if case in (Case.ACCEPT, Case.CONTINUE) else None,
+    )
+
+
+def _rated(function, *arguments):
+    rates = [ctypes.c_double() for _ in range(3)]
+    some = _ask(function, *arguments, *map(ctypes.byref, rates))
+    return Rates(*(rate.value for rate in rates)) if some else None
+
+
 class Campaign(_State):
     """Many records, at the standard of one failure in so many ms, 1 to 100,000,000,000."""
 
@@ -260,19 +286,54 @@ class Campaign(_State):
         return _ask(_lib.chim_campaign_censored, self._state, self.LENGTH)
 
     def verdict(self):
-        lower, upper = ctypes.c_double(), ctypes.c_double()
-        case = Case(_ask(_lib.chim_campaign_verdict, self._state, self.LENGTH, ctypes.byref(lower), ctypes.byref(upper)))
-        return Verdict(
-            case,
-            lower.value if case in (Case.REJECT, Case.CONTINUE) else None,
-            upper.value if case in (Case.ACCEPT, Case.CONTINUE) else None,
-        )
+        return _judged(_lib.chim_campaign_verdict, self._state, self.LENGTH)
 
     def rates(self):
         """The estimate and its 95% bounds; None while there is no record."""
-        rates = [ctypes.c_double() for _ in range(3)]
-        some = _ask(_lib.chim_campaign_rates, self._state, self.LENGTH, *map(ctypes.byref, rates))
-        return Rates(*(rate.value for rate in rates)) if some else None
+        return _rated(_lib.chim_campaign_rates, self._state, self.LENGTH)
+
+
+class Bench:
+    """One table of 32 places that bureaus 1 and 2 share, at most 16 jobs each. Each bureau is answered as at a table of its own."""
+
+    PLACES = 32
+
+    def __init__(self):
+        self._table = (_row * self.PLACES)()
+
+    @classmethod
+    def from_numbers(cls, numbers):
+        """A stored table, 32 rows of six numbers; numbers that are no table are refused at their first use."""
+        if len(numbers) != cls.PLACES or any(len(row) != 6 for row in numbers):
+            raise Refusal(8, 0)
+        bench = cls()
+        for i, row in enumerate(numbers):
+            bench._table[i] = _row(*map(_number, row))
+        return bench
+
+    @property
+    def numbers(self):
+        """The table, to be stored: for each place its owner, 0 if it is free, and the five numbers of its campaign."""
+        return [list(row) for row in self._table]
+
+    def take(self, bureau, standard):
+        """A job at this standard: its place, the lowest that is free."""
+        return _ask(_lib.chim_bench_take, self._table, self.PLACES, _number(bureau), _number(standard))
+
+    def enter(self, bureau, place, failed, exposure):
+        """Enters a result as Campaign.enter does, into the campaign in the bureau's place."""
+        _ask(_lib.chim_bench_enter, self._table, self.PLACES, _number(bureau), _number(place), int(bool(failed)), _number(exposure))
+
+    def verdict(self, bureau, place):
+        return _judged(_lib.chim_bench_verdict, self._table, self.PLACES, _number(bureau), _number(place))
+
+    def rates(self, bureau, place):
+        """The estimate and its 95% bounds; None while there is no record."""
+        return _rated(_lib.chim_bench_rates, self._table, self.PLACES, _number(bureau), _number(place))
+
+    def give_back(self, bureau, place):
+        """The place is free again."""
+        _ask(_lib.chim_bench_give_back, self._table, self.PLACES, _number(bureau), _number(place))
 
 
 class Tail(NamedTuple):

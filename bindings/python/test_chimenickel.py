@@ -4,7 +4,7 @@ import math
 import unittest
 from array import array
 
-from chimenickel import Campaign, Case, Record, Refusal, counted_times, first_crossing, fit_tail, lower_row, upper_row
+from chimenickel import Bench, Campaign, Case, Record, Refusal, counted_times, first_crossing, fit_tail, lower_row, upper_row
 
 ITEMS = (500, 0, 40_000, 2_000)
 ROLL = [0, 41_000, 39_000, 41_000, 39_000, 41_000, 0]
@@ -102,6 +102,28 @@ class Records(unittest.TestCase):
         self.refused(8, 0, Record.from_numbers([(1 << 64) - 1] * 10).feed, [])
         self.refused(8, 0, Campaign.from_numbers([1, 1, 1, 1, 2]).verdict)
         self.assertEqual(Record.from_numbers(fed(ROLL).numbers).numbers, fed(ROLL).numbers)
+
+    def test_two_bureaus(self):
+        bench = Bench()
+        self.assertEqual((bench.take(1, 7_200_000), bench.take(2, 600_000)), (0, 1))
+        bench.enter(1, 0, True, 182_282)
+        bench.enter(2, 1, False, 3_000_000)
+        self.assertEqual((bench.verdict(1, 0).case, bench.verdict(2, 1).case), (Case.REJECT, Case.ACCEPT))
+        self.assertEqual(bench.rates(1, 0).lower, bench.verdict(1, 0).lower)
+        before = bench.numbers
+        self.refused(13, 0, bench.take, 3, 0)
+        self.refused(1, 5, bench.take, 1, 0)
+        self.refused(15, 0, bench.verdict, 2, 0)
+        self.refused(15, 0, bench.rates, 1, 32)
+        self.refused(8, 0, bench.enter, 1, 0, False, 0)
+        self.assertEqual(bench.numbers, before)
+        bench.give_back(1, 0)
+        self.refused(15, 0, bench.give_back, 1, 0)
+        self.assertEqual([bench.take(1, 1) for _ in range(16)], [0, *range(2, 17)])
+        self.refused(14, 0, bench.take, 1, 1)
+        self.assertEqual(Bench.from_numbers(bench.numbers).verdict(2, 1), bench.verdict(2, 1))
+        self.refused(8, 0, Bench.from_numbers, bench.numbers[:31])
+        self.refused(8, 0, Bench.from_numbers([[0, 1, 0, 0, 0, 0]] + bench.numbers[1:]).take, 2, 1)
 
     def test_tail(self):
         tail = fit_tail([1, 4, 2, 8], 3)

@@ -1,6 +1,6 @@
 /* A fuzz target over the whole C interface. The first byte of the input picks a part; the rest is a sheet, or numbers and samples to call with. What has
  * to hold whatever comes: a refusal leaves every lent array as it stood, what is handed out is never refused as broken, a piece cut anywhere leads to
- * the same record, and a sheet's campaign is that of its records. */
+ * the same record, a sheet's campaign is that of its records, and a bureau's call leaves the other's places. */
 #include <stdint.h>
 #include <stdlib.h>
 #include <string.h>
@@ -121,6 +121,36 @@ static void campaign(void) {
     }
 }
 
+/* a bench: an empty one, or any numbers at all; calls of any bureau about any place */
+static void bench(void) {
+    uint64_t table[CHIM_BENCH_PLACES][CHIM_PLACE_NUMBERS] = {{0}}, before[CHIM_BENCH_PLACES][CHIM_PLACE_NUMBERS], carried;
+    double x = -1, y = -1, z = -1;
+    int sound = number(1) % 4 != 0;
+    for (size_t i = 0; !sound && i < CHIM_BENCH_PLACES; i++)
+        for (size_t k = 0; k < CHIM_PLACE_NUMBERS; k++)
+            table[i][k] = number(1) % 4;
+    while (left > 0) {
+        memcpy(before, table, sizeof table);
+        uint64_t bureau = number(1) % 4, place = number(1) % 34, what = number(1) % 5, answer;
+        int entered = what == 1;
+        switch (what) {
+        case 0: answer = chim_bench_take(table, CHIM_BENCH_PLACES, bureau, number(2), &carried); break;
+        case 1: answer = chim_bench_enter(table, CHIM_BENCH_PLACES, bureau, place, number(1) % 3, number(3), &carried); break;
+        case 2: answer = chim_bench_verdict(table, CHIM_BENCH_PLACES, bureau, place, &x, &y, &carried); break;
+        case 3: answer = chim_bench_rates(table, CHIM_BENCH_PLACES, bureau, place, &x, &y, &z, &carried); break;
+        default: answer = chim_bench_give_back(table, CHIM_BENCH_PLACES, bureau, place, &carried);
+        }
+        hold(answer == CHIM_TAKEN || memcmp(before, table, sizeof table) == 0);
+        hold(answer != CHIM_TAKEN || bureau == 1 || bureau == 2);
+        hold(answer != CHIM_BROKEN_STATE || !sound || entered);
+        /* no call changes a place of the other bureau, and what is left is a table again */
+        for (size_t i = 0; i < CHIM_BENCH_PLACES; i++)
+            hold(before[i][0] == 0 || before[i][0] == bureau || memcmp(before[i], table[i], sizeof table[i]) == 0);
+        if (answer == CHIM_TAKEN)
+            hold(chim_bench_give_back(table, CHIM_BENCH_PLACES, 3, 0, &carried) == CHIM_NO_BUREAU);
+    }
+}
+
 /* a tail of any peaks, into a slice of any length: sorted downwards with the same sum, k figures of less than 20 whole units each, and nothing beyond */
 static void tail(void) {
     enum { MOST = 64 };
@@ -145,12 +175,13 @@ static void tail(void) {
 
 int LLVMFuzzerTestOneInput(const uint8_t *data, size_t size) {
     in = data, left = size;
-    switch (number(1) % 5) {
+    switch (number(1) % 6) {
     case 0: sheet(); break;
     case 1: record(); break;
     case 2: list(); break;
     case 3: campaign(); break;
     case 4: tail(); break;
+    case 5: bench(); break;
     }
     return 0;
 }

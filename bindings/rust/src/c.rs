@@ -37,6 +37,36 @@ extern "C" {
         column: *mut u64,
         carried: *mut u64,
     ) -> u64;
+    pub fn chim_bench_take(table: *mut [u64; 6], table_len: usize, bureau: u64, standard: u64, carried: *mut u64) -> u64;
+    pub fn chim_bench_enter(
+        table: *mut [u64; 6],
+        table_len: usize,
+        bureau: u64,
+        place: u64,
+        failed: u64,
+        exposure: u64,
+        carried: *mut u64,
+    ) -> u64;
+    pub fn chim_bench_verdict(
+        table: *mut [u64; 6],
+        table_len: usize,
+        bureau: u64,
+        place: u64,
+        lower: *mut f64,
+        upper: *mut f64,
+        carried: *mut u64,
+    ) -> u64;
+    pub fn chim_bench_rates(
+        table: *mut [u64; 6],
+        table_len: usize,
+        bureau: u64,
+        place: u64,
+        estimate: *mut f64,
+        lower: *mut f64,
+        upper: *mut f64,
+        carried: *mut u64,
+    ) -> u64;
+    pub fn chim_bench_give_back(table: *mut [u64; 6], table_len: usize, bureau: u64, place: u64, carried: *mut u64) -> u64;
     pub fn chim_tail_fit(peaks: *const u32, peaks_len: usize, k: u64, sorted: *mut u32, sorted_len: usize, carried: *mut u64) -> u64;
     pub fn chim_upper_row(n: u64) -> u32;
     pub fn chim_lower_row(n: u64) -> u32;

@@ -48,6 +48,12 @@ pub enum Refusal {
     BrokenState,
     /// 9: a line of a job sheet is malformed; its number.
     Line(u64),
+    /// 13: a bureau other than 1 or 2.
+    NoBureau,
+    /// 14: the bureau has 16 jobs.
+    BureauFull,
+    /// 15: a place that is not in the table, or not the bureau's own.
+    NotItsOwn,
     /// 16: more than 4,096 peaks, or a k outside 2 to their number.
     Tail,
     /// 17: a peak is 0 or above 1,000,000; its place in the list.
@@ -67,6 +73,9 @@ impl Refusal {
             Refusal::Room(_) => 7,
             Refusal::BrokenState => 8,
             Refusal::Line(_) => 9,
+            Refusal::NoBureau => 13,
+            Refusal::BureauFull => 14,
+            Refusal::NotItsOwn => 15,
             Refusal::Tail => 16,
             Refusal::Peak(_) => 17,
         }
@@ -82,6 +91,9 @@ impl Refusal {
             6 => Refusal::RowsUsedUp,
             7 => Refusal::Room(carried),
             9 => Refusal::Line(carried),
+            13 => Refusal::NoBureau,
+            14 => Refusal::BureauFull,
+            15 => Refusal::NotItsOwn,
             16 => Refusal::Tail,
             17 => Refusal::Peak(carried),
             _ => Refusal::BrokenState,
@@ -101,6 +113,9 @@ impl fmt::Display for Refusal {
             Refusal::Room(places) => write!(f, "{places} places are needed"),
             Refusal::BrokenState => write!(f, "the numbers are no state"),
             Refusal::Line(line) => write!(f, "line {line} of the sheet is malformed"),
+            Refusal::NoBureau => write!(f, "there is no such bureau"),
+            Refusal::BureauFull => write!(f, "the bureau has 16 jobs"),
+            Refusal::NotItsOwn => write!(f, "the place is not the bureau's own"),
             Refusal::Tail => write!(f, "there are more than 4,096 peaks, or k is outside 2 to their number"),
             Refusal::Peak(place) => write!(f, "the peak at place {place} is 0 or above 1,000,000"),
         }
@@ -272,6 +287,17 @@ pub struct BadLine {
     pub refusal: Refusal,
 }
 
+impl Verdict {
+    fn told(case: u64, lower: f64, upper: f64) -> Verdict {
+        match case {
+            1 => Verdict::Accept { upper },
+            2 => Verdict::Reject { lower },
+            3 => Verdict::Continue { lower, upper },
+            _ => Verdict::NoRecord,
+        }
+    }
+}
+
 /// Many records.
 #[derive(Clone, Debug, PartialEq, Eq)]
 pub struct Campaign {
@@ -325,12 +351,7 @@ impl Campaign {
         let s = &self.numbers;
         let (mut lower, mut upper) = (0.0, 0.0);
         let case = answer(|carried| unsafe { c::chim_campaign_verdict(s.as_ptr(), s.len(), &mut lower, &mut upper, carried) })?;
-        Ok(match case {
-            1 => Verdict::Accept { upper },
-            2 => Verdict::Reject { lower },
-            3 => Verdict::Continue { lower, upper },
-            _ => Verdict::NoRecord,
-        })
+        Ok(Verdict::told(case, lower, upper))
     }
 
     /// The three rates; `None` while there is no record.
@@ -350,6 +371,67 @@ impl Campaign {
     /// A stored state; numbers that are no state are refused at their first use.
     pub fn from_numbers(numbers: [u64; 5]) -> Campaign {
         Campaign { numbers }
+    }
+}
+
+/// One table of 32 places that bureaus 1 and 2 share, at most 16 jobs each. Each bureau is answered as at a table of its own.
+#[derive(Clone, Debug, Default, PartialEq, Eq)]
+pub struct Bench {
+    table: [[u64; 6]; 32],
+}
+
+impl Bench {
+    /// A bench without jobs.
+    pub fn new() -> Bench {
+        Bench::default()
+    }
+
+    /// Takes a job at this standard: its place, the lowest that is free.
+    pub fn take(&mut self, bureau: u64, standard: u64) -> Result<u64, Refusal> {
+        let t = &mut self.table;
+        answer(|carried| unsafe { c::chim_bench_take(t.as_mut_ptr(), t.len(), bureau, standard, carried) })
+    }
+
+    /// Enters a result as [`Campaign::enter`] does, into the campaign in the bureau's place.
+    pub fn enter(&mut self, bureau: u64, place: u64, failed: bool, exposure: u64) -> Result<(), Refusal> {
+        let t = &mut self.table;
+        answer(|carried| unsafe { c::chim_bench_enter(t.as_mut_ptr(), t.len(), bureau, place, u64::from(failed), exposure, carried) })?;
+        Ok(())
+    }
+
+    pub fn verdict(&mut self, bureau: u64, place: u64) -> Result<Verdict, Refusal> {
+        let t = &mut self.table;
+        let (mut lower, mut upper) = (0.0, 0.0);
+        let case =
+            answer(|carried| unsafe { c::chim_bench_verdict(t.as_mut_ptr(), t.len(), bureau, place, &mut lower, &mut upper, carried) })?;
+        Ok(Verdict::told(case, lower, upper))
+    }
+
+    /// The three rates; `None` while there is no record.
+    pub fn rates(&mut self, bureau: u64, place: u64) -> Result<Option<Rates>, Refusal> {
+        let t = &mut self.table;
+        let (mut estimate, mut lower, mut upper) = (0.0, 0.0, 0.0);
+        let some = answer(|carried| unsafe {
+            c::chim_bench_rates(t.as_mut_ptr(), t.len(), bureau, place, &mut estimate, &mut lower, &mut upper, carried)
+        })?;
+        Ok((some == 1).then_some(Rates { estimate, lower, upper }))
+    }
+
+    /// Gives the place back: it is free again.
+    pub fn give_back(&mut self, bureau: u64, place: u64) -> Result<(), Refusal> {
+        let t = &mut self.table;
+        answer(|carried| unsafe { c::chim_bench_give_back(t.as_mut_ptr(), t.len(), bureau, place, carried) })?;
+        Ok(())
+    }
+
+    /// The table, to be stored: for each place its owner, 0 if it is free, and the five numbers of its campaign.
+    pub fn numbers(&self) -> &[[u64; 6]; 32] {
+        &self.table
+    }
+
+    /// A stored table; numbers that are no table are refused at their first use.
+    pub fn from_numbers(table: [[u64; 6]; 32]) -> Bench {
+        Bench { table }
     }
 }
 
@@ -471,6 +553,30 @@ mod tests {
         assert_eq!(Campaign::from_numbers([1, 1, 1, 1, 2]).verdict(), Err(Refusal::BrokenState));
         let stored = *fed(&ROLL).numbers();
         assert_eq!(Record::from_numbers(stored), fed(&ROLL));
+    }
+
+    #[test]
+    fn two_bureaus_at_one_bench() {
+        let mut bench = Bench::new();
+        assert_eq!((bench.take(1, 7_200_000), bench.take(2, 600_000)), (Ok(0), Ok(1)));
+        bench.enter(1, 0, true, 182_282).unwrap();
+        bench.enter(2, 1, false, 3_000_000).unwrap();
+        assert!(matches!(bench.verdict(1, 0), Ok(Verdict::Reject { .. })));
+        assert!(matches!(bench.verdict(2, 1), Ok(Verdict::Accept { .. })));
+        assert!(bench.rates(1, 0).unwrap().is_some());
+        let before = bench.clone();
+        assert_eq!(bench.take(3, 0), Err(Refusal::NoBureau));
+        assert_eq!(bench.take(1, 0), Err(Refusal::Item(5)));
+        assert_eq!(bench.verdict(2, 0), Err(Refusal::NotItsOwn));
+        assert_eq!(bench.give_back(1, 32), Err(Refusal::NotItsOwn));
+        assert_eq!(bench.enter(1, 0, false, 0), Err(Refusal::BrokenState));
+        assert_eq!(bench, before);
+        bench.give_back(1, 0).unwrap();
+        assert_eq!((0..16).map(|_| bench.take(1, 1).unwrap()).max(), Some(16));
+        assert_eq!(bench.take(1, 1), Err(Refusal::BureauFull));
+        let mut broken = *bench.numbers();
+        broken[31][5] = 1;
+        assert_eq!(Bench::from_numbers(broken).take(2, 1), Err(Refusal::BrokenState));
     }
 
     #[test]

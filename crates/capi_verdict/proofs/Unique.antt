@@ -7,10 +7,14 @@ use Rattle.truth.proofs.Unique.{settled}
 use Rattle.poisson.proofs.Unique as poisson
 use Rattle.poisson.specs.Rows.{LowerRow, UpperRow}
 use Rattle.verdict.specs.declared.Rates.{Rates}
-use Rattle.capi_verdict.specs.Told.{Count, Judgement, Rating, campaignCensored, campaignJudged, campaignRated}
+use Rattle.verdict.specs.declared.Verdict.{Verdict}
+use Rattle.capi_verdict.specs.Told.{Count, Judgement, Rating, campaignCensored, campaignJudged, campaignRated, verdictTold}
 
 pub campaign-censored-unique : (s : List ℕ) (x y : Count) → x ≡ campaignCensored s → y ≡ campaignCensored s → x ≡ y
 campaign-censored-unique s x y = settled
+
+pub tell-unique : (v : Verdict) (x y : Judgement) → x ≡ verdictTold v → y ≡ verdictTold v → x ≡ y
+tell-unique v x y = settled
 
 pub campaign-verdict-unique : (s : List ℕ) (l u : Float) (x y : Judgement) → x ≡ campaignJudged s l u → y ≡ campaignJudged s l u → x ≡ y
 campaign-verdict-unique s l u x y = settled

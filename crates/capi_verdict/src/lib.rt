@@ -18,7 +18,7 @@ pub extern "C" fn chim_campaign_censored(state: &[u64], carried: &mut u64) -> u6
 }
 
 // The two rates of a verdict, 0 where it carries none, and its case in `carried`.
-fn tell(v: Verdict, lower: &mut f64, upper: &mut f64, carried: &mut u64) -> u64
+pub fn tell(v: Verdict, lower: &mut f64, upper: &mut f64, carried: &mut u64) -> u64
     ensures { λ n. ⌜ judgement n (now (carried .exit)) (now (lower .exit)) (now (upper .exit)) ≡ verdictTold v ⌝ }
 {
     match v {

@@ -3,4 +3,5 @@ pub mod Demand2
 pub mod Demand3
 pub mod Request4
 pub mod Stays
+pub mod Request9
 pub mod Tail

@@ -22,6 +22,12 @@ pub enum Refusal {
     BrokenState,
     // 9: a sheet line is malformed; its line number.
     Line(u64),
+    // 13: a bureau other than 1 or 2.
+    NoBureau,
+    // 14: the bureau has all the jobs that it may have.
+    BureauFull,
+    // 15: a place not in the table or not the bureau's own.
+    NotItsOwn,
     // 16: a list of peaks is too long, or the tail asked for is not from 2 to its length.
     Tail,
     // 17: a peak is 0 or outside its range; the first such place in the list.
@@ -42,6 +48,9 @@ pub fn number(r: Refusal) -> u64
         Refusal::Room(_) => 7,
         Refusal::BrokenState => 8,
         Refusal::Line(_) => 9,
+        Refusal::NoBureau => 13,
+        Refusal::BureauFull => 14,
+        Refusal::NotItsOwn => 15,
         Refusal::Tail => 16,
         Refusal::Peak(_) => 17,
     }
@@ -62,6 +71,9 @@ pub fn carried(r: Refusal) -> u64
         Refusal::CampaignFull => 0,
         Refusal::RowsUsedUp => 0,
         Refusal::BrokenState => 0,
+        Refusal::NoBureau => 0,
+        Refusal::BureauFull => 0,
+        Refusal::NotItsOwn => 0,
         Refusal::Tail => 0,
     }
 }

@@ -13,6 +13,14 @@ mod c {
         pub fn chim_campaign_censored(state: *const u64, state_len: usize, carried: *mut u64) -> u64;
         pub fn chim_campaign_verdict(state: *const u64, state_len: usize, lower: *mut f64, upper: *mut f64, carried: *mut u64) -> u64;
         pub fn chim_campaign_rates(state: *const u64, state_len: usize, estimate: *mut f64, lower: *mut f64, upper: *mut f64, carried: *mut u64) -> u64;
+        pub fn chim_bench_take(table: *mut [u64; 6], table_len: usize, bureau: u64, standard: u64, carried: *mut u64) -> u64;
+        #[rustfmt::skip]
+        pub fn chim_bench_enter(table: *mut [u64; 6], table_len: usize, bureau: u64, place: u64, failed: u64, exposure: u64, carried: *mut u64) -> u64;
+        #[rustfmt::skip]
+        pub fn chim_bench_verdict(table: *mut [u64; 6], table_len: usize, bureau: u64, place: u64, lower: *mut f64, upper: *mut f64, carried: *mut u64) -> u64;
+        #[rustfmt::skip]
+        pub fn chim_bench_rates(table: *mut [u64; 6], table_len: usize, bureau: u64, place: u64, estimate: *mut f64, lower: *mut f64, upper: *mut f64, carried: *mut u64) -> u64;
+        pub fn chim_bench_give_back(table: *mut [u64; 6], table_len: usize, bureau: u64, place: u64, carried: *mut u64) -> u64;
         pub fn chim_upper_row(n: u64) -> u32;
         pub fn chim_lower_row(n: u64) -> u32;
     }
@@ -82,4 +90,26 @@ pub fn upper_row(n: u64) -> u32 {
 
 pub fn lower_row(n: u64) -> u32 {
     unsafe { c::chim_lower_row(n) }
+}
+
+pub fn bench_take(table: &mut [[u64; 6]], bureau: u64, standard: u64) -> Told {
+    told(|carried| unsafe { c::chim_bench_take(table.as_mut_ptr(), table.len(), bureau, standard, carried) })
+}
+
+pub fn bench_enter(table: &mut [[u64; 6]], bureau: u64, place: u64, failed: u64, exposure: u64) -> Told {
+    told(|carried| unsafe { c::chim_bench_enter(table.as_mut_ptr(), table.len(), bureau, place, failed, exposure, carried) })
+}
+
+pub fn bench_verdict(table: &mut [[u64; 6]], bureau: u64, place: u64, rates: &mut [f64; 3]) -> Told {
+    let [_, lower, upper] = rates;
+    told(|carried| unsafe { c::chim_bench_verdict(table.as_mut_ptr(), table.len(), bureau, place, lower, upper, carried) })
+}
+
+pub fn bench_rates(table: &mut [[u64; 6]], bureau: u64, place: u64, rates: &mut [f64; 3]) -> Told {
+    let [estimate, lower, upper] = rates;
+    told(|carried| unsafe { c::chim_bench_rates(table.as_mut_ptr(), table.len(), bureau, place, estimate, lower, upper, carried) })
+}
+
+pub fn bench_give_back(table: &mut [[u64; 6]], bureau: u64, place: u64) -> Told {
+    told(|carried| unsafe { c::chim_bench_give_back(table.as_mut_ptr(), table.len(), bureau, place, carried) })
 }

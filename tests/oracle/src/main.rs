@@ -1,5 +1,6 @@
 // The library against document 01 (`paper`), through its C functions: every answer, what it carries, and the later contents of everything lent, on
 // generated cases. The seed is fixed. The last line says how many cases agreed; a disagreement, or a refusal that was hardly met, ends the run.
+mod bench;
 mod library;
 mod paper;
 mod random;
@@ -10,7 +11,7 @@ use std::collections::BTreeMap;
 use std::fmt::Debug;
 
 /// What each entry may answer (include/chimenickel.h); each has to be met at least this often.
-const EXPECTED: [(&str, &[u64]); 9] = [
+const EXPECTED: [(&str, &[u64]); 14] = [
     ("record_open", &[0, 1, 8]),
     ("record_feed", &[0, 2, 3, 8]),
     ("record_list", &[0, 1, 2, 3, 4, 7]),
@@ -20,6 +21,11 @@ const EXPECTED: [(&str, &[u64]); 9] = [
     ("campaign_censored", &[0, 8]),
     ("campaign_verdict", &[0, 8]),
     ("campaign_rates", &[0, 8]),
+    ("bench_take", &[0, 1, 8, 13, 14]),
+    ("bench_enter", &[0, 5, 6, 8, 13, 15]),
+    ("bench_verdict", &[0, 8, 13, 15]),
+    ("bench_rates", &[0, 8, 13, 15]),
+    ("bench_give_back", &[0, 8, 13, 15]),
 ];
 const OFTEN: u64 = 200;
 
@@ -474,8 +480,10 @@ impl Bench {
 }
 
 fn main() {
-    let rows = std::env::args().nth(1).expect("oracle ROWS: the file that the program `rows` writes");
+    let rows = std::env::args().nth(1).expect("oracle ROWS [N]: the file that the program `rows` writes; one history of bureaus in N");
     let rows = Rows::read(&std::fs::read_to_string(rows).expect("the rows"));
+    let share: usize = std::env::args().nth(2).map_or(1, |n| n.parse().expect("one history in so many"));
+    let often = OFTEN / share as u64;
     let mut b = Bench { random: Random::new(1980), rows, cases: 0, met: BTreeMap::new(), verdicts: BTreeMap::new() };
     b.table();
     b.ends();
@@ -484,12 +492,13 @@ fn main() {
     b.listings(15_000);
     b.states(4_000);
     b.campaigns(5_000);
+    b.histories(100_000 / share);
 
     let mut rare = Vec::new();
     for (entry, numbers) in EXPECTED {
         let met: Vec<String> = numbers.iter().map(|&n| format!("{n}: {}", b.met.get(&(entry, n)).unwrap_or(&0))).collect();
         println!("{entry:18} {}", met.join("  "));
-        rare.extend(numbers.iter().filter(|&&n| *b.met.get(&(entry, n)).unwrap_or(&0) < OFTEN).map(|n| format!("{entry} {n}")));
+        rare.extend(numbers.iter().filter(|&&n| *b.met.get(&(entry, n)).unwrap_or(&0) < often).map(|n| format!("{entry} {n}")));
     }
     for entry in ["first_crossing", "whole record", "largest set", "rows"] {
         println!("{entry:18} {}", b.met[&(entry, 0)]);
@@ -497,7 +506,7 @@ fn main() {
     for (case, name) in ["no record", "accept", "reject", "continue"].iter().enumerate() {
         let met = *b.verdicts.get(&(case as u64)).unwrap_or(&0);
         println!("verdict {name:10} {met}");
-        if met < OFTEN {
+        if met < often {
             rare.push(format!("verdict {name}"));
         }
     }

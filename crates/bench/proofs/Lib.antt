@@ -1,0 +1,10 @@
+pub mod Places
+pub mod Relations
+pub mod Cases
+pub mod Keeping
+pub mod Taking
+pub mod Books
+pub mod Start
+pub mod Alone
+pub mod Life
+pub mod Examples

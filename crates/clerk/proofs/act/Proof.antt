@@ -1,0 +1,15 @@
+-- `clerk::act` meets its contract: of what is asked. Assumes nothing.
+use Rattle.clerk.specs.Steps.{acted}
+use borrow.Author.Needs.{needs}
+use Rattle.clerk.proofs.act.Statement.{statement}
+use Rattle.clerk.proofs.act.Tie as tie
+
+acting-requires : tie.Need-acting-requires
+acting-requires c κs = search needs
+
+returns : tie.Need-returns
+unfolding acted
+returns c = c .acting .ensures
+
+pub act-spec : {M : Type 1} → statement M
+act-spec = tie.close (tie.spec acting-requires returns)

@@ -1,0 +1,4 @@
+pub mod Looking
+pub mod Found
+pub mod Owners
+pub mod Unique

@@ -6,14 +6,16 @@
  *   No.  given exactly when                                                     *carried
  *   1    an opening item is outside its range                                   the item's number, the lowest
  *   2    a sample is outside -1,000,000 to 1,000,000                            its place in the piece, the first
- *   3    the timed length of the record would pass 10,000,000 ms, on a sheet an exposure   0
+ *   3    the timed length of the record would pass 10,000,000 ms, on a sheet an exposure;   0
+ *        the last time of a comma file would need more than 12 digits
  *   4    ending or listing with fewer than ramp + 2 samples; on a sheet exposure 0  0
  *   5    entering into a campaign of 100,000 records                            0
  *   6    entering into a campaign with 64 failures                              0
- *   7    more counted times, or more peaks, than the lent slice has places      the number of places needed
+ *   7    more counted times, peaks, samples or bytes than the lent slice has    the number of places needed
  *   8    a state's array has another length, or numbers that are no state;      0
  *        a flag is neither 0 nor 1, or a result's exposure not 1 to 10,000,000
  *   9    a line of a job sheet is malformed                                     the line's number
+ *   10   a line of a comma file is malformed or has a wrong time                the line's number
  *   13   a bureau other than 1 or 2                                             0
  *   14   taking a job for a bureau that has 16 already                          0
  *   15   a place that is not in the table, or not the bureau's own              0
@@ -85,6 +87,7 @@ enum {
     CHIM_ROOM = 7,
     CHIM_BROKEN_STATE = 8,
     CHIM_LINE = 9,
+    CHIM_COMMA_LINE = 10,
     CHIM_NO_BUREAU = 13,
     CHIM_BUREAU_FULL = 14,
     CHIM_NOT_ITS_OWN = 15,
@@ -172,6 +175,17 @@ uint64_t chim_sheet_read(const uint8_t *text, size_t text_len, uint64_t *state, 
  * logarithms to base 2 of Y(i) / Y(k), i from 1 to k, added up in units of 1/65,536. Each is never above the exact figure and at most 1 below, so the sum
  * is at most k - 1 below. Document 001's shape of the tail (11) is xi = sum * ln 2 / (65,536 * k). Refuses 16, 17, 7. */
 uint64_t chim_tail_fit(const uint32_t *peaks, size_t peaks_len, uint64_t k, uint32_t *sorted, size_t sorted_len, uint64_t *carried);
+
+/* ---- a simulator's comma file: one sample a line, ended by LF: time in ms, comma, roll in degrees with at most three decimals; times start at 0 and
+ * grow by the step */
+
+/* Reads the whole text into `samples`, thousandths of a degree, whose other places stay; *carried is their number. Each refusal is judged over all lines:
+ * 1 for the step, 10, 2 with the sample's place, 7 with the number of samples. */
+uint64_t chim_comma_read(const uint8_t *text, size_t text_len, uint64_t step, int32_t *samples, size_t samples_len, uint64_t *carried);
+
+/* Writes samples as such a text into `out`, always with three decimals, whose other bytes stay; *carried is its length. Refuses 1 for the step, 2, 3, 7 with
+ * the bytes needed. */
+uint64_t chim_comma_write(const int32_t *samples, size_t samples_len, uint64_t step, uint8_t *out, size_t out_len, uint64_t *carried);
 
 /* ---- the quantile table, in millionths of an expected failure: row n from 1 to 64, and 0 for any other n */
 uint32_t chim_upper_row(uint64_t n);

@@ -46,6 +46,8 @@ for _name, _result, _parameters in [
     ("chim_bench_rates", _u64, [_rows, _size, _u64, _u64, _rate, _rate, _rate, _numbers]),
     ("chim_bench_give_back", _u64, [_rows, _size, _u64, _u64, _numbers]),
     ("chim_tail_fit", _u64, [_times, _size, _u64, _times, _size, _numbers]),
+    ("chim_comma_read", _u64, [ctypes.c_char_p, _size, _u64, _samples, _size, _numbers]),
+    ("chim_comma_write", _u64, [_samples, _size, _u64, ctypes.c_char_p, _size, _numbers]),
     ("chim_upper_row", ctypes.c_uint32, [_u64]),
     ("chim_lower_row", ctypes.c_uint32, [_u64]),
 ]:
@@ -54,19 +56,20 @@ for _name, _result, _parameters in [
 
 
 class Refusal(Exception):
-    """Why nothing was done: the refusal's number, and what it carries; for a job sheet also the line that it stands on, and the
+    """Why nothing was done: the refusal's number and what it carries; for a job sheet also the line that it stands on, and the
     column where a malformed line is at fault (0 where the line as a whole is)."""
 
     MEANINGS = {
         1: "opening item {} is outside its range",
         2: "the sample at place {} is outside its range",
-        3: "the timed length, or a sheet's exposure, would pass 10,000,000 ms",
+        3: "the timed length, or a sheet's exposure, would pass 10,000,000 ms, or a comma file's last time 12 digits",
         4: "there are fewer than two timed samples, or a sheet's exposure is 0",
         5: "the campaign has 100,000 records",
         6: "the campaign has 64 failures",
         7: "{} places are needed",
         8: "the numbers are no state, or no result",
         9: "line {} is malformed",
+        10: "line {} of the comma file is malformed or has a wrong time",
         13: "there is no such bureau",
         14: "the bureau has 16 jobs",
         15: "the place is not the bureau's own",
@@ -356,6 +359,49 @@ def fit_tail(peaks, k):
     lent, after = (ctypes.c_uint32 * max(n, 1))(*peaks), (ctypes.c_uint32 * max(n, 1))()
     total = _ask(_lib.chim_tail_fit, lent, n, _number(k), after, n)
     return Tail(list(after), k, total)
+
+
+def read_comma(text, step):
+    """The samples of a simulator's comma file, as bytes: one a line, time in ms, comma, roll in degrees, each line ended by LF; times start at 0 and grow by
+    the step. An array of 32-bit numbers, thousandths of a degree, which Record.feed takes at once."""
+    text = bytes(text)
+    samples = array("i", bytes(4 * max(text.count(b"\n"), 1)))
+    lent = (ctypes.c_int32 * len(samples)).from_buffer(samples)
+    n = _ask(_lib.chim_comma_read, text, len(text), _number(step), lent, len(samples))
+    return samples[:n]
+
+
+def write_comma(samples, step):
+    """Samples as a comma file, always with three decimals."""
+    xs, n = _slice(samples)
+    size = 0
+    while True:
+        out = ctypes.create_string_buffer(max(size, 1))
+        try:
+            written = _ask(_lib.chim_comma_write, xs, n, _number(step), out, size)
+            return out.raw[:written]
+        except Refusal as refusal:
+            if refusal.number != 7:
+                raise
+            size = refusal.carried
+
+
+def from_degrees(degrees):
+    """Samples of degrees: each number to the nearest thousandth, halves to the even one. Takes what a naval architect has in hand, a numpy array (which numpy
+    turns over at once), or any numbers. A number that is none, or too large for 32 bits, raises OverflowError."""
+    try:
+        import numpy
+    except ImportError:
+        numpy = None
+    if numpy is not None and isinstance(degrees, numpy.ndarray):
+        thousandths = numpy.rint(degrees.astype(numpy.float64).ravel() * 1000)
+        if not (numpy.abs(thousandths) < 1 << 31).all():
+            raise OverflowError("a number of degrees is no 32-bit number of thousandths")
+        return array("i", thousandths.astype(numpy.int32).tobytes())
+    try:
+        return array("i", [round(x * 1000) for x in degrees])
+    except ValueError as error:
+        raise OverflowError(str(error)) from None
 
 
 def upper_row(n):

@@ -4,7 +4,26 @@ import math
 import unittest
 from array import array
 
-from chimenickel import Bench, Campaign, Case, Record, Refusal, counted_times, first_crossing, fit_tail, lower_row, upper_row
+try:
+    import numpy
+except ImportError:
+    numpy = None
+
+from chimenickel import (
+    Bench,
+    Campaign,
+    Case,
+    Record,
+    Refusal,
+    counted_times,
+    first_crossing,
+    fit_tail,
+    from_degrees,
+    lower_row,
+    read_comma,
+    upper_row,
+    write_comma,
+)
 
 ITEMS = (500, 0, 40_000, 2_000)
 ROLL = [0, 41_000, 39_000, 41_000, 39_000, 41_000, 0]
@@ -47,6 +66,35 @@ class Records(unittest.TestCase):
         self.assertEqual(counted_times(*ITEMS, [0, 0]), [])
         self.refused(4, 0, counted_times, *ITEMS, ROLL[:1])
         self.assertEqual((first_crossing(ROLL, 0, 40_000), first_crossing(ROLL, 0, 41_000), first_crossing([], 0, 1)), (1, None, None))
+
+    def test_comma_files(self):
+        samples = [0, -500, 41_500, 1_000_000, -1_000_000, 7]
+        text = write_comma(samples, 50)
+        self.assertEqual(text, b"0,0.000\n50,-0.500\n100,41.500\n150,1000.000\n200,-1000.000\n250,0.007\n")
+        self.assertEqual(list(read_comma(text, 50)), samples)
+        self.assertEqual((list(read_comma(b"", 50)), write_comma([], 50)), ([], b""))
+        self.refused(1, 1, read_comma, b"0,-0\n", 0)
+        self.refused(10, 2, read_comma, b"0,2000\n50,1.", 50)
+        self.refused(2, 1, read_comma, b"0,0\n50,1000.001\n", 50)
+        self.refused(2, 1, write_comma, [0, 1_000_001], 50)
+        record = Record(*ITEMS)
+        record.feed(read_comma(b"0,0\n500,41\n1000,39\n1500,41\n2000,39\n2500,41\n3000,0\n", 500))
+        self.assertEqual(record.numbers, fed(ROLL).numbers)
+
+    def test_degrees(self):
+        self.assertEqual(list(from_degrees([0, -41.5, 0.0005, 0.0015])), [0, -41_500, 0, 2])
+        for strange in (float("nan"), float("inf"), 1e9):
+            self.assertRaises(OverflowError, from_degrees, [strange])
+
+    @unittest.skipUnless(numpy, "numpy is not there")
+    def test_degrees_of_numpy(self):
+        roll = numpy.array([0, 41, 39, 41, 39, 41, 0], dtype=numpy.float32)
+        self.assertEqual(fed(from_degrees(roll)).numbers, fed(ROLL).numbers)
+        degrees = numpy.linspace(-1000, 1000, 100_001)
+        self.assertEqual(from_degrees(degrees), from_degrees(degrees.tolist()))
+        self.assertEqual(numpy.loadtxt([line.decode() for line in write_comma(from_degrees(degrees), 50).splitlines()], delimiter=",")[:, 1].tolist(), [x / 1000 for x in from_degrees(degrees)])
+        for strange in (numpy.nan, numpy.inf, 1e9):
+            self.assertRaises(OverflowError, from_degrees, numpy.array([strange]))
 
     def test_the_marked_verdicts(self):
         campaign = Campaign(7_200_000)

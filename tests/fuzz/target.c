@@ -1,6 +1,7 @@
 /* A fuzz target over the whole C interface. The first byte of the input picks a part; the rest is a sheet, or numbers and samples to call with. What has
  * to hold whatever comes: a refusal leaves every lent array as it stood, what is handed out is never refused as broken, a piece cut anywhere leads to
- * the same record, a sheet's campaign is that of its records, and a bureau's call leaves the other's places. */
+ * the same record, a sheet's campaign is that of its records, a bureau's call leaves the other's places, and a comma file that is read is written
+ * and read again. */
 #include <stdint.h>
 #include <stdlib.h>
 #include <string.h>
@@ -37,6 +38,32 @@ static void sheet(void) {
         hold(answer == CHIM_LINE ? carried == line && column <= 64 : column == 0);
         hold(memcmp(before, state, sizeof state) == 0);
     }
+}
+
+/* a comma file: what is read lies within its range, is written and read back, and a refusal leaves the samples; samples that are written read back */
+static void comma(void) {
+    enum { MOST = 1024 };
+    static int32_t samples[MOST], again[MOST];
+    static uint8_t text[40 * MOST];
+    uint64_t step = number(2), places = number(2) % (MOST + 1), carried;
+    for (size_t i = 0; i < MOST; i++)
+        samples[i] = again[i] = (int32_t)i;
+    uint64_t answer = chim_comma_read(in, left, step, samples, places, &carried);
+    if (answer != CHIM_TAKEN) {
+        hold(answer == CHIM_ITEM || answer == CHIM_COMMA_LINE || answer == CHIM_SAMPLE || answer == CHIM_ROOM);
+        hold(answer != CHIM_COMMA_LINE || (carried >= 1 && carried <= left));
+        hold(memcmp(samples, again, sizeof samples) == 0);
+        return;
+    }
+    size_t n = carried;
+    hold(n <= places);
+    hold(memcmp(samples + n, again + n, (MOST - n) * sizeof *samples) == 0);
+    for (size_t i = 0; i < n; i++)
+        hold(samples[i] >= -1000000 && samples[i] <= 1000000);
+    hold(chim_comma_write(samples, n, step, text, sizeof text, &carried) == CHIM_TAKEN);
+    size_t bytes = carried;
+    hold(chim_comma_read(text, bytes, step, again, n, &carried) == CHIM_TAKEN && carried == n);
+    hold(memcmp(samples, again, n * sizeof *samples) == 0);
 }
 
 /* a record: opened by the input, or any numbers at all; fed whole and in two pieces */
@@ -175,13 +202,14 @@ static void tail(void) {
 
 int LLVMFuzzerTestOneInput(const uint8_t *data, size_t size) {
     in = data, left = size;
-    switch (number(1) % 6) {
+    switch (number(1) % 7) {
     case 0: sheet(); break;
     case 1: record(); break;
     case 2: list(); break;
     case 3: campaign(); break;
     case 4: tail(); break;
     case 5: bench(); break;
+    case 6: comma(); break;
     }
     return 0;
 }

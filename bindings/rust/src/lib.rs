@@ -32,9 +32,9 @@ use std::fmt;
 pub enum Refusal {
     /// 1: an opening item is outside its range; the lowest such item, from 1 to 5.
     Item(u64),
-    /// 2: a sample is outside -1,000,000 to 1,000,000; its place in the piece.
+    /// 2: a sample is outside -1,000,000 to 1,000,000; its place in the piece or file.
     Sample(u64),
-    /// 3: the timed length of the record, or a sheet's exposure, would pass 10,000,000 ms.
+    /// 3: the timed length of the record, or a sheet's exposure, would pass 10,000,000 ms; a comma file's last time would need more than 12 digits.
     TooLong,
     /// 4: fewer than two timed samples, or a sheet's exposure of 0.
     TooShort,
@@ -48,6 +48,8 @@ pub enum Refusal {
     BrokenState,
     /// 9: a line of a job sheet is malformed; its number.
     Line(u64),
+    /// 10: a line of a comma file is malformed or has a wrong time; its number.
+    CommaLine(u64),
     /// 13: a bureau other than 1 or 2.
     NoBureau,
     /// 14: the bureau has 16 jobs.
@@ -73,6 +75,7 @@ impl Refusal {
             Refusal::Room(_) => 7,
             Refusal::BrokenState => 8,
             Refusal::Line(_) => 9,
+            Refusal::CommaLine(_) => 10,
             Refusal::NoBureau => 13,
             Refusal::BureauFull => 14,
             Refusal::NotItsOwn => 15,
@@ -91,6 +94,7 @@ impl Refusal {
             6 => Refusal::RowsUsedUp,
             7 => Refusal::Room(carried),
             9 => Refusal::Line(carried),
+            10 => Refusal::CommaLine(carried),
             13 => Refusal::NoBureau,
             14 => Refusal::BureauFull,
             15 => Refusal::NotItsOwn,
@@ -113,6 +117,7 @@ impl fmt::Display for Refusal {
             Refusal::Room(places) => write!(f, "{places} places are needed"),
             Refusal::BrokenState => write!(f, "the numbers are no state"),
             Refusal::Line(line) => write!(f, "line {line} of the sheet is malformed"),
+            Refusal::CommaLine(line) => write!(f, "line {line} of the comma file is malformed or has a wrong time"),
             Refusal::NoBureau => write!(f, "there is no such bureau"),
             Refusal::BureauFull => write!(f, "the bureau has 16 jobs"),
             Refusal::NotItsOwn => write!(f, "the place is not the bureau's own"),
@@ -469,6 +474,35 @@ pub fn lower_row(n: u64) -> Option<u32> {
     Some(unsafe { c::chim_lower_row(n) }).filter(|_| n <= 64)
 }
 
+/// The samples of a simulator's comma file, in thousandths of a degree: one a line, time in ms, comma, roll in degrees, each line ended by LF; times start
+/// at 0 and grow by the step.
+///
+/// ```
+/// let samples = chimenickel::read_comma(b"0,0\n500,-41.5\n", 500)?;
+/// assert_eq!(samples, [0, -41_500]);
+/// assert_eq!(chimenickel::write_comma(&samples, 500)?, b"0,0.000\n500,-41.500\n");
+/// # Ok::<(), chimenickel::Refusal>(())
+/// ```
+pub fn read_comma(text: &[u8], step: u64) -> Result<Vec<i32>, Refusal> {
+    // a sample has a line, and a line an LF
+    let mut samples = vec![0; text.iter().filter(|&&b| b == b'\n').count()];
+    let n = answer(|carried| unsafe { c::chim_comma_read(text.as_ptr(), text.len(), step, samples.as_mut_ptr(), samples.len(), carried) })?;
+    samples.truncate(n as usize);
+    Ok(samples)
+}
+
+/// Samples as a comma file, always with three decimals.
+pub fn write_comma(samples: &[i32], step: u64) -> Result<Vec<u8>, Refusal> {
+    let mut text = Vec::new();
+    loop {
+        match answer(|carried| unsafe { c::chim_comma_write(samples.as_ptr(), samples.len(), step, text.as_mut_ptr(), text.len(), carried) }) {
+            Err(Refusal::Room(bytes)) => text.resize(bytes as usize, 0),
+            Err(refusal) => return Err(refusal),
+            Ok(_) => return Ok(text),
+        }
+    }
+}
+
 #[cfg(test)]
 mod tests {
     use super::*;
@@ -594,5 +628,18 @@ mod tests {
         assert_eq!((upper_row(1), lower_row(1)), (Some(3_688_880), Some(25_317)));
         assert_eq!((upper_row(0), lower_row(0)), (None, Some(0)));
         assert_eq!((upper_row(65), lower_row(65)), (None, None));
+    }
+
+    #[test]
+    fn comma_files_are_read_and_written() {
+        let samples = [0, -500, 41_500, 1_000_000, -1_000_000, 7];
+        let text = write_comma(&samples, 50).unwrap();
+        assert_eq!(text, b"0,0.000\n50,-0.500\n100,41.500\n150,1000.000\n200,-1000.000\n250,0.007\n");
+        assert_eq!(read_comma(&text, 50), Ok(samples.to_vec()));
+        assert_eq!(read_comma(b"", 50), Ok(vec![]));
+        assert_eq!(read_comma(b"0,-0\n", 0), Err(Refusal::Item(1)));
+        assert_eq!(read_comma(b"0,2000\n50,1.", 50), Err(Refusal::CommaLine(2)));
+        assert_eq!(read_comma(b"0,0\n50,1000.001\n", 50), Err(Refusal::Sample(1)));
+        assert_eq!(write_comma(&[0, 1_000_001], 50), Err(Refusal::Sample(1)));
     }
 }

@@ -1,6 +1,7 @@
 pub mod Text
 pub mod Reading
 pub mod Faults
+pub mod Leading
 pub mod Back
 pub mod Unique
 pub mod Examples

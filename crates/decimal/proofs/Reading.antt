@@ -93,15 +93,19 @@ module _ (s : List ℕ) (at : ℕ) where
   unfolding isNumber
   no-number end e goes-on = rw (without (allDigits (fieldOf (drop at s))) _ _ _ (field-goes-on longest (drop at s) (rw (drop-drop, ← e) goes-on)))
 
+  -- whether the run is a number
+  pub run-number : isNumber run ≡ (leb 1 (length run) && not (ltb 1 (length run) && eqb (getD s at 0) zeroByte))
+  unfolding isNumber
+  run-number =
+      rw (leading-all longest (drop at s), le-leb (length run) longest (leading-few longest (drop at s)))
+      (by-order (length run) 1 (λ l. rw (lt-leb 1 (length run) l)) (λ l. rw (leading-first longest (drop at s) l, getD-drop, add-zero)))
+
   module _ (end : ℕ) (e : end ≡ at + length run) (ends : endsHere (drop end s) ≡ true) where
     field-run : fieldOf (drop at s) ≡ run
     field-run = field-ends longest (drop at s) (rw (drop-drop, ← e) ends)
 
     pub number-is : isOne ≡ (leb 1 (length run) && not (ltb 1 (length run) && eqb (getD s at 0) zeroByte))
-    unfolding isNumber
-    number-is =
-        rw (field-run, leading-all longest (drop at s), le-leb (length run) longest (leading-few longest (drop at s)))
-        (by-order (length run) 1 (λ l. rw (lt-leb 1 (length run) l)) (λ l. rw (leading-first longest (drop at s) l, getD-drop, add-zero)))
+    number-is = rw field-run run-number
 
     pub read-number : (value : ℕ) → value ≡ valueOf run → isOne ≡ true → Number value end ≡ fieldAt s at
     unfolding fieldAt readAs

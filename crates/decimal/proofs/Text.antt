@@ -66,7 +66,7 @@ value-digits =
     (λ v h e. rw (digits-more v h, value-last, e) (omega arith))
 
 -- it is all digits
-digit-byte : (d : ℕ) → d < 10 → isDigit (zeroByte + d) ≡ true
+pub digit-byte : (d : ℕ) → d < 10 → isDigit (zeroByte + d) ≡ true
 digit-byte d h = rw (le-leb zeroByte (zeroByte + d) (omega arith), lt-ltb (zeroByte + d) (zeroByte + 10) (omega arith))
 
 pub all-append : (s t : List ℕ) → allDigits (s ++ t) ≡ (allDigits s && allDigits t)
@@ -211,8 +211,11 @@ fold-below v k (b ∷ text) h ds =
     let one-more : k + length (b ∷ text) ≡ k + 1 + length text = omega arith in
     rw one-more (fold-below (push v b) (k + 1) text (push-below v b k h d) rest)
 
-pub number-below : (text : List ℕ) → isNumber text ≡ true → valueOf text < 10 ^ longest
+pub value-below : (text : List ℕ) → allDigits text ≡ true → valueOf text < 10 ^ length text
 unfolding valueOf
+value-below text ds = rw zero-add at (fold-below 0 0 text (omega arith) ds)
+
+pub number-below : (text : List ℕ) → isNumber text ≡ true → valueOf text < 10 ^ longest
 number-below text n =
     let facts = sound text n in
-    lt-of-lt-of-le (fold-below 0 0 text (omega arith) (facts .all)) (rw zero-add (pow-le-pow-right {n = 10} (omega arith) (facts .short)))
+    lt-of-lt-of-le (value-below text (facts .all)) (pow-le-pow-right {n = 10} (omega arith) (facts .short))

@@ -1,15 +1,38 @@
 -- Two answers that a promise allows are the same answer, with the same bytes left. Assumes nothing.
-use mathlib.Core.Path.{_≡_}
+use mathlib.Core.Path.{_≡_, sym, _∙_}
+use mathlib.Core.Bool.{Bool}
 use mathlib.Core.List.{List}
-use Prim.Native.Nat.{ℕ}
-use lib.ListN.{length}
+use Prim.Native.Nat.{ℕ, _+_, _%_}
+use lib.ListN.{length, drop}
 use Rattle.text.specs.Write.{written, placeAfter}
-use Rattle.decimal.specs.Decimal.{digitsOf}
+use Rattle.decimal.specs.Decimal.{zeroByte, isDigit, longest, leadingDigits, valueOf, digitsOf}
 use Rattle.decimal.specs.Field.{fieldAt}
+use Rattle.decimal.specs.Leading.{standsAt, leadingAt}
 use Rattle.decimal.specs.declared.Field.{Field}
+use Rattle.decimal.specs.declared.Lead.{Lead}
+use Rattle.decimal.specs.declared.Run.{Run}
 
 pub number-at-unique : (s : List ℕ) (at : ℕ) (r q : Field) → r ≡ fieldAt s at → q ≡ fieldAt s at → r ≡ q
 number-at-unique s at r q e f = cc
+
+pub is-digit-unique : (b : ℕ) (r q : Bool) → r ≡ isDigit b → q ≡ isDigit b → r ≡ q
+is-digit-unique b r q e f = cc
+
+pub stands-unique : (s : List ℕ) (at b : ℕ) (r q : Bool) → r ≡ standsAt s at b → q ≡ standsAt s at b → r ≡ q
+stands-unique s at b r q e f = cc
+
+pub leading-at-unique : (s : List ℕ) (at : ℕ) (r q : Lead) → r ≡ leadingAt s at → q ≡ leadingAt s at → r ≡ q
+leading-at-unique s at r q e f = cc
+
+-- of `run_at`
+module _ (s : List ℕ) (at : ℕ) where
+  pub run-at-unique : (r q : Run)
+      → (r .value ≡ valueOf (leadingDigits longest (drop at s))) × (r .end ≡ at + length (leadingDigits longest (drop at s)))
+      → (q .value ≡ valueOf (leadingDigits longest (drop at s))) × (q .end ≡ at + length (leadingDigits longest (drop at s))) → r ≡ q
+  run-at-unique r q e f i = record { value = (e .0 ∙ sym (f .0)) i; end = (e .1 ∙ sym (f .1)) i }
+
+pub last-digit-unique : (v r q : ℕ) → r ≡ zeroByte + v % 10 → q ≡ zeroByte + v % 10 → r ≡ q
+last-digit-unique v r q e f = cc
 
 pub digits-unique : (v r q : ℕ) → r ≡ length (digitsOf v) → q ≡ length (digitsOf v) → r ≡ q
 digits-unique v r q e f = cc

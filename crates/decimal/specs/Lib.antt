@@ -1,2 +1,4 @@
 pub mod Decimal
 pub mod Field
+pub mod Leading
+pub mod Lines

@@ -3,10 +3,11 @@
 ghost use mathlib.Core.Path.{_≡_};
 ghost use mathlib.Core.Bool.{false};
 ghost use Prim.Native.Nat.{_+_, _%_, _≤_, min};
-ghost use lib.ListN.{length, drop};
+ghost use lib.ListN.{length, drop, getD};
 ghost use Rattle.text.specs.Write.{written, placeAfter};
 ghost use Rattle.decimal.specs.Decimal.{zeroByte, longest, isDigit, isNumber, leadingDigits, valueOf, digitsOf, widest};
 ghost use Rattle.decimal.specs.Field.{endsHere, fieldAt, fieldOf, strangeIn};
+ghost use Rattle.decimal.specs.Leading.{leadingAt, standsAt};
 
 // The byte of the digit 0.
 const ZERO: u8 = 48;
@@ -87,13 +88,61 @@ fn digits_end(s: &[u8], at: usize) -> usize
     place
 }
 
-// The digits that stand at a place, at most LONGEST of them: what they are worth, and the place after them.
-struct Run {
-    value: u64,
-    end: usize,
+// The number that a text starts with, whatever stands behind it.
+pub enum Lead {
+    // The number, and the place of the byte behind its digits.
+    Number(u64, usize),
+    Nothing,
 }
 
-fn run_at(s: &[u8], at: usize) -> Run
+// Reads the number of `s` that starts at `at` and goes up to the first byte that is no digit, or to the end of `s`.
+pub fn leading_at(s: &[u8], at: usize) -> Lead
+    ensures { λ r. ⌜ r ≡ leadingAt (now (s .entry)) at ⌝ }
+{
+    let run = run_at(s, at);
+    let end = run.end;
+    if digit_at(s, end) {
+        return Lead::Nothing;
+    }
+    if end == at {
+        return Lead::Nothing;
+    }
+    if end - at == 1 {
+        return Lead::Number(run.value, end);
+    }
+    if s[at] == ZERO {
+        return Lead::Nothing;
+    }
+    Lead::Number(run.value, end)
+}
+
+// Whether the byte `b` stands at `at`.
+pub fn stands(s: &[u8], at: usize, b: u8) -> bool
+    ensures { λ r. ⌜ r ≡ standsAt (now (s .entry)) at b ⌝ }
+{
+    if s.len() <= at {
+        return false;
+    }
+    s[at] == b
+}
+
+// Whether a digit stands at `at`.
+fn digit_at(s: &[u8], at: usize) -> bool
+    ensures { λ r. ⌜ r ≡ isDigit (getD (now (s .entry)) at 0) ⌝ }
+{
+    if s.len() <= at {
+        return false;
+    }
+    is_digit(s[at])
+}
+
+// The digits that stand at a place, at most LONGEST of them: what they are worth, and the place after them.
+pub struct Run {
+    pub value: u64,
+    pub end: usize,
+}
+
+pub fn run_at(s: &[u8], at: usize) -> Run
     ensures { λ r. ⌜ r .value ≡ valueOf (leadingDigits longest (drop at (now (s .entry)))) ⌝ }
     ensures { λ r. ⌜ r .end ≡ at + length (leadingDigits longest (drop at (now (s .entry)))) ⌝ }
 {
@@ -130,7 +179,8 @@ fn last_place(len: usize, at: usize) -> usize
     at + LONGEST
 }
 
-fn is_digit(b: u8) -> bool
+// Whether `b` is a decimal digit.
+pub fn is_digit(b: u8) -> bool
     ensures { λ r. ⌜ r ≡ isDigit b ⌝ }
 {
     if b < ZERO {
@@ -189,7 +239,7 @@ pub fn write_number(v: u64, out: &mut [u8], at: usize) -> usize
 }
 
 // The byte of the last digit of `v`.
-fn last_digit(v: u64) -> u8
+pub fn last_digit(v: u64) -> u8
     ensures { λ r. ⌜ r ≡ zeroByte + v % 10 ⌝ }
 {
     ZERO + ((v % 10) as u8)

@@ -5,7 +5,7 @@ use mathlib.Core.Bool.{cond}
 use Prim.Native.Nat.{ℕ}
 use lib.Dec.{eqb}
 use Rattle.refusal.specs.declared.Refusal.{Refusal}
-use Rattle.refusal.specs.declared.Refusal.the-variants.{Item, Sample, TooLong, TooShort, CampaignFull, RowsUsedUp, Room, BrokenState, Line, NoBureau, BureauFull, NotItsOwn, Tail, Peak}
+use Rattle.refusal.specs.declared.Refusal.the-variants.{Item, Sample, TooLong, TooShort, CampaignFull, RowsUsedUp, Room, BrokenState, Line, CommaLine, NoBureau, BureauFull, NotItsOwn, Tail, Peak}
 use Rattle.refusal.specs.Numbers.{numberOf, valueOf}
 
 -- the refusal of a number and a value, row by row
@@ -20,11 +20,12 @@ from n v =
     (cond (eqb n 7) (Room v)
     (cond (eqb n 8) BrokenState
     (cond (eqb n 9) (Line v)
+    (cond (eqb n 10) (CommaLine v)
     (cond (eqb n 13) NoBureau
     (cond (eqb n 14) BureauFull
     (cond (eqb n 15) NotItsOwn
     (cond (eqb n 16) Tail
-    (Peak v)))))))))))))
+    (Peak v))))))))))))))
 
 from-own : (r : Refusal) → from (numberOf r) (valueOf r) ≡ r
 from-own (Item i) = refl
@@ -36,6 +37,7 @@ from-own RowsUsedUp = refl
 from-own (Room k) = refl
 from-own BrokenState = refl
 from-own (Line l) = refl
+from-own (CommaLine l) = refl
 from-own NoBureau = refl
 from-own BureauFull = refl
 from-own NotItsOwn = refl

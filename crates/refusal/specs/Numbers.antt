@@ -1,7 +1,7 @@
 -- Document 01, "Refusal numbers", and document 02: the number of each refusal, and what is returned with it. Assumes nothing.
 use Prim.Native.Nat.{ℕ}
 use Rattle.refusal.specs.declared.Refusal.{Refusal}
-use Rattle.refusal.specs.declared.Refusal.the-variants.{Item, Sample, TooLong, TooShort, CampaignFull, RowsUsedUp, Room, BrokenState, Line, NoBureau, BureauFull, NotItsOwn, Tail, Peak}
+use Rattle.refusal.specs.declared.Refusal.the-variants.{Item, Sample, TooLong, TooShort, CampaignFull, RowsUsedUp, Room, BrokenState, Line, CommaLine, NoBureau, BureauFull, NotItsOwn, Tail, Peak}
 
 -- the column "No."
 abbrev pub numberOf : Refusal → ℕ
@@ -14,6 +14,7 @@ numberOf RowsUsedUp = 6
 numberOf (Room k) = 7
 numberOf BrokenState = 8
 numberOf (Line l) = 9
+numberOf (CommaLine l) = 10
 numberOf NoBureau = 13
 numberOf BureauFull = 14
 numberOf NotItsOwn = 15
@@ -31,6 +32,7 @@ valueOf RowsUsedUp = 0
 valueOf (Room k) = k
 valueOf BrokenState = 0
 valueOf (Line l) = l
+valueOf (CommaLine l) = l
 valueOf NoBureau = 0
 valueOf BureauFull = 0
 valueOf NotItsOwn = 0

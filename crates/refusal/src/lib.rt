@@ -22,6 +22,8 @@ pub enum Refusal {
     BrokenState,
     // 9: a sheet line is malformed; its line number.
     Line(u64),
+    // 10: a comma file's line is malformed or has a wrong time; its line number.
+    CommaLine(u64),
     // 13: a bureau other than 1 or 2.
     NoBureau,
     // 14: the bureau has all the jobs that it may have.
@@ -48,6 +50,7 @@ pub fn number(r: Refusal) -> u64
         Refusal::Room(_) => 7,
         Refusal::BrokenState => 8,
         Refusal::Line(_) => 9,
+        Refusal::CommaLine(_) => 10,
         Refusal::NoBureau => 13,
         Refusal::BureauFull => 14,
         Refusal::NotItsOwn => 15,
@@ -65,6 +68,7 @@ pub fn carried(r: Refusal) -> u64
         Refusal::Sample(place) => place,
         Refusal::Room(needed) => needed,
         Refusal::Line(line) => line,
+        Refusal::CommaLine(line) => line,
         Refusal::Peak(place) => place,
         Refusal::TooLong => 0,
         Refusal::TooShort => 0,

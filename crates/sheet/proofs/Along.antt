@@ -9,7 +9,8 @@ use lib.ListN.{length, length-append, drop-of-length-le}
 use Rattle.sheet.specs.declared.Found.the-variants.{Taken}
 use Rattle.sheet.specs.declared.Reading.{Reading}
 use Rattle.line.specs.declared.Sheet.{Sheet}
-use Rattle.sheet.specs.Sheet.{linesOf, prefixed, endText, ended, lastOf, textOf, reading}
+use Rattle.decimal.specs.Lines.{linesOf}
+use Rattle.sheet.specs.Sheet.{prefixed, endText, ended, lastOf, textOf, reading}
 use Rattle.line.specs.Line.{soundSheet}
 use Rattle.sheet.specs.Cut.{found}
 use Rattle.sheet.proofs.Steps.{most}

@@ -22,7 +22,8 @@ use Rattle.line.specs.declared.Sheet.the-variants.{Fresh, Open}
 use Rattle.line.specs.declared.Step.{Step}
 use Rattle.line.specs.declared.Step.the-variants.{Next, Stop}
 use Rattle.line.specs.Line.{fieldThen, isRecord, lineAfter, outcome, recordLine, standardLine, stepping, telling, withNumber}
-use Rattle.sheet.specs.Sheet.{Account, afterStep, endText, lastOf, linesOf, meaning, prefixed, reading, textOf, waits}
+use Rattle.decimal.specs.Lines.{linesOf}
+use Rattle.sheet.specs.Sheet.{Account, afterStep, endText, lastOf, meaning, prefixed, reading, textOf, waits}
 use Rattle.sheet.specs.Before.{WithoutColumns, afterBefore, endBefore, meaningBefore, readingBefore, steppingBefore}
 
 -- the same step, but for the column

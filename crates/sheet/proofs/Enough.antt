@@ -15,7 +15,8 @@ use Rattle.line.specs.declared.Step.the-variants.{Next, Stop}
 use Rattle.line.specs.Line.{soundSheet, stepping}
 use Rattle.reply.proofs.Few.{refused-few}
 use Rattle.sheet.specs.declared.Reading.the-variants.{Waiting}
-use Rattle.sheet.specs.Sheet.{afterStep, ended, linesOf, reading, startLine, waits}
+use Rattle.decimal.specs.Lines.{linesOf, startLine}
+use Rattle.sheet.specs.Sheet.{afterStep, ended, reading, waits}
 use Rattle.sheet.proofs.Running.{last-few}
 use Rattle.sheet.proofs.Steps.{step-led, step-line}
 

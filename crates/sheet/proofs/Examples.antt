@@ -14,7 +14,8 @@ use Rattle.form.specs.Column.{howMany, recordColumn, recordFields, standardColu
 use Rattle.form.specs.Form.{begins}
 use Rattle.line.specs.Line.{startsWith, endedBy, fieldThen, recordLine, standardLine, stepping, telling}
 use Rattle.reply.specs.Written.{figures, letterFor, reasonText, recordText, refusedText}
-use Rattle.sheet.specs.Sheet.{linesOf, reading, meaning}
+use Rattle.decimal.specs.Lines.{linesOf}
+use Rattle.sheet.specs.Sheet.{reading, meaning}
 
 -- standard 7200000; 1 0 1800000; 2 1 933980; 3 1 0
 abbrev sheet : List ℕ

@@ -25,7 +25,8 @@ use Rattle.line.specs.declared.Step.the-variants.{Stop}
 use Rattle.form.specs.Column.{recordColumn, standardColumn}
 use Rattle.form.specs.Form.{longestLine, endsLine, isLine}
 use Rattle.line.specs.Line.{lineAfter, malformed, recordLine, standardLine, stepping}
-use Rattle.sheet.specs.Sheet.{Account, linesOf, ended, afterStep, waits, reading}
+use Rattle.decimal.specs.Lines.{linesOf}
+use Rattle.sheet.specs.Sheet.{Account, ended, afterStep, waits, reading}
 use Rattle.sheet.specs.Cut.{cut, firstLine}
 
 -- a byte in front of a line keeps its end

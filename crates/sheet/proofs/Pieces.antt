@@ -22,7 +22,8 @@ use Rattle.line.specs.declared.Step.{Step}
 use Rattle.line.specs.declared.Step.the-variants.{Next, Stop}
 use Rattle.form.specs.Form.{longestLine, endsLine}
 use Rattle.line.specs.Line.{stepping}
-use Rattle.sheet.specs.Sheet.{Account, linesOf, prefixed, ended, afterStep, textOf, waits, reading, leftIn, meaning}
+use Rattle.decimal.specs.Lines.{linesOf}
+use Rattle.sheet.specs.Sheet.{Account, prefixed, ended, afterStep, textOf, waits, reading, leftIn, meaning}
 use Rattle.sheet.specs.Cut.{cut, firstLine}
 use Rattle.sheet.specs.Pieces.{joined, lastBytes, onward, feeding}
 use Rattle.sheet.proofs.Lines.{cut-within, cut-some, cut-append, cut-whole, length-first, reading-turn}

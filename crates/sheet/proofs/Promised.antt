@@ -13,7 +13,8 @@ use Rattle.line.specs.Line.{soundSheet}
 use Rattle.sheet.specs.declared.Ran.{Ran}
 use Rattle.sheet.specs.declared.Ran.the-variants.{Came, Refused}
 use Rattle.sheet.specs.declared.Reading.{Reading}
-use Rattle.sheet.specs.Sheet.{leftBy, linesOf, putBy, reading, running, runLeft}
+use Rattle.decimal.specs.Lines.{linesOf}
+use Rattle.sheet.specs.Sheet.{leftBy, putBy, reading, running, runLeft}
 use Rattle.sheet.specs.Cut.{Passed}
 use Rattle.text.proofs.Laws.{wrote-short}
 

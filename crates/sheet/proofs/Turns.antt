@@ -17,7 +17,8 @@ use Rattle.line.specs.declared.Step.{Step}
 use Rattle.line.specs.declared.Step.the-variants.{Next, Stop}
 use Rattle.form.specs.Form.{endsLine, longestLine}
 use Rattle.line.specs.Line.{soundSheet, stepping}
-use Rattle.sheet.specs.Sheet.{Account, linesOf, prefixed, ended, afterStep, textOf, waits, reading}
+use Rattle.decimal.specs.Lines.{linesOf}
+use Rattle.sheet.specs.Sheet.{Account, prefixed, ended, afterStep, textOf, waits, reading}
 use Rattle.sheet.specs.Cut.{firstLine, foundAt, found}
 use Rattle.sheet.proofs.Lines.{cut-within, cut-some, length-first, reading-turn}
 use Rattle.sheet.proofs.Steps.{most, step-led, step-line}

@@ -18,7 +18,8 @@ use Rattle.line.specs.Line.{recordLine, standardLine}
 use Rattle.reply.specs.Written.{refusedWord}
 use Rattle.sheet.specs.declared.Reading.{Reading}
 use Rattle.sheet.specs.declared.Reading.the-variants.{Read, Stopped, Waiting}
-use Rattle.sheet.specs.Sheet.{Account, endText, lastOf, linesOf, prefixed, textOf, waits}
+use Rattle.decimal.specs.Lines.{linesOf}
+use Rattle.sheet.specs.Sheet.{Account, endText, lastOf, prefixed, textOf, waits}
 
 unfoldable pub steppingBefore : Sheet → List ℕ → Step
 steppingBefore Fresh line = standardLine 0 line

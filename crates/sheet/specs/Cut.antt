@@ -19,7 +19,8 @@ use Rattle.line.specs.declared.Step.the-variants.{Next, Stop}
 use Rattle.form.specs.Form.{longestLine}
 use Rattle.line.specs.Line.{stepping}
 use Rattle.sheet.specs.declared.Reading.{Reading}
-use Rattle.sheet.specs.Sheet.{leftIn, linesOf, reading, waits}
+use Rattle.decimal.specs.Lines.{linesOf}
+use Rattle.sheet.specs.Sheet.{leftIn, reading, waits}
 
 -- the bytes up to the first LF and with it, at most n of them
 unfoldable pub cut : ℕ → List ℕ → ℕ

@@ -7,7 +7,8 @@ use lib.ListN.{length, drop}
 use Rattle.sheet.specs.declared.Reading.{Reading}
 use Rattle.sheet.specs.declared.Reading.the-variants.{Read, Stopped, Waiting}
 use Rattle.line.specs.declared.Sheet.{Sheet}
-use Rattle.sheet.specs.Sheet.{Account, linesOf, prefixed, reading}
+use Rattle.decimal.specs.Lines.{linesOf}
+use Rattle.sheet.specs.Sheet.{Account, prefixed, reading}
 
 -- the pieces as one text
 unfoldable pub joined : List (List ℕ) → List ℕ

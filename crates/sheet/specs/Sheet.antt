@@ -6,7 +6,7 @@ use lib.ListN.{length}
 use lib.Dec.{eqb, leb, ltb}
 use Rattle.refusal.specs.declared.Refusal.the-variants.{BrokenState, Line, Room}
 use Rattle.text.specs.Write.{written}
-use Rattle.decimal.specs.Field.{lineFeed}
+use Rattle.decimal.specs.Lines.{linesOf}
 use Rattle.sheet.specs.declared.Reading.{Reading}
 use Rattle.sheet.specs.declared.Reading.the-variants.{Read, Stopped, Waiting}
 use Rattle.sheet.specs.declared.Ran.{Ran}
@@ -18,15 +18,6 @@ use Rattle.line.specs.declared.Step.the-variants.{Next, Stop}
 use Rattle.form.specs.Form.{endsLine, longestLine}
 use Rattle.line.specs.Line.{soundSheet, stepping}
 use Rattle.reply.specs.Written.{recordText, refusedText}
-
--- ---- the lines of a text: each goes up to an LF and has it; what stands behind the last LF is a line too, without one
-abbrev pub startLine : ℕ → List (List ℕ) → List (List ℕ)
-startLine b [] = (b ∷ []) ∷ []
-startLine b (line ∷ lines) = (b ∷ line) ∷ lines
-
-unfoldable pub linesOf : List ℕ → List (List ℕ)
-linesOf [] = []
-linesOf (b ∷ text) = cond (eqb b lineFeed) ((b ∷ []) ∷ linesOf text) (startLine b (linesOf text))
 
 -- ---- what a text comes to
 -- what is written, and what the reading ends in

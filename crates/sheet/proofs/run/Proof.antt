@@ -10,7 +10,8 @@ use borrow.Author.Needs.{needs}
 use denote.Ref.{now}
 use Rattle.truth.proofs.Laws.{said-no, said-yes}
 use Rattle.line.specs.Line.{soundSheet}
-use Rattle.sheet.specs.Sheet.{linesOf, reading}
+use Rattle.decimal.specs.Lines.{linesOf}
+use Rattle.sheet.specs.Sheet.{reading}
 use Rattle.sheet.proofs.Enough.{enough}
 use Rattle.sheet.proofs.Promised.{run-broken, run-came, run-short}
 use Rattle.sheet.proofs.run.Statement.{statement}

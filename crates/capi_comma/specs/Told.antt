@@ -1,0 +1,33 @@
+-- What each C function of a comma file leaves, from the answers that `comma` gives. The number of samples or bytes is carried. Assumes nothing.
+use Prim.Native.Nat.{ℕ}
+use mathlib.Core.List.{List, []}
+use lib.IntN.{ℤ}
+use lib.ListN.{length}
+use Rattle.capi.specs.Told.{Told, refused, told}
+use Rattle.decimal.specs.Lines.{linesOf}
+use Rattle.comma.specs.Answers.{reading, filledBy, writing, laidBy}
+use Rattle.comma.specs.Text.{samplesOf, textOf}
+use Rattle.comma.specs.declared.Reading.{Reading}
+use Rattle.comma.specs.declared.Reading.the-variants.{Samples, Refused}
+use Rattle.comma.specs.declared.Writing.{Writing}
+use Rattle.comma.specs.declared.Writing.the-variants.{Bytes, Refused as Declined}
+
+-- the number and what it carries
+unfoldable pub readTold : Reading → Told
+readTold (Samples n) = told 0 n []
+readTold (Refused f) = refused f []
+
+abbrev pub commaRead : ℕ → List ℕ → List ℤ → Told
+commaRead D text slice = readTold (reading D text (length slice))
+
+-- the lent samples afterwards
+abbrev pub commaSamples : ℕ → List ℕ → List ℤ → List ℤ
+commaSamples D text slice = filledBy (reading D text (length slice)) (samplesOf (linesOf text)) slice
+
+-- the number, what it carries and the lent bytes
+unfoldable pub writeTold : Writing → List ℕ → Told
+writeTold (Bytes n) out = told 0 n out
+writeTold (Declined f) out = refused f out
+
+abbrev pub commaWritten : ℕ → List ℤ → List ℕ → Told
+commaWritten D xs out = writeTold (writing D xs out) (laidBy (writing D xs out) (textOf D xs) out)

@@ -1,0 +1,340 @@
+// The clerk's counter: a simulator's comma file from standard input, and one line to standard output: samples, crossings, count, time of the first failure or a
+// dash, exposure; or refused, the line at fault or 0, and the refusal's number. The four items of the record come as arguments. The file may have any length: it is
+// read through a fixed buffer, each right line is fed as it comes, and what the file as a whole would be refused for is kept until its end, a malformed line
+// alone ending the reading. What a line says is `comma::line_at`'s promise, what feeding and ending make of it is `record`'s and `result`'s; here bytes are only
+// carried. How it ended goes as a digit to a descriptor of its own, where bin/program waits for it.
+ghost use mathlib.Core.Path.{_≡_};
+ghost use mathlib.Core.Bool.{true};
+ghost use Prim.Native.Nat.{_+_, _≤_, _<_};
+ghost use lib.ListN.{length};
+ghost use Rattle.count.specs.Kept.{keptBy};
+use comma::Line;
+use decimal::Lead;
+use libc::STDERR_FILENO;
+use libc::STDIN_FILENO;
+use libc::STDOUT_FILENO;
+use record::Record;
+use refusal::Refusal;
+use result::Ended;
+use result::Result;
+
+const END_FILENO: i32 = 3;
+
+const READ: u8 = b'0';
+
+const REFUSED: u8 = b'1';
+
+const FAILED: u8 = b'2';
+
+const TAB: u8 = 9;
+
+const LF: u8 = 10;
+
+const CR: u8 = 13;
+
+// The most bytes of a line: two numbers of 12 digits, comma, minus, point, three digits, LF.
+const LONGEST_LINE: usize = 31;
+
+// How many lines make a sign of life.
+const LIVELY: u64 = 1_000_000;
+
+// Where the counting of a file stands.
+struct Count {
+    record: Record,
+    // The lines so far, and the time that the next has to have.
+    lines: u64,
+    time: u64,
+    // The line of the first sample out of range, 0 for none.
+    outside: u64,
+    // Whether there are more samples than a record may have.
+    long: bool,
+}
+
+// What a turn of the loop comes to: the bytes of a line begun are kept, or the file has ended, or a line is wrong, or nothing can be read.
+enum After {
+    On(Count, usize),
+    Over(Count),
+    Wrong(u64),
+    Broken,
+}
+
+struct Reached {
+    count: Count,
+    at: usize,
+}
+
+// One sample more.
+fn fed(c: Count, x: i32) -> Count {
+    let r = c.record;
+    let one = [x; 1];
+    match r.feed(&one) {
+        record::Answer::Taken(s) => Count {
+            record: s,
+            lines: c.lines,
+            time: c.time,
+            outside: c.outside,
+            long: c.long,
+        },
+        record::Answer::Refused(_) => Count {
+            record: r,
+            lines: c.lines,
+            time: c.time,
+            outside: c.outside,
+            long: true,
+        },
+    }
+}
+
+// One right line more; behind a sample out of range nothing is fed any more.
+fn stepped(c: Count, minus: bool, size: u64) -> Count {
+    let r = c.record;
+    let line = std::num::wrapping_add_u64(c.lines, 1);
+    let outside = truth::pick(
+        truth::both(c.outside == 0, size > comma::SAMPLE_LIMIT as u64),
+        line,
+        c.outside,
+    );
+    let next = Count {
+        record: r,
+        lines: line,
+        time: std::num::wrapping_add_u64(c.time, r.step),
+        outside: outside,
+        long: c.long,
+    };
+    if outside != 0 {
+        return next;
+    }
+    fed(next, degrees::sample(minus, size))
+}
+
+// The right lines that `text` starts with, and where they end.
+fn lines(c: Count, text: &[u8]) -> Reached {
+    let mut count = c;
+    let mut at = 0;
+    let mut left = text.len();
+    while left > 0 {
+        let Line::Says(minus, size, next) = comma::line_at(text, at, count.time) else {
+            return Reached {
+                count: count,
+                at: at,
+            };
+        };
+        count = stepped(count, minus, size);
+        at = next;
+        left -= 1;
+    }
+    Reached {
+        count: count,
+        at: at,
+    }
+}
+
+// Whether a line may have begun at `at`: it has no LF yet, and fewer bytes than a line may have.
+fn begun(text: &[u8], at: usize) -> bool
+    ensures { λ r. ⌜ (r ≡ true → length (now (text .entry)) < at + 31) ⌝ }
+{
+    if text.len() <= at {
+        return true;
+    }
+    if text.len() - at >= LONGEST_LINE {
+        return false;
+    }
+    let mut i = at;
+    while i < text.len() {
+        if text[i] == LF {
+            return false;
+        }
+        i += 1;
+    }
+    true
+}
+
+// Moves `count` bytes of `text` from `from` on to its start.
+fn keep(text: &mut [u8], from: usize, count: usize)
+    requires { ⌜ from + count ≤ length (now text) ⌝ }
+{
+    let mut i = 0;
+    while i < count {
+        text[i] = text[from + i];
+        i += 1;
+    }
+}
+
+// Works through the lines of the first `end` bytes of `text`; a line begun goes to the start of `text`.
+fn work(c: Count, text: &mut [u8], end: usize, more: bool) -> After
+    requires { ⌜ end ≤ length (now text) ⌝ }
+    ensures { λ r. ⌜ keptBy r < 31 ⌝ }
+{
+    let reached = lines(c, &text[..end]);
+    let at = reached.at;
+    let count = reached.count;
+    if end <= at {
+        if more {
+            return After::On(count, 0);
+        }
+        return After::Over(count);
+    }
+    if !more {
+        return After::Wrong(std::num::wrapping_add_u64(count.lines, 1));
+    }
+    if !begun(&text[..end], at) {
+        return After::Wrong(std::num::wrapping_add_u64(count.lines, 1));
+    }
+    keep(text, at, end - at);
+    After::On(count, end - at)
+}
+
+// Reads once, behind the `kept` bytes of a line begun.
+fn turn(c: Count, text: &mut [u8], kept: usize) -> After
+    requires { ⌜ kept ≤ length (now text) ⌝ }
+    ensures { λ r. ⌜ keptBy r < 31 ⌝ }
+{
+    let got = libc::read(STDIN_FILENO, &mut text[kept..]);
+    if got < 0 {
+        os::fail(b"standard input");
+        return After::Broken;
+    }
+    let more = io::count(got, &text[kept..]);
+    work(c, text, kept + more, more > 0)
+}
+
+// Writes `v` and the byte `end` into `out` from `at` on.
+fn put(v: u64, end: u8, out: &mut [u8], at: usize) -> usize {
+    let next = decimal::write_number(v, out, at);
+    text::write_byte(end, out, next)
+}
+
+// Writes the first `n` bytes of `out` to standard output, and answers how the program ends.
+fn say(out: &[u8], n: usize, end: u8) -> u8 {
+    if out.len() < n {
+        return FAILED;
+    }
+    if !io::write_all(STDOUT_FILENO, &out[..n]) {
+        os::fail(b"standard output");
+        return FAILED;
+    }
+    end
+}
+
+fn refused(line: u64, r: Refusal) -> u8 {
+    let mut out = [0u8; 64];
+    let word = text::write_bytes(b"refused\t", &mut out, 0);
+    let number = put(line, TAB, &mut out, word);
+    let n = put(refusal::number(r), LF, &mut out, number);
+    say(&out, n, REFUSED)
+}
+
+// Samples, crossings, count, time of the first failure or a dash, exposure. A failed record's exposure is the time of its first failure.
+fn told(samples: u64, r: Result) -> u8 {
+    let mut out = [0u8; 128];
+    let crossings = put(samples, TAB, &mut out, 0);
+    let counted = put(r.crossings, TAB, &mut out, crossings);
+    let first = put(r.counted, TAB, &mut out, counted);
+    if r.first == 0 {
+        let exposure = text::write_bytes(b"-\t", &mut out, first);
+        let n = put(r.exposure, LF, &mut out, exposure);
+        return say(&out, n, READ);
+    }
+    let exposure = put(r.exposure, TAB, &mut out, first);
+    let n = put(r.exposure, LF, &mut out, exposure);
+    say(&out, n, READ)
+}
+
+// Behind the last line: 2 with the line, 3, 4, or the result.
+fn finish(c: Count) -> u8 {
+    if c.outside != 0 {
+        return refused(c.outside, Refusal::Sample(c.outside));
+    }
+    if c.long {
+        return refused(0, Refusal::TooLong);
+    }
+    let r = c.record;
+    match result::end(r) {
+        Ended::Given(found) => told(r.n, found),
+        Ended::Refused(f) => refused(0, f),
+    }
+}
+
+// A sign of life for a terminal, once in a million lines: their number.
+fn live(before: u64, lines: u64, shown: bool) {
+    if !shown {
+        return;
+    }
+    if before / LIVELY == lines / LIVELY {
+        return;
+    }
+    let mut out = [0u8; 64];
+    let word = put(lines, b' ', &mut out, 0);
+    let n = text::write_bytes(b"lines\r", &mut out, word);
+    if n <= 64 {
+        io::write_all(STDERR_FILENO, &out[..n]);
+    }
+}
+
+// A proved loop has to end, and nothing says that the input does; so it counts its turns down, from a number that no run uses up.
+fn serve(start: Count, text: &mut [u8], shown: bool) -> u8
+    requires { ⌜ 31 ≤ length (now text) ⌝ }
+{
+    let mut count = start;
+    let mut kept = 0;
+    let mut turns = u64::MAX;
+    while turns > 0 {
+        match turn(count, text, kept) {
+            After::On(c, left) => {
+                live(count.lines, c.lines, shown);
+                count = c;
+                kept = left;
+            }
+            After::Over(c) => {
+                return finish(c);
+            }
+            After::Wrong(line) => {
+                return refused(line, Refusal::CommaLine(line));
+            }
+            After::Broken => {
+                return FAILED;
+            }
+        }
+        turns -= 1;
+    }
+    FAILED
+}
+
+// The number of an argument; where it is none of at most 12 digits, a number that is in no item's range.
+fn item(i: usize) -> u64 {
+    let mut buffer = [0u8; 32];
+    let n = os::arg(i, &mut buffer);
+    if n > 32 {
+        return u64::MAX;
+    }
+    let Lead::Number(v, end) = decimal::leading_at(&buffer[..n], 0) else {
+        return u64::MAX;
+    };
+    if end != n {
+        return u64::MAX;
+    }
+    v
+}
+
+fn run() -> u8 {
+    let mut text = [0u8; 65536];
+    match record::open(item(1), item(2), item(3), item(4)) {
+        record::Answer::Taken(r) => serve(
+            Count {
+                record: r,
+                lines: 0,
+                time: 0,
+                outside: 0,
+                long: false,
+            },
+            &mut text,
+            libc::isatty(STDERR_FILENO) == 1,
+        ),
+        record::Answer::Refused(f) => refused(0, f),
+    }
+}
+
+fn main() {
+    let end = [run(); 1];
+    io::write_all(END_FILENO, &end);
+}

@@ -1,0 +1,5 @@
+pub mod Sizes
+pub mod Forms
+pub mod Parts
+pub mod Signs
+pub mod Unique

@@ -1,0 +1,60 @@
+-- `degrees::degrees_length` meets its contract: the sign, the whole degrees, the point and three digits. Assumes nothing.
+use mathlib.Core.Path.{_≡_, ap, _∙_}
+use Prim.Native.Nat.{_/_, _≤_}
+use native.Mathlib.Omega.{arith}
+use lib.IntN.{natAbs}
+use lib.ListN.{length}
+use mir.Facts.{toZ-ofZ}
+use borrow.Author.Needs.{needs}
+use Rattle.decimal.specs.Decimal.{digitsOf}
+use Rattle.decimal.proofs.Text.{digits-below}
+use Rattle.degrees.proofs.Signs.{sign-below, sign-other, text-length, abs-small}
+use Rattle.degrees.proofs.degrees_length.Statement.{statement}
+use Rattle.degrees.proofs.degrees_length.Tie as tie
+
+size : (c : tie.After-digits) → c .before .magnitude .result ≡ natAbs (c .before .before .args .x)
+size c = rw (toZ-ofZ (c .before .before .fits .x)) at (c .before .magnitude .ensures)
+
+-- the whole degrees have seven digits at most
+whole : (c : tie.After-digits) → c .digits .result ≡ length (digitsOf (natAbs (c .before .before .args .x) / 1000))
+whole c = c .digits .ensures .0 ∙ ap (λ n. length (digitsOf (n / 1000))) (size c)
+
+few : (c : tie.After-digits) → c .digits .result ≤ 7
+few c = rw (c .digits .ensures .0) (digits-below 6 (c .before .magnitude .result / 1000) (omega (arith, size c, abs-small (c .before .before .args .x) (c .before .before .fits .x))))
+
+magnitude-requires : tie.Need-magnitude-requires
+magnitude-requires c κs = search needs
+
+cast-digits : tie.Need-cast-digits
+cast-digits c = search needs
+
+digits-requires : tie.Need-digits-requires
+digits-requires c κs = search needs
+
+add-result : tie.Need-add-result
+add-result c = search needs
+
+returns : tie.Need-returns
+returns c =
+    let s = c .before .before .before in
+    (rw (text-length, sign-below (s .args .x) (rw (toZ-ofZ (s .fits .x)) at (c .if1 .taken))) (omega (arith, whole (c .before))), omega (arith, few (c .before)))
+
+add-result-2 : tie.Need-add-result-2
+add-result-2 c = search needs
+
+returns-2 : tie.Need-returns-2
+returns-2 c =
+    let s = c .before .before .before in
+    (rw (text-length, sign-other (s .args .x) (rw (toZ-ofZ (s .fits .x)) at (c .if1 .left))) (omega (arith, whole (c .before))), omega (arith, few (c .before)))
+
+pub degrees-length-spec : {M : Type 1} → statement M
+degrees-length-spec =
+    tie.close
+    (tie.spec
+    magnitude-requires
+    cast-digits
+    digits-requires
+    add-result
+    returns
+    add-result-2
+    returns-2)

@@ -1,0 +1,27 @@
+-- `degrees::put_sign` meets its contract: below zero there is a minus, else nothing. Assumes nothing.
+use mir.Facts.{toZ-ofZ}
+use denote.Ref.{now}
+use borrow.Author.Needs.{needs}
+use Rattle.text.proofs.Parts.{wrote-none}
+use Rattle.degrees.proofs.Signs.{sign-below, sign-other}
+use Rattle.degrees.proofs.put_sign.Statement.{statement}
+use Rattle.degrees.proofs.put_sign.Tie as tie
+
+write-byte-requires : tie.Need-write-byte-requires
+write-byte-requires c κs = search needs
+
+same-length : tie.Need-same-length
+same-length c = search needs
+
+returns : tie.Need-returns
+returns c =
+    let s = c .before .before .before .before .before .before in
+    rw (sign-below (s .args .x) (rw (toZ-ofZ (s .fits .x)) at (c .before .before .before .before .if1 .taken))) (c .before .before .write-byte .ensures)
+
+returns-2 : tie.Need-returns-2
+returns-2 c =
+    let s = c .before .before in
+    rw (sign-other (s .args .x) (rw (toZ-ofZ (s .fits .x)) at (c .if1 .left))) (wrote-none (now (s .args .out)) (s .args .at) (s .pre))
+
+pub put-sign-spec : {M : Type 1} → statement M
+put-sign-spec = tie.close (tie.spec write-byte-requires same-length returns returns-2)

@@ -1,0 +1,108 @@
+-- `degrees::write_degrees` meets its contract: the text is written part by part, each taking itself off what is left of it. Assumes nothing.
+use mathlib.Core.Path.{_≡_, refl, sym, _∙_}
+use mathlib.Core.List.{List, _∷_, _++_}
+use Prim.Native.Nat.{ℕ, _+_, _/_, _≤_}
+use native.Mathlib.Omega.{arith}
+use lib.IntN.{natAbs}
+use lib.ListN.{length}
+use mir.Facts.{toZ-ofZ}
+use denote.Ref.{now}
+use borrow.Author.Needs.{needs}
+use borrow.Author.Tests.{leb-true, leb-false}
+use Rattle.truth.proofs.Laws.{said-no, said-yes}
+use Rattle.text.proofs.Laws.{wrote-short}
+use Rattle.text.proofs.Parts.{Left, left-all, left-next, left-last}
+use Rattle.decimal.specs.Decimal.{digitsOf}
+use Rattle.degrees.specs.Degrees.{point, sign, threeDigits, degreesText}
+use Rattle.degrees.proofs.write_degrees.Statement.{statement}
+use Rattle.degrees.proofs.write_degrees.Tie as tie
+
+-- the places on the way back
+abbrev start : tie.After-has-room → tie.Start
+start c = c .before .before .before
+
+abbrev sized : tie.After-put-sign → tie.After-magnitude
+sized c = c .before .before
+
+needed : (c : tie.After-has-room) → c .before .degrees-length .result ≡ length (degreesText (start c .args .x))
+needed c = rw (toZ-ofZ (start c .fits .x)) at (c .before .degrees-length .ensures .0)
+
+room : (c : tie.Else1) → let a = start (c .before) .args in a .at + length (degreesText (a .x)) ≤ length (now (a .out))
+room c =
+    let a = start (c .before) .args in
+    let n = c .before .before .degrees-length .result in
+    rw (← needed (c .before)) (leb-true (a .at + n) (length (now (a .out))) (said-yes (c .before .has-room .ensures) (c .if1 .left)))
+
+-- the text in its parts, by the size that was answered
+abbrev Tail : tie.After-magnitude → List ℕ
+Tail c = point ∷ threeDigits (c .magnitude .result)
+
+abbrev Whole : tie.After-magnitude → List ℕ
+Whole c = digitsOf (c .magnitude .result / 1000)
+
+parts : (c : tie.After-magnitude) → let a = start (c .before .before) .args in degreesText (a .x) ≡ sign (a .x) ++ (Whole c ++ Tail c)
+unfolding degreesText
+parts c =
+    let s = start (c .before .before) in
+    rw (rw (toZ-ofZ (s .fits .x)) at (c .magnitude .ensures))
+
+-- of the text at this place, so much is left
+abbrev Stands : tie.After-magnitude → List ℕ → List ℕ → ℕ → Type 0
+Stands c rest out at = let a = start (c .before .before) .args in Left (now (a .out)) (a .at) (sign (a .x) ++ (Whole c ++ Tail c)) rest out at
+
+left1 : (c : tie.After-put-sign) → Stands (sized c) (Whole (sized c) ++ Tail (sized c)) (c .put-sign .last .1 .0) (c .put-sign .result)
+left1 c =
+    let a = start (sized c .before .before) .args in
+    left-next (sign (a .x)) _ (left-all (now (a .out)) (a .at) _ (rw (← parts (sized c)) (room (sized c .before)))) (rw (toZ-ofZ (start (sized c .before .before) .fits .x)) at (c .put-sign .ensures))
+
+degrees-length-requires : tie.Need-degrees-length-requires
+degrees-length-requires c κs = search needs
+
+has-room-requires : tie.Need-has-room-requires
+has-room-requires c κs = search needs
+
+returns : tie.Need-returns
+returns c =
+    let a = start (c .before) .args in
+    let short = leb-false (a .at + c .before .before .degrees-length .result) (length (now (a .out))) (said-no (c .before .has-room .ensures) (c .if1 .taken)) in
+    wrote-short (now (a .out)) (a .at) (degreesText (a .x)) (omega (arith, needed (c .before)))
+
+magnitude-requires : tie.Need-magnitude-requires
+magnitude-requires c κs = search needs
+
+cast-size : tie.Need-cast-size
+cast-size c = search needs
+
+put-sign-requires : tie.Need-put-sign-requires
+put-sign-requires c κs = omega (arith, room (c .before .before))
+
+write-number-requires : tie.Need-write-number-requires
+write-number-requires c κs = search needs
+
+put-decimals-requires : tie.Need-put-decimals-requires
+put-decimals-requires c κs = search needs
+
+same-length : tie.Need-same-length
+same-length c = search needs
+
+returns-2 : tie.Need-returns-2
+returns-2 c =
+    let d = c .before .before in
+    let n = d .before .before .before .before in
+    let p = n .before .before .before .before in
+    rw (parts (sized p)) (left-last (left-next (Whole (sized p)) (Tail (sized p)) (left1 p) (n .write-number .ensures)) (d .put-decimals .ensures))
+
+pub write-degrees-spec : {M : Type 1} → statement M
+write-degrees-spec =
+    tie.close
+    (tie.spec
+    degrees-length-requires
+    has-room-requires
+    returns
+    magnitude-requires
+    cast-size
+    put-sign-requires
+    write-number-requires
+    put-decimals-requires
+    same-length
+    returns-2)

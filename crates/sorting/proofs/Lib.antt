@@ -1,4 +1,5 @@
 pub mod Extracting
+pub mod Ordering
 pub mod Sifting
 pub mod Swapping
 pub mod Unique

@@ -14,6 +14,7 @@ use Rattle.range.specs.Range.{firstBad, sampleInRange}
 use Rattle.decimal.specs.Decimal.{zeroByte, longest, isDigit, allDigits, isNumber, valueOf, digitsOf}
 use Rattle.decimal.specs.Field.{lineFeed}
 use Rattle.decimal.specs.Lines.{linesOf}
+use Rattle.decimal.proofs.Lines.{lines-front}
 use Rattle.decimal.proofs.Text.{value-digits, number-digits, digit-byte}
 use Rattle.degrees.specs.Degrees.{minus, point, filled, sign, signed, sampleOf, threeDigits, degreesText}
 use Rattle.degrees.proofs.Parts.{IsSize, pointed-by, signBytes}
@@ -22,7 +23,7 @@ use Rattle.comma.specs.Line.{comma, roll, right, lineText}
 use Rattle.comma.specs.Text.{firstWrong, samplesOf, textFrom, textOf}
 use Rattle.comma.specs.Answers.{readingLines, reading, lastTime}
 use Rattle.comma.proofs.Shape.{Front, LineFacts, front-line}
-use Rattle.comma.proofs.Lines.{turn, lines-front, front-none}
+use Rattle.comma.proofs.Lines.{turn, front-none}
 use Rattle.comma.proofs.Answered.{samples-number, samples-read}
 
 -- ---- the degrees of a sample, as they are written

@@ -6,40 +6,22 @@ use Prim.Native.Nat.{ℕ, suc, _+_, _^_, _≤_, _<_}
 use native.Mathlib.Omega.{arith}
 use lib.Dec.{eqb}
 use lib.ListN.{length, drop, length-append}
-use borrow.Author.Tests.{ne-eqb}
 use Rattle.truth.proofs.Cases.{by-test}
 use Rattle.truth.proofs.Laws.{and-true, true≢false}
 use Rattle.decimal.specs.Decimal.{longest, isDigit, allDigits, isNumber, valueOf}
 use Rattle.decimal.specs.Field.{lineFeed}
 use Rattle.decimal.specs.Lines.{linesOf}
-use Rattle.decimal.proofs.Text.{sound, digit-range, number-below, digits-value}
+use Rattle.decimal.proofs.Lines.{NoFeed, none-joined, digits-none, lines-front}
+use Rattle.decimal.proofs.Text.{sound, number-below, digits-value}
 use Rattle.degrees.specs.Degrees.{point, below, unsigned, size, sampleOf, signed}
 use Rattle.degrees.proofs.Parts.{IsSize, plain, pointed-by, signBytes}
 use Rattle.comma.specs.Line.{comma, roll, right, lineLength}
 use Rattle.comma.proofs.Shape.{Front, Shape, shape, LineFacts, front-line}
 
--- no byte is an LF
-pub NoFeed : List ℕ → Type 0
-NoFeed [] = Unit {0}
-NoFeed (b ∷ text) = (eqb b lineFeed ≡ false) × NoFeed text
-
-joined : (s t : List ℕ) → NoFeed s → NoFeed t → NoFeed (s ++ t)
-unfolding NoFeed
-joined [] t f g = g
-joined (b ∷ s) t f g = (f .0, joined s t (f .1) g)
-
-digits-none : (ds : List ℕ) → allDigits ds ≡ true → NoFeed ds
-unfolding NoFeed allDigits
-digits-none [] all = tt
-digits-none (b ∷ ds) all =
-    let (d, rest) = and-true (isDigit b) (allDigits ds) all in
-    let range = digit-range b d in
-    (ne-eqb b lineFeed (λ e. omega arith), digits-none ds rest)
-
 size-none : {u : List ℕ} {n : ℕ} → IsSize u n → NoFeed u
 unfolding NoFeed
 size-none (plain w number) = digits-none w (sound w number .all)
-size-none (pointed-by w ds number all some few) = joined w (point ∷ ds) (digits-none w (sound w number .all)) (refl, digits-none ds all)
+size-none (pointed-by w ds number all some few) = none-joined w (point ∷ ds) (digits-none w (sound w number .all)) (refl, digits-none ds all)
 
 sign-none : (b : Bool) → NoFeed (signBytes b)
 unfolding NoFeed
@@ -49,13 +31,7 @@ sign-none false = tt
 pub front-none : (time : List ℕ) → isNumber time ≡ true → (b : Bool) {u : List ℕ} {n : ℕ} → IsSize u n → NoFeed (Front time b u)
 unfolding NoFeed
 front-none time number b {u} z =
-    joined time (comma ∷ (signBytes b ++ u)) (digits-none time (sound time number .all)) (refl, joined (signBytes b) u (sign-none b) (size-none z))
-
--- a line up to its LF, and the lines behind it
-pub lines-front : (front rest : List ℕ) → NoFeed front → linesOf (front ++ (lineFeed ∷ rest)) ≡ (front ++ (lineFeed ∷ [])) ∷ linesOf rest
-unfolding linesOf NoFeed
-lines-front [] rest none = refl
-lines-front (b ∷ front) rest none = rw (none .0, lines-front front rest (none .1))
+    none-joined time (comma ∷ (signBytes b ++ u)) (digits-none time (sound time number .all)) (refl, none-joined (signBytes b) u (sign-none b) (size-none z))
 
 -- the first line of a text is a front of it
 record Head (text : List ℕ) : Type 0 where

@@ -1,7 +1,7 @@
 -- Laws of the text of samples: a line by its parts, one sample more, and what writing answers. Assumes nothing.
-use mathlib.Core.Path.{_≡_, refl, sym, ap, _∙_}
+use mathlib.Core.Path.{_≡_, refl, ap, _∙_}
 use mathlib.Core.Bool.{true, false, cond, not}
-use mathlib.Core.List.{List, [], _∷_, _++_, append-nil}
+use mathlib.Core.List.{List, [], _∷_, _++_}
 use Prim.Native.Nat.{ℕ, suc, _+_, _-_, _*_, _^_, _≤_, _<_}
 use native.Mathlib.Nat.{zero-add, mul-le-mul-left}
 use native.Mathlib.Omega.{arith}
@@ -13,8 +13,6 @@ use Rattle.refusal.specs.declared.Refusal.the-variants.{Item, Sample, TooLong, 
 use Rattle.limits.specs.Limits.{stepInRange}
 use Rattle.range.specs.Range.{firstBad}
 use Rattle.text.specs.Write.{laid}
-use Rattle.text.proofs.Laws.{length-laid}
-use Rattle.text.proofs.Parts.{Left}
 use Rattle.decimal.specs.Decimal.{longest, digitsOf}
 use Rattle.decimal.specs.Field.{lineFeed}
 use Rattle.degrees.specs.Degrees.{degreesText}
@@ -39,16 +37,6 @@ text-none D time = refl
 
 pub next-bytes : (D time : ℕ) (x : ℤ) (xs : List ℤ) → length (textFrom D time (x ∷ xs)) ≡ length (lineText time x) + length (textFrom D (time + D) xs)
 next-bytes D time x xs = ap length (text-next D time x xs) ∙ length-append (lineText time x) (textFrom D (time + D) xs)
-
--- with nothing left the whole text stands there
-module _ {out : List ℕ} {at : ℕ} {whole middle : List ℕ} {here : ℕ} where
-  pub left-done : Left out at whole [] middle here → middle ≡ laid out at whole
-  left-done l = l .bytes ∙ ap (laid out at) (sym (append-nil (l .front)) ∙ l .parts)
-
-  pub left-same : {rest : List ℕ} → Left out at whole rest middle here → length middle ≡ length out
-  left-same {rest} l =
-      let parts = sym (length-append (l .front) rest) ∙ ap length (l .parts) in
-      ap length (l .bytes) ∙ length-laid out at (l .front) (omega (arith, l .fits))
 
 -- ---- what writing answers
 module _ (D : ℕ) (xs : List ℤ) (out : List ℕ) where

@@ -1,6 +1,6 @@
 -- A sheet's lines and results do the same. A line that is taken is a record number, a flag and an exposure, and any result with that failure and that exposure
 -- enters to the same campaign (`line-results`); the line of a record that was ended is never malformed, and comes to what entering its result answers, refusals
--- and all (`result-line`). Assumes nothing.
+-- and all (`result-line`). So is line 1 of a standard never malformed, and comes to what opening answers (`standard-back`). Assumes nothing.
 use Prim.Native.Nat.{ℕ, _+_, _-_, _^_, _≤_, _<_}
 use mathlib.Core.Path.{_≡_, refl, ap, _∙_}
 use mathlib.Core.Bool.{Bool, true, false, cond}
@@ -28,15 +28,15 @@ use Rattle.decimal.proofs.Text.{field-few}
 use Rattle.campaign.specs.declared.Answer.{Answer}
 use Rattle.campaign.specs.declared.Answer.the-variants.{Refused, Taken}
 use Rattle.campaign.specs.declared.Campaign.{Campaign}
-use Rattle.campaign.specs.Answers.{entering}
+use Rattle.campaign.specs.Answers.{entering, opened}
 use Rattle.campaign.specs.State.{sound}
 use Rattle.campaign.proofs.Relations.{kept-from}
 use Rattle.line.specs.declared.Sheet.{Sheet}
-use Rattle.line.specs.declared.Sheet.the-variants.{Open}
+use Rattle.line.specs.declared.Sheet.the-variants.{Fresh, Open}
 use Rattle.line.specs.declared.Step.the-variants.{Next}
-use Rattle.form.specs.Form.{longestLine, endsLine, isLine}
+use Rattle.form.specs.Form.{begins, longestLine, endsLine, isLine, standardWord}
 use Rattle.form.proofs.Columns.{record-few}
-use Rattle.line.specs.Line.{endedBy, fieldThen, lineAfter, outcome, recordLine, startsWith, stepping, telling, told}
+use Rattle.line.specs.Line.{endedBy, fieldThen, lineAfter, outcome, recordLine, standardLine, startsWith, stepping, telling, told}
 use Rattle.line.proofs.Entries.{Entry, recordBytes, record-says, says-next}
 
 -- what a line that is taken says
@@ -143,7 +143,24 @@ line-back c flag exposure g h k =
       eq-eqb (length (recordBytes n flag exposure)) (length (recordBytes n flag exposure)) refl,
     )
 
-flag-of : (b : Bool) → (eqb (cond b 1 0) 1 ≡ b) × (cond b 1 0 ≤ 1)
+-- ---- line 1 of a standard
+begins-itself : (word rest : List ℕ) → begins word (word ++ rest) ≡ true
+unfolding begins
+begins-itself [] rest = refl
+begins-itself (w ∷ word) rest = rw (eq-eqb w w refl, begins-itself word rest)
+
+pub standard-back : (q : ℕ) → q < 10 ^ longest → stepping Fresh (standardWord ++ fieldText q lineFeed) ≡ outcome 1 (opened q)
+unfolding stepping standardLine fieldText
+standard-back q h =
+    let text = standardWord ++ fieldText q lineFeed in
+    let size : length text ≡ length standardWord + length (fieldText q lineFeed) = length-append standardWord (fieldText q lineFeed) in
+    let field : fieldThen lineFeed text (length standardWord) ≡ Number q (length text) = rw (append-nil (fieldText q lineFeed), ← size) at (field-back standardWord q lineFeed [] h refl) in
+    let short : length text ≤ longestLine = omega (arith, size, field-few q lineFeed 11 h) in
+    let ended : endsLine text ≡ true = rw (← append-assoc standardWord (digitsOf q) (lineFeed ∷ [])) (last-byte (standardWord ++ digitsOf q)) in
+    rw (le-leb (length text) longestLine short, ended, begins-itself standardWord (fieldText q lineFeed), field, eq-eqb (length text) (length text) refl)
+
+-- a flag is 1 for failed, else 0
+pub flag-of : (b : Bool) → (eqb (cond b 1 0) 1 ≡ b) × (cond b 1 0 ≤ 1)
 flag-of true = (refl, omega arith)
 flag-of false = (refl, omega arith)
 

@@ -20,11 +20,22 @@ pub record Left (out : List ℕ) (at : ℕ) (whole rest middle : List ℕ) (here
 pub left-all : (out : List ℕ) (at : ℕ) (whole : List ℕ) → at + length whole ≤ length out → Left out at whole whole out at
 left-all out at whole h = record { front = []; parts = refl; place = sym (add-zero at); bytes = sym (laid-none out at); fits = h }
 
+module _ {out : List ℕ} {at : ℕ} {whole middle : List ℕ} {here : ℕ} where
+  -- with nothing left the whole text stands there
+  pub left-done : Left out at whole [] middle here → middle ≡ laid out at whole
+  left-done l = l .bytes ∙ ap (laid out at) (sym (append-nil (l .front)) ∙ l .parts)
+
+  pub left-wrote : Left out at whole [] middle here → Wrote out at whole middle here
+  left-wrote l =
+      let all : l .front ≡ whole = sym (append-nil (l .front)) ∙ l .parts in
+      wrote-laid out at whole middle here (l .fits) (left-done l) (rw all at (l .place))
+
 module _ {out : List ℕ} {at : ℕ} {whole : List ℕ} {middle : List ℕ} {here : ℕ} where
   inside : {rest : List ℕ} (l : Left out at whole rest middle here) → here + length rest ≤ length out
   inside {rest} l = omega (arith, l .place, l .fits, simp length-append at (ap length (l .parts)))
 
-  left-length : {rest : List ℕ} → Left out at whole rest middle here → length middle ≡ length out
+  -- the lent bytes stay as many
+  pub left-length : {rest : List ℕ} → Left out at whole rest middle here → length middle ≡ length out
   left-length l = rw (l .bytes) (length-laid out at (l .front) (omega (arith, l .place, inside l)))
 
   pub left-fits : {rest : List ℕ} → Left out at whole rest middle here → here + length rest ≤ length middle
@@ -47,9 +58,7 @@ module _ {out : List ℕ} {at : ℕ} {whole : List ℕ} {middle : List ℕ} {her
 
   pub left-last : {part : List ℕ} {later : List ℕ} {next : ℕ} → Left out at whole part middle here → Wrote middle here part later next → Wrote out at whole later next
   left-last {part} {later} {next} l w =
-      let d = left-next part [] (rw (sym (append-nil part)) at l) w in
-      let all : d .front ≡ whole = sym (append-nil (d .front)) ∙ d .parts in
-      wrote-laid out at whole later next (l .fits) (rw all at (d .bytes)) (rw all at (d .place))
+      left-wrote (left-next part [] (rw (sym (append-nil part)) at l) w)
 
 -- a text of no bytes is written where there is a place for it
 pub wrote-none : (out : List ℕ) (at : ℕ) → at ≤ length out → Wrote out at [] out at

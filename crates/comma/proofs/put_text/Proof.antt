@@ -11,10 +11,10 @@ use mir.Val.{SFits}
 use denote.Ref.{now}
 use borrow.Author.Needs.{needs}
 use Rattle.magnitude.proofs.Turn.{turn}
-use Rattle.text.proofs.Parts.{Left, left-all, left-next, left-room}
+use Rattle.text.proofs.Parts.{Left, left-all, left-done, left-length, left-next, left-room}
 use Rattle.comma.specs.Line.{lineText}
 use Rattle.comma.specs.Text.{textFrom, textOf}
-use Rattle.comma.proofs.Puts.{text-next, text-none, left-done, left-same}
+use Rattle.comma.proofs.Puts.{text-next, text-none}
 use Rattle.comma.proofs.put_text.Statement.{statement}
 use Rattle.comma.proofs.put_text.Tie as tie
 
@@ -77,7 +77,7 @@ loop-again c =
     (omega arith, left-next (lineText (loop l .loop .time) (X l)) _ (here l) (rw (toZ-ofZ f) at (p .put-line .ensures)), omega (arith, loop l .loop .inv .2))
 
 same-length : tie.Need-same-length Inv-loop μ-loop
-same-length c = left-same (c .before .loop .inv .1)
+same-length c = left-length (c .before .loop .inv .1)
 
 returns : tie.Need-returns Inv-loop μ-loop
 returns c =

@@ -1,0 +1,4 @@
+pub mod Judging
+pub mod Puts
+pub mod Entered
+pub mod Unique

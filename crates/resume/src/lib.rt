@@ -1,0 +1,154 @@
+// The records of a job sheet, by document 02 [2], so that the next day can start where the last one stopped: read into lent numbers, in the form in which
+// `ledger` takes them, with the sheet's standard. A clean sheet is read line by line as it would be written; any other is left to the sheet's own reader,
+// which knows its line, column and refusal.
+ghost use mathlib.Core.Path.{_≡_};
+ghost use Prim.Native.Nat.{_≤_};
+ghost use lib.ListN.{length, set};
+ghost use Rattle.limits.specs.Limits.{longestTime};
+ghost use Rattle.resume.specs.Records.{filledBy, numberFor, recordsOf, resumedFrom, resuming};
+ghost use Rattle.resume.specs.Pass.{EntryAt, HeadOf, Passes};
+use decimal::Lead;
+use line::Sheet;
+use refusal::Refusal;
+use sheet::Reading;
+
+const TAB: u8 = 9;
+
+const LF: u8 = 10;
+
+// The byte of the digit 0; that of 1 follows it.
+const ZERO: u8 = 48;
+
+const MOST_RECORDS: u64 = 100_000;
+
+// What reading the records of a sheet comes to.
+pub enum Resumed {
+    // The standard, and the number of records.
+    Records(u64, u64),
+    // The number of the first bad line, the column of its fault or 0, and its refusal; refusal 7 is on no line, 0.
+    Stopped(u64, u64, Refusal),
+}
+
+// What stands at a record's line.
+enum Entry {
+    // Whether the record failed, its exposure, and the place behind the line.
+    Says(bool, u64, usize),
+    // No line of that record.
+    Other,
+}
+
+// What stands at line 1.
+enum Head {
+    // The standard, and the place behind the line.
+    Standard(u64, usize),
+    None,
+}
+
+// What a pass over a sheet comes to.
+enum Pass {
+    // The standard and the number of records of a sheet that reads cleanly.
+    Clean(u64, u64),
+    Unclean,
+}
+
+// The line of the record numbered `due` at `at`.
+fn entry_at(text: &[u8], at: usize, due: u64) -> Entry
+    ensures { λ r. ⌜ EntryAt (now (text .entry)) at due r ⌝ }
+{
+    let Lead::Number(number, end) = decimal::leading_at(text, at) else {
+        return Entry::Other;
+    };
+    if number != due {
+        return Entry::Other;
+    }
+    if !decimal::stands(text, end, TAB) {
+        return Entry::Other;
+    }
+    let failed = decimal::stands(text, end + 1, ZERO + 1);
+    if !truth::either(failed, decimal::stands(text, end + 1, ZERO)) {
+        return Entry::Other;
+    }
+    if !decimal::stands(text, end + 2, TAB) {
+        return Entry::Other;
+    }
+    let Lead::Number(exposure, feed) = decimal::leading_at(text, end + 3) else {
+        return Entry::Other;
+    };
+    if !decimal::stands(text, feed, LF) {
+        return Entry::Other;
+    }
+    Entry::Says(failed, exposure, feed + 1)
+}
+
+// Line 1.
+fn head(text: &[u8]) -> Head
+    ensures { λ r. ⌜ HeadOf (now (text .entry)) r ⌝ }
+{
+    if !form::begins(text, b"standard\t") {
+        return Head::None;
+    }
+    let Lead::Number(q, feed) = decimal::leading_at(text, 9) else {
+        return Head::None;
+    };
+    if !decimal::stands(text, feed, LF) {
+        return Head::None;
+    }
+    Head::Standard(q, feed + 1)
+}
+
+// The number of a record.
+fn number_for(failed: bool, exposure: u64) -> i32
+    requires { ⌜ exposure ≤ longestTime ⌝ }
+    ensures { λ r. ⌜ r ≡ numberFor failed exposure ⌝ }
+{
+    let x = exposure as i32;
+    if failed { 0 - x } else { x }
+}
+
+// Puts `x` into its place, where `places` has that place.
+fn put(x: i32, places: &mut [i32], i: usize)
+    ensures { λ _. ⌜ now (places .exit) ≡ set (now (places .entry)) i x ⌝ }
+{
+    if i < places.len() {
+        places[i] = x;
+    }
+}
+
+// Goes over all lines of `text`. Where it reads cleanly, its records are put into `places`, as many as there are places for.
+fn pass(text: &[u8], places: &mut [i32]) -> Pass
+    ensures { λ r. ⌜ Passes (now (text .entry)) (now (places .entry)) (now (places .exit)) r ⌝ }
+{
+    let Head::Standard(q, begin) = head(text) else {
+        return Pass::Unclean;
+    };
+    if !truth::both(1 <= q, q <= campaign::LONGEST_STANDARD) {
+        return Pass::Unclean;
+    }
+    let mut at = begin;
+    let mut count: u64 = 0;
+    let mut failures: u64 = 0;
+    while at < text.len() {
+        let Entry::Says(failed, exposure, next) = entry_at(text, at, count + 1) else {
+            return Pass::Unclean;
+        };
+        if !takes(count, failures, exposure) {
+            return Pass::Unclean;
+        }
+        put(number_for(failed, exposure), places, count as usize);
+        failures = truth::pick(failed, failures + 1, failures);
+        count += 1;
+        at = next;
+    }
+    Pass::Clean(q, count)
+}
+
+// What the sheet's reader says of a sheet that does not read cleanly.
+fn stopped(end: Reading) -> Resumed
+    ensures { λ r. ⌜ r ≡ resumedFrom end 0 ⌝ }
+{
+    match end {
+        Reading::Read(c) => Resumed::Records(c.standard, c.records),
+        Reading::Stopped(line, column, r) => Resumed::Stopped(line, column, r),
+        Reading::Waiting(_, _) => Resumed::Stopped(0, 0, Refusal::BrokenState),
+    }
+}

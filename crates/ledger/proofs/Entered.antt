@@ -16,6 +16,7 @@ use Rattle.campaign.specs.declared.Campaign.{Campaign}
 use Rattle.campaign.specs.Answers.{opened}
 use Rattle.campaign.specs.Records.{AllEntered, campaignOf, none, one}
 use Rattle.campaign.specs.State.{sound}
+use Rattle.campaign.proofs.Answered.{entered-from}
 use Rattle.campaign.proofs.Keeping.{opened-sound, entering-sound}
 use Rattle.campaign.proofs.Records.{grown-by-entering}
 use Rattle.campaign.proofs.Relations.{kept-from}
@@ -42,6 +43,14 @@ judged-entered c (x ∷ xs) d e =
 all-sound : {c d : Campaign} {os : List Outcome} → T (sound c) → AllEntered c os d → T (sound d)
 all-sound s none = s
 all-sound s (one {c = c} {d = d} {o = o} e a) = all-sound (entering-sound c o d e) a
+
+-- a campaign keeps its standard
+all-standard : {c d : Campaign} {os : List Outcome} → AllEntered c os d → d .standard ≡ c .standard
+all-standard none = refl
+all-standard (one {c = c} {d = d} {o = o} e a) = all-standard a ∙ ap (λ (y : Campaign). y .standard) (entered-from c o d e .room .after)
+
+pub judged-standard : (c : Campaign) (xs : List ℤ) (d : Campaign) → judgedFrom c xs ≡ Taken d → d .standard ≡ c .standard
+judged-standard c xs d e = all-standard (judged-entered c xs d e)
 
 length-outcomes : (xs : List ℤ) → length (map outcomeIn xs) ≡ length xs
 length-outcomes [] = refl

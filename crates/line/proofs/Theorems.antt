@@ -144,7 +144,7 @@ line-back c flag exposure g h k =
     )
 
 -- ---- line 1 of a standard
-begins-itself : (word rest : List ℕ) → begins word (word ++ rest) ≡ true
+pub begins-itself : (word rest : List ℕ) → begins word (word ++ rest) ≡ true
 unfolding begins
 begins-itself [] rest = refl
 begins-itself (w ∷ word) rest = rw (eq-eqb w w refl, begins-itself word rest)

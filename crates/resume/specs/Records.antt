@@ -1,31 +1,28 @@
 -- Document 02 [2]: the records of a job sheet, in the form in which they are lent for writing, and what reading them answers and leaves. Assumes nothing.
 use Prim.Native.Nat.{ℕ}
-use mathlib.Core.Bool.{Bool, cond}
+use mathlib.Core.Bool.{cond}
 use mathlib.Core.List.{List, _++_, map}
-use lib.IntN.{ℤ, pos, negℤ}
+use lib.IntN.{ℤ}
 use lib.ListN.{length, drop}
 use lib.Dec.{eqb, ltb}
 use Rattle.refusal.specs.declared.Refusal.the-variants.{BrokenState, Room}
 use Rattle.decimal.specs.Decimal.{valueOf}
 use Rattle.decimal.specs.Leading.{leading, behind}
 use Rattle.decimal.specs.Lines.{linesOf}
+use Rattle.degrees.specs.Degrees.{signed}
 use Rattle.sheet.specs.declared.Reading.{Reading}
 use Rattle.sheet.specs.declared.Reading.the-variants.{Read, Stopped, Waiting}
 use Rattle.sheet.specs.Sheet.{meaning}
 use Rattle.resume.specs.declared.Resumed.{Resumed}
 use Rattle.resume.specs.declared.Resumed.the-variants.{Records, Stopped as Bad}
 
--- a record as one number: its exposure in ms, with a minus if it failed
-abbrev pub numberFor : Bool → ℕ → ℤ
-numberFor f t = cond f (negℤ (pos t)) (pos t)
-
 -- what stands behind a line's first field
 abbrev pub afterField : List ℕ → List ℕ
 afterField line = drop 1 (behind line)
 
--- what a record's line says: the second field is 1 for failed, the third the exposure
+-- what a record's line says, as one number: the exposure in its third field, with a minus if the second is 1 for failed
 unfoldable pub recordIn : List ℕ → ℤ
-recordIn line = numberFor (eqb (valueOf (leading (afterField line))) 1) (valueOf (leading (afterField (afterField line))))
+recordIn line = signed (eqb (valueOf (leading (afterField line))) 1) (valueOf (leading (afterField (afterField line))))
 
 -- THE RECORDS OF A SHEET: those of all lines but line 1
 unfoldable pub recordsOf : List ℕ → List ℤ

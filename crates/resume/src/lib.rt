@@ -5,8 +5,9 @@ ghost use mathlib.Core.Path.{_≡_};
 ghost use Prim.Native.Nat.{_≤_};
 ghost use lib.ListN.{length, set};
 ghost use Rattle.limits.specs.Limits.{longestTime};
-ghost use Rattle.resume.specs.Records.{filledBy, numberFor, recordsOf, resumedFrom, resuming};
-ghost use Rattle.resume.specs.Pass.{EntryAt, HeadOf, Passes};
+ghost use Rattle.degrees.specs.Degrees.{signed};
+ghost use Rattle.resume.specs.Records.{filledBy, recordsOf, resuming};
+ghost use Rattle.resume.specs.Pass.{EntryAt, HeadOf, Passes, stoppedFrom, takenAfter};
 use decimal::Lead;
 use line::Sheet;
 use refusal::Refusal;
@@ -18,8 +19,6 @@ const LF: u8 = 10;
 
 // The byte of the digit 0; that of 1 follows it.
 const ZERO: u8 = 48;
-
-const MOST_RECORDS: u64 = 100_000;
 
 // What reading the records of a sheet comes to.
 pub enum Resumed {
@@ -45,7 +44,7 @@ enum Head {
 }
 
 // What a pass over a sheet comes to.
-enum Pass {
+enum Passed {
     // The standard and the number of records of a sheet that reads cleanly.
     Clean(u64, u64),
     Unclean,
@@ -81,7 +80,7 @@ fn entry_at(text: &[u8], at: usize, due: u64) -> Entry
 }
 
 // Line 1.
-fn head(text: &[u8]) -> Head
+fn line_one(text: &[u8]) -> Head
     ensures { λ r. ⌜ HeadOf (now (text .entry)) r ⌝ }
 {
     if !form::begins(text, b"standard\t") {
@@ -99,10 +98,20 @@ fn head(text: &[u8]) -> Head
 // The number of a record.
 fn number_for(failed: bool, exposure: u64) -> i32
     requires { ⌜ exposure ≤ longestTime ⌝ }
-    ensures { λ r. ⌜ r ≡ numberFor failed exposure ⌝ }
+    ensures { λ r. ⌜ r ≡ signed failed exposure ⌝ }
 {
     let x = exposure as i32;
     if failed { 0 - x } else { x }
+}
+
+// Whether a record of this exposure is taken after so many records and failures.
+fn takes(count: u64, failures: u64, exposure: u64) -> bool
+    ensures { λ r. ⌜ r ≡ takenAfter count failures exposure ⌝ }
+{
+    truth::both(
+        truth::both(1 <= exposure, exposure <= limits::LONGEST_TIME),
+        truth::both(count != campaign::MOST_RECORDS, failures != campaign::ROWS),
+    )
 }
 
 // Puts `x` into its place, where `places` has that place.
@@ -115,40 +124,58 @@ fn put(x: i32, places: &mut [i32], i: usize)
 }
 
 // Goes over all lines of `text`. Where it reads cleanly, its records are put into `places`, as many as there are places for.
-fn pass(text: &[u8], places: &mut [i32]) -> Pass
+fn pass(text: &[u8], places: &mut [i32]) -> Passed
     ensures { λ r. ⌜ Passes (now (text .entry)) (now (places .entry)) (now (places .exit)) r ⌝ }
 {
-    let Head::Standard(q, begin) = head(text) else {
-        return Pass::Unclean;
+    let Head::Standard(q, begin) = line_one(text) else {
+        return Passed::Unclean;
     };
     if !truth::both(1 <= q, q <= campaign::LONGEST_STANDARD) {
-        return Pass::Unclean;
+        return Passed::Unclean;
     }
     let mut at = begin;
     let mut count: u64 = 0;
     let mut failures: u64 = 0;
     while at < text.len() {
         let Entry::Says(failed, exposure, next) = entry_at(text, at, count + 1) else {
-            return Pass::Unclean;
+            return Passed::Unclean;
         };
         if !takes(count, failures, exposure) {
-            return Pass::Unclean;
+            return Passed::Unclean;
         }
         put(number_for(failed, exposure), places, count as usize);
         failures = truth::pick(failed, failures + 1, failures);
         count += 1;
         at = next;
     }
-    Pass::Clean(q, count)
+    Passed::Clean(q, count)
 }
 
 // What the sheet's reader says of a sheet that does not read cleanly.
 fn stopped(end: Reading) -> Resumed
-    ensures { λ r. ⌜ r ≡ resumedFrom end 0 ⌝ }
+    ensures { λ r. ⌜ r ≡ stoppedFrom end ⌝ }
 {
     match end {
-        Reading::Read(c) => Resumed::Records(c.standard, c.records),
+        Reading::Read(_) => Resumed::Stopped(0, 0, Refusal::BrokenState),
         Reading::Stopped(line, column, r) => Resumed::Stopped(line, column, r),
         Reading::Waiting(_, _) => Resumed::Stopped(0, 0, Refusal::BrokenState),
+    }
+}
+
+// Reads the records of a sheet into `places`, whose rest stays: the exposures, with a minus on the failed ones. Answers the standard and the number of records;
+// or the sheet's first refusal with its line and column, then 7 with the places needed, and `places` as it stood.
+pub fn records(text: &[u8], places: &mut [i32]) -> Resumed
+    ensures { λ r. ⌜ r ≡ resuming (now (text .entry)) (length (now (places .entry))) ⌝ }
+    ensures { λ r. ⌜ now (places .exit) ≡ filledBy r (recordsOf (now (text .entry))) (now (places .entry)) ⌝ }
+{
+    match pass(text, &mut places[..0]) {
+        Passed::Unclean => stopped(sheet::read(Sheet::Fresh, text, false)),
+        Passed::Clean(q, count) => {
+            if (places.len() as u64) < count {
+                return Resumed::Stopped(0, 0, Refusal::Room(count));
+            }
+            pass(text, places);
+            Resumed::Records(q, count)
+        }
     }
 }

@@ -1,0 +1,208 @@
+-- The reader on its way through a sheet. `Along`: the whole sheet ends as the lines that are left do, from the campaign so far, and what they say goes into the
+-- places from here on. A record that is taken keeps that; where a line is none, or its record is not taken, the sheet does not read cleanly; and at the end it
+-- does. Assumes nothing.
+use mathlib.Core.Path.{_≡_, refl, ap, sym, _∙_}
+use mathlib.Core.Bool.{Bool, true, false, cond, not, _&&_}
+use mathlib.Core.List.{List, [], _∷_, _++_, map}
+use Prim.Native.Nat.{ℕ, _+_, _^_, _≤_, _<_}
+use native.Mathlib.Nat.{add-zero}
+use native.Mathlib.Numerals.{add-one}
+use native.Mathlib.Omega.{arith}
+use lib.Dec.{eqb, leb}
+use lib.IntN.{ℤ}
+use lib.ListN.{length, drop, set, drop-of-length-le, length-drop, length-set}
+use lib.Seq.{sets}
+use borrow.Author.Tests.{eqb-false, le-leb, leb-true, ne-eqb, not-true}
+use Rattle.truth.proofs.Cases.{by-test}
+use Rattle.truth.proofs.Laws.{and-true, holds, is-true, true≢false}
+use Rattle.poisson.specs.Rows.{rows}
+use Rattle.refusal.specs.declared.Refusal.{Refusal}
+use Rattle.refusal.specs.declared.Refusal.the-variants.{Item}
+use Rattle.limits.specs.Limits.{longestTime, within}
+use Rattle.campaign.specs.declared.Answer.{Answer}
+use Rattle.campaign.specs.declared.Answer.the-variants.{Refused, Taken}
+use Rattle.campaign.specs.declared.Campaign.{Campaign}
+use Rattle.campaign.specs.Answers.{opened}
+use Rattle.campaign.specs.State.{empty, entered, mostRecords, sound, standardInRange}
+use Rattle.campaign.proofs.Answered.{entered-from, opened-from}
+use Rattle.campaign.proofs.Keeping.{opened-sound}
+use Rattle.campaign.proofs.Relations.{kept-from}
+use Rattle.decimal.specs.Decimal.{longest}
+use Rattle.decimal.specs.Lines.{linesOf}
+use Rattle.degrees.specs.Degrees.{signed}
+use Rattle.line.specs.declared.Sheet.{Sheet}
+use Rattle.line.specs.declared.Sheet.the-variants.{Fresh, Open}
+use Rattle.line.specs.Line.{outcome, telling, told}
+use Rattle.line.proofs.Theorems.{flag-of, told-entered}
+use Rattle.sheet.specs.declared.Reading.the-variants.{Read}
+use Rattle.sheet.specs.Pieces.{joined}
+use Rattle.sheet.specs.Sheet.{Account, afterStep, meaning, reading}
+use Rattle.ledger.specs.Ledger.{entryText, headText}
+use Rattle.ledger.proofs.Judging.{told-taken}
+use Rattle.resume.specs.declared.Entry.the-variants.{Other, Says}
+use Rattle.resume.specs.declared.Head.the-variants.{None, Standard}
+use Rattle.resume.specs.Pass.{CleanPass, EntryAt, HeadOf, takenAfter}
+use Rattle.resume.specs.Records.{recordIn, recordsOf}
+use Rattle.resume.proofs.Back.{entry-reads, head-reads, in-range}
+use Rattle.resume.proofs.Clean.{apart, first-line}
+use Rattle.resume.proofs.Lines.{entry-lines, entry-says, head-lines, lines-joined}
+
+-- the lines from a place on
+abbrev Left : List ℕ → ℕ → List (List ℕ)
+Left text at = linesOf (drop at text)
+
+pub record Along (text : List ℕ) (before places : List ℤ) (q at count failures : ℕ) : Type 0 where
+  pub so-far : Campaign
+  pub good : sound so-far ≡ true
+  pub standard : so-far .standard ≡ q
+  pub records : so-far .records ≡ count
+  pub fails : so-far .failures ≡ failures
+  pub reads : meaning text .end ≡ reading false (Left text at) (Open so-far) .end
+  pub puts : sets places count (map recordIn (Left text at)) ≡ sets before 0 (recordsOf text)
+  pub number : count + length (map recordIn (Left text at)) ≡ length (recordsOf text)
+  pub size : length places ≡ length before
+  pub inside : at ≤ length text
+
+abbrev pub NotClean : List ℕ → Type 0
+NotClean text = (d : Campaign) → ¬ (meaning text .end ≡ Read d)
+
+-- a refusal is no end of a clean sheet
+never : (line : ℕ) (r : Refusal) (go : Sheet → Account) (d : Campaign) → ¬ (afterStep (outcome line (Refused r)) go .end ≡ Read d)
+never line r go d e = let z : _≡_ {A = ℕ} 0 1 = cc in absurd (omega arith)
+
+-- ---- line 1
+pub no-head : (text : List ℕ) → HeadOf text None → NotClean text
+unfolding HeadOf
+no-head text none d e =
+    let a = apart text d e in
+    let b = a .first in
+    none (b .standard) (joined (a .lines)) (in-range (b .standard) (opened-from (b .standard) (b .start) (b .opens) .0)) (a .parts ∙ ap (λ (l : List ℕ). l ++ joined (a .lines)) (b .bytes))
+
+module _ (text : List ℕ) (q next : ℕ) (h : HeadOf text (Standard q next)) where
+  head-ends : meaning text .end ≡ afterStep (outcome 1 (opened q)) (reading false (Left text next)) .end
+  unfolding HeadOf meaning
+  head-ends = ap (λ (l : List ℕ). reading false (linesOf l) Fresh .end) (h .0 .bytes) ∙ ap (λ (a : Account). a .end) (head-reads q (h .1) (drop next text))
+
+  pub bad-standard : standardInRange q ≡ false → NotClean text
+  bad-standard out d e =
+      let refused : opened q ≡ Refused (Item 5) = rw out in
+      never 1 (Item 5) (reading false (Left text next)) d (ap (λ (a : Answer). afterStep (outcome 1 a) (reading false (Left text next)) .end) (sym refused) ∙ sym head-ends ∙ e)
+
+  pub start : (before : List ℤ) → standardInRange q ≡ true → Along text before before q next 0 0
+  unfolding HeadOf recordsOf
+  start before range =
+      let opens : opened q ≡ Taken (empty q) = rw range in
+      let lines : linesOf text ≡ headText q ∷ Left text next = ap linesOf (h .0 .bytes) ∙ head-lines q (drop next text) in
+      let says : map recordIn (Left text next) ≡ map recordIn (drop 1 (linesOf text)) = ap (λ (l : List (List ℕ)). map recordIn (drop 1 l)) (sym lines) in
+      record {
+        so-far = empty q;
+        good = is-true _ (opened-sound q (empty q) opens);
+        standard = refl;
+        records = refl;
+        fails = refl;
+        reads = head-ends ∙ ap (λ (a : Answer). afterStep (outcome 1 a) (reading false (Left text next)) .end) opens;
+        puts = ap (sets before 0) says;
+        number = omega (arith, ap length says);
+        size = refl;
+        inside = h .0 .within;
+      }
+
+-- ---- what a record needs to be taken
+record Takes (m n t : ℕ) : Type 0 where
+  low : 1 ≤ t
+  high : t ≤ longestTime
+  room : ¬ (m ≡ mostRecords)
+  rows-left : ¬ (n ≡ 64)
+
+takes : (m n t : ℕ) → takenAfter m n t ≡ true → Takes m n t
+unfolding takenAfter
+takes m n t e =
+    let (range, rest) = and-true (within 1 longestTime t) _ e in
+    let (low, high) = and-true (leb 1 t) (leb t longestTime) range in
+    let (room, left) = and-true (not (eqb m mostRecords)) (not (eqb n rows)) rest in
+    record { low = leb-true 1 t low; high = leb-true t longestTime high; room = eqb-false m mostRecords (not-true _ room); rows-left = eqb-false n 64 (not-true _ left) }
+
+pub short : (m n t : ℕ) → takenAfter m n t ≡ true → t ≤ longestTime
+short m n t e = takes m n t e .high
+
+taken-after : (m n t : ℕ) → 1 ≤ t → t ≤ longestTime → ¬ (m ≡ mostRecords) → ¬ (n ≡ 64) → takenAfter m n t ≡ true
+unfolding takenAfter
+taken-after m n t low high room left = rw (le-leb 1 t low, le-leb t longestTime high, ne-eqb m mostRecords room, ne-eqb n 64 left)
+
+-- ---- on the way
+module _ {text : List ℕ} {before places : List ℤ} {q at count failures : ℕ} (a : Along text before places q at count failures) where
+  abbrev c : Campaign
+  c = a .so-far
+
+  pub few : count ≤ 100000
+  few = omega (arith, a .records, kept-from c (holds (a .good)) .records)
+
+  pub few-failures : failures ≤ 64
+  few-failures = omega (arith, a .fails, kept-from c (holds (a .good)) .failures-rows)
+
+  -- no line of the next record
+  pub other-line : at < length text → EntryAt text at (count + 1) Other → NotClean text
+  unfolding EntryAt joined
+  other-line more none d e = go (Left text at) (sym (lines-joined (drop at text))) (sym (a .reads) ∙ e)
+    where
+      go : (lines : List (List ℕ)) → drop at text ≡ joined lines → reading false lines (Open c) .end ≡ Read d → ⊥
+      go [] parts e = omega (arith, ap length parts, length-drop at text)
+      go (line ∷ lines) parts e =
+          let o = first-line c line lines d (a .good) e in
+          none (o .failed) (o .exposure) (joined lines) (omega (arith, few)) (omega (arith, o .high)) (parts ∙ ap (λ (l : List ℕ). l ++ joined lines) (o .bytes ∙ ap (λ (n : ℕ). entryText (n + 1) (cond (o .failed) 1 0) (o .exposure)) (a .records)))
+
+  module _ (f : Bool) (t next : ℕ) (h : EntryAt text at (count + 1) (Says f t next)) where
+    abbrev entry : List ℕ
+    entry = entryText (count + 1) (cond f 1 0) t
+
+    ends : meaning text .end ≡ afterStep (outcome (c .records + 2) (telling c f t)) (reading false (Left text next)) .end
+    unfolding EntryAt
+    ends =
+        a .reads
+        ∙ ap (λ (l : List ℕ). reading false (linesOf l) (Open c) .end) (h .0 .bytes ∙ ap (λ (n : ℕ). entryText (n + 1) (cond f 1 0) t ++ drop next text) (sym (a .records)))
+        ∙ ap (λ (x : Account). x .end) (entry-reads c f t (a .good) (h .1) (drop next text))
+
+    -- its record is not taken
+    pub not-taken : takenAfter count failures t ≡ false → NotClean text
+    not-taken no-room d e = go (telling c f t) refl (sym ends ∙ e)
+      where
+        go : (x : Answer) → telling c f t ≡ x → afterStep (outcome (c .records + 2) x) (reading false (Left text next)) .end ≡ Read d → ⊥
+        go (Refused r) is e = never (c .records + 2) r (reading false (Left text next)) d e
+        go (Taken b) is e =
+            let o = entered-from c (told f t) b (told-entered c f t b is) in
+            true≢false (sym (taken-after count failures t (o .low) (o .high) (λ k. o .room .records (a .records ∙ k)) (λ k. o .room .failures (a .fails ∙ k))) ∙ no-room)
+
+    -- it is taken, and put into its place
+    pub on : takenAfter count failures t ≡ true → {later : List ℤ} → later ≡ set places count (signed f t) → Along text before later q next (count + 1) (cond f (failures + 1) failures)
+    unfolding EntryAt
+    on fits {later} stored =
+        let k = takes count failures t fits in
+        let (taken, good) = told-taken c f t (a .good) (k .low) (k .high) (λ e. k .room (sym (a .records) ∙ e)) (λ e. k .rows-left (sym (a .fails) ∙ e)) in
+        let lines : Left text at ≡ entry ∷ Left text next = ap linesOf (h .0 .bytes) ∙ entry-lines (count + 1) (cond f 1 0) t (drop next text) in
+        let says : map recordIn (Left text at) ≡ signed f t ∷ map recordIn (Left text next) = ap (map recordIn) lines ∙ ap (λ (x : ℤ). x ∷ map recordIn (Left text next)) (entry-says (count + 1) (cond f 1 0) t ∙ ap (λ (y : Bool). signed y t) (flag-of f .0)) in
+        record {
+          so-far = entered c f t;
+          good = good;
+          standard = a .standard;
+          records = ap (λ (n : ℕ). n + 1) (a .records);
+          fails = ap (λ (n : ℕ). cond f (n + 1) n) (a .fails);
+          reads = ends ∙ ap (λ (x : Answer). afterStep (outcome (c .records + 2) x) (reading false (Left text next)) .end) taken;
+          puts = rw (stored, add-one) (ap (sets places count) (sym says) ∙ a .puts);
+          number = omega (arith, ap length says, a .number);
+          size = rw stored (length-set places count (signed f t) ∙ a .size);
+          inside = h .0 .within;
+        }
+
+  -- the end
+  pub ended : length text ≤ at → CleanPass text before places q count
+  unfolding reading linesOf
+  ended past =
+      let none : Left text at ≡ [] = ap linesOf (drop-of-length-le text past) in
+      record {
+        end = c;
+        reads = a .reads ∙ ap (λ (l : List (List ℕ)). reading false l (Open c) .end) none;
+        standard = a .standard;
+        count = a .records;
+        number = sym (a .number) ∙ ap (λ (l : List (List ℕ)). count + length (map recordIn l)) none ∙ add-zero count;
+        puts = ap (λ (l : List (List ℕ)). sets places count (map recordIn l)) (sym none) ∙ a .puts;
+      }

@@ -1,0 +1,7 @@
+pub mod Lines
+pub mod Back
+pub mod Clean
+pub mod At
+pub mod Along
+pub mod Answered
+pub mod Unique

@@ -47,11 +47,11 @@ start q xs e =
 
 -- what entering answers a campaign that keeps its relations and an exposure in range: 5, 6, or the record entered
 module _ (c : Campaign) (f : Bool) (t : ℕ) (g : sound c ≡ true) (low : 1 ≤ t) (high : t ≤ longestTime) where
-  told-full : c .records ≡ mostRecords → telling c f t ≡ Refused CampaignFull
+  pub told-full : c .records ≡ mostRecords → telling c f t ≡ Refused CampaignFull
   unfolding entering
   told-full e = telling-enters c f t low high ∙ rw (g, le-leb 1 t low, le-leb t longestTime high, eq-eqb (c .records) mostRecords e)
 
-  told-used-up : ¬ (c .records ≡ mostRecords) → c .failures ≡ 64 → telling c f t ≡ Refused RowsUsedUp
+  pub told-used-up : ¬ (c .records ≡ mostRecords) → c .failures ≡ 64 → telling c f t ≡ Refused RowsUsedUp
   unfolding entering
   told-used-up n e = telling-enters c f t low high ∙ rw (g, le-leb 1 t low, le-leb t longestTime high, ne-eqb (c .records) mostRecords n, eq-eqb (c .failures) 64 e)
 

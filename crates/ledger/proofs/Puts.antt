@@ -8,7 +8,9 @@ use native.Mathlib.Omega.{arith}
 use lib.IntN.{ℤ, pos, negsuc}
 use lib.ListN.{length, length-append}
 use lib.Signed.{ltZ}
-use borrow.Author.Tests.{le-ltb, lt-ltb}
+use lib.Dec.{ltb}
+use borrow.Author.Tests.{le-ltb, lt-ltb, ltb-false}
+use Rattle.truth.proofs.Cases.{by-test}
 use Rattle.refusal.specs.declared.Refusal.{Refusal}
 use Rattle.refusal.specs.declared.Refusal.the-variants.{Room}
 use Rattle.text.specs.Write.{laid}
@@ -22,7 +24,7 @@ use Rattle.campaign.specs.declared.Campaign.{Campaign}
 use Rattle.ledger.specs.declared.Judged.the-variants.{Clean, Fault}
 use Rattle.ledger.specs.declared.Writing.the-variants.{Bytes, Refused as Declined}
 use Rattle.ledger.specs.Ledger.{entryText, exposureIn, failedIn, headText, lineText, linesFrom, sheetText}
-use Rattle.ledger.specs.Answers.{judged, judgedAs, laidBy, writing}
+use Rattle.ledger.specs.Answers.{afterJudging, judged, judgedAs, laidBy, writing}
 
 -- a record failed if its number is below zero
 pub failed-below : (x : ℤ) → ltZ x (pos 0) ≡ failedIn x
@@ -89,3 +91,27 @@ module _ (q : ℕ) (xs : List ℤ) (out : List ℕ) where
 pub laid-front : (out text : List ℕ) → laid out 0 text ≡ laidBy (Bytes (length text)) text out
 unfolding laid laidBy
 laid-front out text = rw zero-add
+
+-- what was written was judged clean, and there was room for it
+pub record Wrote (q : ℕ) (xs : List ℤ) (out : List ℕ) (n : ℕ) : Type 0 where
+  pub end : Campaign
+  pub clean : judged q xs ≡ Taken end
+  pub bytes : n ≡ length (sheetText q xs)
+  pub room : n ≤ length out
+
+pub wrote : (q : ℕ) (xs : List ℤ) (out : List ℕ) (n : ℕ) → writing q xs out ≡ Bytes n → Wrote q xs out n
+unfolding writing
+wrote q xs out n e = go (judged q xs) refl e
+  where
+    never : {r : Refusal} → ¬ (Declined r ≡ Bytes n)
+    never f = let z : _≡_ {A = ℕ} 0 1 = cc in absurd (omega arith)
+
+    go : (a : Answer) → judged q xs ≡ a → afterJudging a (length (sheetText q xs)) (length out) ≡ Bytes n → Wrote q xs out n
+    go (Refused r) is e = absurd (never e)
+    go (Taken d) is e =
+        by-test (ltb (length out) (length (sheetText q xs)))
+        (λ t. absurd (never (rw t at e)))
+        (λ t.
+        let f : Bytes (length (sheetText q xs)) ≡ Bytes n = rw t at e in
+        let same : n ≡ length (sheetText q xs) = cc (f) in
+        record { end = d; clean = is; bytes = same; room = omega (arith, ltb-false (length out) (length (sheetText q xs)) t) })

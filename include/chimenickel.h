@@ -169,6 +169,17 @@ uint64_t chim_bench_give_back(uint64_t (*table)[6], size_t table_len, uint64_t b
  * number of fields), and 0 for every other answer. */
 uint64_t chim_sheet_read(const uint8_t *text, size_t text_len, uint64_t *state, size_t state_len, uint64_t *line, uint64_t *column, uint64_t *carried);
 
+/* Writes the sheet of a standard, one failure in `standard` ms, and its records, lent in order as exposures in ms with a minus on the failed ones, into `out`,
+ * whose other bytes stay; *carried is its length. Refuses 1 with item 5; then record by record 4, 3, 5, 6, the first record at fault deciding, INT32_MIN being
+ * a failed record that is too long; then 7 with the bytes needed. Room for 22 bytes and 18 for each record is always enough. */
+uint64_t chim_sheet_write(uint64_t standard, const int32_t *records, size_t records_len, uint8_t *out, size_t out_len, uint64_t *carried);
+
+/* Reads the records of a whole job sheet into `records`, in the form that chim_sheet_write takes, whose other places stay; *standard is its standard and
+ * *carried their number, *line and *column are 0. Refuses as chim_sheet_read does, with *line and *column; then 7 with the places needed, on line 0.
+ * On a refusal *standard is 0. */
+uint64_t chim_sheet_records(const uint8_t *text, size_t text_len, int32_t *records, size_t records_len, uint64_t *standard, uint64_t *line, uint64_t *column,
+                            uint64_t *carried);
+
 /* ---- the tail of a list of peaks, thousandths of a degree or mm/s2 */
 
 /* Writes the peaks sorted downwards, Y(1), Y(2), .., to the start of `sorted`, whose other places stay; *carried is the Hill sum over the k largest: the

@@ -1,7 +1,7 @@
 """A campaign at one failure in two hours: a roll that crosses 40 degrees, then quiet records by their exposure. It prints what examples/c/campaign.c
 prints."""
 
-from chimenickel import Campaign, Case, Record, Refusal, counted_times
+from chimenickel import Campaign, Case, Record, Refusal, counted_times, read_records, write_sheet
 
 
 def show(campaign):
@@ -36,3 +36,8 @@ try:
 except Refusal as refusal:
     print(f"refused: {refusal.number} ({refusal.carried})")
 print("counted times:", *counted_times(**items, samples=roll), "ms")
+records = [-result.exposure] + 25 * [1_800_000]
+sheet = write_sheet(7_200_000, records)
+standard, back = read_records(sheet)
+same = "the same" if back == records else "others"
+print(f"sheet: {len(sheet)} bytes, standard {standard} ms, {len(back)} records read back, {same}")

@@ -46,6 +46,8 @@ for _name, _result, _parameters in [
     ("chim_bench_rates", _u64, [_rows, _size, _u64, _u64, _rate, _rate, _rate, _numbers]),
     ("chim_bench_give_back", _u64, [_rows, _size, _u64, _u64, _numbers]),
     ("chim_tail_fit", _u64, [_times, _size, _u64, _times, _size, _numbers]),
+    ("chim_sheet_write", _u64, [_u64, _samples, _size, ctypes.c_char_p, _size, _numbers]),
+    ("chim_sheet_records", _u64, [ctypes.c_char_p, _size, _samples, _size, _numbers, _numbers, _numbers, _numbers]),
     ("chim_comma_read", _u64, [ctypes.c_char_p, _size, _u64, _samples, _size, _numbers]),
     ("chim_comma_write", _u64, [_samples, _size, _u64, ctypes.c_char_p, _size, _numbers]),
     ("chim_upper_row", ctypes.c_uint32, [_u64]),
@@ -384,6 +386,29 @@ def write_comma(samples, step):
             if refusal.number != 7:
                 raise
             size = refusal.carried
+
+
+def write_sheet(standard, records):
+    """The job sheet of a standard and its records as bytes, in order: exposures in ms, with a minus on the failed ones."""
+    xs, n = _slice(records)
+    # room for any sheet of so many records, of which no more than 100,000 are taken
+    size = 22 + 18 * min(n, 100_000)
+    out = ctypes.create_string_buffer(size)
+    written = _ask(_lib.chim_sheet_write, _number(standard), xs, n, out, size)
+    return out.raw[:written]
+
+
+def read_records(text):
+    """The standard of a whole job sheet, as bytes, and the list of its records, as write_sheet takes them. A Refusal has the line and the column of the fault."""
+    text = bytes(text)
+    places = max(text.count(b"\n"), 1)
+    records, standard, line, column = (ctypes.c_int32 * places)(), _u64(), _u64(), _u64()
+    try:
+        n = _ask(_lib.chim_sheet_records, text, len(text), records, places, ctypes.byref(standard), ctypes.byref(line), ctypes.byref(column))
+    except Refusal as refusal:
+        refusal.line, refusal.column = line.value, column.value
+        raise
+    return standard.value, records[:n]
 
 
 def from_degrees(degrees):

@@ -21,8 +21,10 @@ from chimenickel import (
     from_degrees,
     lower_row,
     read_comma,
+    read_records,
     upper_row,
     write_comma,
+    write_sheet,
 )
 
 ITEMS = (500, 0, 40_000, 2_000)
@@ -66,6 +68,23 @@ class Records(unittest.TestCase):
         self.assertEqual(counted_times(*ITEMS, [0, 0]), [])
         self.refused(4, 0, counted_times, *ITEMS, ROLL[:1])
         self.assertEqual((first_crossing(ROLL, 0, 40_000), first_crossing(ROLL, 0, 41_000), first_crossing([], 0, 1)), (1, None, None))
+
+    def test_sheets(self):
+        records = [1_800_000, -933_980, 10_000_000, -1, 1]
+        sheet = write_sheet(7_200_000, records)
+        self.assertEqual(sheet, b"standard\t7200000\n1\t0\t1800000\n2\t1\t933980\n3\t0\t10000000\n4\t1\t1\n5\t0\t1\n")
+        self.assertEqual(read_records(sheet), (7_200_000, records))
+        self.assertEqual((write_sheet(1, []), read_records(b"standard\t1\n")), (b"standard\t1\n", (1, [])))
+        self.refused(1, 5, write_sheet, 0, [0])
+        self.refused(4, 0, write_sheet, 1, [1, 0, -(1 << 31)])
+        self.refused(3, 0, write_sheet, 1, [1, -(1 << 31), 0])
+        self.refused(5, 0, write_sheet, 1, [1] * 100_001)
+        self.refused(6, 0, write_sheet, 1, [-1] * 65)
+        full = [10_000_000] * 100_000
+        self.assertEqual(read_records(write_sheet(100_000_000_000, full)), (100_000_000_000, full))
+        with self.assertRaises(Refusal) as raised:
+            read_records(b"standard\t1\n1\t0\tx\n")
+        self.assertEqual((raised.exception.number, raised.exception.line, raised.exception.column), (9, 2, 5))
 
     def test_comma_files(self):
         samples = [0, -500, 41_500, 1_000_000, -1_000_000, 7]

@@ -2,6 +2,7 @@
 #include "chimenickel.h"
 #include <inttypes.h>
 #include <stdio.h>
+#include <string.h>
 
 static void verdict(const uint64_t *campaign) {
     uint64_t carried;
@@ -46,5 +47,17 @@ int main(void) {
     for (uint64_t i = 0; refusal == CHIM_TAKEN && i < carried; i++)
         printf(" %" PRIu32, times[i]);
     printf(" ms\n");
+
+    int32_t records[26], back[26];
+    uint8_t sheet[22 + 18 * 26];
+    uint64_t bytes, standard, line, column;
+    for (int i = 0; i < 26; i++)
+        records[i] = i ? 1800000 : -(int32_t)result[CHIM_EXPOSURE];
+    refusal = chim_sheet_write(7200000, records, 26, sheet, sizeof sheet, &bytes);
+    if (refusal == CHIM_TAKEN)
+        refusal = chim_sheet_records(sheet, bytes, back, 26, &standard, &line, &column, &carried);
+    if (refusal == CHIM_TAKEN)
+        printf("sheet: %" PRIu64 " bytes, standard %" PRIu64 " ms, %" PRIu64 " records read back, %s\n", bytes, standard, carried,
+               memcmp(back, records, sizeof records) ? "others" : "the same");
     return 0;
 }

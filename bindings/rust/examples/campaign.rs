@@ -1,7 +1,7 @@
 //! A campaign at one failure in two hours: a roll that crosses 40 degrees, then quiet records by their exposure. It prints what
 //! examples/c/campaign.c prints.
 
-use chimenickel::{list, Campaign, Items, Record, Refusal, Verdict};
+use chimenickel::{list, read_records, write_sheet, Campaign, Items, Record, Refusal, Verdict};
 
 fn show(c: &Campaign) -> Result<(), Refusal> {
     print!("M = {}, N = {}, T = {} ms: ", c.records(), c.failures(), c.exposure());
@@ -44,5 +44,11 @@ fn main() -> Result<(), Refusal> {
     }
     let times: Vec<String> = list(items, &roll)?.iter().map(u32::to_string).collect();
     println!("counted times: {} ms", times.join(" "));
+    let mut records = vec![-(ended.exposure as i32)];
+    records.resize(26, 1_800_000);
+    let sheet = write_sheet(7_200_000, &records)?;
+    let (standard, back) = read_records(sheet.as_bytes()).map_err(|bad| bad.refusal)?;
+    let same = if back == records { "the same" } else { "others" };
+    println!("sheet: {} bytes, standard {standard} ms, {} records read back, {same}", sheet.len(), back.len());
     Ok(())
 }

@@ -68,6 +68,17 @@ extern "C" {
     ) -> u64;
     pub fn chim_bench_give_back(table: *mut [u64; 6], table_len: usize, bureau: u64, place: u64, carried: *mut u64) -> u64;
     pub fn chim_tail_fit(peaks: *const u32, peaks_len: usize, k: u64, sorted: *mut u32, sorted_len: usize, carried: *mut u64) -> u64;
+    pub fn chim_sheet_write(standard: u64, records: *const i32, records_len: usize, out: *mut u8, out_len: usize, carried: *mut u64) -> u64;
+    pub fn chim_sheet_records(
+        text: *const u8,
+        text_len: usize,
+        records: *mut i32,
+        records_len: usize,
+        standard: *mut u64,
+        line: *mut u64,
+        column: *mut u64,
+        carried: *mut u64,
+    ) -> u64;
     pub fn chim_comma_read(text: *const u8, text_len: usize, step: u64, samples: *mut i32, samples_len: usize, carried: *mut u64) -> u64;
     pub fn chim_comma_write(samples: *const i32, samples_len: usize, step: u64, out: *mut u8, out_len: usize, carried: *mut u64) -> u64;
     pub fn chim_upper_row(n: u64) -> u32;

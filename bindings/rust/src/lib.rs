@@ -503,6 +503,35 @@ pub fn write_comma(samples: &[i32], step: u64) -> Result<Vec<u8>, Refusal> {
     }
 }
 
+/// The job sheet of a standard and its records, in order: exposures in ms, with a minus on the failed ones.
+///
+/// ```
+/// let sheet = chimenickel::write_sheet(7_200_000, &[1_800_000, -933_980])?;
+/// assert_eq!(sheet, "standard\t7200000\n1\t0\t1800000\n2\t1\t933980\n");
+/// assert_eq!(chimenickel::read_records(sheet.as_bytes()), Ok((7_200_000, vec![1_800_000, -933_980])));
+/// # Ok::<(), chimenickel::Refusal>(())
+/// ```
+pub fn write_sheet(standard: u64, records: &[i32]) -> Result<String, Refusal> {
+    // room for any sheet of so many records, of which no more than 100,000 are taken
+    let mut text = vec![0; 22 + 18 * records.len().min(100_000)];
+    let n = answer(|carried| unsafe { c::chim_sheet_write(standard, records.as_ptr(), records.len(), text.as_mut_ptr(), text.len(), carried) })?;
+    text.truncate(n as usize);
+    Ok(String::from_utf8(text).expect("a sheet is letters, digits, tabs and LFs"))
+}
+
+/// The standard and the records of a whole job sheet, as `write_sheet` takes them; or its first bad line.
+pub fn read_records(text: &[u8]) -> Result<(u64, Vec<i32>), BadLine> {
+    // a record has a line, and a line an LF
+    let mut records = vec![0; text.iter().filter(|&&b| b == b'\n').count()];
+    let (mut standard, mut line, mut column) = (0, 0, 0);
+    let read = answer(|carried| unsafe {
+        c::chim_sheet_records(text.as_ptr(), text.len(), records.as_mut_ptr(), records.len(), &mut standard, &mut line, &mut column, carried)
+    });
+    let n = read.map_err(|refusal| BadLine { line, column, refusal })?;
+    records.truncate(n as usize);
+    Ok((standard, records))
+}
+
 #[cfg(test)]
 mod tests {
     use super::*;
@@ -641,5 +670,25 @@ mod tests {
         assert_eq!(read_comma(b"0,2000\n50,1.", 50), Err(Refusal::CommaLine(2)));
         assert_eq!(read_comma(b"0,0\n50,1000.001\n", 50), Err(Refusal::Sample(1)));
         assert_eq!(write_comma(&[0, 1_000_001], 50), Err(Refusal::Sample(1)));
+    }
+
+    #[test]
+    fn sheets_are_written_and_read_back() {
+        let records = [1_800_000, -933_980, 10_000_000, -1, 1];
+        let sheet = write_sheet(7_200_000, &records).unwrap();
+        assert_eq!(sheet, "standard\t7200000\n1\t0\t1800000\n2\t1\t933980\n3\t0\t10000000\n4\t1\t1\n5\t0\t1\n");
+        assert_eq!(read_records(sheet.as_bytes()), Ok((7_200_000, records.to_vec())));
+        assert_eq!(Campaign::read_sheet(sheet.as_bytes()).unwrap().records(), 5);
+        assert_eq!(write_sheet(1, &[]), Ok("standard\t1\n".to_string()));
+        assert_eq!(write_sheet(0, &[0]), Err(Refusal::Item(5)));
+        assert_eq!(write_sheet(1, &[1, 0, i32::MIN]), Err(Refusal::TooShort));
+        assert_eq!(write_sheet(1, &[1, i32::MIN, 0]), Err(Refusal::TooLong));
+        assert_eq!(write_sheet(1, &[1; 100_001]), Err(Refusal::CampaignFull));
+        assert_eq!(write_sheet(1, &[-1; 65]), Err(Refusal::RowsUsedUp));
+        let full = vec![10_000_000; 100_000];
+        let sheet = write_sheet(100_000_000_000, &full).unwrap();
+        assert_eq!(read_records(sheet.as_bytes()), Ok((100_000_000_000, full)));
+        assert_eq!(read_records(b"standard\t1\n1\t0\t0\n"), Err(BadLine { line: 2, column: 0, refusal: Refusal::TooShort }));
+        assert_eq!(read_records(b"standard\t1\n1\t0\tx\n"), Err(BadLine { line: 2, column: 5, refusal: Refusal::Line(2) }));
     }
 }

@@ -4,7 +4,7 @@
 use mathlib.Core.Path.{_≡_, refl, ap, sym, _∙_}
 use mathlib.Core.Bool.{Bool, cond, false, not, true}
 use mathlib.Core.List.{List, [], _∷_, map}
-use Prim.Native.Nat.{ℕ, _+_, _≤_}
+use Prim.Native.Nat.{ℕ, _+_, _*_, _≤_}
 use native.Mathlib.Omega.{arith}
 use borrow.Author.Tests.{eqb-false, eqb-true, le-ltb, ltb-false}
 use lib.Dec.{eqb, ltb}
@@ -31,8 +31,9 @@ use Rattle.ledger.specs.declared.Writing.{Writing}
 use Rattle.ledger.specs.declared.Writing.the-variants.{Bytes, Refused as Declined}
 use Rattle.ledger.specs.Answers.{afterJudging, judged, judgedAs, judgedFrom, laidBy, onward, writing}
 use Rattle.ledger.specs.Ledger.{exposureIn, failedIn, outcomeIn, sheetText}
+use Rattle.ledger.proofs.Enough.{enough}
 use Rattle.ledger.proofs.Entered.{judged-campaign, judged-records}
-use Rattle.ledger.proofs.Judging.{told-full, told-taken, told-used-up}
+use Rattle.ledger.proofs.Judging.{told-full, told-long, told-short, told-taken, told-used-up}
 use Rattle.ledger.proofs.Puts.{all-written, wrote}
 use Rattle.resume.specs.declared.Resumed.the-variants.{Records, Stopped as Bad}
 use Rattle.resume.specs.Records.{filledBy, recordsOf, resuming}
@@ -59,6 +60,8 @@ writeTests q xs room =
 
 pub record Request2 : Type 0 where
   pub write : (q : ℕ) (xs : List ℤ) (out : List ℕ) → Decides Declined (writeTests q xs (length out)) (Bytes (length (sheetText q xs))) (writing q xs out)
+  -- 22 bytes and 18 for each record are always room
+  pub enough : (q : ℕ) (xs : List ℤ) (out : List ℕ) (n : ℕ) → writing q xs out ≡ Bytes n → n ≤ 22 + 18 * length xs
   -- the least number of 32 bits is a failed record, and too long
   pub least : (failedIn (negsuc 2147483647) ≡ true) × (ltb longestTime (exposureIn (negsuc 2147483647)) ≡ true)
   -- the sheet's own refusals with their line and column; then 7 with the places needed, on no line; else the standard and the number of records
@@ -94,14 +97,6 @@ module _ (needed room : ℕ) where
   abbrev then : List ℤ → Answer → Writing
   then xs a = afterJudging (onward a (λ d. judgedFrom d xs)) needed room
 
-  told-short : (c : Campaign) (f : Bool) (t : ℕ) → eqb t 0 ≡ true → telling c f t ≡ Refused TooShort
-  unfolding telling
-  told-short c f t e = rw e
-
-  told-long : (c : Campaign) (f : Bool) (t : ℕ) → eqb t 0 ≡ false → ltb longestTime t ≡ true → telling c f t ≡ Refused TooLong
-  unfolding telling
-  told-long c f t e h = rw (e, h)
-
   records-decide : (xs : List ℤ) (c : Campaign) → sound c ≡ true
       → afterJudging (judgedFrom c xs) needed room ≡ decide Declined (recordTests (c .records) (c .failures) xs last) (Bytes needed)
   unfolding judgedFrom recordTests decide
@@ -110,10 +105,10 @@ module _ (needed room : ℕ) where
       let f = failedIn x in
       let t = exposureIn x in
       by-test (eqb t 0)
-      (λ e. ap (then xs) (told-short c f t e) ∙ rw e)
+      (λ e. ap (then xs) (told-short c f t g e) ∙ rw e)
       (λ e.
       by-test (ltb longestTime t)
-      (λ h. ap (then xs) (told-long c f t e h) ∙ rw (e, h))
+      (λ h. ap (then xs) (told-long c f t g e h) ∙ rw (e, h))
       (λ h.
       let low : 1 ≤ t = omega (arith, eqb-false t 0 e) in
       let high = ltb-false longestTime t h in
@@ -145,6 +140,7 @@ unfolding laidBy filledBy resuming campaignOf
 request-2 =
     record {
       write = λ q xs out. decided Declined (Bytes (length (sheetText q xs))) own (λ r e. no (cc)) (writeTests q xs (length out)) (writing q xs out) (written-decides q xs out);
+      enough = λ q xs out n e. let w = wrote q xs out n e in omega (arith, w .bytes, enough q xs (w .end) (w .clean));
       least = (refl, refl);
       refused-sheet = λ text places line column r e. rw e;
       clean-sheet = λ text places c e. rw e;

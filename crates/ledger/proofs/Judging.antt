@@ -5,13 +5,15 @@ use mathlib.Core.Bool.{Bool, true, false, cond, not}
 use mathlib.Core.List.{List, [], _∷_}
 use Prim.Native.Nat.{ℕ, _+_, _≤_, _<_}
 use native.Mathlib.Omega.{arith}
-use lib.Dec.{leb}
+use lib.Dec.{eqb, leb, ltb}
 use lib.IntN.{ℤ, pos}
 use lib.ListN.{length, getD, drop, drop-of-length-le}
-use borrow.Author.Tests.{eq-eqb, ne-eqb, le-leb, le-ltb, lt-ltb}
+use borrow.Author.Tests.{eq-eqb, eqb-false, eqb-true, ne-eqb, le-leb, ltb-false}
+use Rattle.truth.proofs.Cases.{by-test}
 use Rattle.truth.proofs.Laws.{holds, is-true}
 use Rattle.refusal.specs.declared.Refusal.{Refusal}
 use Rattle.refusal.specs.declared.Refusal.the-variants.{CampaignFull, Item, RowsUsedUp, TooLong, TooShort}
+use Rattle.poisson.specs.Rows.{rows}
 use Rattle.limits.specs.Limits.{longestTime}
 use Rattle.magnitude.proofs.Turn.{turn}
 use Rattle.campaign.specs.declared.Answer.{Answer}
@@ -19,13 +21,14 @@ use Rattle.campaign.specs.declared.Answer.the-variants.{Taken, Refused}
 use Rattle.campaign.specs.declared.Campaign.{Campaign}
 use Rattle.campaign.specs.Answers.{entering, opened}
 use Rattle.campaign.specs.State.{empty, entered, mostRecords, sound, standardInRange}
+use Rattle.campaign.proofs.Answered.{entered-from}
 use Rattle.campaign.proofs.Keeping.{opened-sound, entering-sound}
 use Rattle.campaign.proofs.Relations.{kept-from}
 use Rattle.line.specs.Line.{telling, told}
-use Rattle.line.proofs.Theorems.{telling-enters}
+use Rattle.line.proofs.Theorems.{telling-enters, told-entered}
 use Rattle.ledger.specs.declared.Judged.the-variants.{Clean, Fault}
 use Rattle.ledger.specs.Ledger.{exposureIn, failedIn}
-use Rattle.ledger.specs.Answers.{judged, judgedAs, judgedFrom, onward}
+use Rattle.ledger.specs.Answers.{judged, judgedAs, judgedFrom, judgedOne, onward}
 
 pub record Along (q : ℕ) (xs : List ℤ) (i failures : ℕ) : Type 0 where
   pub so-far : Campaign
@@ -61,6 +64,43 @@ module _ (c : Campaign) (f : Bool) (t : ℕ) (g : sound c ≡ true) (low : 1 ≤
       let e : entering c (told f t) ≡ Taken (entered c f t) = rw (g, le-leb 1 t low, le-leb t longestTime high, ne-eqb (c .records) mostRecords n, ne-eqb (c .failures) 64 m) in
       (telling-enters c f t low high ∙ e, is-true _ (entering-sound c (told f t) (entered c f t) e))
 
+-- what is judged of one record is what the sheet says of it
+module _ (c : Campaign) (f : Bool) (t : ℕ) (g : sound c ≡ true) where
+  pub told-short : eqb t 0 ≡ true → telling c f t ≡ Refused TooShort
+  unfolding telling
+  told-short e = rw e
+
+  pub told-long : eqb t 0 ≡ false → ltb longestTime t ≡ true → telling c f t ≡ Refused TooLong
+  unfolding telling
+  told-long e h = rw (e, h)
+
+  pub told-one : judgedOne (c .records) (c .failures) t ≡ judgedAs (telling c f t)
+  unfolding judgedOne
+  told-one =
+      by-test (eqb t 0)
+      (λ e. rw (e, told-short e))
+      (λ e.
+      by-test (ltb longestTime t)
+      (λ h. rw (e, h, told-long e h))
+      (λ h.
+      let low : 1 ≤ t = omega (arith, eqb-false t 0 e) in
+      let high = ltb-false longestTime t h in
+      by-test (eqb (c .records) mostRecords)
+      (λ m. rw (e, h, m, told-full c f t g low high (eqb-true (c .records) mostRecords m)))
+      (λ m.
+      by-test (eqb (c .failures) rows)
+      (λ n. rw (e, h, m, n, told-used-up c f t g low high (eqb-false (c .records) mostRecords m) (eqb-true (c .failures) 64 n)))
+      (λ n. rw (e, h, m, n, told-taken c f t g low high (eqb-false (c .records) mostRecords m) (eqb-false (c .failures) 64 n) .0)))))
+
+-- what was judged is an answer
+pub judged-clean : (a : Answer) → Clean ≡ judgedAs a → (c : Campaign) × (a ≡ Taken c)
+judged-clean (Taken c) e = (c, refl)
+judged-clean (Refused r) e = let z : _≡_ {A = ℕ} 0 1 = cc in absurd (omega arith)
+
+pub judged-fault : (a : Answer) (r : Refusal) → Fault r ≡ judgedAs a → a ≡ Refused r
+judged-fault (Taken c) r e = let z : _≡_ {A = ℕ} 0 1 = cc in absurd (omega arith)
+judged-fault (Refused s) r e = let f : s ≡ r = cc in ap Refused f
+
 module _ {q : ℕ} {xs : List ℤ} {i failures : ℕ} (a : Along q xs i failures) where
   pub few : i ≤ mostRecords
   few = omega (arith, a .records, kept-from (a .so-far) (holds (a .good)) .records)
@@ -80,39 +120,25 @@ module _ {q : ℕ} {xs : List ℤ} {i failures : ℕ} (a : Along q xs i failures
     unfolding judgedFrom
     next = a .left ∙ turn (judgedFrom (a .so-far)) xs i inside
 
-    decides : (r : Refusal) → telling (a .so-far) (failedIn x) (exposureIn x) ≡ Refused r → Fault r ≡ judgedAs (judged q xs)
-    decides r e = rw (next, e)
+    told-here : judgedOne i failures (exposureIn x) ≡ judgedAs (telling (a .so-far) (failedIn x) (exposureIn x))
+    told-here =
+        ap (λ (m : ℕ). judgedOne m failures (exposureIn x)) (sym (a .records))
+        ∙ ap (λ (n : ℕ). judgedOne (a .so-far .records) n (exposureIn x)) (sym (a .fails))
+        ∙ told-one (a .so-far) (failedIn x) (exposureIn x) (a .good)
 
-    pub too-short : exposureIn x ≡ 0 → Fault TooShort ≡ judgedAs (judged q xs)
-    unfolding telling
-    too-short e = decides TooShort (rw (eq-eqb (exposureIn x) 0 e))
+    pub decides : (r : Refusal) → judgedOne i failures (exposureIn x) ≡ Fault r → Fault r ≡ judgedAs (judged q xs)
+    decides r e = rw (next, judged-fault (telling (a .so-far) (failedIn x) (exposureIn x)) r (sym e ∙ told-here))
 
-    module _ (low : ¬ (exposureIn x ≡ 0)) where
-      pub too-long : longestTime < exposureIn x → Fault TooLong ≡ judgedAs (judged q xs)
-      unfolding telling
-      too-long h = decides TooLong (rw (ne-eqb (exposureIn x) 0 low, lt-ltb longestTime (exposureIn x) h))
-
-      module _ (high : exposureIn x ≤ longestTime) where
-        some : 1 ≤ exposureIn x
-        some = omega (arith, low)
-
-        pub too-many : i ≡ mostRecords → Fault CampaignFull ≡ judgedAs (judged q xs)
-        too-many e = decides CampaignFull (told-full (a .so-far) (failedIn x) (exposureIn x) (a .good) some high (a .records ∙ e))
-
-        module _ (room : ¬ (i ≡ mostRecords)) where
-          there : ¬ (a .so-far .records ≡ mostRecords)
-          there e = room (sym (a .records) ∙ e)
-
-          pub used-up : failures ≡ 64 → Fault RowsUsedUp ≡ judgedAs (judged q xs)
-          used-up e = decides RowsUsedUp (told-used-up (a .so-far) (failedIn x) (exposureIn x) (a .good) some high there (a .fails ∙ e))
-
-          pub on : ¬ (failures ≡ 64) → Along q xs (i + 1) (cond (failedIn x) (failures + 1) failures)
-          on m =
-              let (taken, good) = told-taken (a .so-far) (failedIn x) (exposureIn x) (a .good) some high there (λ e. m (sym (a .fails) ∙ e)) in
-              record {
-                so-far = entered (a .so-far) (failedIn x) (exposureIn x);
-                good = good;
-                records = ap (λ (n : ℕ). n + 1) (a .records);
-                fails = ap (λ (n : ℕ). cond (failedIn x) (n + 1) n) (a .fails);
-                left = next ∙ rw taken;
-              }
+    pub on : judgedOne i failures (exposureIn x) ≡ Clean → Along q xs (i + 1) (cond (failedIn x) (failures + 1) failures)
+    on e =
+        let (d, taken) = judged-clean (telling (a .so-far) (failedIn x) (exposureIn x)) (sym e ∙ told-here) in
+        let says = told (failedIn x) (exposureIn x) in
+        let enters = told-entered (a .so-far) (failedIn x) (exposureIn x) d taken in
+        let after = entered-from (a .so-far) says d enters .room .after in
+        record {
+          so-far = d;
+          good = is-true _ (entering-sound (a .so-far) says d enters);
+          records = ap (λ (c : Campaign). c .records) after ∙ ap (λ (n : ℕ). n + 1) (a .records);
+          fails = ap (λ (c : Campaign). c .failures) after ∙ ap (λ (n : ℕ). cond (failedIn x) (n + 1) n) (a .fails);
+          left = next ∙ ap (λ (y : Answer). onward y (λ b. judgedFrom b (drop (i + 1) xs))) taken;
+        }

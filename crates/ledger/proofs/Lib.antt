@@ -2,3 +2,4 @@ pub mod Judging
 pub mod Puts
 pub mod Entered
 pub mod Unique
+pub mod Enough

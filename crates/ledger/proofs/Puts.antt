@@ -21,6 +21,7 @@ use Rattle.form.specs.Form.{standardWord}
 use Rattle.campaign.specs.declared.Answer.{Answer}
 use Rattle.campaign.specs.declared.Answer.the-variants.{Taken, Refused}
 use Rattle.campaign.specs.declared.Campaign.{Campaign}
+use Rattle.ledger.proofs.Judging.{judged-clean, judged-fault}
 use Rattle.ledger.specs.declared.Judged.the-variants.{Clean, Fault}
 use Rattle.ledger.specs.declared.Writing.the-variants.{Bytes, Refused as Declined}
 use Rattle.ledger.specs.Ledger.{entryText, exposureIn, failedIn, headText, lineText, linesFrom, sheetText}
@@ -65,15 +66,6 @@ unfolding sheetText
 sheet-bytes q xs = length-append (headText q) (linesFrom 1 xs)
 
 -- ---- what writing answers
--- what was judged is an answer
-pub judged-clean : (a : Answer) → Clean ≡ judgedAs a → (c : Campaign) × (a ≡ Taken c)
-judged-clean (Taken c) e = (c, refl)
-judged-clean (Refused r) e = let z : _≡_ {A = ℕ} 0 1 = cc in absurd (omega arith)
-
-pub judged-fault : (a : Answer) (r : Refusal) → Fault r ≡ judgedAs a → a ≡ Refused r
-judged-fault (Taken c) r e = let z : _≡_ {A = ℕ} 0 1 = cc in absurd (omega arith)
-judged-fault (Refused s) r e = let f : s ≡ r = cc in ap Refused f
-
 module _ (q : ℕ) (xs : List ℤ) (out : List ℕ) where
   pub at-fault : (r : Refusal) → Fault r ≡ judgedAs (judged q xs) → Declined r ≡ writing q xs out
   unfolding writing

@@ -3,13 +3,16 @@ use Prim.Native.Nat.{ℕ}
 use mathlib.Core.Bool.{cond}
 use mathlib.Core.List.{List, [], _∷_, _++_}
 use lib.ListN.{length, drop}
-use lib.Dec.{ltb}
+use lib.Dec.{eqb, ltb}
 use lib.IntN.{ℤ}
-use Rattle.refusal.specs.declared.Refusal.the-variants.{Room}
+use Rattle.refusal.specs.declared.Refusal.the-variants.{CampaignFull, Room, RowsUsedUp, TooLong, TooShort}
+use Rattle.poisson.specs.Rows.{rows}
+use Rattle.limits.specs.Limits.{longestTime}
 use Rattle.campaign.specs.declared.Answer.{Answer}
 use Rattle.campaign.specs.declared.Answer.the-variants.{Taken, Refused}
 use Rattle.campaign.specs.declared.Campaign.{Campaign}
 use Rattle.campaign.specs.Answers.{opened}
+use Rattle.campaign.specs.State.{mostRecords}
 use Rattle.line.specs.Line.{telling}
 use Rattle.ledger.specs.declared.Judged.{Judged}
 use Rattle.ledger.specs.declared.Judged.the-variants.{Clean, Fault}
@@ -35,6 +38,15 @@ judged q xs = onward (opened q) (λ c. judgedFrom c xs)
 abbrev pub judgedAs : Answer → Judged
 judgedAs (Taken c) = Clean
 judgedAs (Refused r) = Fault r
+
+-- one record's exposure, after so many records and failures: 4, 3, 5, 6
+unfoldable pub judgedOne : ℕ → ℕ → ℕ → Judged
+judgedOne m n t =
+    cond (eqb t 0) (Fault TooShort)
+    (cond (ltb longestTime t) (Fault TooLong)
+    (cond (eqb m mostRecords) (Fault CampaignFull)
+    (cond (eqb n rows) (Fault RowsUsedUp)
+    Clean)))
 
 -- ---- writing: what is judged, then 7 with the bytes needed
 abbrev pub afterJudging : Answer → ℕ → ℕ → Writing

@@ -7,7 +7,7 @@ ghost use lib.ListN.{length};
 ghost use Rattle.decimal.specs.Decimal.{zeroByte};
 ghost use Rattle.text.specs.Write.{placeAfter, written};
 ghost use Rattle.ledger.specs.Ledger.{headText, lineText, linesFrom, outcomeIn, sheetText};
-ghost use Rattle.ledger.specs.Answers.{judged, judgedAs, laidBy, writing};
+ghost use Rattle.ledger.specs.Answers.{judged, judgedAs, judgedOne, laidBy, writing};
 use refusal::Refusal;
 use result::Outcome;
 
@@ -17,8 +17,6 @@ const LF: u8 = 10;
 
 // The byte of the digit 0; that of 1 follows it.
 const ZERO: u8 = 48;
-
-const MOST_RECORDS: usize = 100_000;
 
 // What writing comes to.
 pub enum Writing {
@@ -51,7 +49,26 @@ fn flag_byte(failed: bool) -> u8
     if failed { ZERO + 1 } else { ZERO }
 }
 
-// Judges the standard, then record by record: exposure 0, too long an exposure, too many records, rows used up.
+// Judges a record's exposure after so many records and failures: none, too long, too many records, rows used up.
+fn judge_one(count: u64, failures: u64, exposure: u64) -> Judged
+    ensures { λ r. ⌜ r ≡ judgedOne count failures exposure ⌝ }
+{
+    if exposure == 0 {
+        return Judged::Fault(Refusal::TooShort);
+    }
+    if exposure > limits::LONGEST_TIME {
+        return Judged::Fault(Refusal::TooLong);
+    }
+    if count == campaign::MOST_RECORDS {
+        return Judged::Fault(Refusal::CampaignFull);
+    }
+    if failures == campaign::ROWS {
+        return Judged::Fault(Refusal::RowsUsedUp);
+    }
+    Judged::Clean
+}
+
+// Judges the standard, then record by record.
 fn judge(q: u64, records: &[i32]) -> Judged
     ensures { λ r. ⌜ r ≡ judgedAs (judged q (now (records .entry))) ⌝ }
 {
@@ -62,20 +79,15 @@ fn judge(q: u64, records: &[i32]) -> Judged
     let mut i = 0;
     while i < records.len() {
         let o = outcome(records[i]);
-        if o.exposure == 0 {
-            return Judged::Fault(Refusal::TooShort);
+        match judge_one(i as u64, failures, o.exposure) {
+            Judged::Fault(r) => {
+                return Judged::Fault(r);
+            }
+            Judged::Clean => {
+                failures = truth::pick(o.failed, failures + 1, failures);
+                i += 1;
+            }
         }
-        if o.exposure > limits::LONGEST_TIME {
-            return Judged::Fault(Refusal::TooLong);
-        }
-        if i == MOST_RECORDS {
-            return Judged::Fault(Refusal::CampaignFull);
-        }
-        if failures == campaign::ROWS {
-            return Judged::Fault(Refusal::RowsUsedUp);
-        }
-        failures = truth::pick(o.failed, failures + 1, failures);
-        i += 1;
     }
     Judged::Clean
 }

@@ -38,12 +38,13 @@ use Rattle.sheet.specs.declared.Reading.the-variants.{Read}
 use Rattle.sheet.specs.Pieces.{joined}
 use Rattle.sheet.specs.Sheet.{Account, afterStep, meaning, reading}
 use Rattle.ledger.specs.Ledger.{entryText, headText}
+use Rattle.ledger.proofs.Enough.{in-range}
 use Rattle.ledger.proofs.Judging.{told-taken}
 use Rattle.resume.specs.declared.Entry.the-variants.{Other, Says}
 use Rattle.resume.specs.declared.Head.the-variants.{None, Standard}
 use Rattle.resume.specs.Pass.{CleanPass, EntryAt, HeadOf, takenAfter}
 use Rattle.resume.specs.Records.{recordIn, recordsOf}
-use Rattle.resume.proofs.Back.{entry-reads, head-reads, in-range}
+use Rattle.resume.proofs.Back.{entry-reads, head-reads}
 use Rattle.resume.proofs.Clean.{apart, first-line}
 use Rattle.resume.proofs.Lines.{entry-lines, entry-says, head-lines, lines-joined}
 

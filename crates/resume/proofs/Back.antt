@@ -5,16 +5,14 @@ use mathlib.Core.Bool.{Bool, true, false, cond}
 use mathlib.Core.List.{List, [], _∷_, _++_, map}
 use Prim.Native.Nat.{ℕ, _+_, _^_, _≤_, _<_}
 use native.Mathlib.Omega.{arith}
-use lib.Dec.{T, eqb}
-use lib.Dec.{leb→le}
-use lib.Ieee.Fits.{and-r}
+use lib.Dec.{eqb}
 use lib.IntN.{ℤ, pos, negsuc}
 use lib.ListN.{drop}
 use Rattle.truth.proofs.Laws.{is-true}
 use Rattle.campaign.specs.declared.Answer.the-variants.{Taken}
 use Rattle.campaign.specs.declared.Campaign.{Campaign}
 use Rattle.campaign.specs.Answers.{opened}
-use Rattle.campaign.specs.State.{sound, standardInRange}
+use Rattle.campaign.specs.State.{sound}
 use Rattle.campaign.proofs.Answered.{entered-from, opened-from}
 use Rattle.campaign.proofs.Keeping.{entering-sound, opened-sound}
 use Rattle.decimal.specs.Decimal.{longest}
@@ -27,6 +25,7 @@ use Rattle.sheet.specs.Sheet.{Account, afterStep, meaning, reading}
 use Rattle.ledger.specs.Answers.{judged, judgedFrom}
 use Rattle.degrees.specs.Degrees.{signed}
 use Rattle.ledger.specs.Ledger.{entryText, exposureIn, failedIn, headText, lineText, linesFrom, sheetText}
+use Rattle.ledger.proofs.Enough.{in-range}
 use Rattle.ledger.proofs.Entered.{went-on}
 use Rattle.resume.specs.Records.{recordIn, recordsOf}
 use Rattle.resume.proofs.Lines.{entry-lines, entry-says, head-lines}
@@ -62,9 +61,6 @@ read-lines c (x ∷ xs) d g e =
     let one-more : b .records ≡ c .records + 1 = ap (λ (y : Campaign). y .records) (o .room .after) in
     let good : sound b ≡ true = is-true _ (entering-sound c (told f t) b enters) in
     ap (λ (a : Account). a .end) (entry-reads c f t g (omega (arith, o .high)) (linesFrom (c .records + 1 + 1) xs)) ∙ rw taken (rw one-more at (read-lines b xs d good rest))
-
-pub in-range : (q : ℕ) → T (standardInRange q) → q < 10 ^ longest
-in-range q range = let high : q ≤ 100000000000 = search (and-r, leb→le) in omega arith
 
 -- READING WHAT WAS WRITTEN
 pub read-back : (q : ℕ) (xs : List ℤ) (d : Campaign) → judged q xs ≡ Taken d → meaning (sheetText q xs) .end ≡ Read d

@@ -12,7 +12,8 @@ use Rattle.ledger.specs.declared.Judged.the-variants.{Clean}
 use Rattle.ledger.specs.Ledger.{sheetText}
 use Rattle.ledger.specs.Answers.{judged, judgedAs, laidBy}
 use Rattle.ledger.proofs.Entered.{judged-few}
-use Rattle.ledger.proofs.Puts.{all-written, at-fault, judged-clean, laid-front, no-room}
+use Rattle.ledger.proofs.Judging.{judged-clean}
+use Rattle.ledger.proofs.Puts.{all-written, at-fault, laid-front, no-room}
 use Rattle.ledger.proofs.write.Statement.{statement}
 use Rattle.ledger.proofs.write.Tie as tie
 

@@ -11,7 +11,7 @@
  *   4    ending or listing with fewer than ramp + 2 samples; on a sheet exposure 0  0
  *   5    entering into a campaign of 100,000 records                            0
  *   6    entering into a campaign with 64 failures                              0
- *   7    more counted times, peaks, samples or bytes than the lent slice has    the number of places needed
+ *   7    more counted times, peaks, samples, records or bytes than the slice has the number of places needed
  *   8    a state's array has another length, or numbers that are no state;      0
  *        a flag is neither 0 nor 1, or a result's exposure not 1 to 10,000,000
  *   9    a line of a job sheet is malformed                                     the line's number

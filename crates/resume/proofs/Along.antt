@@ -1,17 +1,13 @@
--- The reader on its way through a sheet. `Along`: the whole sheet ends as the lines that are left do, from the campaign so far, and what they say goes into the
--- places from here on. A record that is taken keeps that; where a line is none, or its record is not taken, the sheet does not read cleanly; and at the end it
--- does. Assumes nothing.
+-- The judge on its way through a sheet. `Along`: the whole sheet ends as the lines that are left do, from the campaign so far. A record that is taken keeps that;
+-- where a line is none, or its record is not taken, the sheet does not read cleanly; and at the end it does. Assumes nothing.
 use mathlib.Core.Path.{_≡_, refl, ap, sym, _∙_}
 use mathlib.Core.Bool.{Bool, true, false, cond, not, _&&_}
 use mathlib.Core.List.{List, [], _∷_, _++_, map}
 use Prim.Native.Nat.{ℕ, _+_, _^_, _≤_, _<_}
 use native.Mathlib.Nat.{add-zero}
-use native.Mathlib.Numerals.{add-one}
 use native.Mathlib.Omega.{arith}
 use lib.Dec.{eqb, leb}
-use lib.IntN.{ℤ}
-use lib.ListN.{length, drop, set, drop-of-length-le, length-drop, length-set}
-use lib.Seq.{sets}
+use lib.ListN.{length, drop, drop-of-length-le, length-drop}
 use borrow.Author.Tests.{eqb-false, le-leb, leb-true, ne-eqb, not-true}
 use Rattle.truth.proofs.Cases.{by-test}
 use Rattle.truth.proofs.Laws.{and-true, holds, is-true, true≢false}
@@ -29,11 +25,10 @@ use Rattle.campaign.proofs.Keeping.{opened-sound}
 use Rattle.campaign.proofs.Relations.{kept-from}
 use Rattle.decimal.specs.Decimal.{longest}
 use Rattle.decimal.specs.Lines.{linesOf}
-use Rattle.degrees.specs.Degrees.{signed}
 use Rattle.line.specs.declared.Sheet.{Sheet}
 use Rattle.line.specs.declared.Sheet.the-variants.{Fresh, Open}
 use Rattle.line.specs.Line.{outcome, telling, told}
-use Rattle.line.proofs.Theorems.{flag-of, told-entered}
+use Rattle.line.proofs.Theorems.{told-entered}
 use Rattle.sheet.specs.declared.Reading.the-variants.{Read}
 use Rattle.sheet.specs.Pieces.{joined}
 use Rattle.sheet.specs.Sheet.{Account, afterStep, meaning, reading}
@@ -46,22 +41,23 @@ use Rattle.resume.specs.Pass.{CleanPass, EntryAt, HeadOf, takenAfter}
 use Rattle.resume.specs.Records.{recordIn, recordsOf}
 use Rattle.resume.proofs.Back.{entry-reads, head-reads}
 use Rattle.resume.proofs.Clean.{apart, first-line}
-use Rattle.resume.proofs.Lines.{entry-lines, entry-says, head-lines, lines-joined}
+use Rattle.resume.proofs.Lines.{entry-lines, head-lines, lines-joined}
 
 -- the lines from a place on
 abbrev Left : List ℕ → ℕ → List (List ℕ)
 Left text at = linesOf (drop at text)
 
-pub record Along (text : List ℕ) (before places : List ℤ) (q at count failures : ℕ) : Type 0 where
+pub record Along (text : List ℕ) (q begin at count failures : ℕ) : Type 0 where
   pub so-far : Campaign
   pub good : sound so-far ≡ true
   pub standard : so-far .standard ≡ q
   pub records : so-far .records ≡ count
   pub fails : so-far .failures ≡ failures
+  pub range : standardInRange q ≡ true
+  pub begun : meaning text .end ≡ reading false (Left text begin) (Open (empty q)) .end
+  pub says : recordsOf text ≡ map recordIn (Left text begin)
   pub reads : meaning text .end ≡ reading false (Left text at) (Open so-far) .end
-  pub puts : sets places count (map recordIn (Left text at)) ≡ sets before 0 (recordsOf text)
   pub number : count + length (map recordIn (Left text at)) ≡ length (recordsOf text)
-  pub size : length places ≡ length before
   pub inside : at ≤ length text
 
 abbrev pub NotClean : List ℕ → Type 0
@@ -89,22 +85,24 @@ module _ (text : List ℕ) (q next : ℕ) (h : HeadOf text (Standard q next)) wh
       let refused : opened q ≡ Refused (Item 5) = rw out in
       never 1 (Item 5) (reading false (Left text next)) d (ap (λ (a : Answer). afterStep (outcome 1 a) (reading false (Left text next)) .end) (sym refused) ∙ sym head-ends ∙ e)
 
-  pub start : (before : List ℤ) → standardInRange q ≡ true → Along text before before q next 0 0
+  pub start : standardInRange q ≡ true → Along text q next next 0 0
   unfolding HeadOf recordsOf
-  start before range =
+  start range =
       let opens : opened q ≡ Taken (empty q) = rw range in
       let lines : linesOf text ≡ headText q ∷ Left text next = ap linesOf (h .0 .bytes) ∙ head-lines q (drop next text) in
-      let says : map recordIn (Left text next) ≡ map recordIn (drop 1 (linesOf text)) = ap (λ (l : List (List ℕ)). map recordIn (drop 1 l)) (sym lines) in
+      let says : map recordIn (drop 1 (linesOf text)) ≡ map recordIn (Left text next) = ap (λ (l : List (List ℕ)). map recordIn (drop 1 l)) lines in
+      let ends = head-ends ∙ ap (λ (a : Answer). afterStep (outcome 1 a) (reading false (Left text next)) .end) opens in
       record {
         so-far = empty q;
         good = is-true _ (opened-sound q (empty q) opens);
         standard = refl;
         records = refl;
         fails = refl;
-        reads = head-ends ∙ ap (λ (a : Answer). afterStep (outcome 1 a) (reading false (Left text next)) .end) opens;
-        puts = ap (sets before 0) says;
+        range = range;
+        begun = ends;
+        says = says;
+        reads = ends;
         number = omega (arith, ap length says);
-        size = refl;
         inside = h .0 .within;
       }
 
@@ -131,7 +129,7 @@ unfolding takenAfter
 taken-after m n t low high room left = rw (le-leb 1 t low, le-leb t longestTime high, ne-eqb m mostRecords room, ne-eqb n 64 left)
 
 -- ---- on the way
-module _ {text : List ℕ} {before places : List ℤ} {q at count failures : ℕ} (a : Along text before places q at count failures) where
+module _ {text : List ℕ} {q begin at count failures : ℕ} (a : Along text q begin at count failures) where
   abbrev c : Campaign
   c = a .so-far
 
@@ -173,37 +171,39 @@ module _ {text : List ℕ} {before places : List ℤ} {q at count failures : ℕ
             let o = entered-from c (told f t) b (told-entered c f t b is) in
             true≢false (sym (taken-after count failures t (o .low) (o .high) (λ k. o .room .records (a .records ∙ k)) (λ k. o .room .failures (a .fails ∙ k))) ∙ no-room)
 
-    -- it is taken, and put into its place
-    pub on : takenAfter count failures t ≡ true → {later : List ℤ} → later ≡ set places count (signed f t) → Along text before later q next (count + 1) (cond f (failures + 1) failures)
+    -- it is taken
+    pub on : takenAfter count failures t ≡ true → Along text q begin next (count + 1) (cond f (failures + 1) failures)
     unfolding EntryAt
-    on fits {later} stored =
+    on fits =
         let k = takes count failures t fits in
         let (taken, good) = told-taken c f t (a .good) (k .low) (k .high) (λ e. k .room (sym (a .records) ∙ e)) (λ e. k .rows-left (sym (a .fails) ∙ e)) in
         let lines : Left text at ≡ entry ∷ Left text next = ap linesOf (h .0 .bytes) ∙ entry-lines (count + 1) (cond f 1 0) t (drop next text) in
-        let says : map recordIn (Left text at) ≡ signed f t ∷ map recordIn (Left text next) = ap (map recordIn) lines ∙ ap (λ (x : ℤ). x ∷ map recordIn (Left text next)) (entry-says (count + 1) (cond f 1 0) t ∙ ap (λ (y : Bool). signed y t) (flag-of f .0)) in
         record {
           so-far = entered c f t;
           good = good;
           standard = a .standard;
           records = ap (λ (n : ℕ). n + 1) (a .records);
           fails = ap (λ (n : ℕ). cond f (n + 1) n) (a .fails);
+          range = a .range;
+          begun = a .begun;
+          says = a .says;
           reads = ends ∙ ap (λ (x : Answer). afterStep (outcome (c .records + 2) x) (reading false (Left text next)) .end) taken;
-          puts = rw (stored, add-one) (ap (sets places count) (sym says) ∙ a .puts);
-          number = omega (arith, ap length says, a .number);
-          size = rw stored (length-set places count (signed f t) ∙ a .size);
+          number = omega (arith, ap (λ (l : List (List ℕ)). length (map recordIn l)) lines, a .number);
           inside = h .0 .within;
         }
 
   -- the end
-  pub ended : length text ≤ at → CleanPass text before places q count
+  pub ended : length text ≤ at → CleanPass text q count begin
   unfolding reading linesOf
   ended past =
       let none : Left text at ≡ [] = ap linesOf (drop-of-length-le text past) in
+      let reads = a .reads ∙ ap (λ (l : List (List ℕ)). reading false l (Open c) .end) none in
+      let opens : opened q ≡ Taken (empty q) = rw (a .range) in
       record {
         end = c;
-        reads = a .reads ∙ ap (λ (l : List (List ℕ)). reading false l (Open c) .end) none;
+        reads = reads;
         standard = a .standard;
         count = a .records;
         number = sym (a .number) ∙ ap (λ (l : List (List ℕ)). count + length (map recordIn l)) none ∙ add-zero count;
-        puts = ap (λ (l : List (List ℕ)). sets places count (map recordIn l)) (sym none) ∙ a .puts;
+        from = record { start = empty q; end = c; good = is-true _ (opened-sound q (empty q) opens); none = refl; reads = sym (a .begun) ∙ reads; says = a .says };
       }

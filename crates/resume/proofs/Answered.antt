@@ -14,10 +14,8 @@ use Rattle.campaign.specs.declared.Campaign.{Campaign}
 use Rattle.sheet.specs.declared.Reading.{Reading}
 use Rattle.sheet.specs.declared.Reading.the-variants.{Read, Stopped, Waiting}
 use Rattle.sheet.specs.Sheet.{meaning}
-use Rattle.resume.specs.declared.Passed.{Passed}
-use Rattle.resume.specs.declared.Passed.the-variants.{Clean, Unclean}
 use Rattle.resume.specs.declared.Resumed.the-variants.{Records, Stopped as Bad}
-use Rattle.resume.specs.Pass.{CleanPass, Passes, stoppedFrom}
+use Rattle.resume.specs.Pass.{CleanPass, stoppedFrom}
 use Rattle.resume.specs.Records.{filledBy, recordsOf, resumedFrom, resuming}
 
 -- a sheet that does not read cleanly
@@ -36,7 +34,7 @@ stopped-kept (Read c) xs slice = refl
 stopped-kept (Stopped line column r) xs slice = refl
 stopped-kept (Waiting s left) xs slice = refl
 
-module _ {text : List ℕ} {before later : List ℤ} {q n : ℕ} (p : CleanPass text before later q n) (places : ℕ) where
+module _ {text : List ℕ} {q n begin : ℕ} (p : CleanPass text q n begin) (places : ℕ) where
   pub no-room : places < n → Bad 0 0 (Room n) ≡ resuming text places
   unfolding resuming
   no-room h = rw (p .reads, p .count, lt-ltb places n h)
@@ -45,12 +43,7 @@ module _ {text : List ℕ} {before later : List ℤ} {q n : ℕ} (p : CleanPass 
   unfolding resuming
   all-read h = rw (p .reads, p .standard, p .count, le-ltb places n h)
 
--- the second pass finds what the first one found
-pub again : (text : List ℕ) (before later : List ℤ) (r : Passed) → Passes text before later r → (c : Campaign) → meaning text .end ≡ Read c → later ≡ sets before 0 (recordsOf text)
-unfolding Passes
-again text before later (Clean q n) p c e = p .puts
-again text before later Unclean p c e = absurd (p c e)
-
+-- the places after the second pass
 pub put-front : (xs slice : List ℤ) (q n : ℕ) → length xs ≡ n → n ≤ length slice → sets slice 0 xs ≡ filledBy (Records q n) xs slice
 unfolding filledBy
 put-front xs slice q n e h = sets-eq xs slice 0 (omega (arith, e)) ∙ rw (zero-add, e)

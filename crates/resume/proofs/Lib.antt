@@ -4,4 +4,5 @@ pub mod Clean
 pub mod At
 pub mod Along
 pub mod Answered
+pub mod Second
 pub mod Unique

@@ -1,21 +1,21 @@
 -- What the reader's own functions answer: a record's line at a place of a text, and a pass over all lines of a sheet that reads cleanly. Assumes nothing.
 use Prim.Native.Nat.{ℕ, _+_, _^_, _≤_, _<_}
 use mathlib.Core.Path.{_≡_}
-use mathlib.Core.Bool.{Bool, cond, not, _&&_}
-use mathlib.Core.List.{List, _++_}
-use lib.IntN.{ℤ}
-use lib.ListN.{length, drop}
-use lib.Seq.{sets}
+use mathlib.Core.Bool.{Bool, cond, false, not, true, _&&_}
+use mathlib.Core.List.{List, _++_, map}
+use lib.ListN.{length, drop, getD}
 use lib.Dec.{eqb}
 use Rattle.poisson.specs.Rows.{rows}
 use Rattle.refusal.specs.declared.Refusal.the-variants.{BrokenState}
 use Rattle.limits.specs.Limits.{longestTime, within}
-use Rattle.campaign.specs.State.{mostRecords}
-use Rattle.decimal.specs.Decimal.{longest}
+use Rattle.campaign.specs.State.{mostRecords, sound}
+use Rattle.decimal.specs.Decimal.{leadingDigits, longest, valueOf, zeroByte}
+use Rattle.decimal.specs.Lines.{linesOf}
+use Rattle.line.specs.declared.Sheet.the-variants.{Open}
 use Rattle.campaign.specs.declared.Campaign.{Campaign}
 use Rattle.sheet.specs.declared.Reading.{Reading}
 use Rattle.sheet.specs.declared.Reading.the-variants.{Read, Stopped, Waiting}
-use Rattle.sheet.specs.Sheet.{meaning}
+use Rattle.sheet.specs.Sheet.{meaning, reading}
 use Rattle.ledger.specs.Ledger.{entryText, headText}
 use Rattle.resume.specs.declared.Entry.{Entry}
 use Rattle.resume.specs.declared.Entry.the-variants.{Says, Other}
@@ -25,7 +25,7 @@ use Rattle.resume.specs.declared.Resumed.{Resumed}
 use Rattle.resume.specs.declared.Resumed.the-variants.{Stopped as Bad}
 use Rattle.resume.specs.declared.Passed.{Passed}
 use Rattle.resume.specs.declared.Passed.the-variants.{Clean, Unclean}
-use Rattle.resume.specs.Records.{recordsOf}
+use Rattle.resume.specs.Records.{recordIn, recordsOf}
 
 -- what is answered of a sheet that does not read cleanly
 abbrev pub stoppedFrom : Reading → Resumed
@@ -53,15 +53,35 @@ unfoldable pub HeadOf : List ℕ → Head → Type 0
 HeadOf text (Standard q next) = StartsWith text 0 (headText q) next × (q < 10 ^ longest)
 HeadOf text None = (q : ℕ) (rest : List ℕ) → q < 10 ^ longest → ¬ (text ≡ headText q ++ rest)
 
--- the sheet reads cleanly, and its records are put into the places that there are; or it does not
-pub record CleanPass (text : List ℕ) (before later : List ℤ) (q n : ℕ) : Type 0 where
+-- from a place on, behind line 1, the sheet reads cleanly: the lines there are its records'
+pub record CleanFrom (text : List ℕ) (begin : ℕ) : Type 0 where
+  pub start : Campaign
+  pub end : Campaign
+  pub good : sound start ≡ true
+  pub none : start .records ≡ 0
+  pub reads : reading false (linesOf (drop begin text)) (Open start) .end ≡ Read end
+  pub says : recordsOf text ≡ map recordIn (linesOf (drop begin text))
+
+-- the sheet reads cleanly; or it does not
+pub record CleanPass (text : List ℕ) (q n begin : ℕ) : Type 0 where
   pub end : Campaign
   pub reads : meaning text .end ≡ Read end
   pub standard : end .standard ≡ q
   pub count : end .records ≡ n
   pub number : length (recordsOf text) ≡ n
-  pub puts : later ≡ sets before 0 (recordsOf text)
+  pub from : CleanFrom text begin
 
-unfoldable pub Passes : List ℕ → List ℤ → List ℤ → Passed → Type 0
-Passes text before later (Clean q n) = CleanPass text before later q n
-Passes text before later Unclean = (c : Campaign) → ¬ (meaning text .end ≡ Read c)
+unfoldable pub Passes : List ℕ → Passed → Type 0
+Passes text (Clean q n begin) = CleanPass text q n begin
+Passes text Unclean = (c : Campaign) → ¬ (meaning text .end ≡ Read c)
+
+-- the byte of a failed record's flag stands at a place
+abbrev pub flagAt : List ℕ → ℕ → Bool
+flagAt text at = eqb (getD text at 0) (zeroByte + 1)
+
+-- what the digits at a place are worth, and the place behind them
+abbrev pub runValue : List ℕ → ℕ → ℕ
+runValue text at = valueOf (leadingDigits longest (drop at text))
+
+abbrev pub runEnd : List ℕ → ℕ → ℕ
+runEnd text at = at + length (leadingDigits longest (drop at text))

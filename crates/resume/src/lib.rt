@@ -2,12 +2,13 @@
 // `ledger` takes them, with the sheet's standard. A clean sheet is read line by line as it would be written; any other is left to the sheet's own reader,
 // which knows its line, column and refusal.
 ghost use mathlib.Core.Path.{_≡_};
-ghost use Prim.Native.Nat.{_≤_};
+ghost use Prim.Native.Nat.{_+_, _≤_, _<_};
 ghost use lib.ListN.{length, set};
+ghost use lib.Seq.{sets};
 ghost use Rattle.limits.specs.Limits.{longestTime};
 ghost use Rattle.degrees.specs.Degrees.{signed};
 ghost use Rattle.resume.specs.Records.{filledBy, recordsOf, resuming};
-ghost use Rattle.resume.specs.Pass.{EntryAt, HeadOf, Passes, stoppedFrom, takenAfter};
+ghost use Rattle.resume.specs.Pass.{CleanFrom, EntryAt, HeadOf, Passes, flagAt, runEnd, runValue, stoppedFrom, takenAfter};
 use decimal::Lead;
 use line::Sheet;
 use refusal::Refusal;
@@ -45,8 +46,8 @@ enum Head {
 
 // What a pass over a sheet comes to.
 enum Passed {
-    // The standard and the number of records of a sheet that reads cleanly.
-    Clean(u64, u64),
+    // The standard, the number of records and the place behind line 1 of a sheet that reads cleanly.
+    Clean(u64, u64, usize),
     Unclean,
 }
 
@@ -123,9 +124,9 @@ fn put(x: i32, places: &mut [i32], i: usize)
     }
 }
 
-// Goes over all lines of `text`. Where it reads cleanly, its records are put into `places`, as many as there are places for.
-fn pass(text: &[u8], places: &mut [i32]) -> Passed
-    ensures { λ r. ⌜ Passes (now (text .entry)) (now (places .entry)) (now (places .exit)) r ⌝ }
+// Goes over all lines of `text`, to judge them.
+fn pass(text: &[u8]) -> Passed
+    ensures { λ r. ⌜ Passes (now (text .entry)) r ⌝ }
 {
     let Head::Standard(q, begin) = line_one(text) else {
         return Passed::Unclean;
@@ -143,12 +144,54 @@ fn pass(text: &[u8], places: &mut [i32]) -> Passed
         if !takes(count, failures, exposure) {
             return Passed::Unclean;
         }
-        put(number_for(failed, exposure), places, count as usize);
         failures = truth::pick(failed, failures + 1, failures);
         count += 1;
         at = next;
     }
-    Passed::Clean(q, count)
+    Passed::Clean(q, count, begin)
+}
+
+// A record of a clean sheet: whether it failed, its exposure, and the place behind its line.
+struct Record {
+    failed: bool,
+    exposure: u64,
+    next: usize,
+}
+
+// The record whose line starts at `at`, with a record number of `width` digits.
+fn record_at(text: &[u8], at: usize, width: usize) -> Record
+    requires { ⌜ (at + width + 3 ≤ length (now text)) × (runEnd (now text) (at + width + 3) < length (now text)) ⌝ }
+    ensures { λ r. ⌜ r .failed ≡ flagAt (now (text .entry)) (at + width + 1) ⌝ }
+    ensures { λ r. ⌜ r .exposure ≡ runValue (now (text .entry)) (at + width + 3) ⌝ }
+    ensures { λ r. ⌜ r .next ≡ runEnd (now (text .entry)) (at + width + 3) + 1 ⌝ }
+{
+    let failed = text[at + width + 1] == ZERO + 1;
+    let run = decimal::run_at(text, at + width + 3);
+    Record {
+        failed: failed,
+        exposure: run.value,
+        next: run.end + 1,
+    }
+}
+
+// Puts the records of a clean sheet, whose first line of a record starts at `begin`, into `places`, as many as there are places for. Their numbers were judged:
+// they are passed over by their digits.
+fn put_all(text: &[u8], begin: usize, places: &mut [i32])
+    requires { ⌜ CleanFrom (now text) begin ⌝ }
+    ensures { λ _. ⌜ now (places .exit) ≡ sets (now (places .entry)) 0 (recordsOf (now (text .entry))) ⌝ }
+{
+    let mut at = begin;
+    let mut count: u64 = 0;
+    let mut width: u64 = 1;
+    let mut limit: u64 = 10;
+    while at < text.len() {
+        let r = record_at(text, at, width as usize);
+        put(number_for(r.failed, r.exposure), places, count as usize);
+        count += 1;
+        width = truth::pick(count + 1 == limit, width + 1, width);
+        limit = truth::pick(count + 1 == limit, limit * 10, limit);
+        at = r.next;
+    }
 }
 
 // What the sheet's reader says of a sheet that does not read cleanly.
@@ -168,13 +211,13 @@ pub fn records(text: &[u8], places: &mut [i32]) -> Resumed
     ensures { λ r. ⌜ r ≡ resuming (now (text .entry)) (length (now (places .entry))) ⌝ }
     ensures { λ r. ⌜ now (places .exit) ≡ filledBy r (recordsOf (now (text .entry))) (now (places .entry)) ⌝ }
 {
-    match pass(text, &mut places[..0]) {
+    match pass(text) {
         Passed::Unclean => stopped(sheet::read(Sheet::Fresh, text, false)),
-        Passed::Clean(q, count) => {
+        Passed::Clean(q, count, begin) => {
             if (places.len() as u64) < count {
                 return Resumed::Stopped(0, 0, Refusal::Room(count));
             }
-            pass(text, places);
+            put_all(text, begin, places);
             Resumed::Records(q, count)
         }
     }

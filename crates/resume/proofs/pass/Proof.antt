@@ -1,30 +1,26 @@
 -- `resume::pass` meets its contract: `Along` is its invariant, a record that is taken keeps it, anything else shows that the sheet does not read cleanly, and the
 -- end that it does. What is left of the text falls. Assumes nothing.
-use mathlib.Core.Path.{_≡_, ap, subst, sym, _∙_}
-use mathlib.Core.Bool.{Bool, true, cond}
+use mathlib.Core.Path.{_≡_, subst}
+use mathlib.Core.Bool.{Bool, true}
 use mathlib.Core.List.{List}
 use Prim.Native.Nat.{ℕ, _+_, _-_, _≤_, _<_}
 use native.Mathlib.Omega.{arith}
-use lib.IntN.{ℤ}
-use lib.ListN.{length, set}
-use mir.Facts.{toZ-ofZ}
-use mir.Syntax.{w32}
-use mir.Val.{SFits}
+use lib.ListN.{length}
 use denote.Ref.{now}
 use borrow.Author.Needs.{needs}
 use Rattle.truth.proofs.Laws.{said-no, said-yes}
 use Rattle.resume.specs.declared.Entry.the-variants.{Says}
 use Rattle.resume.specs.declared.Head.the-variants.{Standard}
 use Rattle.resume.specs.Pass.{EntryAt, HeadOf, Passes, takenAfter}
-use Rattle.resume.proofs.Along.{Along, bad-standard, ended, few, few-failures, no-head, not-taken, on, other-line, short, start}
+use Rattle.resume.proofs.Along.{Along, bad-standard, ended, few, few-failures, no-head, not-taken, on, other-line, start}
 use Rattle.resume.proofs.pass.Statement.{statement}
 use Rattle.resume.proofs.pass.Tie as tie
 
 abbrev Inv-loop : tie.InvT-loop
-Inv-loop text places₀ q begin at₀ count₀ failures₀ places at count failures = Along text places₀ places q at count failures
+Inv-loop text q begin at₀ count₀ failures₀ at count failures = Along text q begin at count failures
 
 abbrev μ-loop : tie.MeasureT-loop
-μ-loop text places₀ q begin at₀ count₀ failures₀ places at count failures = length text - at
+μ-loop text q begin at₀ count₀ failures₀ at count failures = length text - at
 
 -- line 1 was read
 module _ (c : tie.After-known-told Inv-loop μ-loop) where
@@ -95,7 +91,7 @@ unfolding Passes
 returns-2 c = let k = c .before .before in bad-standard (Text k) (Q k) (Next k) (stands k) (said-no (c .before .both .ensures) (c .if1 .taken))
 
 loop-holds : tie.Need-loop-holds Inv-loop μ-loop
-loop-holds c = let k = c .before .before in start (Text k) (Q k) (Next k) (stands k) (now (start-of k .args .places)) (said-yes (c .before .both .ensures) (c .if1 .left))
+loop-holds c = let k = c .before .before in start (Text k) (Q k) (Next k) (stands k) (said-yes (c .before .both .ensures) (c .if1 .left))
 
 add-entry-at : tie.Need-add-entry-at Inv-loop μ-loop
 add-entry-at c = omega (arith, few (c .before .loop .inv))
@@ -109,9 +105,6 @@ enum-known-failed c = search needs
 enum-told-2 : tie.Need-enum-told-2 Inv-loop μ-loop
 enum-told-2 c = search needs
 
-same-length : tie.Need-same-length Inv-loop μ-loop
-same-length c = c .before .before .before .before .loop .inv .size
-
 returns-3 : tie.Need-returns-3 Inv-loop μ-loop
 unfolding Passes
 returns-3 c =
@@ -122,47 +115,31 @@ returns-3 c =
 takes-requires : tie.Need-takes-requires Inv-loop μ-loop
 takes-requires c κs = search needs
 
-same-length-2 : tie.Need-same-length-2 Inv-loop μ-loop
-same-length-2 c = loop (c .before .before) .loop .inv .size
-
 returns-4 : tie.Need-returns-4 Inv-loop μ-loop
 unfolding Passes
 returns-4 c =
     let k = c .before .before in
     not-taken (loop k .loop .inv) (Failed k) (Exposure k) (Behind k) (entry k) (said-no (c .before .takes .ensures) (c .if2 .taken))
 
-number-for-requires : tie.Need-number-for-requires Inv-loop μ-loop
-number-for-requires c κs = short _ _ _ (taken c)
-
-put-requires : tie.Need-put-requires Inv-loop μ-loop
-put-requires c κs = search needs
-
 add-pick : tie.Need-add-pick Inv-loop μ-loop
-add-pick c = let k = c .before .before .before .before .before .before in omega (arith, few-failures (loop k .loop .inv))
+add-pick c = let k = c .before .before in omega (arith, few-failures (loop k .loop .inv))
 
 pick-requires : tie.Need-pick-requires Inv-loop μ-loop
 pick-requires c κs = search needs
 
 add-count : tie.Need-add-count Inv-loop μ-loop
-add-count c = let k = c .before .before .before .before .before .before .before in omega (arith, few (loop k .loop .inv))
+add-count c = let k = c .before .before .before in omega (arith, few (loop k .loop .inv))
 
 loop-less : tie.Need-loop-less Inv-loop μ-loop
 loop-less c =
-    let k = c .before .before .before .before .before .before .before in
+    let k = c .before .before .before in
     omega (arith, further k .0, further k .1)
 
 loop-again : tie.Need-loop-again Inv-loop μ-loop
 loop-again c =
-    let p = c .before .before in
-    let v = p .before .before in
-    let k = v .before .before .before in
+    let k = c .before .before .before in
     let l = loop k .loop in
-    let f : SFits w32 (v .number-for .result) = search needs in
-    let stored = p .put .ensures ∙ ap (set (l .places) (l .count)) (toZ-ofZ f ∙ v .number-for .ensures) in
-    rw (c .pick .ensures) (on (l .inv) (Failed k) (Exposure k) (Behind k) (entry k) (taken (v .before)) stored)
-
-same-length-3 : tie.Need-same-length-3 Inv-loop μ-loop
-same-length-3 c = c .before .loop .inv .size
+    rw (c .pick .ensures) (on (l .inv) (Failed k) (Exposure k) (Behind k) (entry k) (taken (c .before)))
 
 returns-5 : tie.Need-returns-5 Inv-loop μ-loop
 unfolding Passes
@@ -185,17 +162,12 @@ pass-spec =
     entry-at-requires
     enum-known-failed
     enum-told-2
-    same-length
     returns-3
     takes-requires
-    same-length-2
     returns-4
-    number-for-requires
-    put-requires
     add-pick
     pick-requires
     add-count
     loop-less
     loop-again
-    same-length-3
     returns-5)

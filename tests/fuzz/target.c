@@ -1,7 +1,7 @@
 /* A fuzz target over the whole C interface. The first byte of the input picks a part; the rest is a sheet, or numbers and samples to call with. What has
  * to hold whatever comes: a refusal leaves every lent array as it stood, what is handed out is never refused as broken, a piece cut anywhere leads to
  * the same record, a sheet's campaign is that of its records, a bureau's call leaves the other's places, and a comma file that is read is written
- * and read again. */
+ * and read again; a sheet's records are refused as the sheet is, and written they are the sheet. */
 #include <stdint.h>
 #include <stdlib.h>
 #include <string.h>
@@ -24,6 +24,51 @@ static uint64_t number(size_t bytes) {
     return n;
 }
 
+/* the records of a sheet that answered so: they are read where there is room, refused as the sheet is, and written they are that sheet again */
+static void records(uint64_t answer, uint64_t line, uint64_t column) {
+    enum { MOST = 1024 };
+    static int32_t places[MOST], before[MOST];
+    static uint8_t text[22 + 18 * MOST];
+    uint64_t standard = 7, l = 7, k = 7, carried, bytes;
+    for (size_t i = 0; i < MOST; i++)
+        places[i] = before[i] = (int32_t)i;
+    uint64_t read = chim_sheet_records(in, left, places, MOST, &standard, &l, &k, &carried);
+    hold(read == answer || (answer == CHIM_TAKEN && read == CHIM_ROOM && carried > MOST));
+    hold(l == line && k == column);
+    if (read != CHIM_TAKEN) {
+        hold(standard == 0 && memcmp(places, before, sizeof places) == 0);
+        return;
+    }
+    hold(carried <= MOST && memcmp(places + carried, before + carried, (MOST - carried) * sizeof *places) == 0);
+    hold(chim_sheet_write(standard, places, carried, text, sizeof text, &bytes) == CHIM_TAKEN);
+    hold(bytes == left && memcmp(text, in, left) == 0);
+}
+
+/* a standard and records: what is written reads back as they are, and a refusal leaves the bytes */
+static void ledger(void) {
+    enum { MOST = 128 };
+    int32_t list[MOST], back[MOST + 1];
+    uint8_t text[22 + 18 * MOST];
+    uint64_t standard = number(5), places = number(2), n = 0, line, column, carried, bytes, q;
+    for (; n < MOST && left > 0; n++)
+        list[n] = (int32_t)(uint32_t)number(number(1) % 4 + 1);
+    size_t room = places % (sizeof text + 1);
+    memset(text, 7, sizeof text);
+    uint64_t answer = chim_sheet_write(standard, list, n, text, room, &bytes);
+    if (answer != CHIM_TAKEN) {
+        hold(answer == CHIM_ITEM || (answer >= CHIM_TOO_LONG && answer <= CHIM_ROOM));
+        hold(answer != CHIM_ROOM || (bytes > room && bytes <= 22 + 18 * n));
+        for (size_t i = 0; i < sizeof text; i++)
+            hold(text[i] == 7);
+        return;
+    }
+    hold(bytes <= room);
+    for (size_t i = bytes; i < sizeof text; i++)
+        hold(text[i] == 7);
+    hold(chim_sheet_records(text, bytes, back, MOST, &q, &line, &column, &carried) == CHIM_TAKEN && q == standard && carried == n);
+    hold(memcmp(back, list, n * sizeof *list) == 0);
+}
+
 static void sheet(void) {
     uint64_t state[CHIM_CAMPAIGN_NUMBERS] = {7, 7, 7, 7, 7}, before[CHIM_CAMPAIGN_NUMBERS], line = 7, column = 7, carried = 7;
     memcpy(before, state, sizeof state);
@@ -38,6 +83,7 @@ static void sheet(void) {
         hold(answer == CHIM_LINE ? carried == line && column <= 64 : column == 0);
         hold(memcmp(before, state, sizeof state) == 0);
     }
+    records(answer, line, column);
 }
 
 /* a comma file: what is read lies within its range, is written and read back, and a refusal leaves the samples; samples that are written read back */
@@ -202,7 +248,7 @@ static void tail(void) {
 
 int LLVMFuzzerTestOneInput(const uint8_t *data, size_t size) {
     in = data, left = size;
-    switch (number(1) % 7) {
+    switch (number(1) % 8) {
     case 0: sheet(); break;
     case 1: record(); break;
     case 2: list(); break;
@@ -210,6 +256,7 @@ int LLVMFuzzerTestOneInput(const uint8_t *data, size_t size) {
     case 4: tail(); break;
     case 5: bench(); break;
     case 6: comma(); break;
+    case 7: ledger(); break;
     }
     return 0;
 }

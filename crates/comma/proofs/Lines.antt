@@ -7,8 +7,8 @@ use native.Mathlib.Omega.{arith}
 use lib.Dec.{eqb}
 use lib.ListN.{length, drop, length-append}
 use Rattle.truth.proofs.Cases.{by-test}
-use Rattle.truth.proofs.Laws.{and-true, true≢false}
-use Rattle.decimal.specs.Decimal.{longest, isDigit, allDigits, isNumber, valueOf}
+use Rattle.truth.proofs.Laws.{true≢false}
+use Rattle.decimal.specs.Decimal.{longest, isNumber, valueOf}
 use Rattle.decimal.specs.Field.{lineFeed}
 use Rattle.decimal.specs.Lines.{linesOf}
 use Rattle.decimal.proofs.Lines.{NoFeed, none-joined, digits-none, lines-front}

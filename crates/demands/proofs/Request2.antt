@@ -2,7 +2,7 @@
 -- sheet does, then for room; a refusal leaves what was lent as it stood. Reading what was written gives the campaign of those records; a sheet that reads
 -- cleanly comes out of the writer as it stood, byte for byte; and the records of what was written are the records. Assumes nothing.
 use mathlib.Core.Path.{_≡_, refl, ap, sym, _∙_}
-use mathlib.Core.Bool.{Bool, cond, false, not, true}
+use mathlib.Core.Bool.{cond, not, true}
 use mathlib.Core.List.{List, [], _∷_, map}
 use Prim.Native.Nat.{ℕ, _+_, _*_, _≤_}
 use native.Mathlib.Omega.{arith}
@@ -18,13 +18,12 @@ use Rattle.refusal.specs.declared.Refusal.{Refusal}
 use Rattle.refusal.specs.declared.Refusal.the-variants.{CampaignFull, Item, Room, RowsUsedUp, TooLong, TooShort}
 use Rattle.limits.specs.Limits.{longestTime}
 use Rattle.campaign.specs.declared.Answer.{Answer}
-use Rattle.campaign.specs.declared.Answer.the-variants.{Refused, Taken}
+use Rattle.campaign.specs.declared.Answer.the-variants.{Taken}
 use Rattle.campaign.specs.declared.Campaign.{Campaign}
 use Rattle.campaign.specs.Answers.{opened}
 use Rattle.campaign.specs.Records.{campaignOf}
 use Rattle.campaign.specs.State.{empty, entered, mostRecords, sound, standardInRange}
 use Rattle.campaign.proofs.Keeping.{opened-sound}
-use Rattle.line.specs.Line.{telling}
 use Rattle.sheet.specs.declared.Reading.the-variants.{Read, Stopped}
 use Rattle.sheet.specs.Sheet.{meaning}
 use Rattle.ledger.specs.declared.Writing.{Writing}

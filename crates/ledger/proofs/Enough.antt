@@ -1,7 +1,6 @@
 -- A sheet that is written has at most 22 bytes in line 1 and 18 in each record's line: a standard of 12 digits, a record number of 6, an exposure of 8. Assumes
 -- nothing.
 use mathlib.Core.Path.{_≡_, ap}
-use mathlib.Core.Bool.{true}
 use mathlib.Core.List.{List, [], _∷_}
 use Prim.Native.Nat.{ℕ, _+_, _*_, _^_, _≤_, _<_}
 use native.Mathlib.Omega.{arith}
@@ -9,13 +8,12 @@ use lib.Dec.{T, leb→le}
 use lib.Ieee.Fits.{and-r}
 use lib.IntN.{ℤ}
 use lib.ListN.{length}
-use Rattle.truth.proofs.Laws.{holds, is-true}
 use Rattle.campaign.specs.declared.Answer.the-variants.{Taken}
 use Rattle.campaign.specs.declared.Campaign.{Campaign}
 use Rattle.campaign.specs.Answers.{opened}
-use Rattle.campaign.specs.State.{sound, standardInRange}
+use Rattle.campaign.specs.State.{standardInRange}
 use Rattle.campaign.proofs.Answered.{entered-from, opened-from}
-use Rattle.campaign.proofs.Keeping.{entering-sound, opened-sound}
+use Rattle.campaign.proofs.Keeping.{entering-sound}
 use Rattle.campaign.proofs.Relations.{kept-from}
 use Rattle.decimal.specs.Decimal.{longest}
 use Rattle.decimal.proofs.Text.{digits-below}

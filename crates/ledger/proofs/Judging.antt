@@ -1,11 +1,11 @@
 -- The judge on its way through the records: what is judged of all is what is judged of the rest, from a campaign of so many records and failures (`Along`). A
 -- record that is taken keeps that, one at fault decides, and the end finds all of them clean. Assumes nothing.
 use mathlib.Core.Path.{_≡_, refl, ap, sym, _∙_}
-use mathlib.Core.Bool.{Bool, true, false, cond, not}
-use mathlib.Core.List.{List, [], _∷_}
+use mathlib.Core.Bool.{Bool, true, false, cond}
+use mathlib.Core.List.{List}
 use Prim.Native.Nat.{ℕ, _+_, _≤_, _<_}
 use native.Mathlib.Omega.{arith}
-use lib.Dec.{eqb, leb, ltb}
+use lib.Dec.{eqb, ltb}
 use lib.IntN.{ℤ, pos}
 use lib.ListN.{length, getD, drop, drop-of-length-le}
 use borrow.Author.Tests.{eq-eqb, eqb-false, eqb-true, ne-eqb, le-leb, ltb-false}
@@ -74,7 +74,7 @@ module _ (c : Campaign) (f : Bool) (t : ℕ) (g : sound c ≡ true) where
   unfolding telling
   told-long e h = rw (e, h)
 
-  pub told-one : judgedOne (c .records) (c .failures) t ≡ judgedAs (telling c f t)
+  told-one : judgedOne (c .records) (c .failures) t ≡ judgedAs (telling c f t)
   unfolding judgedOne
   told-one =
       by-test (eqb t 0)
@@ -102,9 +102,6 @@ judged-fault (Taken c) r e = let z : _≡_ {A = ℕ} 0 1 = cc in absurd (omega a
 judged-fault (Refused s) r e = let f : s ≡ r = cc in ap Refused f
 
 module _ {q : ℕ} {xs : List ℤ} {i failures : ℕ} (a : Along q xs i failures) where
-  pub few : i ≤ mostRecords
-  few = omega (arith, a .records, kept-from (a .so-far) (holds (a .good)) .records)
-
   pub few-failures : failures ≤ 64
   few-failures = omega (arith, a .fails, kept-from (a .so-far) (holds (a .good)) .failures-rows)
 

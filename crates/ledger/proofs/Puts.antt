@@ -17,7 +17,6 @@ use Rattle.text.specs.Write.{laid}
 use Rattle.decimal.specs.Decimal.{zeroByte, digitsOf}
 use Rattle.decimal.specs.Field.{tab, lineFeed, fieldText}
 use Rattle.decimal.proofs.Text.{digits-one}
-use Rattle.form.specs.Form.{standardWord}
 use Rattle.campaign.specs.declared.Answer.{Answer}
 use Rattle.campaign.specs.declared.Answer.the-variants.{Taken, Refused}
 use Rattle.campaign.specs.declared.Campaign.{Campaign}
@@ -33,7 +32,7 @@ failed-below (pos n) = le-ltb n 0 (omega arith)
 failed-below (negsuc n) = refl
 
 -- a flag has one digit
-pub flag-digit : (f : Bool) → digitsOf (cond f 1 0) ≡ (zeroByte + cond f 1 0) ∷ []
+flag-digit : (f : Bool) → digitsOf (cond f 1 0) ≡ (zeroByte + cond f 1 0) ∷ []
 flag-digit true = digits-one 1 (omega arith)
 flag-digit false = digits-one 0 (omega arith)
 

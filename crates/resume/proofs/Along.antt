@@ -1,15 +1,14 @@
 -- The judge on its way through a sheet. `Along`: the whole sheet ends as the lines that are left do, from the campaign so far. A record that is taken keeps that;
 -- where a line is none, or its record is not taken, the sheet does not read cleanly; and at the end it does. Assumes nothing.
 use mathlib.Core.Path.{_≡_, refl, ap, sym, _∙_}
-use mathlib.Core.Bool.{Bool, true, false, cond, not, _&&_}
+use mathlib.Core.Bool.{Bool, true, false, cond, not}
 use mathlib.Core.List.{List, [], _∷_, _++_, map}
-use Prim.Native.Nat.{ℕ, _+_, _^_, _≤_, _<_}
+use Prim.Native.Nat.{ℕ, _+_, _≤_, _<_}
 use native.Mathlib.Nat.{add-zero}
 use native.Mathlib.Omega.{arith}
 use lib.Dec.{eqb, leb}
 use lib.ListN.{length, drop, drop-of-length-le, length-drop}
 use borrow.Author.Tests.{eqb-false, le-leb, leb-true, ne-eqb, not-true}
-use Rattle.truth.proofs.Cases.{by-test}
 use Rattle.truth.proofs.Laws.{and-true, holds, is-true, true≢false}
 use Rattle.poisson.specs.Rows.{rows}
 use Rattle.refusal.specs.declared.Refusal.{Refusal}
@@ -23,7 +22,6 @@ use Rattle.campaign.specs.State.{empty, entered, mostRecords, sound, standardIn
 use Rattle.campaign.proofs.Answered.{entered-from, opened-from}
 use Rattle.campaign.proofs.Keeping.{opened-sound}
 use Rattle.campaign.proofs.Relations.{kept-from}
-use Rattle.decimal.specs.Decimal.{longest}
 use Rattle.decimal.specs.Lines.{linesOf}
 use Rattle.line.specs.declared.Sheet.{Sheet}
 use Rattle.line.specs.declared.Sheet.the-variants.{Fresh, Open}
@@ -120,9 +118,6 @@ takes m n t e =
     let (low, high) = and-true (leb 1 t) (leb t longestTime) range in
     let (room, left) = and-true (not (eqb m mostRecords)) (not (eqb n rows)) rest in
     record { low = leb-true 1 t low; high = leb-true t longestTime high; room = eqb-false m mostRecords (not-true _ room); rows-left = eqb-false n 64 (not-true _ left) }
-
-pub short : (m n t : ℕ) → takenAfter m n t ≡ true → t ≤ longestTime
-short m n t e = takes m n t e .high
 
 taken-after : (m n t : ℕ) → 1 ≤ t → t ≤ longestTime → ¬ (m ≡ mostRecords) → ¬ (n ≡ 64) → takenAfter m n t ≡ true
 unfolding takenAfter

@@ -1,12 +1,11 @@
 -- What reading the records answers, by what the passes came to. Assumes nothing.
-use mathlib.Core.Path.{_≡_, refl, sym, ap, _∙_}
-use mathlib.Core.Bool.{cond}
-use mathlib.Core.List.{List, _++_}
-use Prim.Native.Nat.{ℕ, _+_, _≤_, _<_}
+use mathlib.Core.Path.{_≡_, refl, _∙_}
+use mathlib.Core.List.{List}
+use Prim.Native.Nat.{ℕ, _≤_, _<_}
 use native.Mathlib.Nat.{zero-add}
 use native.Mathlib.Omega.{arith}
 use lib.IntN.{ℤ}
-use lib.ListN.{length, drop}
+use lib.ListN.{length}
 use lib.Seq.{sets, sets-eq}
 use borrow.Author.Tests.{le-ltb, lt-ltb}
 use Rattle.refusal.specs.declared.Refusal.the-variants.{Room}
@@ -16,7 +15,7 @@ use Rattle.sheet.specs.declared.Reading.the-variants.{Read, Stopped, Waiting}
 use Rattle.sheet.specs.Sheet.{meaning}
 use Rattle.resume.specs.declared.Resumed.the-variants.{Records, Stopped as Bad}
 use Rattle.resume.specs.Pass.{CleanPass, stoppedFrom}
-use Rattle.resume.specs.Records.{filledBy, recordsOf, resumedFrom, resuming}
+use Rattle.resume.specs.Records.{filledBy, resumedFrom, resuming}
 
 -- a sheet that does not read cleanly
 pub unclean : (text : List ℕ) (places : ℕ) → ((c : Campaign) → ¬ (meaning text .end ≡ Read c)) → stoppedFrom (meaning text .end) ≡ resuming text places

@@ -2,18 +2,18 @@
 -- the line, and where one of them fails no such line stands there. Assumes nothing.
 use mathlib.Core.Path.{_≡_, refl, ap, sym, _∙_}
 use mathlib.Core.Bool.{Bool, true, false, cond, _||_}
-use mathlib.Core.List.{List, [], _∷_, _++_, append-assoc}
-use Prim.Native.Nat.{ℕ, suc, _+_, _^_, _≤_, _<_}
-use native.Mathlib.Nat.{add-assoc, add-zero}
+use mathlib.Core.List.{List, _∷_, _++_, append-assoc}
+use Prim.Native.Nat.{ℕ, _+_, _^_, _<_}
+use native.Mathlib.Nat.{add-zero}
 use native.Mathlib.Numerals.{add-one}
 use native.Mathlib.Omega.{arith}
 use lib.Dec.{eqb, ltb}
-use lib.ListN.{length, getD, drop, length-append, length-drop, List·getD-eq-default}
+use lib.ListN.{length, getD, drop, length-drop}
 use lib.Seq.{drop-append-seam, drop-cons, drop-drop, getD-drop}
 use borrow.Author.Tests.{eq-eqb, eqb-true, lt-ltb, ltb-true}
 use Rattle.truth.proofs.Laws.{and-true, true≢false}
 use Rattle.decimal.specs.declared.Lead.the-variants.{Number, Nothing}
-use Rattle.decimal.specs.Decimal.{digitsOf, isDigit, isNumber, longest, valueOf, zeroByte}
+use Rattle.decimal.specs.Decimal.{digitsOf, isDigit, longest, zeroByte}
 use Rattle.decimal.specs.Field.{fieldText, lineFeed, tab}
 use Rattle.decimal.specs.Leading.{behind, leading, leadingAt, standsAt}
 use Rattle.decimal.proofs.Leading.{leading-is, leads-number, led}
@@ -23,8 +23,8 @@ use Rattle.line.proofs.Fields.{begins-with}
 use Rattle.line.proofs.Theorems.{begins-itself}
 use Rattle.ledger.specs.Ledger.{entryText, headText}
 use Rattle.ledger.proofs.Puts.{line-parts}
-use Rattle.resume.specs.declared.Entry.the-variants.{Says, Other}
-use Rattle.resume.specs.declared.Head.the-variants.{Standard, None}
+use Rattle.resume.specs.declared.Entry.the-variants.{Says}
+use Rattle.resume.specs.declared.Head.the-variants.{Standard}
 use Rattle.resume.specs.Pass.{EntryAt, HeadOf}
 
 never : {v end : ℕ} → ¬ (Nothing ≡ Number v end)
@@ -32,13 +32,13 @@ never e = let z : _≡_ {A = ℕ} 0 1 = cc in absurd (omega arith)
 
 -- ---- a number and a byte at a place, and the text from there on
 module _ (s : List ℕ) (at : ℕ) where
-  pub lead-bytes : (v end : ℕ) → leadingAt s at ≡ Number v end → drop at s ≡ digitsOf v ++ drop end s
+  lead-bytes : (v end : ℕ) → leadingAt s at ≡ Number v end → drop at s ≡ digitsOf v ++ drop end s
   lead-bytes v end e =
       let l = leads-number s at v end e in
       let digits : digitsOf v ≡ leading (drop at s) = ap digitsOf (l .value) ∙ digits-value (leading (drop at s)) (l .number) in
       led (drop at s) .parts ∙ rw (digits, l .place, drop-drop)
 
-  pub lead-back : (v b : ℕ) (rest : List ℕ) → v < 10 ^ longest → isDigit b ≡ false → drop at s ≡ digitsOf v ++ (b ∷ rest)
+  lead-back : (v b : ℕ) (rest : List ℕ) → v < 10 ^ longest → isDigit b ≡ false → drop at s ≡ digitsOf v ++ (b ∷ rest)
       → (leadingAt s at ≡ Number v (at + length (digitsOf v))) × (drop (at + length (digitsOf v)) s ≡ b ∷ rest)
   unfolding leadingAt
   lead-back v b rest small other e =
@@ -51,7 +51,7 @@ module _ (s : List ℕ) (at : ℕ) where
       let within = ltb-true at (length s) inside in
       (rw (add-one, drop-cons s at 0 within, eqb-true (getD s at 0) b byte), within)
 
-  pub stand-back : (b : ℕ) (rest : List ℕ) (next : ℕ) → next ≡ at + 1 → drop at s ≡ b ∷ rest → (standsAt s at b ≡ true) × (drop next s ≡ rest)
+  stand-back : (b : ℕ) (rest : List ℕ) (next : ℕ) → next ≡ at + 1 → drop at s ≡ b ∷ rest → (standsAt s at b ≡ true) × (drop next s ≡ rest)
   stand-back b rest next after e =
       let inside : at < length s = omega (arith, ap length e, length-drop at s) in
       let byte : getD s at 0 ≡ b = rw (← add-zero at, ← getD-drop) (ap (λ (l : List ℕ). getD l 0 0) e) in

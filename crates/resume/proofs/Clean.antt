@@ -3,10 +3,9 @@
 use mathlib.Core.Path.{_≡_, refl, ap, sym, _∙_}
 use mathlib.Core.Bool.{Bool, true, false, cond}
 use mathlib.Core.List.{List, [], _∷_, _++_, map}
-use Prim.Native.Nat.{ℕ, zero, suc, _+_, _^_, _≤_, _<_}
+use Prim.Native.Nat.{ℕ, zero, suc, _+_, _≤_}
 use native.Mathlib.Omega.{arith}
 use lib.Dec.{eqb}
-use lib.IntN.{ℤ, pos, negsuc}
 use lib.ListN.{drop}
 use Rattle.truth.proofs.Laws.{is-true}
 use Rattle.limits.specs.Limits.{longestTime}
@@ -23,16 +22,15 @@ use Rattle.line.specs.declared.Sheet.the-variants.{Fresh, Open}
 use Rattle.line.specs.declared.Step.{Step}
 use Rattle.line.specs.declared.Step.the-variants.{Next, Stop}
 use Rattle.line.specs.Line.{stepping, telling, told}
-use Rattle.line.proofs.Entries.{Entry, Opening, says-next, standard-says}
+use Rattle.line.proofs.Entries.{says-next, standard-says}
 use Rattle.line.proofs.Theorems.{flag-of, line-enters, told-entered}
-use Rattle.sheet.specs.declared.Reading.{Reading}
-use Rattle.sheet.specs.declared.Reading.the-variants.{Read, Stopped}
+use Rattle.sheet.specs.declared.Reading.the-variants.{Read}
 use Rattle.sheet.specs.Pieces.{joined}
 use Rattle.sheet.specs.Sheet.{Account, afterStep, meaning, reading}
-use Rattle.ledger.specs.Answers.{judged, judgedFrom, onward}
+use Rattle.ledger.specs.Answers.{judged, judgedFrom}
 use Rattle.ledger.proofs.Entered.{judged-standard}
 use Rattle.degrees.specs.Degrees.{signed}
-use Rattle.ledger.specs.Ledger.{entryText, exposureIn, failedIn, headText, lineText, linesFrom, sheetText}
+use Rattle.ledger.specs.Ledger.{entryText, exposureIn, failedIn, headText, linesFrom, sheetText}
 use Rattle.resume.specs.Records.{recordIn, recordsOf}
 use Rattle.resume.proofs.Lines.{entry-says, lines-joined}
 

@@ -1,17 +1,15 @@
 -- The lines of a sheet as they are written: each is the first line of the text that starts with it (`entry-lines`, `head-lines`), and a record's line says
 -- that record (`entry-says`). The lines of a text joined are the text. Assumes nothing.
 use mathlib.Core.Path.{_≡_, refl, ap, sym, _∙_}
-use mathlib.Core.Bool.{Bool, true, false, cond}
 use mathlib.Core.List.{List, [], _∷_, _++_, append-assoc}
 use Prim.Native.Nat.{ℕ}
-use native.Mathlib.Omega.{arith}
 use lib.Dec.{eqb}
-use lib.ListN.{length, drop}
+use lib.ListN.{drop}
 use lib.Seq.{drop-append-seam}
 use Rattle.truth.proofs.Cases.{by-test}
-use Rattle.decimal.specs.Decimal.{allDigits, digitsOf, valueOf}
+use Rattle.decimal.specs.Decimal.{digitsOf}
 use Rattle.decimal.specs.Field.{fieldText, lineFeed, tab}
-use Rattle.decimal.specs.Leading.{behind, leading}
+use Rattle.decimal.specs.Leading.{leading}
 use Rattle.decimal.specs.Lines.{linesOf, startLine}
 use Rattle.decimal.proofs.Leading.{leading-is}
 use Rattle.decimal.proofs.Lines.{NoFeed, digits-none, lines-front, none-joined}

@@ -1,7 +1,6 @@
 -- `ledger::outcome` meets its contract: below zero a record failed, and its exposure is the number without its sign. Assumes nothing.
-use mathlib.Core.Path.{_≡_, ap, _∙_}
+use mathlib.Core.Path.{ap, _∙_}
 use mathlib.Core.Bool.{Bool}
-use Prim.Native.Nat.{ℕ}
 use mir.Facts.{toZ-ofZ}
 use borrow.Author.Needs.{needs}
 use Rattle.line.specs.Line.{told}

@@ -1,6 +1,5 @@
 -- `ledger::put_head` meets its contract: line 1 is written part by part, each taking itself off what is left of it. Assumes nothing.
-use mathlib.Core.List.{List, [], _∷_, _++_}
-use Prim.Native.Nat.{ℕ}
+use mathlib.Core.List.{[], _∷_}
 use native.Mathlib.Omega.{arith}
 use denote.Ref.{now}
 use borrow.Author.Needs.{needs}

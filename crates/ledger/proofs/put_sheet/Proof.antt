@@ -1,5 +1,4 @@
 -- `ledger::put_sheet` meets its contract: line 1 takes itself off the sheet, and the lines are the rest. Assumes nothing.
-use mathlib.Core.List.{_++_}
 use native.Mathlib.Omega.{arith}
 use denote.Ref.{now}
 use borrow.Author.Needs.{needs}

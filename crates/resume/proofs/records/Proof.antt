@@ -1,9 +1,8 @@
 -- `resume::records` meets its contract: the first pass tells whether the sheet reads cleanly; then there is room or not, and the second pass puts the records.
 -- Of any other sheet its own reader tells. Assumes nothing.
-use mathlib.Core.Path.{_≡_, refl, sym, ap, subst, _∙_}
+use mathlib.Core.Path.{refl, sym, ap, subst, _∙_}
 use mathlib.Core.List.{List}
-use Prim.Native.Nat.{ℕ, _≤_}
-use native.Mathlib.Omega.{arith}
+use Prim.Native.Nat.{ℕ}
 use lib.IntN.{ℤ}
 use lib.ListN.{length}
 use denote.Ref.{now}

@@ -6,14 +6,14 @@ use mathlib.Core.List.{List, [], _∷_, _++_, map}
 use Prim.Native.Nat.{ℕ, _+_, _≤_, _<_}
 use native.Mathlib.Nat.{add-zero}
 use native.Mathlib.Omega.{arith}
-use lib.Dec.{eqb, leb}
+use lib.Dec.{eqb}
 use lib.ListN.{length, drop, drop-of-length-le, length-drop}
-use borrow.Author.Tests.{eqb-false, le-leb, leb-true, ne-eqb, not-true}
+use borrow.Author.Tests.{eqb-false, ne-eqb, not-true}
 use Rattle.truth.proofs.Laws.{and-true, holds, is-true, true≢false}
 use Rattle.poisson.specs.Rows.{rows}
 use Rattle.refusal.specs.declared.Refusal.{Refusal}
 use Rattle.refusal.specs.declared.Refusal.the-variants.{Item}
-use Rattle.limits.specs.Limits.{longestTime, within}
+use Rattle.limits.specs.Limits.{within}
 use Rattle.campaign.specs.declared.Answer.{Answer}
 use Rattle.campaign.specs.declared.Answer.the-variants.{Refused, Taken}
 use Rattle.campaign.specs.declared.Campaign.{Campaign}
@@ -33,9 +33,9 @@ use Rattle.sheet.specs.Sheet.{Account, afterStep, meaning, reading}
 use Rattle.ledger.specs.Ledger.{entryText, headText}
 use Rattle.ledger.proofs.Enough.{in-range}
 use Rattle.ledger.proofs.Judging.{told-taken}
-use Rattle.resume.specs.declared.Entry.the-variants.{Other, Says}
+use Rattle.resume.specs.declared.Entry.the-variants.{Other}
 use Rattle.resume.specs.declared.Head.the-variants.{None, Standard}
-use Rattle.resume.specs.Pass.{CleanPass, EntryAt, HeadOf, takenAfter}
+use Rattle.resume.specs.Pass.{CleanPass, EntryAt, EntryHere, HeadOf, takenAfter}
 use Rattle.resume.specs.Records.{recordIn, recordsOf}
 use Rattle.resume.proofs.Back.{entry-reads, head-reads}
 use Rattle.resume.proofs.Clean.{apart, first-line}
@@ -105,23 +105,15 @@ module _ (text : List ℕ) (q next : ℕ) (h : HeadOf text (Standard q next)) wh
       }
 
 -- ---- what a record needs to be taken
-record Takes (m n t : ℕ) : Type 0 where
-  low : 1 ≤ t
-  high : t ≤ longestTime
-  room : ¬ (m ≡ mostRecords)
-  rows-left : ¬ (n ≡ 64)
-
-takes : (m n t : ℕ) → takenAfter m n t ≡ true → Takes m n t
+taken-parts : (m n : ℕ) → takenAfter m n ≡ true → ¬ (m ≡ mostRecords) × ¬ (n ≡ 64)
 unfolding takenAfter
-takes m n t e =
-    let (range, rest) = and-true (within 1 longestTime t) _ e in
-    let (low, high) = and-true (leb 1 t) (leb t longestTime) range in
-    let (room, left) = and-true (not (eqb m mostRecords)) (not (eqb n rows)) rest in
-    record { low = leb-true 1 t low; high = leb-true t longestTime high; room = eqb-false m mostRecords (not-true _ room); rows-left = eqb-false n 64 (not-true _ left) }
+taken-parts m n e =
+    let (room, left) = and-true (not (eqb m mostRecords)) (not (eqb n rows)) e in
+    (eqb-false m mostRecords (not-true _ room), eqb-false n 64 (not-true _ left))
 
-taken-after : (m n t : ℕ) → 1 ≤ t → t ≤ longestTime → ¬ (m ≡ mostRecords) → ¬ (n ≡ 64) → takenAfter m n t ≡ true
+taken-after : (m n : ℕ) → ¬ (m ≡ mostRecords) → ¬ (n ≡ 64) → takenAfter m n ≡ true
 unfolding takenAfter
-taken-after m n t low high room left = rw (le-leb 1 t low, le-leb t longestTime high, ne-eqb m mostRecords room, ne-eqb n 64 left)
+taken-after m n room left = rw (ne-eqb m mostRecords room, ne-eqb n 64 left)
 
 -- ---- on the way
 module _ {text : List ℕ} {q begin at count failures : ℕ} (a : Along text q begin at count failures) where
@@ -143,36 +135,37 @@ module _ {text : List ℕ} {q begin at count failures : ℕ} (a : Along text q b
       go [] parts e = omega (arith, ap length parts, length-drop at text)
       go (line ∷ lines) parts e =
           let o = first-line c line lines d (a .good) e in
-          none (o .failed) (o .exposure) (joined lines) (omega (arith, few)) (omega (arith, o .high)) (parts ∙ ap (λ (l : List ℕ). l ++ joined lines) (o .bytes ∙ ap (λ (n : ℕ). entryText (n + 1) (cond (o .failed) 1 0) (o .exposure)) (a .records)))
+          none (o .failed) (o .exposure) (joined lines) (omega (arith, few)) (o .low) (o .high) (parts ∙ ap (λ (l : List ℕ). l ++ joined lines) (o .bytes ∙ ap (λ (n : ℕ). entryText (n + 1) (cond (o .failed) 1 0) (o .exposure)) (a .records)))
 
-  module _ (f : Bool) (t next : ℕ) (h : EntryAt text at (count + 1) (Says f t next)) where
+  module _ (f : Bool) (next : ℕ) (h : EntryHere text at (count + 1) f next) where
+    abbrev t : ℕ
+    t = h .exposure
+
     abbrev entry : List ℕ
     entry = entryText (count + 1) (cond f 1 0) t
 
     ends : meaning text .end ≡ afterStep (outcome (c .records + 2) (telling c f t)) (reading false (Left text next)) .end
-    unfolding EntryAt
     ends =
         a .reads
-        ∙ ap (λ (l : List ℕ). reading false (linesOf l) (Open c) .end) (h .0 .bytes ∙ ap (λ (n : ℕ). entryText (n + 1) (cond f 1 0) t ++ drop next text) (sym (a .records)))
-        ∙ ap (λ (x : Account). x .end) (entry-reads c f t (a .good) (h .1) (drop next text))
+        ∙ ap (λ (l : List ℕ). reading false (linesOf l) (Open c) .end) (h .starts .bytes ∙ ap (λ (n : ℕ). entryText (n + 1) (cond f 1 0) t ++ drop next text) (sym (a .records)))
+        ∙ ap (λ (x : Account). x .end) (entry-reads c f t (a .good) (omega (arith, h .high)) (drop next text))
 
     -- its record is not taken
-    pub not-taken : takenAfter count failures t ≡ false → NotClean text
+    pub not-taken : takenAfter count failures ≡ false → NotClean text
     not-taken no-room d e = go (telling c f t) refl (sym ends ∙ e)
       where
         go : (x : Answer) → telling c f t ≡ x → afterStep (outcome (c .records + 2) x) (reading false (Left text next)) .end ≡ Read d → ⊥
         go (Refused r) is e = never (c .records + 2) r (reading false (Left text next)) d e
         go (Taken b) is e =
             let o = entered-from c (told f t) b (told-entered c f t b is) in
-            true≢false (sym (taken-after count failures t (o .low) (o .high) (λ k. o .room .records (a .records ∙ k)) (λ k. o .room .failures (a .fails ∙ k))) ∙ no-room)
+            true≢false (sym (taken-after count failures (λ k. o .room .records (a .records ∙ k)) (λ k. o .room .failures (a .fails ∙ k))) ∙ no-room)
 
     -- it is taken
-    pub on : takenAfter count failures t ≡ true → Along text q begin next (count + 1) (cond f (failures + 1) failures)
-    unfolding EntryAt
+    pub on : takenAfter count failures ≡ true → Along text q begin next (count + 1) (cond f (failures + 1) failures)
     on fits =
-        let k = takes count failures t fits in
-        let (taken, good) = told-taken c f t (a .good) (k .low) (k .high) (λ e. k .room (sym (a .records) ∙ e)) (λ e. k .rows-left (sym (a .fails) ∙ e)) in
-        let lines : Left text at ≡ entry ∷ Left text next = ap linesOf (h .0 .bytes) ∙ entry-lines (count + 1) (cond f 1 0) t (drop next text) in
+        let (room, left) = taken-parts count failures fits in
+        let (taken, good) = told-taken c f t (a .good) (h .low) (h .high) (λ e. room (sym (a .records) ∙ e)) (λ e. left (sym (a .fails) ∙ e)) in
+        let lines : Left text at ≡ entry ∷ Left text next = ap linesOf (h .starts .bytes) ∙ entry-lines (count + 1) (cond f 1 0) t (drop next text) in
         record {
           so-far = entered c f t;
           good = good;
@@ -184,7 +177,7 @@ module _ {text : List ℕ} {q begin at count failures : ℕ} (a : Along text q b
           says = a .says;
           reads = ends ∙ ap (λ (x : Answer). afterStep (outcome (c .records + 2) x) (reading false (Left text next)) .end) taken;
           number = omega (arith, ap (λ (l : List (List ℕ)). length (map recordIn l)) lines, a .number);
-          inside = h .0 .within;
+          inside = h .starts .within;
         }
 
   -- the end

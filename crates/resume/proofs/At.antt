@@ -3,7 +3,7 @@
 use mathlib.Core.Path.{_≡_, refl, ap, sym, _∙_}
 use mathlib.Core.Bool.{Bool, true, false, cond, _||_}
 use mathlib.Core.List.{List, _∷_, _++_, append-assoc}
-use Prim.Native.Nat.{ℕ, _+_, _^_, _<_}
+use Prim.Native.Nat.{ℕ, _+_, _^_, _≤_, _<_}
 use native.Mathlib.Nat.{add-zero}
 use native.Mathlib.Numerals.{add-one}
 use native.Mathlib.Omega.{arith}
@@ -12,6 +12,7 @@ use lib.ListN.{length, getD, drop, length-drop}
 use lib.Seq.{drop-append-seam, drop-cons, drop-drop, getD-drop}
 use borrow.Author.Tests.{eq-eqb, eqb-true, lt-ltb, ltb-true}
 use Rattle.truth.proofs.Laws.{and-true, true≢false}
+use Rattle.limits.specs.Limits.{longestTime}
 use Rattle.decimal.specs.declared.Lead.the-variants.{Number, Nothing}
 use Rattle.decimal.specs.Decimal.{digitsOf, isDigit, longest, zeroByte}
 use Rattle.decimal.specs.Field.{fieldText, lineFeed, tab}
@@ -23,16 +24,16 @@ use Rattle.line.proofs.Fields.{begins-with}
 use Rattle.line.proofs.Theorems.{begins-itself}
 use Rattle.ledger.specs.Ledger.{entryText, headText}
 use Rattle.ledger.proofs.Puts.{line-parts}
-use Rattle.resume.specs.declared.Entry.the-variants.{Says}
+use Rattle.resume.specs.declared.Exposure.the-variants.{Other as Nought}
 use Rattle.resume.specs.declared.Head.the-variants.{Standard}
-use Rattle.resume.specs.Pass.{EntryAt, HeadOf}
+use Rattle.resume.specs.Pass.{EntryHere, ExposureAt, ExposureHere, HeadOf}
 
 never : {v end : ℕ} → ¬ (Nothing ≡ Number v end)
 never e = let z : _≡_ {A = ℕ} 0 1 = cc in absurd (omega arith)
 
 -- ---- a number and a byte at a place, and the text from there on
 module _ (s : List ℕ) (at : ℕ) where
-  lead-bytes : (v end : ℕ) → leadingAt s at ≡ Number v end → drop at s ≡ digitsOf v ++ drop end s
+  pub lead-bytes : (v end : ℕ) → leadingAt s at ≡ Number v end → drop at s ≡ digitsOf v ++ drop end s
   lead-bytes v end e =
       let l = leads-number s at v end e in
       let digits : digitsOf v ≡ leading (drop at s) = ap digitsOf (l .value) ∙ digits-value (leading (drop at s)) (l .number) in
@@ -77,26 +78,29 @@ module _ (s : List ℕ) (at due : ℕ) where
     first : standsAt s end tab ≡ true
     flag : standsAt s (end + 1) (zeroByte + cond f 1 0) ≡ true
     second : standsAt s (end + 2) tab ≡ true
-    exposure : leadingAt s (end + 3) ≡ Number t feed
+    rest : List ℕ
+    exposure : drop (end + 3) s ≡ digitsOf t ++ (lineFeed ∷ rest)
+    place : feed ≡ end + 3 + length (leading (drop (end + 3) s))
     last : standsAt s feed lineFeed ≡ true
 
-  stands : (f : Bool) (t : ℕ) (rest : List ℕ) → due < 10 ^ longest → t < 10 ^ longest → drop at s ≡ entryText due (cond f 1 0) t ++ rest → Stands f t
-  stands f t rest small short e =
+  stands : (f : Bool) (t : ℕ) (rest : List ℕ) → due < 10 ^ longest → drop at s ≡ entryText due (cond f 1 0) t ++ rest → Stands f t
+  stands f t rest small e =
       let parts : drop at s ≡ digitsOf due ++ (tab ∷ ((zeroByte + cond f 1 0) ∷ (tab ∷ (digitsOf t ++ (lineFeed ∷ rest))))) = e ∙ ap (λ l. l ++ rest) (line-parts due f t) ∙ simp append-assoc in
       let (number, after) = lead-back s at due tab _ small refl parts in
       let end = at + length (digitsOf due) in
       let (first, flags) = stand-back s end tab _ (end + 1) refl after in
       let (flag, tabs) = stand-back s (end + 1) (zeroByte + cond f 1 0) _ (end + 2) (omega arith) flags in
       let (second, digits) = stand-back s (end + 2) tab _ (end + 3) (omega arith) tabs in
-      let (exposure, feeds) = lead-back s (end + 3) t lineFeed rest short refl digits in
+      let is : leading (drop (end + 3) s) ≡ digitsOf t = ap leading digits ∙ leading-is (digitsOf t) (lineFeed ∷ rest) (all-digits t) refl in
+      let feeds : drop (end + 3 + length (digitsOf t)) s ≡ lineFeed ∷ rest = sym (drop-drop (length (digitsOf t)) (end + 3) s) ∙ ap (drop (length (digitsOf t))) digits ∙ drop-append-seam (digitsOf t) (lineFeed ∷ rest) in
       let (last, behind) = stand-back s (end + 3 + length (digitsOf t)) lineFeed rest _ refl feeds in
-      record { end = end; feed = end + 3 + length (digitsOf t); number = number; first = first; flag = flag; second = second; exposure = exposure; last = last }
+      record { end = end; feed = end + 3 + length (digitsOf t); number = number; first = first; flag = flag; second = second; rest = rest; exposure = digits; place = ap (λ (l : List ℕ). end + 3 + length l) (sym is); last = last }
 
   abbrev NoEntry : Type 0
-  NoEntry = (f : Bool) (t : ℕ) (rest : List ℕ) → due < 10 ^ longest → t < 10 ^ longest → ¬ (drop at s ≡ entryText due (cond f 1 0) t ++ rest)
+  NoEntry = (f : Bool) (t : ℕ) (rest : List ℕ) → due < 10 ^ longest → 1 ≤ t → t ≤ longestTime → ¬ (drop at s ≡ entryText due (cond f 1 0) t ++ rest)
 
   none-by : ((f : Bool) (t : ℕ) → ¬ (Stands f t)) → NoEntry
-  none-by fails f t rest small short e = fails f t (stands f t rest small short e)
+  none-by fails f t rest small low high e = fails f t (stands f t rest small e)
 
   pub no-number : leadingAt s at ≡ Nothing → NoEntry
   no-number e = none-by (λ f t p. never (sym e ∙ p .number))
@@ -125,32 +129,34 @@ module _ (s : List ℕ) (at due : ℕ) where
     pub no-second : standsAt s (end + 2) tab ≡ false → NoEntry
     no-second e = none-by (λ f t p. true≢false (sym (rw (same-end p .1) at (p .second)) ∙ e))
 
-    pub no-exposure : leadingAt s (end + 3) ≡ Nothing → NoEntry
-    no-exposure e = none-by (λ f t p. never (sym e ∙ rw (same-end p .1) at (p .exposure)))
+    pub no-exposure : ExposureAt s (end + 3) Nought → NoEntry
+    unfolding ExposureAt
+    no-exposure e f t rest small low high h =
+        let p = stands f t rest small h in
+        e t lineFeed (p .rest) low high refl (rw (same-end p .1) at (p .exposure))
 
-    module _ (x feed : ℕ) (exposure : leadingAt s (end + 3) ≡ Number x feed) where
+    module _ (feed : ℕ) (x : ExposureHere s (end + 3) feed) where
       same-feed : {f : Bool} {t : ℕ} (p : Stands f t) → p .feed ≡ feed
-      same-feed {f} {t} p = let e : Number x feed ≡ Number t (p .feed) = sym exposure ∙ rw (same-end p .1) at (p .exposure) in cc (e)
+      same-feed p = p .place ∙ rw (same-end p .1) (sym (x .place))
 
       pub no-feed : standsAt s feed lineFeed ≡ false → NoEntry
       no-feed e = none-by (λ f t p. true≢false (sym (rw (same-feed p) at (p .last)) ∙ e))
 
       pub entry-here : (f : Bool) → n ≡ due → standsAt s end tab ≡ true → standsAt s (end + 1) (zeroByte + cond f 1 0) ≡ true → standsAt s (end + 2) tab ≡ true → standsAt s feed lineFeed ≡ true
-          → EntryAt s at due (Says f x (feed + 1))
-      unfolding EntryAt
+          → EntryHere s at due f (feed + 1)
       entry-here f is first flag second last =
           let a = lead-bytes s at n end number in
           let (b, inside) = stand-bytes s end tab first in
           let (c, _) = stand-bytes s (end + 1) (zeroByte + cond f 1 0) flag in
           let (d, _) = stand-bytes s (end + 2) tab second in
-          let e = lead-bytes s (end + 3) x feed exposure in
+          let e = x .bytes in
           let (g, within) = stand-bytes s feed lineFeed last in
-          let l = leads-number s (end + 3) x feed exposure in
           let first-end = leads-number s at n end number .place in
           let two : end + 1 + 1 ≡ end + 2 = omega arith in
           let three : end + 2 + 1 ≡ end + 3 = omega arith in
-          let whole : entryText due (cond f 1 0) x ++ drop (feed + 1) s ≡ digitsOf due ++ (tab ∷ ((zeroByte + cond f 1 0) ∷ (tab ∷ (digitsOf x ++ (lineFeed ∷ drop (feed + 1) s))))) = ap (λ (t : List ℕ). t ++ drop (feed + 1) s) (line-parts due f x) ∙ simp append-assoc in
-          (record { bytes = a ∙ rw (is, b, c, two, d, three, e, g) (sym whole); further = omega (arith, first-end, l .place); within = omega (arith, within) }, l .small)
+          let t = x .exposure in
+          let whole : entryText due (cond f 1 0) t ++ drop (feed + 1) s ≡ digitsOf due ++ (tab ∷ ((zeroByte + cond f 1 0) ∷ (tab ∷ (digitsOf t ++ (lineFeed ∷ drop (feed + 1) s))))) = ap (λ (l : List ℕ). l ++ drop (feed + 1) s) (line-parts due f t) ∙ simp append-assoc in
+          record { exposure = t; starts = record { bytes = a ∙ rw (is, b, c, two, d, three, e, g) (sym whole); further = omega (arith, first-end, x .place); within = omega (arith, within) }; low = x .low; high = x .high }
 
 -- ---- line 1
 module _ (s : List ℕ) where

@@ -2,14 +2,15 @@
 use Prim.Native.Nat.{ℕ, _+_, _^_, _≤_, _<_}
 use mathlib.Core.Path.{_≡_}
 use mathlib.Core.Bool.{Bool, cond, false, not, true, _&&_}
-use mathlib.Core.List.{List, _++_, map}
+use mathlib.Core.List.{List, _∷_, _++_, map}
 use lib.ListN.{length, drop, getD}
 use lib.Dec.{eqb}
 use Rattle.poisson.specs.Rows.{rows}
 use Rattle.refusal.specs.declared.Refusal.the-variants.{BrokenState}
-use Rattle.limits.specs.Limits.{longestTime, within}
+use Rattle.limits.specs.Limits.{longestTime}
 use Rattle.campaign.specs.State.{mostRecords, sound}
-use Rattle.decimal.specs.Decimal.{leadingDigits, longest, valueOf, zeroByte}
+use Rattle.decimal.specs.Decimal.{digitsOf, isDigit, leadingDigits, longest, valueOf, zeroByte}
+use Rattle.decimal.specs.Leading.{leading}
 use Rattle.decimal.specs.Lines.{linesOf}
 use Rattle.line.specs.declared.Sheet.the-variants.{Open}
 use Rattle.campaign.specs.declared.Campaign.{Campaign}
@@ -19,6 +20,8 @@ use Rattle.sheet.specs.Sheet.{meaning, reading}
 use Rattle.ledger.specs.Ledger.{entryText, headText}
 use Rattle.resume.specs.declared.Entry.{Entry}
 use Rattle.resume.specs.declared.Entry.the-variants.{Says, Other}
+use Rattle.resume.specs.declared.Exposure.{Exposure}
+use Rattle.resume.specs.declared.Exposure.the-variants.{Upto, Other as Nought}
 use Rattle.resume.specs.declared.Head.{Head}
 use Rattle.resume.specs.declared.Head.the-variants.{Standard, None}
 use Rattle.resume.specs.declared.Resumed.{Resumed}
@@ -33,9 +36,9 @@ stoppedFrom (Stopped line column r) = Bad line column r
 stoppedFrom (Read c) = Bad 0 0 BrokenState
 stoppedFrom (Waiting s left) = Bad 0 0 BrokenState
 
--- a record of this exposure is taken after so many records and failures
-unfoldable pub takenAfter : ℕ → ℕ → ℕ → Bool
-takenAfter m n t = within 1 longestTime t && (not (eqb m mostRecords) && not (eqb n rows))
+-- a record is taken after so many records and failures
+unfoldable pub takenAfter : ℕ → ℕ → Bool
+takenAfter m n = not (eqb m mostRecords) && not (eqb n rows)
 
 -- the text at a place is a part and what stands behind it
 pub record StartsWith (text : List ℕ) (at : ℕ) (part : List ℕ) (next : ℕ) : Type 0 where
@@ -43,10 +46,30 @@ pub record StartsWith (text : List ℕ) (at : ℕ) (part : List ℕ) (next : ℕ
   pub further : at < next
   pub within : next ≤ length text
 
--- a record's line stands there; or none of that number does
+-- all digits at a place are those of an exposure that is taken
+pub record ExposureHere (text : List ℕ) (at end : ℕ) : Type 0 where
+  pub exposure : ℕ
+  pub bytes : drop at text ≡ digitsOf exposure ++ drop end text
+  pub place : end ≡ at + length (leading (drop at text))
+  pub low : 1 ≤ exposure
+  pub high : exposure ≤ longestTime
+  pub within : end ≤ length text
+
+-- or no such exposure ends there with a byte that is no digit
+unfoldable pub ExposureAt : List ℕ → ℕ → Exposure → Type 0
+ExposureAt text at (Upto end) = ExposureHere text at end
+ExposureAt text at Nought = (t b : ℕ) (rest : List ℕ) → 1 ≤ t → t ≤ longestTime → isDigit b ≡ false → ¬ (drop at text ≡ digitsOf t ++ (b ∷ rest))
+
+-- a record's line with such an exposure stands there; or none of that number does
+pub record EntryHere (text : List ℕ) (at due : ℕ) (f : Bool) (next : ℕ) : Type 0 where
+  pub exposure : ℕ
+  pub starts : StartsWith text at (entryText due (cond f 1 0) exposure) next
+  pub low : 1 ≤ exposure
+  pub high : exposure ≤ longestTime
+
 unfoldable pub EntryAt : List ℕ → ℕ → ℕ → Entry → Type 0
-EntryAt text at due (Says f t next) = StartsWith text at (entryText due (cond f 1 0) t) next × (t < 10 ^ longest)
-EntryAt text at due Other = (f : Bool) (t : ℕ) (rest : List ℕ) → due < 10 ^ longest → t < 10 ^ longest → ¬ (drop at text ≡ entryText due (cond f 1 0) t ++ rest)
+EntryAt text at due (Says f next) = EntryHere text at due f next
+EntryAt text at due Other = (f : Bool) (t : ℕ) (rest : List ℕ) → due < 10 ^ longest → 1 ≤ t → t ≤ longestTime → ¬ (drop at text ≡ entryText due (cond f 1 0) t ++ rest)
 
 -- line 1 stands at the start; or none does
 unfoldable pub HeadOf : List ℕ → Head → Type 0

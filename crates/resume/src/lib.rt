@@ -3,12 +3,13 @@
 // which knows its line, column and refusal.
 ghost use mathlib.Core.Path.{_≡_};
 ghost use Prim.Native.Nat.{_+_, _≤_, _<_};
-ghost use lib.ListN.{length, set};
+ghost use lib.ListN.{drop, length, set};
 ghost use lib.Seq.{sets};
 ghost use Rattle.limits.specs.Limits.{longestTime};
+ghost use Rattle.decimal.specs.Leading.{leading};
 ghost use Rattle.degrees.specs.Degrees.{signed};
 ghost use Rattle.resume.specs.Records.{filledBy, recordsOf, resuming};
-ghost use Rattle.resume.specs.Pass.{CleanFrom, EntryAt, HeadOf, Passes, flagAt, runEnd, runValue, stoppedFrom, takenAfter};
+ghost use Rattle.resume.specs.Pass.{CleanFrom, EntryAt, ExposureAt, HeadOf, Passes, flagAt, runEnd, runValue, stoppedFrom, takenAfter};
 use decimal::Lead;
 use line::Sheet;
 use refusal::Refusal;
@@ -21,6 +22,9 @@ const LF: u8 = 10;
 // The byte of the digit 0; that of 1 follows it.
 const ZERO: u8 = 48;
 
+// So many digits are always an exposure that is taken, if the first is not 0.
+const FREE_DIGITS: usize = 7;
+
 // What reading the records of a sheet comes to.
 pub enum Resumed {
     // The standard, and the number of records.
@@ -31,9 +35,16 @@ pub enum Resumed {
 
 // What stands at a record's line.
 enum Entry {
-    // Whether the record failed, its exposure, and the place behind the line.
-    Says(bool, u64, usize),
-    // No line of that record.
+    // Whether the record failed, and the place behind the line.
+    Says(bool, usize),
+    // No line of that record, or one whose exposure is not taken.
+    Other,
+}
+
+// What stands at an exposure.
+enum Exposure {
+    // Digits of an exposure that is taken, up to this place.
+    Upto(usize),
     Other,
 }
 
@@ -49,6 +60,43 @@ enum Passed {
     // The standard, the number of records and the place behind line 1 of a sheet that reads cleanly.
     Clean(u64, u64, usize),
     Unclean,
+}
+
+// The place of the first byte from `at` on that is no digit.
+fn digits_end(text: &[u8], at: usize) -> usize
+    ensures { λ r. ⌜ r ≡ at + length (leading (drop at (now (text .entry)))) ⌝ }
+{
+    let mut i = at;
+    while i < text.len() {
+        if !decimal::is_digit(text[i]) {
+            return i;
+        }
+        i += 1;
+    }
+    i
+}
+
+// The exposure at `at`, 1 to 10,000,000. What at most seven digits are worth need not be known.
+fn exposure_at(text: &[u8], at: usize) -> Exposure
+    ensures { λ r. ⌜ ExposureAt (now (text .entry)) at r ⌝ }
+{
+    let end = digits_end(text, at);
+    if end == at {
+        return Exposure::Other;
+    }
+    if decimal::stands(text, at, ZERO) {
+        return Exposure::Other;
+    }
+    if end - at <= FREE_DIGITS {
+        return Exposure::Upto(end);
+    }
+    let Lead::Number(t, next) = decimal::leading_at(text, at) else {
+        return Exposure::Other;
+    };
+    if t > limits::LONGEST_TIME {
+        return Exposure::Other;
+    }
+    Exposure::Upto(next)
 }
 
 // The line of the record numbered `due` at `at`.
@@ -71,13 +119,13 @@ fn entry_at(text: &[u8], at: usize, due: u64) -> Entry
     if !decimal::stands(text, end + 2, TAB) {
         return Entry::Other;
     }
-    let Lead::Number(exposure, feed) = decimal::leading_at(text, end + 3) else {
+    let Exposure::Upto(feed) = exposure_at(text, end + 3) else {
         return Entry::Other;
     };
     if !decimal::stands(text, feed, LF) {
         return Entry::Other;
     }
-    Entry::Says(failed, exposure, feed + 1)
+    Entry::Says(failed, feed + 1)
 }
 
 // Line 1.
@@ -105,14 +153,11 @@ fn number_for(failed: bool, exposure: u64) -> i32
     if failed { 0 - x } else { x }
 }
 
-// Whether a record of this exposure is taken after so many records and failures.
-fn takes(count: u64, failures: u64, exposure: u64) -> bool
-    ensures { λ r. ⌜ r ≡ takenAfter count failures exposure ⌝ }
+// Whether a record is taken after so many records and failures.
+fn takes(count: u64, failures: u64) -> bool
+    ensures { λ r. ⌜ r ≡ takenAfter count failures ⌝ }
 {
-    truth::both(
-        truth::both(1 <= exposure, exposure <= limits::LONGEST_TIME),
-        truth::both(count != campaign::MOST_RECORDS, failures != campaign::ROWS),
-    )
+    truth::both(count != campaign::MOST_RECORDS, failures != campaign::ROWS)
 }
 
 // Puts `x` into its place, where `places` has that place.
@@ -138,10 +183,10 @@ fn pass(text: &[u8]) -> Passed
     let mut count: u64 = 0;
     let mut failures: u64 = 0;
     while at < text.len() {
-        let Entry::Says(failed, exposure, next) = entry_at(text, at, count + 1) else {
+        let Entry::Says(failed, next) = entry_at(text, at, count + 1) else {
             return Passed::Unclean;
         };
-        if !takes(count, failures, exposure) {
+        if !takes(count, failures) {
             return Passed::Unclean;
         }
         failures = truth::pick(failed, failures + 1, failures);

@@ -1,6 +1,6 @@
 -- `resume::entry_at` meets its contract: number, flag and exposure with the bytes behind them make up the line, and where one fails none stands there. Assumes
 -- nothing.
-use mathlib.Core.Path.{_≡_, sym, _∙_}
+use mathlib.Core.Path.{_≡_, subst, sym, _∙_}
 use mathlib.Core.Bool.{Bool, true, cond}
 use mathlib.Core.List.{List}
 use Prim.Native.Nat.{ℕ, _+_, _<_}
@@ -13,8 +13,7 @@ use Rattle.decimal.specs.declared.Lead.the-variants.{Number}
 use Rattle.decimal.specs.Decimal.{zeroByte}
 use Rattle.decimal.specs.Field.{tab}
 use Rattle.decimal.specs.Leading.{leadingAt, standsAt}
-use Rattle.decimal.proofs.Leading.{leads-number}
-use Rattle.resume.specs.Pass.{EntryAt}
+use Rattle.resume.specs.Pass.{EntryAt, ExposureAt, ExposureHere}
 use Rattle.resume.proofs.At.{entry-here, flag-stands, neither, no-exposure, no-feed, no-flag, no-number, no-second, no-tab, other-number, stand-bytes}
 use borrow.Author.Needs.{needs}
 use Rattle.resume.proofs.entry_at.Statement.{statement}
@@ -73,14 +72,12 @@ module _ (c : tie.After-known-told2) where
   abbrev flagged : tie.Else4
   flagged = c .before .before .before .before
 
-  abbrev T : ℕ
-  T = c .before .exposure .given .0 .0
-
   abbrev Feed : ℕ
-  Feed = c .before .exposure .given .0 .1 .0
+  Feed = c .before .feed .given .0 .0
 
-  exposure : let k = known (tabbed flagged) in leadingAt (Text k) (End k + 3) ≡ Number T Feed
-  exposure = sym (c .before .before .before .leading-at2 .ensures) ∙ c .before .exposure .given .1
+  exposure : let k = known (tabbed flagged) in ExposureHere (Text k) (End k + 3) Feed
+  unfolding ExposureAt
+  exposure = let k = known (tabbed flagged) in subst (ExposureAt (Text k) (End k + 3)) (c .before .feed .given .1) (c .before .before .before .exposure-at .ensures)
 
 leading-at-requires : tie.Need-leading-at-requires
 leading-at-requires c κs = search needs
@@ -144,14 +141,14 @@ returns-5 c =
     let k = known (c .before .before .before .before .before .before) in
     no-second (Text k) (begin k .args .at) (begin k .args .due) (N k) (End k) (number k) (said-no (c .before .stands4 .ensures) (c .if4 .taken))
 
-add-leading-at : tie.Need-add-leading-at
-add-leading-at c = omega (arith, inside (tabbed c))
+add-exposure-at : tie.Need-add-exposure-at
+add-exposure-at c = omega (arith, inside (tabbed c))
 
-leading-at-requires-2 : tie.Need-leading-at-requires-2
-leading-at-requires-2 c κs = search needs
+exposure-at-requires : tie.Need-exposure-at-requires
+exposure-at-requires c κs = search needs
 
-enum-known-exposure : tie.Need-enum-known-exposure
-enum-known-exposure c = search needs
+enum-known-feed : tie.Need-enum-known-feed
+enum-known-feed c = search needs
 
 enum-told-2 : tie.Need-enum-told-2
 enum-told-2 c = search needs
@@ -160,7 +157,7 @@ returns-6 : tie.Need-returns-6
 unfolding EntryAt
 returns-6 c =
     let k = known (tabbed (c .before .before .before)) in
-    no-exposure (Text k) (begin k .args .at) (begin k .args .due) (N k) (End k) (number k) (sym (c .before .before .leading-at2 .ensures) ∙ c .enum-told2 .given .1)
+    no-exposure (Text k) (begin k .args .at) (begin k .args .due) (N k) (End k) (number k) (subst (ExposureAt (Text k) (End k + 3)) (c .enum-told2 .given .1) (c .before .before .exposure-at .ensures))
 
 stands-requires-5 : tie.Need-stands-requires-5
 stands-requires-5 c κs = search needs
@@ -170,20 +167,21 @@ unfolding EntryAt
 returns-7 c =
     let t = c .before .before in
     let k = known (tabbed (flagged t)) in
-    no-feed (Text k) (begin k .args .at) (begin k .args .due) (N k) (End k) (number k) (T t) (Feed t) (exposure t) (said-no (c .before .stands5 .ensures) (c .if5 .taken))
+    no-feed (Text k) (begin k .args .at) (begin k .args .due) (N k) (End k) (number k) (Feed t) (exposure t) (said-no (c .before .stands5 .ensures) (c .if5 .taken))
 
-add-t12 : tie.Need-add-t12
-add-t12 c =
+add-t11 : tie.Need-add-t11
+add-t11 c =
     let t = c .before .before in
     let k = known (tabbed (flagged t)) in
-    omega (arith, leads-number (Text k) (End k + 3) (T t) (Feed t) (exposure t) .within)
+    omega (arith, exposure t .within)
 
 returns-8 : tie.Need-returns-8
+unfolding EntryAt
 returns-8 c =
     let t = c .before .before in
     let e = tabbed (flagged t) in
     let k = known e in
-    entry-here (Text k) (begin k .args .at) (begin k .args .due) (N k) (End k) (number k) (T t) (Feed t) (exposure t) (Failed (flagged t)) (due e) (first e) (flag (flagged t)) (second (flagged t)) (said-yes (c .before .stands5 .ensures) (c .if5 .left))
+    entry-here (Text k) (begin k .args .at) (begin k .args .due) (N k) (End k) (number k) (Feed t) (exposure t) (Failed (flagged t)) (due e) (first e) (flag (flagged t)) (second (flagged t)) (said-yes (c .before .stands5 .ensures) (c .if5 .left))
 
 pub entry-at-spec : {M : Type 1} → statement M
 entry-at-spec =
@@ -206,12 +204,12 @@ entry-at-spec =
     add-stands-4
     stands-requires-4
     returns-5
-    add-leading-at
-    leading-at-requires-2
-    enum-known-exposure
+    add-exposure-at
+    exposure-at-requires
+    enum-known-feed
     enum-told-2
     returns-6
     stands-requires-5
     returns-7
-    add-t12
+    add-t11
     returns-8)

@@ -9,9 +9,8 @@ use lib.ListN.{length}
 use denote.Ref.{now}
 use borrow.Author.Needs.{needs}
 use Rattle.truth.proofs.Laws.{said-no, said-yes}
-use Rattle.resume.specs.declared.Entry.the-variants.{Says}
 use Rattle.resume.specs.declared.Head.the-variants.{Standard}
-use Rattle.resume.specs.Pass.{EntryAt, HeadOf, Passes, takenAfter}
+use Rattle.resume.specs.Pass.{EntryAt, EntryHere, HeadOf, Passes, takenAfter}
 use Rattle.resume.proofs.Along.{Along, bad-standard, ended, few, few-failures, no-head, not-taken, on, other-line, start}
 use Rattle.resume.proofs.pass.Statement.{statement}
 use Rattle.resume.proofs.pass.Tie as tie
@@ -50,21 +49,18 @@ module _ (c : tie.After-known-told2 Inv-loop μ-loop) where
   abbrev Failed : Bool
   Failed = c .before .failed .given .0 .0
 
-  abbrev Exposure : ℕ
-  Exposure = c .before .failed .given .0 .1 .0
-
   abbrev Behind : ℕ
-  Behind = c .before .failed .given .0 .1 .1 .0
+  Behind = c .before .failed .given .0 .1 .0
 
-  entry : EntryAt (Text begin) (loop .loop .at) (loop .loop .count + 1) (Says Failed Exposure Behind)
+  entry : EntryHere (Text begin) (loop .loop .at) (loop .loop .count + 1) Failed Behind
+  unfolding EntryAt
   entry = subst (EntryAt (Text begin) (loop .loop .at) (loop .loop .count + 1)) (c .before .failed .given .1) (c .before .before .before .entry-at .ensures)
 
   further : (loop .loop .at < Behind) × (Behind ≤ length (Text begin))
-  unfolding EntryAt
-  further = (entry .0 .further, entry .0 .within)
+  further = (entry .starts .further, entry .starts .within)
 
 -- its record is taken
-taken : (c : tie.Else2 Inv-loop μ-loop) → let k = c .before .before in takenAfter (loop k .loop .count) (loop k .loop .failures) (Exposure k) ≡ true
+taken : (c : tie.Else2 Inv-loop μ-loop) → let k = c .before .before in takenAfter (loop k .loop .count) (loop k .loop .failures) ≡ true
 taken c = said-yes (c .before .takes .ensures) (c .if2 .left)
 
 line-one-requires : tie.Need-line-one-requires Inv-loop μ-loop
@@ -119,7 +115,7 @@ returns-4 : tie.Need-returns-4 Inv-loop μ-loop
 unfolding Passes
 returns-4 c =
     let k = c .before .before in
-    not-taken (loop k .loop .inv) (Failed k) (Exposure k) (Behind k) (entry k) (said-no (c .before .takes .ensures) (c .if2 .taken))
+    not-taken (loop k .loop .inv) (Failed k) (Behind k) (entry k) (said-no (c .before .takes .ensures) (c .if2 .taken))
 
 add-pick : tie.Need-add-pick Inv-loop μ-loop
 add-pick c = let k = c .before .before in omega (arith, few-failures (loop k .loop .inv))
@@ -139,7 +135,7 @@ loop-again : tie.Need-loop-again Inv-loop μ-loop
 loop-again c =
     let k = c .before .before .before in
     let l = loop k .loop in
-    rw (c .pick .ensures) (on (l .inv) (Failed k) (Exposure k) (Behind k) (entry k) (taken (c .before)))
+    rw (c .pick .ensures) (on (l .inv) (Failed k) (Behind k) (entry k) (taken (c .before)))
 
 returns-5 : tie.Need-returns-5 Inv-loop μ-loop
 unfolding Passes

@@ -27,7 +27,7 @@ module _ (time : ℕ → ℕ) (τ : ℕ) where
   walk-chosen [] = none
   walk-chosen (x ∷ l) = keep (later-chosen x l)
 
-  after-earlier : {x y : ℕ} → time x ≤ time y → (l : List ℕ) → After time τ y l → After time τ x l
+  pub after-earlier : {x y : ℕ} → time x ≤ time y → (l : List ℕ) → After time τ y l → After time τ x l
   after-earlier h [] f = tt
   after-earlier h (z ∷ l) f = (omega (arith, f .0), after-earlier h l (f .1))
 

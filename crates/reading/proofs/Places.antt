@@ -1,4 +1,4 @@
--- The crossings' places are in order, so that the walk over them counts a largest choice; and times of places apart are apart.
+-- The crossings' places are in order, so that the walk over them finds a largest set; and times of places apart are apart.
 -- Assumes nothing.
 use Prim.Native.Nat.{ℕ, zero, suc, _+_, _-_, _≤_}
 use mathlib.Core.Bool.{Bool, true, false, cond}

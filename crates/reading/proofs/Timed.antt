@@ -1,5 +1,5 @@
--- Only the timed samples are counted: the counted times of a record are those of its samples from R on, taken as a record without a ramp. The walk over
--- crossings is a walk over their moments (`walk-from`), and the crossings' moments are the same (`crossing-times`). Assumes nothing.
+-- Only the timed samples are counted: the counted times of a record are those of its samples from R on, taken as a record without a ramp. Where groups start
+-- is told by the crossings' moments alone (`counted-from`), and the crossings' moments are the same (`crossing-times`). Assumes nothing.
 use Prim.Native.Nat.{ℕ, zero, suc, _+_, _-_, _*_, _≤_, _<_}
 use mathlib.Core.Path.{_≡_, refl, sym, ap, _∙_}
 use mathlib.Core.Bool.{Bool, true, false, cond, _&&_}
@@ -10,31 +10,36 @@ use lib.ListN.{length, drop, length-drop}
 use lib.Dec.{ltb, leb}
 use lib.IntN.{ℤ, pos}
 use borrow.Author.Tests.{ltb-true, ltb-false, lt-ltb, le-ltb, le-leb}
-use Rattle.largest.specs.Walk.{since, later, walk}
+use Rattle.largest.specs.Walk.{since}
+use Rattle.groups.specs.Groups.{near, groups, firsts}
+use Rattle.groups.proofs.Starts.{starts, begin, firsts-begin}
 use Rattle.reading.specs.Reading.{timeAt, rises, crossesAt, passing, crossings, countedTimes}
 use Rattle.reading.proofs.First.{ramp-none}
 use Rattle.reading.proofs.Scan.{placesFrom, scan, places-whole}
 
--- those of some moments that are counted, from the moment `due` on
+-- those of some moments at which a group starts, if the first of them starts one from the moment `due` on
 unfoldable pub from : ℕ → ℕ → List ℕ → List ℕ
 from τ due [] = []
-from τ due (t ∷ ts) = cond (leb due t) (t ∷ from τ (t + τ) ts) (from τ due ts)
+from τ due (t ∷ ts) = cond (leb due t) (t ∷ from τ (t + τ) ts) (from τ (t + τ) ts)
 
 module _ (time : ℕ → ℕ) (τ : ℕ) where
-  later-from : (p : ℕ) (cs : List ℕ) → map time (later time τ p cs) ≡ from τ (time p + τ) (map time cs)
-  unfolding later from
-  later-from p [] = refl
-  later-from p (x ∷ cs) = go (since time τ p x) (later-from x cs) (later-from p cs)
+  starts-from : (p : ℕ) (cs : List ℕ) → map time (starts time τ p cs) ≡ from τ (time p + τ) (map time cs)
+  unfolding starts from
+  starts-from p [] = refl
+  starts-from p (x ∷ cs) = go (since time τ p x) (starts-from x cs)
     where
-      go : (b : Bool) → map time (later time τ x cs) ≡ from τ (time x + τ) (map time cs) → map time (later time τ p cs) ≡ from τ (time p + τ) (map time cs)
-          → map time (cond b (x ∷ later time τ x cs) (later time τ p cs)) ≡ cond b (time x ∷ from τ (time x + τ) (map time cs)) (from τ (time p + τ) (map time cs))
-      go true i j = ap (λ (l : List ℕ). time x ∷ l) i
-      go false i j = j
+      go : (b : Bool) → map time (starts time τ x cs) ≡ from τ (time x + τ) (map time cs)
+          → map time (cond b (x ∷ starts time τ x cs) (starts time τ x cs)) ≡ cond b (time x ∷ from τ (time x + τ) (map time cs)) (from τ (time x + τ) (map time cs))
+      go true i = ap (λ (l : List ℕ). time x ∷ l) i
+      go false i = i
 
-  pub walk-from : (cs : List ℕ) → map time (walk time τ cs) ≡ from τ 0 (map time cs)
-  unfolding walk from
-  walk-from [] = refl
-  walk-from (x ∷ cs) = rw (le-leb 0 (time x) (omega arith)) (ap (λ (l : List ℕ). time x ∷ l) (later-from x cs))
+  begin-from : (cs : List ℕ) → map time (begin time τ cs) ≡ from τ 0 (map time cs)
+  unfolding begin from
+  begin-from [] = refl
+  begin-from (x ∷ cs) = rw (le-leb 0 (time x) (omega arith)) (ap (λ (l : List ℕ). time x ∷ l) (starts-from x cs))
+
+  pub counted-from : (cs : List ℕ) → map time (firsts (groups (near time τ) cs)) ≡ from τ 0 (map time cs)
+  counted-from cs = ap (map time) (firsts-begin time τ cs) ∙ begin-from cs
 
 -- what does not pass is not among those that pass
 pass-by : (f : ℕ → Bool) (k n : ℕ) → f k ≡ false → passing f k (suc n) ≡ passing f (k + 1) n
@@ -79,4 +84,4 @@ module _ (D R a : ℕ) where
       ∙ ap (map (timeAt D 0)) (places-whole 0 a (drop R xs))
 
   pub timed-only : (τ : ℕ) (xs : List ℤ) → R ≤ length xs → countedTimes D R a τ xs ≡ countedTimes D 0 a τ (drop R xs)
-  timed-only τ xs l = walk-from (timeAt D R) τ (crossings R a xs) ∙ ap (from τ 0) (crossing-times xs l) ∙ sym (walk-from (timeAt D 0) τ (crossings 0 a (drop R xs)))
+  timed-only τ xs l = counted-from (timeAt D R) τ (crossings R a xs) ∙ ap (from τ 0) (crossing-times xs l) ∙ sym (counted-from (timeAt D 0) τ (crossings 0 a (drop R xs)))

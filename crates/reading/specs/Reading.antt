@@ -1,4 +1,4 @@
--- Document 01, "Reading a record", over the whole list of samples xs: D is the step, R the ramp, a the level, τ the decorrelation
+-- Document 01, "Reading a record", with document 02's [5], over the whole list of samples xs: D is the step, R the ramp, a the level, τ the decorrelation
 -- time. Samples are numbered from 0. Assumes nothing.
 use Prim.Native.Nat.{ℕ, zero, suc, _+_, _-_, _*_}
 use mathlib.Core.Bool.{Bool, cond, not, _&&_}
@@ -8,6 +8,7 @@ use lib.Dec.{ltb}
 use lib.IntN.{ℤ, pos}
 use Rattle.magnitude.specs.Above.{above}
 use Rattle.largest.specs.Walk.{walk}
+use Rattle.groups.specs.Groups as grouping
 
 -- the moment of sample i, in ms after the ramp
 abbrev pub timeAt : ℕ → ℕ → ℕ → ℕ
@@ -48,9 +49,17 @@ lastOf d (x ∷ xs) = lastOf x xs
 abbrev pub firstCrossing : ℕ → ℕ → ℕ → List ℤ → ℕ
 firstCrossing none R a xs = firstOf none (crossings R a xs)
 
--- the places of the counted failures: the first crossing, and a later one if its time is at least τ after the last counted one's
+-- the groups: runs of successive crossings, each less than τ after the crossing just before it
+abbrev pub groups : ℕ → ℕ → ℕ → ℕ → List ℤ → List (List ℕ)
+groups D R a τ xs = grouping.groups (grouping.near (timeAt D R) τ) (crossings R a xs)
+
+-- the places of the counted failures: each group's first crossing
 abbrev pub counted : ℕ → ℕ → ℕ → ℕ → List ℤ → List ℕ
-counted D R a τ xs = walk (timeAt D R) τ (crossings R a xs)
+counted D R a τ xs = grouping.firsts (groups D R a τ xs)
+
+-- the places of the largest set: the first crossing, and a later one if its time is at least τ after that of the last one in it
+abbrev pub largestSet : ℕ → ℕ → ℕ → ℕ → List ℤ → List ℕ
+largestSet D R a τ xs = walk (timeAt D R) τ (crossings R a xs)
 
 -- the times of the counted failures
 abbrev pub countedTimes : ℕ → ℕ → ℕ → ℕ → List ℤ → List ℕ

@@ -9,6 +9,7 @@ use lib.Dec.{eqb}
 use borrow.Author.Tests.{eqb-true}
 use Rattle.refusal.specs.declared.Refusal.the-variants.{Item}
 use Rattle.largest.specs.Walk.{walk}
+use Rattle.groups.specs.Groups.{groups}
 use Rattle.record.specs.declared.Record.{Record}
 use Rattle.record.specs.declared.Answer.the-variants.{Taken, Refused}
 use Rattle.limits.specs.Limits.{itemOutside}
@@ -28,7 +29,7 @@ opened-taken D R a τ s e =
     (eqb-true _ 0 (o .0), o .1)
 
 pub fresh-sound : (D R a τ : ℕ) → itemOutside D R a τ ≡ 0 → sound (stateOf D R a τ []) ≡ true
-unfolding stateOf passing firstOf lastOf walk
+unfolding stateOf passing firstOf lastOf walk groups
 fresh-sound D R a τ e =
     kept-sound (stateOf D R a τ [])
     (record {
@@ -37,5 +38,5 @@ fresh-sound D R a τ e =
       fresh = λ z. refl;
       length = omega arith;
       counts = omega arith;
-      figures = inl (record { first = refl; crossings = refl; counted = refl; latest = refl });
+      figures = inl (record { first = refl; crossings = refl; largest = refl; latest = refl; recent = refl; groups = refl });
     })

@@ -27,11 +27,11 @@ stepped-quiet r x h = rw (h, and-false (ltb (r .ramp) (r .n)) (not (above (r .le
 
 quiet : (r : Record) (xs : List ℤ) → anyAbove (r .level) xs ≡ false → foldl stepped r xs ≡ moved r (length xs) (lastOf (r .last) xs)
 unfolding lastOf
-quiet r [] h = ext r (moved r 0 (r .last)) refl refl refl refl (sym (add-zero (r .n))) refl refl refl refl refl
+quiet r [] h = ext r (moved r 0 (r .last)) refl refl refl refl (sym (add-zero (r .n))) refl refl refl refl refl refl refl
 quiet r (x ∷ xs) h =
     let w = first-quiet (r .level) x xs h in
     ap (λ (s : Record). foldl stepped s xs) (stepped-quiet r x (w .0)) ∙ quiet (moved r 1 x) xs (w .1)
-    ∙ ext (moved (moved r 1 x) (length xs) (lastOf x xs)) (moved r (suc (length xs)) (lastOf x xs)) refl refl refl refl (omega arith) refl refl refl refl refl
+    ∙ ext (moved (moved r 1 x) (length xs) (lastOf x xs)) (moved r (suc (length xs)) (lastOf x xs)) refl refl refl refl (omega arith) refl refl refl refl refl refl refl
 
 -- the last sample, by its place
 last-at : (d : ℤ) (x : ℤ) (xs : List ℤ) → lastOf d (x ∷ xs) ≡ sampleAt (x ∷ xs) (length xs)

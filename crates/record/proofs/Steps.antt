@@ -1,12 +1,13 @@
 -- What is kept by a step: a sound state is sound after a sample in range, while there is room for it. Assumes nothing.
 use Prim.Native.Nat.{ℕ, _+_, _-_, _≤_, _<_}
-use mathlib.Core.Path.{_≡_, refl}
+use mathlib.Core.Path.{_≡_, refl, sym}
 use mathlib.Core.Bool.{Bool, true, false, cond, not, _&&_, _||_}
 use mathlib.Core.Logic.{_⊎_, inl, inr}
+use native.Mathlib.Nat.{mul-le-mul-right}
 use native.Mathlib.Omega.{arith}
 use lib.Dec.{eqb, ltb}
 use lib.IntN.{ℤ}
-use borrow.Author.Tests.{eqb-true, eqb-false, ltb-true}
+use borrow.Author.Tests.{eqb-true, eqb-false, ltb-true, leb-true, le-leb}
 use Rattle.magnitude.specs.Above.{above}
 use Rattle.largest.specs.Walk.{since}
 use Rattle.record.specs.declared.Record.{Record}
@@ -15,14 +16,14 @@ use Rattle.range.specs.Range.{sampleInRange}
 use Rattle.reading.specs.Reading.{timeAt, rises}
 use Rattle.record.specs.State.{sound}
 use Rattle.record.specs.Step.{moved, counts, crossed, below, crosses, stepped}
-use Rattle.truth.proofs.Laws.{and-true}
+use Rattle.truth.proofs.Laws.{and-true, true≢false}
 use Rattle.limits.proofs.Items.{Items, items, most-in-range, most-small}
 use Rattle.record.proofs.Relations.{None, Failure, Kept, kept-from, kept-sound}
 
 -- states are equal figure by figure
-pub ext : (s t : Record) → s .step ≡ t .step → s .ramp ≡ t .ramp → s .level ≡ t .level → s .decorrelation ≡ t .decorrelation → s .n ≡ t .n → s .last ≡ t .last → s .crossings ≡ t .crossings → s .counted ≡ t .counted → s .first ≡ t .first → s .latest ≡ t .latest → s ≡ t
-ext s t a b c d e f g h j k =
-    λ i. record { step = a i; ramp = b i; level = c i; decorrelation = d i; n = e i; last = f i; crossings = g i; counted = h i; first = j i; latest = k i }
+pub ext : (s t : Record) → s .step ≡ t .step → s .ramp ≡ t .ramp → s .level ≡ t .level → s .decorrelation ≡ t .decorrelation → s .n ≡ t .n → s .last ≡ t .last → s .crossings ≡ t .crossings → s .largest ≡ t .largest → s .first ≡ t .first → s .latest ≡ t .latest → s .recent ≡ t .recent → s .groups ≡ t .groups → s ≡ t
+ext s t a b c d e f g h j k l m =
+    λ i. record { step = a i; ramp = b i; level = c i; decorrelation = d i; n = e i; last = f i; crossings = g i; largest = h i; first = j i; latest = k i; recent = l i; groups = m i }
 
 pub items-of : {r : Record} → Kept r → Items (r .step) (r .ramp) (r .level) (r .decorrelation)
 items-of {r} k = items (r .step) (r .ramp) (r .level) (r .decorrelation) (k .outside)
@@ -49,6 +50,40 @@ crossings-below {r} k = go (k .figures)
     go (inl n) = omega (arith, n .crossings)
     go (inr f) = omega (arith, f .crossings)
 
+-- the last crossing's place is not before the largest set's last, and groups are within the largest set, whether there is a crossing or not
+pub recent-after : {r : Record} → Kept r → r .latest ≤ r .recent
+recent-after {r} k = go (k .figures)
+  where
+    go : None r ⊎ Failure r → r .latest ≤ r .recent
+    go (inl n) = omega (arith, n .latest)
+    go (inr f) = f .recent
+
+pub groups-within : {r : Record} → Kept r → r .groups ≤ r .largest
+groups-within {r} k = go (k .figures)
+  where
+    go : None r ⊎ Failure r → r .groups ≤ r .largest
+    go (inl n) = omega (arith, n .groups)
+    go (inr f) = f .within
+
+-- the place of an earlier crossing is between the ramp and n
+pub record Earlier (r : Record) (p : ℕ) : Type 0 where
+  pub within : p ≤ r .n
+  pub timed : ¬ (r .crossings ≡ 0) → r .ramp ≤ p
+
+pub latest-earlier : {r : Record} → Kept r → Earlier r (r .latest)
+latest-earlier {r} k = record { within = go (k .figures); timed = λ h. let f = failure k h in omega (arith, f .above, f .ordered) }
+  where
+    go : None r ⊎ Failure r → r .latest ≤ r .n
+    go (inl n) = omega (arith, n .latest)
+    go (inr f) = omega (arith, f .below)
+
+pub recent-earlier : {r : Record} → Kept r → Earlier r (r .recent)
+recent-earlier {r} k = record { within = go (k .figures); timed = λ h. let f = failure k h in omega (arith, f .above, f .ordered, f .recent) }
+  where
+    go : None r ⊎ Failure r → r .recent ≤ r .n
+    go (inl n) = omega (arith, n .recent)
+    go (inr f) = omega (arith, f .recent-below)
+
 pub moved-kept : (r : Record) (k : ℕ) (x : ℤ) → Kept r → sampleInRange x ≡ true → 1 ≤ k → r .n + k ≤ mostSamples (r .step) (r .ramp) → Kept (moved r k x)
 moved-kept r k x s i h l =
     record {
@@ -61,13 +96,25 @@ moved-kept r k x s i h l =
     }
   where
     go : None r ⊎ Failure r → None (moved r k x) ⊎ Failure (moved r k x)
-    go (inl n) = inl (record { first = n .first; crossings = n .crossings; counted = n .counted; latest = n .latest })
+    go (inl n) =
+        inl (record { first = n .first; crossings = n .crossings; largest = n .largest; latest = n .latest; recent = n .recent; groups = n .groups })
     go (inr f) =
-        inr (record { counted = f .counted; crossings = omega (arith, f .crossings); above = f .above; ordered = f .ordered; below = omega (arith, f .below) })
+        inr
+        (record {
+          largest = f .largest;
+          crossings = omega (arith, f .crossings);
+          above = f .above;
+          ordered = f .ordered;
+          below = omega (arith, f .below);
+          recent = f .recent;
+          recent-below = omega (arith, f .recent-below);
+          groups = f .groups;
+          within = f .within;
+        })
 
--- `crossed`, over its two tests
-abbrev pub marked : Record → ℤ → Bool → Bool → Record
-marked r x first counted =
+-- `crossed`, over its three tests
+abbrev pub marked : Record → ℤ → Bool → Bool → Bool → Record
+marked r x first counts starts =
     record {
       step = r .step;
       ramp = r .ramp;
@@ -76,24 +123,71 @@ marked r x first counted =
       n = r .n + 1;
       last = x;
       crossings = r .crossings + 1;
-      counted = cond counted (r .counted + 1) (r .counted);
+      largest = cond counts (r .largest + 1) (r .largest);
       first = cond first (r .n) (r .first);
-      latest = cond counted (r .n) (r .latest);
+      latest = cond counts (r .n) (r .latest);
+      recent = r .n;
+      groups = cond starts (r .groups + 1) (r .groups);
     }
 
 module _ (r : Record) (x : ℤ) (s : Kept r) (h : r .ramp < r .n) where
-  marked-figures : (z b : Bool) → eqb (r .crossings) 0 ≡ z → Failure (marked r x z (z || b))
-  marked-figures true b e =
-      let c : r .crossings ≡ 0 = eqb-true _ _ e in
-      record { counted = omega arith; crossings = omega arith; above = h; ordered = omega arith; below = omega arith }
-  marked-figures false true e =
-      let f = failure s (eqb-false _ _ e) in
-      record { counted = omega arith; crossings = omega (arith, f .crossings); above = f .above; ordered = omega (arith, f .ordered, f .below); below = omega arith }
-  marked-figures false false e =
-      let f = failure s (eqb-false _ _ e) in
-      record { counted = f .counted; crossings = omega (arith, f .crossings); above = f .above; ordered = f .ordered; below = omega (arith, f .below) }
+  -- a crossing far from the last one is far from the largest set's last, which is not after it
+  wider : since (timeAt (r .step) (r .ramp)) (r .decorrelation) (r .recent) (r .n) ≡ true → since (timeAt (r .step) (r .ramp)) (r .decorrelation) (r .latest) (r .n) ≡ true
+  wider e =
+      let t = mul-le-mul-right {m = r .latest - r .ramp} {n = r .recent - r .ramp} (r .step) (omega (arith, recent-after s)) in
+      le-leb (timeAt (r .step) (r .ramp) (r .latest) + r .decorrelation) (timeAt (r .step) (r .ramp) (r .n)) (omega (arith, t, leb-true (timeAt (r .step) (r .ramp) (r .recent) + r .decorrelation) (timeAt (r .step) (r .ramp) (r .n)) e))
 
-  counts-more : (b : Bool) → cond b (r .counted + 1) (r .counted) ≤ r .crossings + 1
+  marked-figures : (z b g : Bool) → eqb (r .crossings) 0 ≡ z → (g ≡ true → b ≡ true) → Failure (marked r x z (z || b) (z || g))
+  marked-figures true b g e i =
+      let c : r .crossings ≡ 0 = eqb-true _ _ e in
+      record {
+        largest = omega arith;
+        crossings = omega arith;
+        above = h;
+        ordered = omega arith;
+        below = omega arith;
+        recent = omega arith;
+        recent-below = omega arith;
+        groups = omega arith;
+        within = omega (arith, groups-within s);
+      }
+  marked-figures false true g e i =
+      let f = failure s (eqb-false _ _ e) in
+      record {
+        largest = omega arith;
+        crossings = omega (arith, f .crossings);
+        above = f .above;
+        ordered = omega (arith, f .ordered, f .below);
+        below = omega arith;
+        recent = omega arith;
+        recent-below = omega arith;
+        groups = more g (f .groups);
+        within = most g (f .within);
+      }
+    where
+      more : (g : Bool) → 1 ≤ r .groups → 1 ≤ cond g (r .groups + 1) (r .groups)
+      more true l = omega arith
+      more false l = l
+
+      most : (g : Bool) → r .groups ≤ r .largest → cond g (r .groups + 1) (r .groups) ≤ r .largest + 1
+      most true l = omega arith
+      most false l = omega arith
+  marked-figures false false true e i = absurd (true≢false (sym (i refl)))
+  marked-figures false false false e i =
+      let f = failure s (eqb-false _ _ e) in
+      record {
+        largest = f .largest;
+        crossings = omega (arith, f .crossings);
+        above = f .above;
+        ordered = f .ordered;
+        below = omega (arith, f .below);
+        recent = omega (arith, f .below);
+        recent-below = omega arith;
+        groups = f .groups;
+        within = f .within;
+      }
+
+  counts-more : (b : Bool) → cond b (r .largest + 1) (r .largest) ≤ r .crossings + 1
   counts-more true = omega (arith, s .counts)
   counts-more false = omega (arith, s .counts)
 
@@ -105,7 +199,14 @@ module _ (r : Record) (x : ℤ) (s : Kept r) (h : r .ramp < r .n) where
         fresh = λ z. absurd (omega arith);
         length = omega arith;
         counts = counts-more (counts r);
-        figures = inr (marked-figures (eqb (r .crossings) 0) (since (timeAt (r .step) (r .ramp)) (r .decorrelation) (r .latest) (r .n)) refl);
+        figures =
+            inr
+            (marked-figures
+            (eqb (r .crossings) 0)
+            (since (timeAt (r .step) (r .ramp)) (r .decorrelation) (r .latest) (r .n))
+            (since (timeAt (r .step) (r .ramp)) (r .decorrelation) (r .recent) (r .n))
+            refl
+            wider);
       }
 
 -- a crossing is after the ramp

@@ -1,6 +1,6 @@
 -- What the entries add up to: the user's second demand for one record. D is the step, R the ramp, a the level, τ the decorrelation time.
 -- Assumes nothing.
-use Prim.Native.Nat.{ℕ, _<_}
+use Prim.Native.Nat.{ℕ, _≤_, _<_}
 use mathlib.Core.Path.{_≡_, sym, _∙_}
 use mathlib.Core.Bool.{true, false}
 use mathlib.Core.List.{List, [], _∷_, foldl}
@@ -9,10 +9,14 @@ use lib.ListN.{length}
 use lib.IntN.{ℤ}
 use Rattle.refusal.specs.declared.Refusal.the-variants.{BrokenState}
 use Rattle.largest.specs.Choice.{Apart, LargestSet}
-use Rattle.largest.proofs.Walk.{walk-largest, walk-apart}
+use Rattle.largest.proofs.Walk.{walk-largest}
+use Rattle.groups.specs.Groups.{near}
+use Rattle.groups.specs.Parting.{Parting}
+use Rattle.groups.proofs.Parting.{groups-part}
+use Rattle.groups.proofs.Fewer.{fewer, firsts-apart}
 use Rattle.record.specs.declared.Record.{Record}
 use Rattle.record.specs.declared.Answer.the-variants.{Taken, Refused}
-use Rattle.reading.specs.Reading.{timeAt, crossesAt, crossings, firstCrossing, counted, countedTimes}
+use Rattle.reading.specs.Reading.{timeAt, crossesAt, crossings, firstCrossing, groups, counted, countedTimes, largestSet}
 use Rattle.record.specs.State.{stateOf, sound, failed}
 use Rattle.record.specs.Step.{stepped}
 use Rattle.range.specs.Range.{firstBad}
@@ -65,12 +69,19 @@ module _ (D R a τ : ℕ) (s : Record) (fresh : opened D R a τ ≡ Taken s) whe
   pub never-broken : {ps : List (List ℤ)} {t : Record} → AllTaken s ps t → (p : List ℤ) → fed t p ≡ Refused BrokenState → ⊥
   never-broken {t = t} f p = not-broken t p (all-sound (opened-sound D R a τ s fresh) f)
 
--- 3: the counted places are a largest set; the listed times are pairwise at least τ apart
-pub counted-largest : (D R a τ : ℕ) (xs : List ℤ) → LargestSet (timeAt D R) τ (crossings R a xs) (counted D R a τ xs)
-counted-largest D R a τ xs = walk-largest (timeAt D R) τ (crossings R a xs) (rising-passing D R (crossesAt R a xs) 0 (length xs))
+-- 3: the groups are the crossings' runs, and never exceed the largest set; the counted times are pairwise at least τ apart
+module _ (D R a τ : ℕ) (xs : List ℤ) where
+  pub groups-parted : Parting (near (timeAt D R) τ) (crossings R a xs) (groups D R a τ xs)
+  groups-parted = groups-part (near (timeAt D R) τ) (crossings R a xs)
 
-pub times-apart : (D R a τ : ℕ) (xs : List ℤ) → Apart itself τ (countedTimes D R a τ xs)
-times-apart D R a τ xs = apart-times (timeAt D R) τ (counted D R a τ xs) (walk-apart (timeAt D R) τ (crossings R a xs) (rising-passing D R (crossesAt R a xs) 0 (length xs)))
+  pub set-largest : LargestSet (timeAt D R) τ (crossings R a xs) (largestSet D R a τ xs)
+  set-largest = walk-largest (timeAt D R) τ (crossings R a xs) (rising-passing D R (crossesAt R a xs) 0 (length xs))
+
+  pub groups-fewer : length (groups D R a τ xs) ≤ length (largestSet D R a τ xs)
+  groups-fewer = fewer (timeAt D R) τ (crossings R a xs) (largestSet D R a τ xs) (rising-passing D R (crossesAt R a xs) 0 (length xs)) set-largest
+
+  pub times-apart : Apart itself τ (countedTimes D R a τ xs)
+  times-apart = apart-times (timeAt D R) τ (counted D R a τ xs) (firsts-apart (timeAt D R) τ (crossings R a xs) (rising-passing D R (crossesAt R a xs) 0 (length xs)))
 
 -- 4: the place found by the search over a whole record is its state's first failure, and a mark outside the record if that has none
 module _ (D R a τ : ℕ) (xs : List ℤ) where

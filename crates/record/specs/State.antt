@@ -1,5 +1,5 @@
--- What is kept of a record between two pieces: the state of a list of samples, document 01's "Relations for 8" sentence by sentence, and what
--- closing reads off a state. Assumes nothing.
+-- What is kept of a record between two pieces: the state of a list of samples, document 01's "Relations for 8" sentence by sentence, those that document 02's
+-- [5] adds, and what closing reads off a state. Assumes nothing.
 use Prim.Native.Nat.{ℕ, _-_}
 use mathlib.Core.Bool.{Bool, cond, not, _&&_, _||_}
 use mathlib.Core.List.{List}
@@ -8,7 +8,7 @@ use lib.Dec.{ltb, leb, eqb}
 use lib.IntN.{ℤ, pos, natAbs}
 use Rattle.limits.specs.Limits.{itemOutside, mostSamples}
 use Rattle.range.specs.Range.{sampleInRange}
-use Rattle.reading.specs.Reading.{timeAt, crossings, lastOf, firstCrossing, counted, fullTime, tooFew}
+use Rattle.reading.specs.Reading.{timeAt, crossings, lastOf, firstCrossing, groups, largestSet, fullTime, tooFew}
 use Rattle.record.specs.declared.Record.{Record}
 
 -- the state of the samples xs: "Reading a record", figure by figure
@@ -22,9 +22,11 @@ stateOf D R a τ xs =
       n = length xs;
       last = lastOf (pos 0) xs;
       crossings = length (crossings R a xs);
-      counted = length (counted D R a τ xs);
+      largest = length (largestSet D R a τ xs);
       first = firstCrossing 0 R a xs;
-      latest = lastOf 0 (counted D R a τ xs);
+      latest = lastOf 0 (largestSet D R a τ xs);
+      recent = lastOf 0 (crossings R a xs);
+      groups = length (groups D R a τ xs);
     }
 
 -- ---- the relations
@@ -44,21 +46,30 @@ lastKept r = sampleInRange (r .last) && (not (eqb (r .n) 0) || eqb (natAbs (r .l
 abbrev pub lengthKept : Record → Bool
 lengthKept r = leb (r .n) (mostSamples (r .step) (r .ramp))
 
--- no more counted than crossed
+-- no more in the largest set than crossings
 abbrev pub countsKept : Record → Bool
-countsKept r = leb (r .counted) (r .crossings)
+countsKept r = leb (r .largest) (r .crossings)
 
--- without a first failure both are 0, and the last counted place, which has no meaning yet, holds 0
+-- without a first failure both are 0, and the largest set's last place, which has no meaning yet, holds 0
 abbrev pub noneKept : Record → Bool
-noneKept r = eqb (r .crossings) 0 && (eqb (r .counted) 0 && eqb (r .latest) 0)
+noneKept r = eqb (r .crossings) 0 && (eqb (r .largest) 0 && eqb (r .latest) 0)
 
--- with one neither is 0; crossings at most n - 1 - R, its place above R and at most the last counted place, which is below n
+-- and so are the last crossing's place and the groups
+abbrev pub noGroups : Record → Bool
+noGroups r = eqb (r .recent) 0 && eqb (r .groups) 0
+
+-- with one neither is 0; crossings at most n - 1 - R, its place above R and at most the largest set's last place, which is below n
 abbrev pub failureKept : Record → Bool
 failureKept r =
-    leb 1 (r .counted) && (leb (r .crossings) (r .n - 1 - r .ramp) && (ltb (r .ramp) (r .first) && (leb (r .first) (r .latest) && ltb (r .latest) (r .n))))
+    leb 1 (r .largest) && (leb (r .crossings) (r .n - 1 - r .ramp) && (ltb (r .ramp) (r .first) && (leb (r .first) (r .latest) && ltb (r .latest) (r .n))))
+
+-- the last crossing's place is not before the largest set's last and below n; groups from 1 to the largest set
+abbrev pub groupsKept : Record → Bool
+groupsKept r =
+    leb (r .latest) (r .recent) && (ltb (r .recent) (r .n) && (leb 1 (r .groups) && leb (r .groups) (r .largest)))
 
 abbrev pub figuresKept : Record → Bool
-figuresKept r = cond (failed r) (failureKept r) (noneKept r)
+figuresKept r = cond (failed r) (failureKept r && groupsKept r) (noneKept r && noGroups r)
 
 -- the state keeps every relation
 unfoldable pub sound : Record → Bool

@@ -19,14 +19,24 @@ moved r k x =
       n = r .n + k;
       last = x;
       crossings = r .crossings;
-      counted = r .counted;
+      largest = r .largest;
       first = r .first;
       latest = r .latest;
+      recent = r .recent;
+      groups = r .groups;
     }
 
--- a crossing at sample n is counted: it is the first, or its time is at least τ after the last counted one's
+-- a crossing at sample n is the first, or its time is at least τ after that of place p
+abbrev pub far : Record → ℕ → Bool
+far r p = eqb (r .crossings) 0 || since (timeAt (r .step) (r .ramp)) (r .decorrelation) p (r .n)
+
+-- it joins the largest set, whose last place tells
 abbrev pub counts : Record → Bool
-counts r = eqb (r .crossings) 0 || since (timeAt (r .step) (r .ramp)) (r .decorrelation) (r .latest) (r .n)
+counts r = far r (r .latest)
+
+-- it starts a group: it is not less than τ after the crossing just before it
+abbrev pub starts : Record → Bool
+starts r = far r (r .recent)
 
 -- a crossing at sample n
 abbrev pub crossed : Record → ℤ → Record
@@ -39,9 +49,11 @@ crossed r x =
       n = r .n + 1;
       last = x;
       crossings = r .crossings + 1;
-      counted = cond (counts r) (r .counted + 1) (r .counted);
+      largest = cond (counts r) (r .largest + 1) (r .largest);
       first = cond (eqb (r .crossings) 0) (r .n) (r .first);
       latest = cond (counts r) (r .n) (r .latest);
+      recent = r .n;
+      groups = cond (starts r) (r .groups + 1) (r .groups);
     }
 
 -- sample n crosses the level

@@ -8,13 +8,13 @@ ghost use lib.ListN.{length};
 ghost use Rattle.block.specs.Block.{anyAbove};
 ghost use Rattle.limits.specs.Limits.{mostSamples};
 ghost use Rattle.range.specs.Range.{firstBad};
-ghost use Rattle.record.specs.State.{stateOf, lastKept, noneKept, failureKept, figuresKept, sound};
-ghost use Rattle.record.specs.Step.{moved, counts, crossed, below, crosses, stepped};
+ghost use Rattle.record.specs.State.{stateOf, lastKept, noneKept, noGroups, failureKept, groupsKept, figuresKept, sound};
+ghost use Rattle.record.specs.Step.{moved, far, crossed, below, crosses, stepped};
 ghost use Rattle.record.specs.Answers.{opened, fed};
 use refusal::Refusal;
 
-// The four items, how many samples came and the last of them, and the figures so far. `first` and `latest` are places of
-// samples; places without a meaning yet hold 0.
+// The four items, how many samples came and the last of them, and the figures so far: the crossings, the largest set of them, the groups. `first`, `latest` and
+// `recent` are places of samples, those of the first crossing, of the largest set's last and of the last crossing; places without a meaning yet hold 0.
 pub struct Record {
     pub step: u64,
     pub ramp: u64,
@@ -23,9 +23,11 @@ pub struct Record {
     pub n: u64,
     pub last: i32,
     pub crossings: u64,
-    pub counted: u64,
+    pub largest: u64,
     pub first: u64,
     pub latest: u64,
+    pub recent: u64,
+    pub groups: u64,
 }
 
 pub enum Answer {
@@ -45,9 +47,11 @@ fn fresh(step: u64, ramp: u64, level: u64, decorrelation: u64) -> Record
         n: 0,
         last: 0,
         crossings: 0,
-        counted: 0,
+        largest: 0,
         first: 0,
         latest: 0,
+        recent: 0,
+        groups: 0,
     }
 }
 
@@ -84,7 +88,7 @@ fn failure_kept(r: Record) -> bool
     ensures { λ k. ⌜ k ≡ failureKept r ⌝ }
 {
     truth::both(
-        1 <= r.counted,
+        1 <= r.largest,
         truth::both(
             r.crossings <= spans(r.ramp, r.n),
             truth::both(
@@ -98,20 +102,38 @@ fn failure_kept(r: Record) -> bool
 fn none_kept(r: Record) -> bool
     ensures { λ k. ⌜ k ≡ noneKept r ⌝ }
 {
-    truth::both(r.crossings == 0, truth::both(r.counted == 0, r.latest == 0))
+    truth::both(r.crossings == 0, truth::both(r.largest == 0, r.latest == 0))
+}
+
+fn groups_kept(r: Record) -> bool
+    ensures { λ k. ⌜ k ≡ groupsKept r ⌝ }
+{
+    truth::both(
+        r.latest <= r.recent,
+        truth::both(
+            r.recent < r.n,
+            truth::both(1 <= r.groups, r.groups <= r.largest),
+        ),
+    )
+}
+
+fn no_groups(r: Record) -> bool
+    ensures { λ k. ⌜ k ≡ noGroups r ⌝ }
+{
+    truth::both(r.recent == 0, r.groups == 0)
 }
 
 fn figures_kept(r: Record) -> bool
     ensures { λ k. ⌜ k ≡ figuresKept r ⌝ }
 {
     if r.first == 0 {
-        none_kept(r)
+        truth::both(none_kept(r), no_groups(r))
     } else {
-        failure_kept(r)
+        truth::both(failure_kept(r), groups_kept(r))
     }
 }
 
-// Whether a state keeps document 01's relations for refusal 8.
+// Whether a state keeps the relations for refusal 8.
 pub fn sound(r: Record) -> bool
     ensures { λ k. ⌜ k ≡ sound r ⌝ }
 {
@@ -122,28 +144,30 @@ pub fn sound(r: Record) -> bool
         last_kept(r),
         truth::both(
             r.n <= limits::most_samples(r.step, r.ramp),
-            truth::both(r.counted <= r.crossings, figures_kept(r)),
+            truth::both(r.largest <= r.crossings, figures_kept(r)),
         ),
     )
 }
 
-// Whether a crossing at sample n is counted.
-fn counts(r: Record) -> bool
-    requires { ⌜ (sound r ≡ true) × (r .ramp < r .n) ⌝ }
-    ensures { λ k. ⌜ k ≡ counts r ⌝ }
+// Whether a crossing at sample n is the first, or at least the decorrelation time after the place of an earlier one.
+fn far(r: Record, place: u64) -> bool
+    requires { ⌜ (sound r ≡ true) × (place ≤ r .n) × (¬ (r .crossings ≡ 0) → r .ramp ≤ place) ⌝ }
+    ensures { λ k. ⌜ k ≡ far r place ⌝ }
 {
     if r.crossings == 0 {
         return true;
     }
-    r.decorrelation <= (r.n - r.latest) * r.step
+    r.decorrelation <= (r.n - place) * r.step
 }
 
-// The state after a crossing at sample n, which is x.
+// The state after a crossing at sample n, which is x. It joins the largest set if it is far from that one's last; it starts a group if it is far from the
+// crossing just before it.
 fn crossed(r: Record, x: i32) -> Record
     requires { ⌜ (sound r ≡ true) × (r .ramp < r .n) ⌝ }
     ensures { λ s. ⌜ s ≡ crossed r x ⌝ }
 {
-    let c = counts(r);
+    let c = far(r, r.latest);
+    let g = far(r, r.recent);
     Record {
         step: r.step,
         ramp: r.ramp,
@@ -152,9 +176,11 @@ fn crossed(r: Record, x: i32) -> Record
         n: r.n + 1,
         last: x,
         crossings: r.crossings + 1,
-        counted: truth::pick(c, r.counted + 1, r.counted),
+        largest: truth::pick(c, r.largest + 1, r.largest),
         first: truth::pick(r.crossings == 0, r.n, r.first),
         latest: truth::pick(c, r.n, r.latest),
+        recent: r.n,
+        groups: truth::pick(g, r.groups + 1, r.groups),
     }
 }
 
@@ -171,9 +197,11 @@ fn moved(r: Record, k: u64, last: i32) -> Record
         n: r.n + k,
         last,
         crossings: r.crossings,
-        counted: r.counted,
+        largest: r.largest,
         first: r.first,
         latest: r.latest,
+        recent: r.recent,
+        groups: r.groups,
     }
 }
 

@@ -7,14 +7,36 @@ use Rattle.record.proofs.figures_kept.Tie as tie
 none-kept-requires : tie.Need-none-kept-requires
 none-kept-requires c κs = search needs
 
+no-groups-requires : tie.Need-no-groups-requires
+no-groups-requires c κs = search needs
+
+both-requires : tie.Need-both-requires
+both-requires c κs = search needs
+
 failure-kept-requires : tie.Need-failure-kept-requires
 failure-kept-requires c κs = search needs
 
+groups-kept-requires : tie.Need-groups-kept-requires
+groups-kept-requires c κs = search needs
+
+both-requires-2 : tie.Need-both-requires-2
+both-requires-2 c κs = search needs
+
 returns : tie.Need-returns
-returns c = rw (eq-eqb _ _ (c .before .if1 .taken)) (c .none-kept .ensures)
+returns c = rw (eq-eqb _ _ (c .before .before .before .if1 .taken)) cc
 
 returns-2 : tie.Need-returns-2
-returns-2 c = rw (ne-eqb _ _ (c .before .if1 .left)) (c .failure-kept .ensures)
+returns-2 c = rw (ne-eqb _ _ (c .before .before .before .if1 .left)) cc
 
 pub figures-kept-spec : {M : Type 1} → statement M
-figures-kept-spec = tie.close (tie.spec none-kept-requires failure-kept-requires returns returns-2)
+figures-kept-spec =
+    tie.close
+    (tie.spec
+    none-kept-requires
+    no-groups-requires
+    both-requires
+    failure-kept-requires
+    groups-kept-requires
+    both-requires-2
+    returns
+    returns-2)

@@ -1,0 +1,3 @@
+pub mod Parting
+pub mod Starts
+pub mod Fewer

@@ -1,5 +1,5 @@
--- The times noted one by one are the counted times: from any walk on, what is noted are the moments of the crossings still to come, walked over from the
--- moment that is due (`walks`, by induction on the samples). Assumes nothing.
+-- The times noted one by one are the counted times: from any walk on, what is noted are the moments at which the crossings still to come start a group, from
+-- the moment that is due on (`walks`, by induction on the samples). Assumes nothing.
 use Prim.Native.Nat.{ℕ, suc, _+_, _-_, _*_}
 use mathlib.Core.Path.{_≡_, refl, sym, ap, _∙_}
 use mathlib.Core.Bool.{Bool, true, false, cond, not, _&&_}
@@ -15,9 +15,9 @@ use borrow.Author.Tests.{lt-ltb}
 use Rattle.magnitude.specs.Above.{above}
 use Rattle.reading.specs.Reading.{timeAt, rises, crossings, countedTimes}
 use Rattle.reading.proofs.Scan.{placesFrom, places-whole}
-use Rattle.reading.proofs.Timed.{from, walk-from}
+use Rattle.reading.proofs.Timed.{from, counted-from}
 use Rattle.listing.specs.declared.Walk.{Walk}
-use Rattle.listing.specs.Walk.{start, counts, stepped, Noting, noting, noted}
+use Rattle.listing.specs.Walk.{start, stepped, Noting, noting, noted}
 
 -- what a walk leads to: these times more, in the next places
 pub record Adds (s : Noting) (w : Walk) (ts times : List ℕ) : Type 0 where
@@ -34,17 +34,16 @@ module _ (D a τ : ℕ) where
       → Adds s (stepped D τ w (above a x)) (noted D a τ (noting w ts) x .times) (from τ (stepped D τ w (above a x) .due) cs)
       → Adds s w ts (from τ (w .due) (cond k (w .time ∷ cs) cs))
   unfolding noted stepped from
-  turn w ts x s cs k e = go k (leb (w .due) (w .time)) refl (ap (λ (b : Bool). b && leb (w .due) (w .time)) e)
+  turn w ts x s cs k e = go k (leb (w .due) (w .time)) e refl
     where
-      go : (k d : Bool) → leb (w .due) (w .time) ≡ d → counts w (above a x) ≡ (k && leb (w .due) (w .time))
+      go : (k d : Bool) → (w .below && above a x) ≡ k → leb (w .due) (w .time) ≡ d
           → Adds s (stepped D τ w (above a x)) (noted D a τ (noting w ts) x .times) (from τ (stepped D τ w (above a x) .due) cs)
           → Adds s w ts (from τ (w .due) (cond k (w .time ∷ cs) cs))
-      go true true e f i =
-          let c = f ∙ e in
-          let n = rw c at (i .counted) in
-          rw e (record { slice = rw add-one at (rw c at (i .slice)); counted = omega (arith, n) })
-      go true false e f i = let c = f ∙ e in rw e (record { slice = rw c at (i .slice); counted = rw c at (i .counted) })
-      go false d e f i = record { slice = rw f at (i .slice); counted = rw f at (i .counted) }
+      go true true h e i =
+          let n = rw (h, e) at (i .counted) in
+          rw e (record { slice = rw add-one at (rw (h, e) at (i .slice)); counted = omega (arith, n) })
+      go true false h e i = rw e (record { slice = rw (h, e) at (i .slice); counted = rw (h, e) at (i .counted) })
+      go false d h e i = record { slice = rw h at (i .slice); counted = rw h at (i .counted) }
 
   -- the moment of place j is the walk's time
   placed : (s : Noting) (w : Walk) (ts ps : List ℕ) (j : ℕ) (b : Bool) → timeAt D 0 j ≡ w .time
@@ -69,4 +68,4 @@ module _ (D a τ : ℕ) where
   -- the samples noted from the start on
   pub heard : (xs : List ℤ) (ts : List ℕ) → Adds (foldl (noted D a τ) (noting start ts) xs) start ts (countedTimes D 0 a τ xs)
   heard xs ts =
-      rw (walk-from (timeAt D 0) τ (crossings 0 a xs), ← places-whole 0 a xs) (walks 0 (pos 0) start ts xs (omega arith) refl)
+      rw (counted-from (timeAt D 0) τ (crossings 0 a xs), ← places-whole 0 a xs) (walks 0 (pos 0) start ts xs (omega arith) refl)

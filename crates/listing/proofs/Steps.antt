@@ -58,14 +58,14 @@ walked-length D a τ s [] = refl
 walked-length D a τ s (x ∷ xs) = walked-length D a τ (noted D a τ s x) xs ∙ noted-length D a τ s x
 
 -- ---- a quiet block
-and-quiet : (b c : Bool) → ((b && false) && c) ≡ false
-and-quiet true c = refl
-and-quiet false c = refl
+and-quiet : (b : Bool) → (b && false) ≡ false
+and-quiet true = refl
+and-quiet false = refl
 
 module _ (D a τ : ℕ) (ts : List ℕ) where
   noted-quiet : (w : Walk) (x : ℤ) → above a x ≡ false → noted D a τ (noting w ts) x ≡ noting (passed D w 1) ts
   unfolding noted stepped
-  noted-quiet w x e = rw (e, and-quiet (w .below) (leb (w .due) (w .time))) (ap (λ (t : ℕ). noting (record { below = true; time = t; count = w .count; due = w .due }) ts) (omega arith))
+  noted-quiet w x e = rw (e, and-quiet (w .below)) (ap (λ (t : ℕ). noting (record { below = true; time = t; count = w .count; due = w .due }) ts) (omega arith))
 
   quiet-from : (w : Walk) (xs : List ℤ) (k : ℕ) → anyAbove a xs ≡ false → foldl (noted D a τ) (noting (passed D w k) ts) xs ≡ noting (passed D w (k + length xs)) ts
   quiet-from w [] k e = ap (λ (n : ℕ). noting (passed D w n) ts) (omega arith)

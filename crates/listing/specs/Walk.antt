@@ -12,22 +12,26 @@ use Rattle.listing.specs.declared.Walk.{Walk}
 use Rattle.listing.specs.declared.Found.{Found}
 use Rattle.listing.specs.declared.Found.the-variants.{Count, Bad}
 
--- before the first timed sample; any crossing is counted
+-- before the first timed sample; any crossing starts a group
 abbrev pub start : Walk
 start = record { below = false; time = 0; count = 0; due = 0 }
 
--- a failure is counted at a sample that is above the level or not
-abbrev pub counts : Walk → Bool → Bool
-counts w up = (w .below && up) && leb (w .due) (w .time)
+-- the level is crossed at a sample that is above it or not
+abbrev pub crosses : Walk → Bool → Bool
+crosses w up = w .below && up
 
--- the walk after it; one counted puts the next off by τ
+-- a group starts there, which is counted
+abbrev pub counts : Walk → Bool → Bool
+counts w up = crosses w up && leb (w .due) (w .time)
+
+-- the walk after it; each crossing puts the next group off by τ
 unfoldable pub stepped : ℕ → ℕ → Walk → Bool → Walk
 stepped D τ w up =
     record {
       below = not up;
       time = w .time + D;
       count = cond (counts w up) (w .count + 1) (w .count);
-      due = cond (counts w up) (w .time + τ) (w .due);
+      due = cond (crosses w up) (w .time + τ) (w .due);
     }
 
 -- the walk after k samples at most the level

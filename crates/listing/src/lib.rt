@@ -1,4 +1,4 @@
-// The counted times of a whole record, listed into lent memory. The timed samples are read once, block by block, and a quiet block is passed over. The times
+// The counted times of a whole record, each group's by its first crossing, listed into lent memory. The timed samples are read once, block by block, and a quiet block is passed over. The times
 // found on the way are kept aside, since refusal 7 must know their number before anything is written; only if they are too many is the record read again.
 ghost use mathlib.Core.Path.{_≡_};
 ghost use mathlib.Core.List.{foldl};
@@ -21,8 +21,8 @@ pub enum Listed {
 // How many times are kept aside: with a decorrelation time of 5 s or more no record has more.
 const KEPT: usize = 2_048;
 
-// The walk before a timed sample: its time, whether a timed sample at most the level stands before it, how many failures were counted, and from what time
-// on a crossing is counted.
+// The walk before a timed sample: its time, whether a timed sample at most the level stands before it, how many groups were counted, and from what time
+// on a crossing starts a group.
 struct Walk {
     below: bool,
     time: u64,
@@ -30,7 +30,7 @@ struct Walk {
     due: u64,
 }
 
-// How many failures are counted, or the place of the first bad sample.
+// How many groups are counted, or the place of the first bad sample.
 enum Found {
     Count(u64),
     Bad(u64),
@@ -47,7 +47,7 @@ fn start() -> Walk
     }
 }
 
-// Whether a failure is counted at a sample that is above the level or not.
+// Whether a group starts at a sample that is above the level or not.
 fn counts(w: Walk, up: bool) -> bool
     ensures { λ k. ⌜ k ≡ counts w up ⌝ }
 {
@@ -78,7 +78,7 @@ fn put(time: u64, place: u64, times: &mut [u32])
     }
 }
 
-// The walk after a sample that is above the level or not; the time of a failure counted there is put into the next place.
+// The walk after a sample that is above the level or not; the time of a group that starts there is put into the next place.
 fn stepped(step: u64, decorrelation: u64, w: Walk, up: bool, times: &mut [u32]) -> Walk
     requires { ⌜ Ready step decorrelation w 1 ⌝ }
     ensures { λ v. ⌜ noting v (now (times .exit)) ≡ marked step decorrelation (noting w (now (times .entry))) up ⌝ }
@@ -96,7 +96,7 @@ fn stepped(step: u64, decorrelation: u64, w: Walk, up: bool, times: &mut [u32]) 
         below: !up,
         time: w.time + step,
         count: w.count,
-        due: w.due,
+        due: truth::pick(truth::both(w.below, up), w.time + decorrelation, w.due),
     }
 }
 

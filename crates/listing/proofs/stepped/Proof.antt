@@ -1,6 +1,10 @@
--- `listing::stepped` meets its contract: the test says whether a failure is counted; the sums fit since the walk is ready for a sample. Assumes nothing.
+-- `listing::stepped` meets its contract: the test says whether a group starts, which only a crossing does; the sums fit since the walk is ready for a sample.
+-- Assumes nothing.
 use mathlib.Core.Path.{_≡_, sym, _∙_}
+use mathlib.Core.Bool.{_&&_}
+use lib.Dec.{leb}
 use borrow.Author.Needs.{needs}
+use Rattle.truth.proofs.Laws.{and-true}
 use Rattle.listing.specs.Walk.{stepped}
 use Rattle.listing.proofs.stepped.Statement.{statement}
 use Rattle.listing.proofs.stepped.Tie as tie
@@ -25,14 +29,26 @@ same-length c = search needs
 
 returns : tie.Need-returns
 unfolding stepped
-returns c = rw (sym (c .before .before .before .before .before .before .before .before .counts .ensures) ∙ c .before .before .before .before .before .before .before .if1 .taken, c .before .before .before .before .before .put .ensures)
+returns c =
+    let w = c .before .before .before .before .before .before .before .before .before .before .args .w in
+    let p = and-true (w .below && c .before .before .before .before .before .before .before .before .before .before .args .up) (leb (w .due) (w .time)) (sym (c .before .before .before .before .before .before .before .before .counts .ensures) ∙ c .before .before .before .before .before .before .before .if1 .taken) in
+    rw (p .0, p .1, c .before .before .before .before .before .put .ensures)
 
 add-t15 : tie.Need-add-t15
 add-t15 c = search needs
 
+both-requires : tie.Need-both-requires
+both-requires c κs = search needs
+
+add-pick : tie.Need-add-pick
+add-pick c = search needs
+
+pick-requires : tie.Need-pick-requires
+pick-requires c κs = search needs
+
 returns-2 : tie.Need-returns-2
 unfolding stepped
-returns-2 c = rw (sym (c .before .before .counts .ensures) ∙ c .before .if1 .left)
+returns-2 c = rw (sym (c .before .before .before .before .before .counts .ensures) ∙ c .before .before .before .before .if1 .left) cc
 
 pub stepped-spec : {M : Type 1} → statement M
 stepped-spec =
@@ -46,4 +62,7 @@ stepped-spec =
     same-length
     returns
     add-t15
+    both-requires
+    add-pick
+    pick-requires
     returns-2)

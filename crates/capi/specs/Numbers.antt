@@ -1,4 +1,4 @@
--- A state as the numbers of a lent array, in both directions: ten for a record, five for a campaign; and a result as four. An array that holds no state stands for one whose
+-- A state as the numbers of a lent array, in both directions: twelve for a record, five for a campaign; and a result as five. An array that holds no state stands for one whose
 -- first number is 0, which no state has, so that every entry refuses it by 8. Assumes nothing.
 use Prim.Native.Nat.{ℕ, _+_, _/_, _%_}
 use mathlib.Core.Bool.{Bool, cond, false, _&&_}
@@ -25,13 +25,13 @@ sampleOf k = cond (eqb (k % 2) 0) (pos (k / 2)) (negsuc (k / 2))
 abbrev pub highestCode : ℕ
 highestCode = 2000000
 
--- ---- a record: ten numbers, of which number 5 codes the last sample
+-- ---- a record: twelve numbers, of which number 5 codes the last sample
 abbrev pub recordNumbers : ℕ
-recordNumbers = 10
+recordNumbers = 12
 
 abbrev pub ofRecord : Record → List ℕ
 ofRecord r =
-    r .step ∷ r .ramp ∷ r .level ∷ r .decorrelation ∷ r .n ∷ codeOf (r .last) ∷ r .crossings ∷ r .counted ∷ r .first ∷ r .latest ∷ []
+    r .step ∷ r .ramp ∷ r .level ∷ r .decorrelation ∷ r .n ∷ codeOf (r .last) ∷ r .crossings ∷ r .largest ∷ r .first ∷ r .latest ∷ r .recent ∷ r .groups ∷ []
 
 abbrev pub noRecord : Record
 noRecord =
@@ -43,9 +43,11 @@ noRecord =
       n = 0;
       last = pos 0;
       crossings = 0;
-      counted = 0;
+      largest = 0;
       first = 0;
       latest = 0;
+      recent = 0;
+      groups = 0;
     }
 
 abbrev pub recordAt : List ℕ → Record
@@ -58,9 +60,11 @@ recordAt s =
       n = numberAt s 4;
       last = sampleOf (numberAt s 5);
       crossings = numberAt s 6;
-      counted = numberAt s 7;
+      largest = numberAt s 7;
       first = numberAt s 8;
       latest = numberAt s 9;
+      recent = numberAt s 10;
+      groups = numberAt s 11;
     }
 
 abbrev pub isRecord : List ℕ → Bool
@@ -69,12 +73,12 @@ isRecord s = eqb (length s) recordNumbers && leb (numberAt s 5) highestCode
 unfoldable pub recordOf : List ℕ → Record
 recordOf s = cond (isRecord s) (recordAt s) noRecord
 
--- ---- a result: four numbers
+-- ---- a result: five numbers
 abbrev pub resultNumbers : ℕ
-resultNumbers = 4
+resultNumbers = 5
 
 abbrev pub ofResult : Result → List ℕ
-ofResult x = x .crossings ∷ x .counted ∷ x .first ∷ x .exposure ∷ []
+ofResult x = x .crossings ∷ x .counted ∷ x .first ∷ x .exposure ∷ x .largest ∷ []
 
 -- ---- a campaign: five numbers, of which number 4 is 1 if the last record failed, else 0
 abbrev pub campaignNumbers : ℕ

@@ -1,4 +1,4 @@
-// States as numbers, for C and whatever calls C: a record's state is an array of ten numbers, a campaign's of five, a result of four. Here is what a lent array holds, what it
+// States as numbers, for C and whatever calls C: a record's state is an array of twelve numbers, a campaign's of five, a result of five. Here is what a lent array holds, what it
 // is left with after an answer, and how a refusal is told: its number is answered, and what goes with it is written to `carried`. Any numbers are taken: those
 // that are no state are read as one that every entry refuses by 8.
 ghost use mathlib.Core.Path.{_≡_};
@@ -13,9 +13,9 @@ use result::Ended;
 use result::Result;
 
 // How many numbers a state has.
-pub const RECORD_NUMBERS: usize = 10;
+pub const RECORD_NUMBERS: usize = 12;
 
-pub const RESULT_NUMBERS: usize = 4;
+pub const RESULT_NUMBERS: usize = 5;
 
 pub const CAMPAIGN_NUMBERS: usize = 5;
 
@@ -52,9 +52,11 @@ fn no_record() -> Record
         n: 0,
         last: 0,
         crossings: 0,
-        counted: 0,
+        largest: 0,
         first: 0,
         latest: 0,
+        recent: 0,
+        groups: 0,
     }
 }
 
@@ -76,13 +78,15 @@ pub fn record_of(s: &[u64]) -> Record
         n: s[4],
         last: sample_of(s[5]),
         crossings: s[6],
-        counted: s[7],
+        largest: s[7],
         first: s[8],
         latest: s[9],
+        recent: s[10],
+        groups: s[11],
     }
 }
 
-fn of_record(r: Record) -> [u64; 10]
+fn of_record(r: Record) -> [u64; 12]
     ensures { λ s. ⌜ s ≡ ofRecord r ⌝ }
 {
     let last = r.last;
@@ -94,16 +98,18 @@ fn of_record(r: Record) -> [u64; 10]
         r.n,
         code_of(last),
         r.crossings,
-        r.counted,
+        r.largest,
         r.first,
         r.latest,
+        r.recent,
+        r.groups,
     ]
 }
 
-fn of_result(x: Result) -> [u64; 4]
+fn of_result(x: Result) -> [u64; 5]
     ensures { λ s. ⌜ s ≡ ofResult x ⌝ }
 {
-    [x.crossings, x.counted, x.first, x.exposure]
+    [x.crossings, x.counted, x.first, x.exposure, x.largest]
 }
 
 // A state that no campaign has.

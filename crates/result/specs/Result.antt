@@ -1,4 +1,4 @@
--- Document 02, [4]: what ending a record gives, and what a campaign takes of it. Assumes nothing.
+-- Document 02, [4] and [5]: what ending a record gives, and what a campaign takes of it. Assumes nothing.
 use Prim.Native.Nat.{ℕ}
 use mathlib.Core.Bool.{cond, not}
 use lib.Dec.{eqb}
@@ -14,9 +14,10 @@ use Rattle.result.specs.declared.Result.{Result}
 abbrev pub exposureOf : Record → ℕ
 exposureOf r = cond (failed r) (firstTime r) (wholeTime r)
 
--- its crossings, count, first failure and exposure
+-- its crossings, count, first failure and exposure; the groups are what is counted, and the largest set stands beside it
 abbrev pub resultOf : Record → Result
-resultOf r = record { crossings = r .crossings; counted = r .counted; first = r .first; exposure = exposureOf r }
+resultOf r =
+    record { crossings = r .crossings; counted = r .groups; first = r .first; exposure = exposureOf r; largest = r .largest }
 
 -- Ending 8, 4
 unfoldable pub ending : Record → Ended

@@ -14,12 +14,13 @@ pub struct Outcome {
     pub exposure: u64,
 }
 
-// Crossings, counted failures, the place of the first failure, 0 for none, and the exposure in ms.
+// Crossings, counted failures, which are the groups, the place of the first failure, 0 for none, the exposure in ms, and the largest set.
 pub struct Result {
     pub crossings: u64,
     pub counted: u64,
     pub first: u64,
     pub exposure: u64,
+    pub largest: u64,
 }
 
 pub enum Ended {
@@ -51,9 +52,10 @@ pub fn end(r: Record) -> Ended
     }
     Ended::Given(Result {
         crossings: r.crossings,
-        counted: r.counted,
+        counted: r.groups,
         first: r.first,
         exposure: exposure_of(r),
+        largest: r.largest,
     })
 }
 

@@ -1,4 +1,4 @@
--- `capi::of_record` meets its contract: nine fields, and the last sample's code between them. Assumes nothing.
+-- `capi::of_record` meets its contract: eleven fields, and the last sample's code between them. Assumes nothing.
 use mir.Facts.{toZ-ofZ}
 use mir.Syntax.{w32}
 use mir.Val.{SFits}

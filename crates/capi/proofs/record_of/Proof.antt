@@ -58,11 +58,17 @@ shared-slice-read-t23 c = search needs
 shared-slice-read-t25 : tie.Need-shared-slice-read-t25
 shared-slice-read-t25 c = search needs
 
+shared-slice-read-t27 : tie.Need-shared-slice-read-t27
+shared-slice-read-t27 c = search needs
+
+shared-slice-read-t29 : tie.Need-shared-slice-read-t29
+shared-slice-read-t29 c = search needs
+
 returns-3 : tie.Need-returns-3
 unfolding recordOf
 returns-3 c =
-    let f : SFits w32 (c .before .before .before .before .sample-of .result) = search needs in
-    rw (eq-eqb _ recordNumbers (c .before .before .before .before .before .before .before .before .before .before .before .before .before .if1 .left), le-leb _ highestCode (c .before .before .before .before .before .before .before .before .before .before .before .if2 .left)) (cc (toZ-ofZ f))
+    let f : SFits w32 (c .before .before .before .before .before .before .sample-of .result) = search needs in
+    rw (eq-eqb _ recordNumbers (c .before .before .before .before .before .before .before .before .before .before .before .before .before .before .before .if1 .left), le-leb _ highestCode (c .before .before .before .before .before .before .before .before .before .before .before .before .before .if2 .left)) (cc (toZ-ofZ f))
 
 pub record-of-spec : {M : Type 1} → statement M
 record-of-spec =
@@ -84,4 +90,6 @@ record-of-spec =
     shared-slice-read-t21
     shared-slice-read-t23
     shared-slice-read-t25
+    shared-slice-read-t27
+    shared-slice-read-t29
     returns-3)

@@ -122,9 +122,11 @@ fn broken() -> Record {
         n: 0,
         last: 0,
         crossings: 0,
-        counted: 0,
+        largest: 0,
         first: 0,
         latest: 0,
+        recent: 0,
+        groups: 0,
     }
 }
 
@@ -153,6 +155,7 @@ fn seen(a: Ended) {
         Ended::Given(x) => {
             number(b" crossings ", x.crossings);
             number(b" counted ", x.counted);
+            number(b" largest set ", x.largest);
             number(b" first ", x.first);
             number(b" exposure ", x.exposure);
         }

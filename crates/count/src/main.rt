@@ -1,5 +1,5 @@
-// The clerk's counter: a simulator's comma file from standard input, and one line to standard output: samples, crossings, count, time of the first failure or a
-// dash, exposure; or refused, the line at fault or 0, and the refusal's number. The four items of the record come as arguments. The file may have any length: it is
+// The clerk's counter: a simulator's comma file from standard input, and one line to standard output: samples, crossings, groups, largest set, time of the first
+// failure or a dash, exposure; or refused, the line at fault or 0, and the refusal's number. The four items of the record come as arguments. The file may have any length: it is
 // read through a fixed buffer, each right line is fed as it comes, and what the file as a whole would be refused for is kept until its end, a malformed line
 // alone ending the reading. What a line says is `comma::line_at`'s promise, what feeding and ending make of it is `record`'s and `result`'s; here bytes are only
 // carried. How it ended goes as a digit to a descriptor of its own, where bin/program waits for it.
@@ -224,12 +224,13 @@ fn refused(line: u64, r: Refusal) -> u8 {
     say(&out, n, REFUSED)
 }
 
-// Samples, crossings, count, time of the first failure or a dash, exposure. A failed record's exposure is the time of its first failure.
+// Samples, crossings, groups, largest set, time of the first failure or a dash, exposure. A failed record's exposure is the time of its first failure.
 fn told(samples: u64, r: Result) -> u8 {
     let mut out = [0u8; 128];
     let crossings = put(samples, TAB, &mut out, 0);
-    let counted = put(r.crossings, TAB, &mut out, crossings);
-    let first = put(r.counted, TAB, &mut out, counted);
+    let groups = put(r.crossings, TAB, &mut out, crossings);
+    let largest = put(r.counted, TAB, &mut out, groups);
+    let first = put(r.largest, TAB, &mut out, largest);
     if r.first == 0 {
         let exposure = text::write_bytes(b"-\t", &mut out, first);
         let n = put(r.exposure, LF, &mut out, exposure);

@@ -1,23 +1,34 @@
--- Demand 2: a record's figures are document 01's over its whole list of samples, however it was cut into pieces; the counted failures are a largest set
--- of crossings pairwise at least the decorrelation time apart; and a campaign's figures are document 000's over its list of records.
+-- Demand 2, read with document 02's [5]: a record's figures are those of its whole list of samples, however it was cut into pieces; the counted failures are
+-- the groups of crossings, each listed by its first; they never exceed the largest set of crossings pairwise at least the decorrelation time apart; and a
+-- campaign's figures are document 000's over its list of records.
 --
--- D is the step, R the ramp, a the level and τ the decorrelation time. The proof gathers what the crates `record` and `campaign` show. Assumes nothing.
-use mathlib.Core.Path.{_≡_, ap}
-use mathlib.Core.Bool.{false, true}
-use mathlib.Core.List.{List, map}
-use Prim.Native.Nat.{ℕ, _<_}
+-- D is the step, R the ramp, a the level and τ the decorrelation time. The proof gathers what the crates `record`, `listing` and `campaign` show. Assumes
+-- nothing.
+use mathlib.Core.Path.{_≡_, ap, _∙_}
+use mathlib.Core.Bool.{Bool, cond, false, true}
+use mathlib.Core.List.{List, map, _++_}
+use Prim.Native.Nat.{ℕ, _≤_, _<_}
+use native.Mathlib.Omega.{arith}
 use lib.IntN.{ℤ}
-use lib.ListN.{length}
+use lib.ListN.{length, drop}
+use Rattle.refusal.specs.declared.Refusal.{Refusal}
 use Rattle.refusal.specs.declared.Refusal.the-variants.{BrokenState}
 use Rattle.largest.specs.Choice.{Apart, LargestSet}
-use Rattle.reading.specs.Reading.{counted, countedTimes, crossings, firstCrossing, timeAt}
+use Rattle.groups.specs.Groups.{firsts, near}
+use Rattle.groups.specs.Parting.{Parting}
+use Rattle.groups.proofs.Parting.{as-many, groups-only}
+use Rattle.reading.specs.Reading.{counted, countedTimes, crossings, firstCrossing, groups, largestSet, timeAt}
 use Rattle.reading.proofs.Places.{itself}
+use Rattle.listing.specs.Answers.{ListsTo, listed, written}
+use Rattle.listing.specs.declared.Listed.{Listed}
+use Rattle.listing.specs.declared.Listed.the-variants.{Times}
+use Rattle.listing.specs.declared.Listed.the-variants as listing
 use Rattle.record.specs.declared.Answer.the-variants.{Refused, Taken}
 use Rattle.record.specs.declared.Record.{Record}
 use Rattle.record.specs.Answers.{fed, opened}
 use Rattle.record.specs.Pieces.{AllTaken, joined}
 use Rattle.record.specs.State.{failed, stateOf}
-use Rattle.record.proofs.Theorems.{counted-largest, every-cutting, join-taken, never-broken, opened-sound, pieces-whole, search-found, search-none, times-apart}
+use Rattle.record.proofs.Theorems.{every-cutting, groups-fewer, groups-parted, join-taken, never-broken, opened-sound, pieces-whole, search-found, search-none, set-largest, times-apart}
 use Rattle.campaign.specs.declared.Campaign.{Campaign}
 use Rattle.campaign.specs.Answers as campaigns
 use Rattle.campaign.specs.declared.Answer.the-variants as campaigned
@@ -28,11 +39,18 @@ use Rattle.campaign.proofs.Records.{censored-grown, grown-by-results}
 -- ---- the statement
 -- a record opened as s and fed the pieces ps, each taken, up to the state t; xs is the joined record
 pub record ReadsWhole (D R a τ : ℕ) (s t : Record) (ps : List (List ℤ)) (xs : List ℤ) : Type 0 where
-  -- crossings, counted failures, first failure, last counted place, n and the last sample are those of the joined record
+  -- crossings, groups, largest set, first failure, the places kept, n and the last sample are those of the joined record
   pub figures : t ≡ stateOf D R a τ xs
-  -- the counted places are a choice of the crossings, pairwise τ apart, and no such choice has more members; the state has their number
-  pub largest : LargestSet (timeAt D R) τ (crossings R a xs) (counted D R a τ xs)
-  pub number : t .counted ≡ length (counted D R a τ xs)
+  -- the groups part the crossings into runs, each crossing of a run but its first less than τ after the one just before it, the first of the next run not; no
+  -- other parting does; the state has their number
+  pub grouped : Parting (near (timeAt D R) τ) (crossings R a xs) (groups D R a τ xs)
+  pub only : (gs : List (List ℕ)) → Parting (near (timeAt D R) τ) (crossings R a xs) gs → gs ≡ groups D R a τ xs
+  pub number : t .groups ≡ length (groups D R a τ xs)
+  -- the largest set is a choice of the crossings, pairwise τ apart, and no such choice has more members; the state has their number
+  pub largest : LargestSet (timeAt D R) τ (crossings R a xs) (largestSet D R a τ xs)
+  pub set : t .largest ≡ length (largestSet D R a τ xs)
+  -- which is never below that of the groups
+  pub fewer : t .groups ≤ t .largest
   -- any other cutting of the joined record is taken too, and ends in the same state
   pub cuttings : (qs : List (List ℤ)) → joined qs ≡ xs → AllTaken s qs t
   -- the state is never refused as broken
@@ -40,7 +58,8 @@ pub record ReadsWhole (D R a τ : ℕ) (s t : Record) (ps : List (List ℤ)) (xs
 
 pub record Demand2 : Type 0 where
   pub pieces : (D R a τ : ℕ) (s t : Record) (ps : List (List ℤ)) → opened D R a τ ≡ Taken s → AllTaken s ps t → ReadsWhole D R a τ s t ps (joined ps)
-  -- the listed times are pairwise τ apart
+  -- the listed times are those of the groups' first crossings, as many as there are groups, and pairwise τ apart
+  pub listed : (D R a τ : ℕ) (xs : List ℤ) (before after : List ℕ) (k : ℕ) → ListsTo D R a τ xs before (Times k) after → (k ≡ length (groups D R a τ xs)) × (after ≡ map (timeAt D R) (firsts (groups D R a τ xs)) ++ drop k before)
   pub times : (D R a τ : ℕ) (xs : List ℤ) → Apart itself τ (countedTimes D R a τ xs)
   -- the search finds the state's first failure, or the length of the record where there is none
   pub found : (D R a τ : ℕ) (xs : List ℤ) → failed (stateOf D R a τ xs) ≡ true → (firstCrossing (length xs) R a xs ≡ stateOf D R a τ xs .first) × (stateOf D R a τ xs .first < length xs)
@@ -50,17 +69,42 @@ pub record Demand2 : Type 0 where
   pub censored : (q : ℕ) (c d : Campaign) (rs : List Record) → campaigns.opened q ≡ campaigned.Taken c → AllEnded c rs d → censored d ≡ censoredIn (map outcome rs)
 
 -- ---- the proof
-number : (D R a τ : ℕ) (xs : List ℤ) {t : Record} → t ≡ stateOf D R a τ xs → t .counted ≡ length (counted D R a τ xs)
+number : (D R a τ : ℕ) (xs : List ℤ) {t : Record} → t ≡ stateOf D R a τ xs → t .groups ≡ length (groups D R a τ xs)
 unfolding stateOf
-number D R a τ xs e = ap (λ (r : Record). r .counted) e
+number D R a τ xs e = ap (λ (r : Record). r .groups) e
+
+set : (D R a τ : ℕ) (xs : List ℤ) {t : Record} → t ≡ stateOf D R a τ xs → t .largest ≡ length (largestSet D R a τ xs)
+unfolding stateOf
+set D R a τ xs e = ap (λ (r : Record). r .largest) e
+
+-- past one test of a list of refusals
+past : (b : Bool) (f : Refusal) (a : Listed) {k : ℕ} → Times k ≡ cond b (listing.Refused f) a → Times k ≡ a
+past true f a e = let z : _≡_ {A = ℕ} 0 1 = cc in absurd (omega arith)
+past false f a e = e
+
+same-times : (j k : ℕ) → Times j ≡ Times k → j ≡ k
+same-times j k e = cc
+
+listed-number : (D R a τ : ℕ) (xs : List ℤ) (places k : ℕ) → Times k ≡ listed D R a τ xs places → k ≡ length (counted D R a τ xs)
+unfolding listed
+listed-number D R a τ xs places k e = same-times k _ (past _ _ _ (past _ _ _ (past _ _ _ (past _ _ _ (past _ _ _ e)))))
+
+lists : (D R a τ : ℕ) (xs : List ℤ) (before after : List ℕ) (k : ℕ) → ListsTo D R a τ xs before (Times k) after → (k ≡ length (groups D R a τ xs)) × (after ≡ map (timeAt D R) (firsts (groups D R a τ xs)) ++ drop k before)
+unfolding written
+lists D R a τ xs before after k l =
+    (listed-number D R a τ xs (length before) k (l .answers) ∙ as-many (near (timeAt D R) τ) (crossings R a xs), l .leaves)
 
 whole : (D R a τ : ℕ) (s t : Record) (ps : List (List ℤ)) → opened D R a τ ≡ Taken s → AllTaken s ps t → ReadsWhole D R a τ s t ps (joined ps)
 whole D R a τ s t ps e f =
     let figures = pieces-whole D R a τ s e f in
     record {
       figures = figures;
-      largest = counted-largest D R a τ (joined ps);
+      grouped = groups-parted D R a τ (joined ps);
+      only = groups-only (near (timeAt D R) τ) (crossings R a (joined ps));
       number = number D R a τ (joined ps) figures;
+      largest = set-largest D R a τ (joined ps);
+      set = set D R a τ (joined ps) figures;
+      fewer = rw (number D R a τ (joined ps) figures, set D R a τ (joined ps) figures) (groups-fewer D R a τ (joined ps));
       cuttings = λ qs j. every-cutting s qs t (rw j (join-taken (opened-sound D R a τ s e) f));
       unbroken = never-broken D R a τ s e f;
     }
@@ -69,6 +113,7 @@ pub demand-2 : Demand2
 demand-2 =
     record {
       pieces = whole;
+      listed = lists;
       times = times-apart;
       found = search-found;
       missed = search-none;

@@ -4,6 +4,7 @@ pub mod Demand3
 pub mod Request1
 pub mod Request2
 pub mod Request4
+pub mod Request5
 pub mod Stays
 pub mod Request9
 pub mod Tail

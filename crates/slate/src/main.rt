@@ -7,7 +7,7 @@ use refusal::Refusal;
 
 // Of each row: step, ramp, level, decorrelation time; how often the first piece is fed, its samples, and all samples of the row, which the second piece ends;
 // the places lent for the times; the row of SAMPLES.
-const ROWS: [[u64; 9]; 34] = [
+const ROWS: [[u64; 9]; 35] = [
     // A to H
     [500, 0, 40000, 2000, 1, 7, 7, 3, 0],
     [500, 0, 40000, 2001, 1, 7, 7, 3, 0],
@@ -17,11 +17,12 @@ const ROWS: [[u64; 9]; 34] = [
     [500, 0, 40000, 2000, 1, 3, 3, 3, 3],
     [500, 0, 40000, 2000, 1, 3, 3, 3, 4],
     [500, 2, 40000, 2000, 1, 5, 5, 3, 5],
-    // no sample, one, two; case A into one place
+    // no sample, one, two; cases A and C into one place
     [500, 0, 40000, 2000, 1, 0, 0, 3, 6],
     [500, 0, 40000, 2000, 1, 1, 1, 3, 6],
     [500, 0, 40000, 2000, 1, 2, 2, 3, 6],
     [500, 0, 40000, 2000, 1, 7, 7, 1, 0],
+    [500, 0, 40000, 0, 1, 7, 7, 1, 0],
     // the ends of an i32, the end of the range and one past it
     [500, 0, 40000, 2000, 1, 2, 2, 3, 7],
     [500, 0, 40000, 2000, 1, 2, 2, 3, 8],
@@ -79,9 +80,11 @@ fn refused(f: Refusal) {
 fn figures(r: Record) {
     number(b" n ", r.n);
     number(b" crossings ", r.crossings);
-    number(b" counted ", r.counted);
+    number(b" groups ", r.groups);
+    number(b" largest set ", r.largest);
     number(b" first ", r.first);
     number(b" latest ", r.latest);
+    number(b" last ", r.recent);
 }
 
 fn answer(a: Answer) {
@@ -170,7 +173,7 @@ fn samples_of(i: u64) -> [i32; 7] {
 }
 
 fn row(i: usize) {
-    if 34 <= i {
+    if 35 <= i {
         return;
     }
     let items = ROWS[i];
@@ -182,10 +185,37 @@ fn row(i: usize) {
 
 fn rows() {
     let mut i = 0;
-    while i < 34 {
+    while i < 35 {
         row(i);
         i += 1;
     }
+}
+
+// Seven crossings in two groups, of which four are pairwise apart; cut in the first group.
+fn seven() {
+    let items = [500u64, 0, 40_000, 2000, 1, 6, 17, 3, 0];
+    let samples = [
+        0i32,
+        41000,
+        0,
+        -41000,
+        0,
+        41000,
+        0,
+        -41000,
+        0,
+        0,
+        0,
+        0,
+        41000,
+        0,
+        -41000,
+        0,
+        41000,
+    ];
+    io::write_all(1, b"seven");
+    first_of(items, &samples);
+    io::write_all(1, b"\n");
 }
 
 // A first failure without a crossing, which no samples lead to.
@@ -198,9 +228,11 @@ fn broken() {
         n: 3,
         last: 0,
         crossings: 0,
-        counted: 0,
+        largest: 0,
         first: 2,
         latest: 2,
+        recent: 2,
+        groups: 0,
     };
     io::write_all(1, b"broken");
     answer(r.feed(&[2000000i32]));
@@ -209,5 +241,6 @@ fn broken() {
 
 fn main() {
     rows();
+    seven();
     broken();
 }

@@ -2,6 +2,7 @@
 use mathlib.Core.Path.{_≡_, refl}
 use mathlib.Core.Bool.{true}
 use Rattle.largest.specs.Walk.{later, walk}
+use Rattle.groups.specs.Groups.{attach, groups, firsts}
 use Rattle.poisson.specs.Tables.{l, lowerRows, u, upperRows}
 use Rattle.reading.specs.Reading.{passing}
 use Rattle.campaign.specs.Answers.{entering}
@@ -9,5 +10,5 @@ use Rattle.campaign.specs.State.{censored, sound}
 use Rattle.slate_cases.specs.Slate.{same, right, allRight, slate}
 
 pub shown : allRight slate ≡ true
-unfolding same right allRight slate passing walk later u l upperRows lowerRows censored entering sound
+unfolding same right allRight slate passing walk later attach groups firsts u l upperRows lowerRows censored entering sound
 shown = refl

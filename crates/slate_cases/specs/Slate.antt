@@ -1,4 +1,4 @@
--- Document 01, "Sums on the slate", and document 02, [6]: the marked cases as one table, and what makes a row right. Assumes nothing.
+-- Document 01, "Sums on the slate", and document 02, [5] and [6]: the marked cases as one table, and what makes a row right. Assumes nothing.
 use Prim.Native.Nat.{ℕ}
 use mathlib.Core.Bool.{Bool, true, false, _&&_}
 use mathlib.Core.List.{List, [], _∷_, map}
@@ -13,13 +13,13 @@ use Rattle.campaign.specs.Answers.{entering}
 use Rattle.verdict.specs.declared.Verdict.{Verdict}
 use Rattle.verdict.specs.declared.Verdict.the-variants.{Accept, Continue, NoRecord, Reject}
 use Rattle.verdict.specs.Figures.{verdictOf}
-use Rattle.reading.specs.Reading.{timeAt, crossings, countedTimes, fullTime}
+use Rattle.reading.specs.Reading.{timeAt, crossings, groups, countedTimes, largestSet, fullTime}
 
 -- a marked case
 pub data Row : Type 0 where
-  -- samples read by a step D, a ramp R, a level a and a decorrelation time τ: the times of the crossings, the times of the counted failures,
-  -- and the full time
-  reading : (D R a τ : ℕ) → List ℤ → List ℕ → List ℕ → ℕ → Row
+  -- samples read by a step D, a ramp R, a level a and a decorrelation time τ: the times of the crossings; the number of groups, the times of their first
+  -- crossings; the number in the largest set, its times; and the full time
+  reading : (D R a τ : ℕ) → List ℤ → List ℕ → ℕ → List ℕ → ℕ → List ℕ → ℕ → Row
   -- the upper and the lower row of a count
   bounds : (n upper lower : ℕ) → Row
   -- the verdict of a campaign, by its letter
@@ -47,8 +47,12 @@ letterAfter (Refused r) = 0
 
 -- what a row says is so by the definitions
 unfoldable pub right : Row → Bool
-right (reading D R a τ xs crossed counted full) =
-    same (map (timeAt D R) (crossings R a xs)) crossed && (same (countedTimes D R a τ xs) counted && eqb (fullTime D R (length xs)) full)
+right (reading D R a τ xs crossed count counted largest set full) =
+    same (map (timeAt D R) (crossings R a xs)) crossed
+    && (eqb (length (groups D R a τ xs)) count
+    && (same (countedTimes D R a τ xs) counted
+    && (eqb (length (largestSet D R a τ xs)) largest
+    && (same (map (timeAt D R) (largestSet D R a τ xs)) set && eqb (fullTime D R (length xs)) full))))
 right (bounds n upper lower) = eqb (u n) upper && eqb (l n) lower
 right (weighing c letter) = eqb (letterOf (verdictOf c)) letter
 right (weighingLater c t letter) = eqb (letterAfter (entering c (record { failed = false; exposure = t }))) letter
@@ -60,21 +64,27 @@ allRight (r ∷ rs) = right r && allRight rs
 abbrev pub bobbing : List ℤ
 bobbing = pos 0 ∷ pos 41000 ∷ pos 39000 ∷ pos 41000 ∷ pos 39000 ∷ pos 41000 ∷ pos 0 ∷ []
 
+-- seven crossings: four in a row, a pause, three in a row
+abbrev pub twice : List ℤ
+twice =
+    pos 0 ∷ pos 41000 ∷ pos 0 ∷ negsuc 40999 ∷ pos 0 ∷ pos 41000 ∷ pos 0 ∷ negsuc 40999 ∷ pos 0 ∷ pos 0 ∷ pos 0 ∷ pos 0 ∷ pos 41000 ∷ pos 0 ∷ negsuc 40999 ∷ pos 0 ∷ pos 41000 ∷ []
+
 -- q = 7,200,000; M records of which the last failed or not, N failures, T ms
 abbrev pub at : ℕ → ℕ → Bool → ℕ → Campaign
 at M N f T = record { standard = 7200000; records = M; failures = N; exposure = T; failed = f }
 
--- A to K, then document 02's case of [6]
+-- A to H, seven crossings in two groups, I to K, then document 02's case of [6]
 unfoldable pub slate : List Row
 slate =
-    reading 500 0 40000 2000 bobbing (500 ∷ 1500 ∷ 2500 ∷ []) (500 ∷ 2500 ∷ []) 3000
-    ∷ reading 500 0 40000 2001 bobbing (500 ∷ 1500 ∷ 2500 ∷ []) (500 ∷ []) 3000
-    ∷ reading 500 0 40000 0 bobbing (500 ∷ 1500 ∷ 2500 ∷ []) (500 ∷ 1500 ∷ 2500 ∷ []) 3000
-    ∷ reading 500 0 40000 2000 (pos 40000 ∷ pos 40000 ∷ []) [] [] 500
-    ∷ reading 500 0 40000 2000 (pos 40000 ∷ pos 40001 ∷ []) (500 ∷ []) (500 ∷ []) 500
-    ∷ reading 500 0 40000 2000 (pos 41000 ∷ pos 0 ∷ negsuc 40999 ∷ []) (1000 ∷ []) (1000 ∷ []) 1000
-    ∷ reading 500 0 40000 2000 (pos 0 ∷ pos 41000 ∷ negsuc 40999 ∷ []) (500 ∷ []) (500 ∷ []) 1000
-    ∷ reading 500 2 40000 2000 (pos 0 ∷ pos 41000 ∷ pos 41000 ∷ pos 0 ∷ pos 41000 ∷ []) (1000 ∷ []) (1000 ∷ []) 1000
+    reading 500 0 40000 2000 bobbing (500 ∷ 1500 ∷ 2500 ∷ []) 1 (500 ∷ []) 2 (500 ∷ 2500 ∷ []) 3000
+    ∷ reading 500 0 40000 2001 bobbing (500 ∷ 1500 ∷ 2500 ∷ []) 1 (500 ∷ []) 1 (500 ∷ []) 3000
+    ∷ reading 500 0 40000 0 bobbing (500 ∷ 1500 ∷ 2500 ∷ []) 3 (500 ∷ 1500 ∷ 2500 ∷ []) 3 (500 ∷ 1500 ∷ 2500 ∷ []) 3000
+    ∷ reading 500 0 40000 2000 (pos 40000 ∷ pos 40000 ∷ []) [] 0 [] 0 [] 500
+    ∷ reading 500 0 40000 2000 (pos 40000 ∷ pos 40001 ∷ []) (500 ∷ []) 1 (500 ∷ []) 1 (500 ∷ []) 500
+    ∷ reading 500 0 40000 2000 (pos 41000 ∷ pos 0 ∷ negsuc 40999 ∷ []) (1000 ∷ []) 1 (1000 ∷ []) 1 (1000 ∷ []) 1000
+    ∷ reading 500 0 40000 2000 (pos 0 ∷ pos 41000 ∷ negsuc 40999 ∷ []) (500 ∷ []) 1 (500 ∷ []) 1 (500 ∷ []) 1000
+    ∷ reading 500 2 40000 2000 (pos 0 ∷ pos 41000 ∷ pos 41000 ∷ pos 0 ∷ pos 41000 ∷ []) (1000 ∷ []) 1 (1000 ∷ []) 1 (1000 ∷ []) 1000
+    ∷ reading 500 0 40000 2000 twice (500 ∷ 1500 ∷ 2500 ∷ 3500 ∷ 6000 ∷ 7000 ∷ 8000 ∷ []) 2 (500 ∷ 6000 ∷ []) 4 (500 ∷ 2500 ∷ 6000 ∷ 8000 ∷ []) 8000
     ∷ bounds 1 3688880 25317
     ∷ weighing (at 3 0 false 26559936) 67
     ∷ weighing (at 3 0 false 26559937) 65

@@ -31,7 +31,7 @@
  * States. A state is an array of numbers that the caller keeps, copies and stores as it likes. Any change to one is either another sound state or
  * refusal 8 at its next use.
  *
- *   record, 10 numbers                                   campaign, 5 numbers
+ *   record, 12 numbers                                   campaign, 5 numbers
  *   0  step, ms                   1 to 10,000            0  standard: one failure in so many ms   1 to 100,000,000,000
  *   1  ramp, samples              0 to 1,000,000         1  records M                             0 to 100,000
  *   2  level                      1 to 1,000,000         2  failures N                            0 to 64
@@ -39,12 +39,17 @@
  *   4  samples so far, n                                 4  1 if the last record failed, else 0
  *   5  last sample x: 2x, and -2x - 1 for x below 0; 0 to 2,000,000
  *   6  crossings
- *   7  counted failures
+ *   7  largest set: the most crossings pairwise at least the decorrelation time apart
  *   8  place of the first crossing, 0 for none
- *   9  place of the last counted crossing, 0 for none
+ *   9  place of the last crossing in the largest set, 0 for none
+ *   10 place of the last crossing, 0 for none; not before number 9, and below n
+ *   11 groups, the counted failures; from 1 to the largest set where there is a crossing
  *
- * A result, 4 numbers, is what a record comes to when it is ended: crossings, counted failures, the first failure's place (0 for none), exposure in ms. A
- * campaign takes of it whether there is a first failure and the exposure, and nothing else.
+ * A group is a run of successive crossings, each less than the decorrelation time after the crossing just before it. It is counted once, by its first crossing.
+ * Before groups were counted, a record had 10 numbers and a result 4; arrays of those lengths are refused by 8.
+ *
+ * A result, 5 numbers, is what a record comes to when it is ended: crossings, counted failures (the groups), the first failure's place (0 for none), exposure
+ * in ms, largest set. A campaign takes of it whether there is a first failure and the exposure, and nothing else.
  *
  * Levels and samples are in thousandths of a degree or in mm/s2, times in ms, rates in failures a second. Items 1 to 4 are a record's first four
  * numbers, item 5 is the standard.
@@ -71,10 +76,10 @@
 extern "C" {
 #endif
 
-enum { CHIM_RECORD_NUMBERS = 10, CHIM_RESULT_NUMBERS = 4, CHIM_CAMPAIGN_NUMBERS = 5, CHIM_BENCH_PLACES = 32, CHIM_PLACE_NUMBERS = 6 };
+enum { CHIM_RECORD_NUMBERS = 12, CHIM_RESULT_NUMBERS = 5, CHIM_CAMPAIGN_NUMBERS = 5, CHIM_BENCH_PLACES = 32, CHIM_PLACE_NUMBERS = 6 };
 
 /* The places of a result. */
-enum { CHIM_CROSSINGS = 0, CHIM_COUNTED = 1, CHIM_FIRST = 2, CHIM_EXPOSURE = 3 };
+enum { CHIM_CROSSINGS = 0, CHIM_COUNTED = 1, CHIM_FIRST = 2, CHIM_EXPOSURE = 3, CHIM_LARGEST_SET = 4 };
 
 enum {
     CHIM_TAKEN = 0,
@@ -113,7 +118,7 @@ uint64_t chim_record_end(const uint64_t *state, size_t state_len, uint64_t *resu
  * compared as they are. */
 size_t chim_record_first_crossing(const int32_t *samples, size_t samples_len, uint64_t ramp, uint64_t level);
 
-/* Writes the counted times of a whole record, in order, from the start of `times`, whose other places stay; *carried is their number.
+/* Writes the counted times of a whole record, each group's by its first crossing, in order, from the start of `times`, whose other places stay; *carried is their number.
  * Refuses 1, 2, 3, 4, 7. */
 uint64_t chim_record_list(uint64_t step, uint64_t ramp, uint64_t level, uint64_t decorrelation, const int32_t *samples, size_t samples_len,
                           uint32_t *times, size_t times_len, uint64_t *carried);

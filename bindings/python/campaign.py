@@ -23,7 +23,7 @@ record.feed(roll[:3])
 record.feed(roll[3:])
 result = record.end()
 print(
-    f"crossings {result.crossings}, counted {result.counted}, first failure at sample {result.first}, exposure {result.exposure} ms"
+    f"crossings {result.crossings}, counted {result.counted}, largest set {result.largest_set}, first failure at sample {result.first}, exposure {result.exposure} ms"
 )
 campaign.enter(result.failed, result.exposure)
 show(campaign)

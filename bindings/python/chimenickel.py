@@ -138,12 +138,14 @@ class _State:
 
 
 class Result(NamedTuple):
-    """What a record comes to: crossings, counted failures, the first failure's place or None, and the exposure in ms."""
+    """What a record comes to: crossings, counted failures (the groups of crossings), the first failure's place or None, the exposure in ms, and the largest
+    set of crossings pairwise at least the decorrelation time apart."""
 
     crossings: int
     counted: int
     first: Optional[int]
     exposure: int
+    largest_set: int
 
     @property
     def failed(self):
@@ -155,7 +157,7 @@ class Record(_State):
     """One channel of samples, so far. The step is 1 to 10,000 ms, the ramp 0 to 1,000,000 samples, the level 1 to 1,000,000, the decorrelation time 0 to
     10,000,000 ms."""
 
-    LENGTH = 10
+    LENGTH = 12  # 10 before groups were counted
 
     def __init__(self, step, ramp, level, decorrelation):
         super().__init__([0] * self.LENGTH)
@@ -167,10 +169,10 @@ class Record(_State):
 
     def end(self):
         """The record's result, to be seen before it enters a campaign."""
-        result = (_u64 * 4)()
+        result = (_u64 * 5)()
         _ask(_lib.chim_record_end, self._state, self.LENGTH, result, len(result))
-        crossings, counted, first, exposure = result
-        return Result(crossings, counted, first or None, exposure)
+        crossings, counted, first, exposure, largest_set = result
+        return Result(crossings, counted, first or None, exposure, largest_set)
 
     @property
     def samples(self):
@@ -182,7 +184,12 @@ class Record(_State):
 
     @property
     def counted(self):
-        """The failures counted apart."""
+        """The groups: runs of successive crossings, each less than the decorrelation time after the crossing just before it."""
+        return self._state[11]
+
+    @property
+    def largest_set(self):
+        """The largest number of crossings pairwise at least the decorrelation time apart."""
         return self._state[7]
 
     @property
@@ -199,7 +206,7 @@ def first_crossing(samples, ramp, level):
 
 
 def counted_times(step, ramp, level, decorrelation, samples):
-    """The counted times of a whole record."""
+    """The counted times of a whole record: of each group, that of its first crossing."""
     xs, n = _slice(samples)
     items = tuple(map(_number, (step, ramp, level, decorrelation)))
     places = 0

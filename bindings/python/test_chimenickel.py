@@ -45,7 +45,8 @@ class Records(unittest.TestCase):
 
     def test_every_cut_leads_to_the_whole(self):
         whole = fed(array("i", ROLL))
-        self.assertEqual((whole.samples, whole.crossings, whole.counted, whole.first), (7, 3, 2, 1))
+        self.assertEqual((whole.samples, whole.crossings, whole.counted, whole.largest_set, whole.first), (7, 3, 1, 2, 1))
+        self.assertEqual((whole.end().counted, whole.end().largest_set), (1, 2))
         for cut in range(len(ROLL) + 1):
             record = fed(ROLL[:cut])
             record.feed(ROLL[cut:])
@@ -64,7 +65,7 @@ class Records(unittest.TestCase):
         self.assertRaises(OverflowError, Record, -1, 0, 1, 0)
 
     def test_times(self):
-        self.assertEqual(counted_times(*ITEMS, ROLL), [500, 2_500])
+        self.assertEqual((counted_times(*ITEMS, ROLL), counted_times(500, 0, 40_000, 0, ROLL)), ([500], [500, 1_500, 2_500]))
         self.assertEqual(counted_times(*ITEMS, [0, 0]), [])
         self.refused(4, 0, counted_times, *ITEMS, ROLL[:1])
         self.assertEqual((first_crossing(ROLL, 0, 40_000), first_crossing(ROLL, 0, 41_000), first_crossing([], 0, 1)), (1, None, None))
@@ -165,8 +166,9 @@ class Records(unittest.TestCase):
         self.refused(9, 1, Campaign.read_sheet, b"")
 
     def test_numbers_that_are_no_state(self):
-        self.refused(8, 0, Record.from_numbers, [0] * 9)
-        self.refused(8, 0, Record.from_numbers([(1 << 64) - 1] * 10).feed, [])
+        self.refused(8, 0, Record.from_numbers, fed(ROLL).numbers[:10])
+        self.refused(8, 0, Record.from_numbers([(1 << 64) - 1] * 12).feed, [])
+        self.refused(8, 0, Record.from_numbers(fed(ROLL).numbers[:11] + [3]).end)
         self.refused(8, 0, Campaign.from_numbers([1, 1, 1, 1, 2]).verdict)
         self.assertEqual(Record.from_numbers(fed(ROLL).numbers).numbers, fed(ROLL).numbers)
 

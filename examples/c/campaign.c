@@ -26,8 +26,8 @@ int main(void) {
     chim_record_feed(record, CHIM_RECORD_NUMBERS, roll, 3, &carried);
     chim_record_feed(record, CHIM_RECORD_NUMBERS, roll + 3, 4, &carried);
     chim_record_end(record, CHIM_RECORD_NUMBERS, result, CHIM_RESULT_NUMBERS, &carried);
-    printf("crossings %" PRIu64 ", counted %" PRIu64 ", first failure at sample %" PRIu64 ", exposure %" PRIu64 " ms\n", result[CHIM_CROSSINGS],
-           result[CHIM_COUNTED], result[CHIM_FIRST], result[CHIM_EXPOSURE]);
+    printf("crossings %" PRIu64 ", counted %" PRIu64 ", largest set %" PRIu64 ", first failure at sample %" PRIu64 ", exposure %" PRIu64 " ms\n",
+           result[CHIM_CROSSINGS], result[CHIM_COUNTED], result[CHIM_LARGEST_SET], result[CHIM_FIRST], result[CHIM_EXPOSURE]);
     chim_campaign_enter(campaign, CHIM_CAMPAIGN_NUMBERS, result[CHIM_FIRST] != 0, result[CHIM_EXPOSURE], &carried);
     verdict(campaign);
 

@@ -147,11 +147,29 @@ static void record(void) {
     hold(answer == CHIM_TAKEN || answer == CHIM_TOO_SHORT);
     if (answer != CHIM_TAKEN)
         return;
+    hold(result[CHIM_COUNTED] <= result[CHIM_LARGEST_SET] && result[CHIM_LARGEST_SET] <= result[CHIM_CROSSINGS]);
+    hold((result[CHIM_COUNTED] == 0) == (result[CHIM_FIRST] == 0));
     hold(chim_campaign_open(7200000, campaign, CHIM_CAMPAIGN_NUMBERS, &carried) == CHIM_TAKEN);
     hold(chim_campaign_enter(campaign, CHIM_CAMPAIGN_NUMBERS, result[CHIM_FIRST] != 0, result[CHIM_EXPOSURE], &carried) == CHIM_TAKEN);
 }
 
-/* listing into a slice of any length: beyond its places nothing is written, and a refusal writes nothing */
+/* the groups of a whole record, by their first crossings' times: a run of crossings, each less than `decorrelation` after the one just before it */
+static size_t groups(uint64_t step, uint64_t ramp, uint64_t level, uint64_t decorrelation, const int32_t *samples, size_t n, uint32_t *firsts) {
+    size_t number = 0;
+    uint64_t before = 0;
+    for (size_t i = 1; i < n; i++) {
+        uint64_t time = (i - ramp) * step;
+        if (i <= ramp || (uint64_t)llabs(samples[i - 1]) > level || (uint64_t)llabs(samples[i]) <= level)
+            continue;
+        if (number == 0 || time - before >= decorrelation)
+            firsts[number++] = (uint32_t)time;
+        before = time;
+    }
+    return number;
+}
+
+/* listing into a slice of any length: beyond its places nothing is written, and a refusal writes nothing; the times are those of the groups, as many as the
+ * record has when it is fed and ended */
 static void list(void) {
     enum { MOST = 256, PLACES = 16 };
     uint64_t step = number(2), ramp = number(1), level = number(3), decorrelation = number(2), places = number(1) % (PLACES + 1), carried = 0;
@@ -169,6 +187,17 @@ static void list(void) {
     for (size_t i = 0; i < written; i++)
         hold(times[i] <= 10000000 && (i == 0 || times[i] >= times[i - 1] + decorrelation));
     hold(chim_record_first_crossing(samples, n, ramp, level) <= n);
+    if (answer != CHIM_TAKEN && answer != CHIM_ROOM)
+        return;
+    uint32_t firsts[MOST];
+    size_t number = groups(step, ramp, level, decorrelation, samples, n, firsts);
+    hold(carried == number && memcmp(times, firsts, written * sizeof *times) == 0);
+    uint64_t state[CHIM_RECORD_NUMBERS], result[CHIM_RESULT_NUMBERS];
+    hold(chim_record_open(step, ramp, level, decorrelation, state, CHIM_RECORD_NUMBERS, &carried) == CHIM_TAKEN);
+    hold(chim_record_feed(state, CHIM_RECORD_NUMBERS, samples, n, &carried) == CHIM_TAKEN);
+    hold(chim_record_end(state, CHIM_RECORD_NUMBERS, result, CHIM_RESULT_NUMBERS, &carried) == CHIM_TAKEN);
+    hold(result[CHIM_COUNTED] == number);
+    hold(chim_record_feed(state, 10, samples, n, &carried) == CHIM_BROKEN_STATE);
 }
 
 /* a campaign of any numbers, and records entered into it */

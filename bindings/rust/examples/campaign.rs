@@ -24,9 +24,10 @@ fn main() -> Result<(), Refusal> {
     }
     let ended = record.end()?;
     println!(
-        "crossings {}, counted {}, first failure at sample {}, exposure {} ms",
+        "crossings {}, counted {}, largest set {}, first failure at sample {}, exposure {} ms",
         ended.crossings,
         ended.counted,
+        ended.largest_set,
         ended.first.unwrap_or(0),
         ended.exposure
     );

@@ -12,11 +12,11 @@
 //! let mut record = Record::open(Items { step: 500, ramp: 0, level: 40_000, decorrelation: 2_000 })?;
 //! record.feed(&[0, 41_000, 39_000])?;
 //! record.feed(&[41_000, 39_000, 41_000, 0])?;
-//! assert_eq!((record.crossings(), record.counted(), record.first()), (3, 2, Some(1)));
+//! assert_eq!((record.crossings(), record.counted(), record.largest_set(), record.first()), (3, 1, 2, Some(1)));
 //!
 //! let mut campaign = Campaign::open(7_200_000)?;
 //! let ended = record.end()?;
-//! assert_eq!((ended.counted, ended.exposure), (2, 500));
+//! assert_eq!((ended.counted, ended.largest_set, ended.exposure), (1, 2, 500));
 //! campaign.enter(ended.failed(), ended.exposure)?;
 //! assert!(matches!(campaign.verdict()?, Verdict::Reject { .. }));
 //! # Ok(())
@@ -154,13 +154,13 @@ pub struct Items {
 /// One channel of samples, so far.
 #[derive(Clone, Debug, PartialEq, Eq)]
 pub struct Record {
-    numbers: [u64; 10],
+    numbers: [u64; 12],
 }
 
 impl Record {
     /// A record without samples.
     pub fn open(items: Items) -> Result<Record, Refusal> {
-        let mut s = [0; 10];
+        let mut s = [0; 12];
         answer(|carried| unsafe {
             c::chim_record_open(items.step, items.ramp, items.level, items.decorrelation, s.as_mut_ptr(), s.len(), carried)
         })?;
@@ -176,10 +176,10 @@ impl Record {
 
     /// The record's result, to be seen before it enters a campaign.
     pub fn end(&self) -> Result<Ended, Refusal> {
-        let (s, mut x) = (&self.numbers, [0; 4]);
+        let (s, mut x) = (&self.numbers, [0; 5]);
         answer(|carried| unsafe { c::chim_record_end(s.as_ptr(), s.len(), x.as_mut_ptr(), x.len(), carried) })?;
-        let [crossings, counted, first, exposure] = x;
-        Ok(Ended { crossings, counted, first: Some(first).filter(|&place| place != 0), exposure })
+        let [crossings, counted, first, exposure, largest_set] = x;
+        Ok(Ended { crossings, counted, first: Some(first).filter(|&place| place != 0), exposure, largest_set })
     }
 
     pub fn samples(&self) -> u64 {
@@ -190,8 +190,13 @@ impl Record {
         self.numbers[6]
     }
 
-    /// The failures counted apart.
+    /// The groups: runs of successive crossings, each less than the decorrelation time after the crossing just before it.
     pub fn counted(&self) -> u64 {
+        self.numbers[11]
+    }
+
+    /// The largest number of crossings pairwise at least the decorrelation time apart.
+    pub fn largest_set(&self) -> u64 {
         self.numbers[7]
     }
 
@@ -200,13 +205,13 @@ impl Record {
         Some(self.numbers[8]).filter(|&place| place != 0)
     }
 
-    /// The state, to be stored.
-    pub fn numbers(&self) -> &[u64; 10] {
+    /// The state, to be stored: twelve numbers, ten before groups were counted.
+    pub fn numbers(&self) -> &[u64; 12] {
         &self.numbers
     }
 
     /// A stored state; numbers that are no state are refused at their first use.
-    pub fn from_numbers(numbers: [u64; 10]) -> Record {
+    pub fn from_numbers(numbers: [u64; 12]) -> Record {
         Record { numbers }
     }
 }
@@ -215,12 +220,14 @@ impl Record {
 #[derive(Clone, Copy, Debug, PartialEq, Eq)]
 pub struct Ended {
     pub crossings: u64,
-    /// The failures counted apart.
+    /// The groups: runs of successive crossings, each less than the decorrelation time after the crossing just before it.
     pub counted: u64,
     /// The place of the first failure.
     pub first: Option<u64>,
     /// In ms: the time of the first failure, or else the full time.
     pub exposure: u64,
+    /// The largest number of crossings pairwise at least the decorrelation time apart.
+    pub largest_set: u64,
 }
 
 impl Ended {
@@ -236,7 +243,7 @@ pub fn first_crossing(samples: &[i32], ramp: u64, level: u64) -> Option<usize> {
     Some(place).filter(|&place| place < samples.len())
 }
 
-/// Writes the counted times of a whole record, in order, from the start of `times`, whose other places stay, and answers their number.
+/// Writes the counted times of a whole record, each group's by its first crossing, in order, from the start of `times`, whose other places stay, and answers their number.
 pub fn list_into(items: Items, samples: &[i32], times: &mut [u32]) -> Result<usize, Refusal> {
     let k = answer(|carried| unsafe {
         c::chim_record_list(
@@ -548,7 +555,7 @@ mod tests {
     #[test]
     fn every_cut_leads_to_the_whole() {
         let whole = fed(&ROLL);
-        assert_eq!((whole.samples(), whole.crossings(), whole.counted(), whole.first()), (7, 3, 2, Some(1)));
+        assert_eq!((whole.samples(), whole.crossings(), whole.counted(), whole.largest_set(), whole.first()), (7, 3, 1, 2, Some(1)));
         for cut in 0..=ROLL.len() {
             let mut record = fed(&ROLL[..cut]);
             record.feed(&ROLL[cut..]).unwrap();
@@ -583,9 +590,10 @@ mod tests {
 
     #[test]
     fn times_fit_or_tell_the_room() {
-        assert_eq!(list(ITEMS, &ROLL), Ok(vec![500, 2_500]));
+        let apart = Items { decorrelation: 0, ..ITEMS };
+        assert_eq!((list(ITEMS, &ROLL), list(apart, &ROLL)), (Ok(vec![500]), Ok(vec![500, 1_500, 2_500])));
         let mut one = [7];
-        assert_eq!(list_into(ITEMS, &ROLL, &mut one), Err(Refusal::Room(2)));
+        assert_eq!(list_into(apart, &ROLL, &mut one), Err(Refusal::Room(3)));
         assert_eq!(one, [7]);
         assert_eq!(list(ITEMS, &ROLL[..1]), Err(Refusal::TooShort));
         assert_eq!(first_crossing(&ROLL, 0, 40_000), Some(1));
@@ -611,11 +619,17 @@ mod tests {
 
     #[test]
     fn numbers_that_are_no_state() {
-        let mut record = Record::from_numbers([u64::MAX; 10]);
+        let mut record = Record::from_numbers([u64::MAX; 12]);
         assert_eq!(record.feed(&[]), Err(Refusal::BrokenState));
         assert_eq!(Campaign::from_numbers([1, 1, 1, 1, 2]).verdict(), Err(Refusal::BrokenState));
         let stored = *fed(&ROLL).numbers();
         assert_eq!(Record::from_numbers(stored), fed(&ROLL));
+        let mut no_group = stored;
+        no_group[11] = 0;
+        assert_eq!(Record::from_numbers(no_group).end(), Err(Refusal::BrokenState));
+        let (mut old, mut carried) = ([0; 10], 7);
+        old.copy_from_slice(&stored[..10]);
+        assert_eq!(unsafe { c::chim_record_feed(old.as_mut_ptr(), old.len(), ROLL.as_ptr(), 0, &mut carried) }, 8);
     }
 
     #[test]

@@ -5,24 +5,21 @@
 -- D is the step, R the ramp, a the level and τ the decorrelation time. The proof gathers what the crates `record`, `listing` and `campaign` show. Assumes
 -- nothing.
 use mathlib.Core.Path.{_≡_, ap, _∙_}
-use mathlib.Core.Bool.{Bool, cond, false, true}
+use mathlib.Core.Bool.{false, true}
 use mathlib.Core.List.{List, map, _++_}
 use Prim.Native.Nat.{ℕ, _≤_, _<_}
-use native.Mathlib.Omega.{arith}
 use lib.IntN.{ℤ}
 use lib.ListN.{length, drop}
-use Rattle.refusal.specs.declared.Refusal.{Refusal}
 use Rattle.refusal.specs.declared.Refusal.the-variants.{BrokenState}
 use Rattle.largest.specs.Choice.{Apart, LargestSet}
 use Rattle.groups.specs.Groups.{firsts, near}
 use Rattle.groups.specs.Parting.{Parting}
 use Rattle.groups.proofs.Parting.{as-many, groups-only}
-use Rattle.reading.specs.Reading.{counted, countedTimes, crossings, firstCrossing, groups, largestSet, timeAt}
+use Rattle.reading.specs.Reading.{countedTimes, crossings, firstCrossing, groups, largestSet, timeAt}
 use Rattle.reading.proofs.Places.{itself}
-use Rattle.listing.specs.Answers.{ListsTo, listed, written}
-use Rattle.listing.specs.declared.Listed.{Listed}
+use Rattle.listing.specs.Answers.{ListsTo, written}
 use Rattle.listing.specs.declared.Listed.the-variants.{Times}
-use Rattle.listing.specs.declared.Listed.the-variants as listing
+use Rattle.listing.proofs.Answered.{times-number}
 use Rattle.record.specs.declared.Answer.the-variants.{Refused, Taken}
 use Rattle.record.specs.declared.Record.{Record}
 use Rattle.record.specs.Answers.{fed, opened}
@@ -77,22 +74,10 @@ set : (D R a τ : ℕ) (xs : List ℤ) {t : Record} → t ≡ stateOf D R a τ x
 unfolding stateOf
 set D R a τ xs e = ap (λ (r : Record). r .largest) e
 
--- past one test of a list of refusals
-past : (b : Bool) (f : Refusal) (a : Listed) {k : ℕ} → Times k ≡ cond b (listing.Refused f) a → Times k ≡ a
-past true f a e = let z : _≡_ {A = ℕ} 0 1 = cc in absurd (omega arith)
-past false f a e = e
-
-same-times : (j k : ℕ) → Times j ≡ Times k → j ≡ k
-same-times j k e = cc
-
-listed-number : (D R a τ : ℕ) (xs : List ℤ) (places k : ℕ) → Times k ≡ listed D R a τ xs places → k ≡ length (counted D R a τ xs)
-unfolding listed
-listed-number D R a τ xs places k e = same-times k _ (past _ _ _ (past _ _ _ (past _ _ _ (past _ _ _ (past _ _ _ e)))))
-
 lists : (D R a τ : ℕ) (xs : List ℤ) (before after : List ℕ) (k : ℕ) → ListsTo D R a τ xs before (Times k) after → (k ≡ length (groups D R a τ xs)) × (after ≡ map (timeAt D R) (firsts (groups D R a τ xs)) ++ drop k before)
 unfolding written
 lists D R a τ xs before after k l =
-    (listed-number D R a τ xs (length before) k (l .answers) ∙ as-many (near (timeAt D R) τ) (crossings R a xs), l .leaves)
+    (times-number D R a τ xs before (l .answers) ∙ as-many (near (timeAt D R) τ) (crossings R a xs), l .leaves)
 
 whole : (D R a τ : ℕ) (s t : Record) (ps : List (List ℤ)) → opened D R a τ ≡ Taken s → AllTaken s ps t → ReadsWhole D R a τ s t ps (joined ps)
 whole D R a τ s t ps e f =

@@ -53,6 +53,21 @@ module _ (D R a τ : ℕ) (xs : List ℤ) (slice : List ℕ) where
       go true false false true e = cc
       go true false false false e = let z : _≡_ {A = ℕ} 0 1 = cc in absurd (omega arith)
 
+  -- the number of times that is answered
+  pub times-number : {k : ℕ} → Times k ≡ listed D R a τ xs (length slice) → k ≡ length (counted D R a τ xs)
+  unfolding listed
+  times-number {k} e = go (eqb (itemOutside D R a τ) 0) (ltb (firstBad xs) (length xs)) (ltb (mostSamples D R) (length xs)) (tooFew R (length xs)) (ltb (length slice) (length (counted D R a τ xs))) e
+    where
+      go : (i b l s r : Bool)
+          → Times k ≡ cond (not i) (Refused (Item (itemOutside D R a τ))) (cond b (Refused (Sample (firstBad xs))) (cond l (Refused TooLong) (cond s (Refused TooShort) (cond r (Refused (Room (length (counted D R a τ xs)))) (Times (length (counted D R a τ xs)))))))
+          → k ≡ length (counted D R a τ xs)
+      go false b l s r e = let z : _≡_ {A = ℕ} 0 1 = cc in absurd (omega arith)
+      go true true l s r e = let z : _≡_ {A = ℕ} 0 1 = cc in absurd (omega arith)
+      go true false true s r e = let z : _≡_ {A = ℕ} 0 1 = cc in absurd (omega arith)
+      go true false false true r e = let z : _≡_ {A = ℕ} 0 1 = cc in absurd (omega arith)
+      go true false false false true e = let z : _≡_ {A = ℕ} 0 1 = cc in absurd (omega arith)
+      go true false false false false e = cc
+
   module _ (f : Fitting D R a τ (length xs)) where
     pub lists-bad : firstBad xs < length xs → ListsTo D R a τ xs slice (Refused (Sample (firstBad xs))) slice
     unfolding listed written

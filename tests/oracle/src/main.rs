@@ -31,21 +31,25 @@ const OFTEN: u64 = 200;
 
 // ---- the arrays of the header
 
+const RECORD_NUMBERS: usize = 12;
+const RESULT_NUMBERS: usize = 5;
+
 fn record_numbers(r: &Record) -> Vec<u64> {
     let x = i64::from(r.last);
     let code = if x < 0 { -2 * x - 1 } else { 2 * x } as u64;
     let mut s = r.items.to_vec();
-    s.extend([r.n, code, r.crossings, r.counted, r.first, r.latest]);
+    s.extend([r.n, code, r.crossings, r.largest, r.first, r.latest, r.recent, r.groups]);
     s
 }
 
 fn record_in(s: &[u64]) -> Option<Record> {
-    if s.len() != 10 || s[5] > 2_000_000 {
+    if s.len() != RECORD_NUMBERS || s[5] > 2_000_000 {
         return None;
     }
     let half = (s[5] / 2) as i32;
     let last = if s[5] % 2 == 0 { half } else { -half - 1 };
-    Some(Record { items: [s[0], s[1], s[2], s[3]], n: s[4], last, crossings: s[6], counted: s[7], first: s[8], latest: s[9] })
+    let items = [s[0], s[1], s[2], s[3]];
+    Some(Record { items, n: s[4], last, crossings: s[6], largest: s[7], first: s[8], latest: s[9], recent: s[10], groups: s[11] })
 }
 
 fn campaign_numbers(c: &Campaign) -> Vec<u64> {
@@ -88,7 +92,7 @@ impl Bench {
     // ---- one comparison for each entry
 
     fn record_open(&mut self, items: [u64; 4], state: &mut Vec<u64>) {
-        let answer = if state.len() == 10 { paper::open(items) } else { Err((8, 0)) };
+        let answer = if state.len() == RECORD_NUMBERS { paper::open(items) } else { Err((8, 0)) };
         let expected = told(answer, record_numbers, state);
         let (number, carried) = library::record_open(items, state);
         self.same("record_open", number, &items, expected, (number, carried, state.clone()));
@@ -133,7 +137,7 @@ impl Bench {
     fn record_end(&mut self, record: &[u64], places: usize, campaign: &[u64]) {
         let before: Vec<u64> = (0..places as u64).map(|k| u64::MAX - k).collect();
         let answer = match record_in(record) {
-            Some(r) if places == 4 => paper::ended(&r),
+            Some(r) if places == RESULT_NUMBERS => paper::ended(&r),
             _ => Err((8, 0)),
         };
         let expected = told(answer, |x| x.to_vec(), &before);
@@ -248,7 +252,7 @@ impl Bench {
 
     fn openings(&mut self, times: u64) {
         for _ in 0..times {
-            let length = if self.random.one_in(5) { self.random.within(0, 12) } else { 10 };
+            let length = if self.random.one_in(5) { self.random.within(0, 14) } else { RECORD_NUMBERS as u64 };
             let mut state: Vec<u64> = (0..length).map(|_| self.random.next()).collect();
             let items = self.items();
             self.record_open(items, &mut state);
@@ -263,7 +267,7 @@ impl Bench {
     fn records(&mut self, times: u64) {
         for _ in 0..times {
             let items = self.lively();
-            let mut state = vec![0; 10];
+            let mut state = vec![0; RECORD_NUMBERS];
             self.record_open(items, &mut state);
             let length = self.random.within(0, 40) as usize;
             let samples = self.samples(length, items[2], 12);
@@ -286,6 +290,10 @@ impl Bench {
                 let places = paper::crossings(&taken, items[1], items[2]);
                 let stands: Vec<u64> = places.iter().map(|&i| (i as u64 - items[1]) * items[0]).collect();
                 self.same("largest set", 0, &(items, &taken), paper::largest(&stands, items[3]) as u64, state[7]);
+                // one group more for each gap that is not less than the time
+                let gaps = stands.windows(2).filter(|w| w[1] - w[0] >= items[3]).count();
+                let number = if stands.is_empty() { 0 } else { 1 + gaps as u64 };
+                self.same("groups", 0, &(items, &taken), (number, true), (state[11], state[11] <= state[7]));
             }
         }
     }
@@ -307,9 +315,11 @@ impl Bench {
             }
             if r.n >= items[1] + 2 && r.n <= most && self.random.one_in(2) {
                 r.crossings = self.random.within(1, r.n - 1 - items[1]);
-                r.counted = self.random.within(1, r.crossings);
+                r.largest = self.random.within(1, r.crossings);
+                r.groups = self.random.within(1, r.largest);
                 r.first = self.random.within(items[1] + 1, r.n - 1);
                 r.latest = self.random.within(r.first, r.n - 1);
+                r.recent = self.random.within(r.latest, r.n - 1);
             }
             if paper::record_ok(&r) {
                 return r;
@@ -355,7 +365,7 @@ impl Bench {
     fn damaged(&mut self, state: &[u64], place: usize) -> Vec<u64> {
         let mut s = state.to_vec();
         if place == s.len() {
-            let length = self.random.within(0, 12) as usize;
+            let length = self.random.within(0, 14) as usize;
             s.resize(length, 1);
             return s;
         }
@@ -380,17 +390,45 @@ impl Bench {
             let length = self.random.within(0, 6) as usize;
             let piece = self.samples(length, r.items[2], 8);
             self.record_feed(&mut record.clone(), &piece);
-            let places = if self.random.one_in(5) { self.random.within(0, 6) as usize } else { 4 };
+            let places = if self.random.one_in(5) { self.random.within(0, 7) as usize } else { RESULT_NUMBERS };
             self.record_end(&record, places, &campaign);
             for place in 0..=record.len() {
                 let mut broken = self.damaged(&record, place);
-                self.record_end(&broken, 4, &campaign);
+                self.record_end(&broken, RESULT_NUMBERS, &campaign);
                 self.record_feed(&mut broken, &piece);
             }
             for place in 0..=campaign.len() {
                 let broken = self.damaged(&campaign, place);
-                self.record_end(&record, 4, &broken);
+                self.record_end(&record, RESULT_NUMBERS, &broken);
             }
+        }
+    }
+
+    /// The last crossing's place and the groups at each end of what document 02's [5] asks for, and one past it; and arrays of the lengths of before it.
+    fn grouped_states(&mut self, times: u64) {
+        for _ in 0..times {
+            let r = self.sound_record();
+            let record = record_numbers(&r);
+            let campaign = campaign_numbers(&self.sound_campaign());
+            let length = self.random.within(0, 6) as usize;
+            let piece = self.samples(length, r.items[2], 50);
+            for recent in [0, 1, r.first, r.latest.wrapping_sub(1), r.latest, r.latest + 1, r.n.wrapping_sub(1), r.n, r.n + 1] {
+                for groups in [0, 1, 2, r.groups, r.largest.wrapping_sub(1), r.largest, r.largest + 1, r.crossings] {
+                    let mut state = record.clone();
+                    state[10] = recent;
+                    state[11] = groups;
+                    self.record_end(&state, RESULT_NUMBERS, &campaign);
+                    self.record_feed(&mut state, &piece);
+                }
+            }
+            for length in [10, 11, 13] {
+                let mut state = record.clone();
+                state.resize(length, 0);
+                self.record_end(&state, RESULT_NUMBERS, &campaign);
+                self.record_feed(&mut state, &piece);
+                self.record_open(r.items, &mut state);
+            }
+            self.record_end(&record, 4, &campaign);
         }
     }
 
@@ -449,7 +487,7 @@ impl Bench {
                     let mut samples = vec![0; n];
                     samples[place] = value;
                     for (items, step_back) in [([500, 0, 40_000, 0], 0), ([500, 3, 1_000_000, 0], 0), ([10_000, 0, 40_000, 0], 400)] {
-                        let mut state = vec![0; 10];
+                        let mut state = vec![0; RECORD_NUMBERS];
                         self.record_open(items, &mut state);
                         let before: Vec<i32> = vec![0; step_back];
                         for _ in 0..step_back / 200 {
@@ -491,6 +529,7 @@ fn main() {
     b.records(15_000);
     b.listings(15_000);
     b.states(4_000);
+    b.grouped_states(2_000);
     b.campaigns(5_000);
     b.histories(100_000 / share);
 
@@ -500,7 +539,7 @@ fn main() {
         println!("{entry:18} {}", met.join("  "));
         rare.extend(numbers.iter().filter(|&&n| *b.met.get(&(entry, n)).unwrap_or(&0) < often).map(|n| format!("{entry} {n}")));
     }
-    for entry in ["first_crossing", "whole record", "largest set", "rows"] {
+    for entry in ["first_crossing", "whole record", "largest set", "groups", "rows"] {
         println!("{entry:18} {}", b.met[&(entry, 0)]);
     }
     for (case, name) in ["no record", "accept", "reject", "continue"].iter().enumerate() {

@@ -42,7 +42,21 @@ pub fn crossings(samples: &[i32], ramp: u64, level: u64) -> Vec<usize> {
     places
 }
 
-pub fn counted(places: &[usize], step: u64, ramp: u64, decorrelation: u64) -> Vec<usize> {
+/// Document 02, [5], as document 000, section 6.3, arranges it: the crossings group by group, each less than the time after the one before it in its group.
+pub fn groups(places: &[usize], step: u64, ramp: u64, decorrelation: u64) -> Vec<Vec<usize>> {
+    let time = |i: usize| (i as u64 - ramp) * step;
+    let mut groups: Vec<Vec<usize>> = Vec::new();
+    for &i in places {
+        match groups.last_mut() {
+            Some(group) if time(i) - time(group[group.len() - 1]) < decorrelation => group.push(i),
+            _ => groups.push(vec![i]),
+        }
+    }
+    groups
+}
+
+/// The walk of document 01, whose number is the largest set.
+pub fn apart(places: &[usize], step: u64, ramp: u64, decorrelation: u64) -> Vec<usize> {
     let time = |i: usize| (i as u64 - ramp) * step;
     let mut kept: Vec<usize> = Vec::new();
     for &i in places {
@@ -74,9 +88,11 @@ pub struct Record {
     pub n: u64,
     pub last: i32,
     pub crossings: u64,
-    pub counted: u64,
+    pub largest: u64,
     pub first: u64,
     pub latest: u64,
+    pub recent: u64,
+    pub groups: u64,
 }
 
 pub fn open(items: [u64; 4]) -> Result<Record, Refused> {
@@ -85,38 +101,43 @@ pub fn open(items: [u64; 4]) -> Result<Record, Refused> {
             return Err((1, item as u64));
         }
     }
-    Ok(Record { items, n: 0, last: 0, crossings: 0, counted: 0, first: 0, latest: 0 })
+    Ok(Record { items, n: 0, last: 0, crossings: 0, largest: 0, first: 0, latest: 0, recent: 0, groups: 0 })
 }
 
 /// The state of a whole list of samples, figure by figure.
 pub fn state_of(items: [u64; 4], samples: &[i32]) -> Record {
     let [step, ramp, level, decorrelation] = items;
     let places = crossings(samples, ramp, level);
-    let kept = counted(&places, step, ramp, decorrelation);
+    let kept = apart(&places, step, ramp, decorrelation);
     Record {
         items,
         n: samples.len() as u64,
         last: samples.last().copied().unwrap_or(0),
         crossings: places.len() as u64,
-        counted: kept.len() as u64,
+        largest: kept.len() as u64,
         first: places.first().map_or(0, |&i| i as u64),
         latest: kept.last().map_or(0, |&i| i as u64),
+        recent: places.last().map_or(0, |&i| i as u64),
+        groups: groups(&places, step, ramp, decorrelation).len() as u64,
     }
 }
 
-/// "Relations for 8", the record's.
+/// "Relations for 8", the record's, and document 02's [5] in addition.
 pub fn record_ok(r: &Record) -> bool {
     let [step, ramp, ..] = r.items;
-    if open(r.items).is_err() || !sample_ok(r.last) || r.n > most_samples(step, ramp) || r.counted > r.crossings {
+    if open(r.items).is_err() || !sample_ok(r.last) || r.n > most_samples(step, ramp) || r.largest > r.crossings {
         return false;
     }
     if r.n == 0 && r.last != 0 {
         return false;
     }
     if r.first == 0 {
-        return r.crossings == 0 && r.counted == 0 && r.latest == 0;
+        return r.crossings == 0 && r.largest == 0 && r.latest == 0 && r.recent == 0 && r.groups == 0;
     }
-    if r.crossings == 0 || r.counted == 0 {
+    if r.crossings == 0 || r.largest == 0 {
+        return false;
+    }
+    if r.recent >= r.n || r.recent < r.latest || r.groups < 1 || r.groups > r.largest {
         return false;
     }
     r.n > ramp && r.crossings <= r.n - 1 - ramp && r.first > ramp && r.first <= r.latest && r.latest < r.n
@@ -132,9 +153,12 @@ fn one_more(r: &Record, x: i32) -> Record {
             s.first = r.n;
         }
         if r.crossings == 0 || (r.n - r.latest) * step >= decorrelation {
-            s.counted += 1;
+            s.largest += 1;
             s.latest = r.n;
         }
+        let joins = r.crossings > 0 && (r.n - r.recent) * step < decorrelation;
+        s.groups += u64::from(!joins);
+        s.recent = r.n;
     }
     s.n += 1;
     s.last = x;
@@ -168,11 +192,11 @@ pub fn listed(items: [u64; 4], samples: &[i32], places: usize) -> Result<Vec<u32
     if n < ramp + 2 {
         return Err((4, 0));
     }
-    let kept = counted(&crossings(samples, ramp, level), step, ramp, decorrelation);
-    if kept.len() > places {
-        return Err((7, kept.len() as u64));
+    let groups = groups(&crossings(samples, ramp, level), step, ramp, decorrelation);
+    if groups.len() > places {
+        return Err((7, groups.len() as u64));
     }
-    Ok(kept.iter().map(|&i| ((i as u64 - ramp) * step) as u32).collect())
+    Ok(groups.iter().map(|group| ((group[0] as u64 - ramp) * step) as u32).collect())
 }
 
 // ---- the campaign
@@ -221,8 +245,8 @@ pub fn campaign_ok(c: &Campaign) -> bool {
         && !(n == ROWS && !c.failed)
 }
 
-/// Document 02, [4], the first step: crossings, count, first failure and exposure.
-pub fn ended(r: &Record) -> Result<[u64; 4], Refused> {
+/// Document 02, [4], the first step: crossings, count, first failure and exposure; by [5] the groups are the count, and the largest set stands beside it.
+pub fn ended(r: &Record) -> Result<[u64; 5], Refused> {
     if !record_ok(r) {
         return Err((8, 0));
     }
@@ -231,7 +255,7 @@ pub fn ended(r: &Record) -> Result<[u64; 4], Refused> {
         return Err((4, 0));
     }
     let last = if r.first == 0 { r.n - 1 } else { r.first };
-    Ok([r.crossings, r.counted, r.first, (last - ramp) * step])
+    Ok([r.crossings, r.groups, r.first, (last - ramp) * step, r.largest])
 }
 
 /// The second step, which reads only whether there is a first failure and the exposure: 8 for the campaign or the result, 5, 6.

@@ -9,7 +9,7 @@
 #include "chimenickel.h"
 
 uint64_t plain_feed(uint64_t step, uint64_t ramp, uint64_t level, uint64_t decorrelation, const int32_t *samples, size_t n,
-                    uint64_t *crossings);
+                    uint64_t *crossings, uint64_t *largest_set);
 int64_t plain_sum(const int32_t *samples, size_t n);
 size_t plain_first_bad(const int32_t *samples, size_t n);
 
@@ -20,18 +20,18 @@ typedef struct {
     uint64_t step, ramp;
 } Job;
 
-/* the failures counted in a record that is opened and fed as one piece; a number past any count for a refusal */
+/* the groups and the largest set of a record that is opened and fed as one piece, as one number; one past any such for a refusal */
 static uint64_t counted(Job job, const int32_t *samples, size_t n) {
     uint64_t record[CHIM_RECORD_NUMBERS], carried;
     if (chim_record_open(job.step, job.ramp, LEVEL, DECORRELATION, record, CHIM_RECORD_NUMBERS, &carried) != CHIM_TAKEN ||
         chim_record_feed(record, CHIM_RECORD_NUMBERS, samples, n, &carried) != CHIM_TAKEN)
         return UINT64_MAX;
-    return record[7];
+    return record[11] << 32 | record[7];
 }
 
 static uint64_t plainly_counted(Job job, const int32_t *samples, size_t n) {
-    uint64_t crossings;
-    return plain_feed(job.step, job.ramp, LEVEL, DECORRELATION, samples, n, &crossings);
+    uint64_t crossings, largest = 0;
+    return plain_feed(job.step, job.ramp, LEVEL, DECORRELATION, samples, n, &crossings, &largest) << 32 | largest;
 }
 
 /* the place of the first bad sample as a piece's refusal carries it; the number of samples where a piece is refused for its length alone */

@@ -34,7 +34,7 @@ pub extern "C" fn chim_record_feed(state: &mut [u64], piece: &[i32], carried: &m
     capi::keep_record(r.feed(piece), state, carried)
 }
 
-// The result of the record in `state`: crossings, counted failures, the first failure's place or 0, exposure; or refusal 8, 4. The record stays as it is.
+// The result of the record in `state`: crossings, groups, the first failure's place or 0, exposure, largest set; or refusal 8, 4. The record stays as it is.
 #[no_mangle]
 pub extern "C" fn chim_record_end(state: &[u64], result: &mut [u64], carried: &mut u64) -> u64
     ensures { λ n. ⌜ told n (now (carried .exit)) (now (result .exit)) ≡ recordEnded (now (state .entry)) (now (result .entry)) ⌝ }

@@ -1,6 +1,7 @@
 // The counted times of a whole record, each group's by its first crossing, listed into lent memory. The timed samples are read once, block by block, and a quiet block is passed over. The times
 // found on the way are kept aside, since refusal 7 must know their number before anything is written; only if they are too many is the record read again.
 ghost use mathlib.Core.Path.{_≡_};
+ghost use mathlib.Core.Bool.{true};
 ghost use mathlib.Core.List.{foldl};
 ghost use Prim.Native.Nat.{_*_, _≤_};
 ghost use lib.ListN.{length, set, take};
@@ -8,7 +9,7 @@ ghost use lib.Seq.{paste};
 ghost use Rattle.block.specs.Block.{anyAbove};
 ghost use Rattle.range.specs.Range.{firstBad};
 ghost use Rattle.reading.specs.Reading.{countedTimes};
-ghost use Rattle.listing.specs.Walk.{counts, passed, start, noting, marked, noted, Ready, Passes, Heard};
+ghost use Rattle.listing.specs.Walk.{passed, start, noting, marked, noted, Ready, Passes, Heard};
 ghost use Rattle.listing.specs.Answers.{WritesTo, ListsTimed, ListsTo};
 use refusal::Refusal;
 use whole::Size;
@@ -47,13 +48,6 @@ fn start() -> Walk
     }
 }
 
-// Whether a group starts at a sample that is above the level or not.
-fn counts(w: Walk, up: bool) -> bool
-    ensures { λ k. ⌜ k ≡ counts w up ⌝ }
-{
-    truth::both(truth::both(w.below, up), w.due <= w.time)
-}
-
 // The walk after k samples at most the level.
 fn passed(step: u64, decorrelation: u64, w: Walk, k: usize) -> Walk
     requires { ⌜ Ready step decorrelation w k ⌝ }
@@ -78,25 +72,41 @@ fn put(time: u64, place: u64, times: &mut [u32])
     }
 }
 
-// The walk after a sample that is above the level or not; the time of a group that starts there is put into the next place.
-fn stepped(step: u64, decorrelation: u64, w: Walk, up: bool, times: &mut [u32]) -> Walk
-    requires { ⌜ Ready step decorrelation w 1 ⌝ }
-    ensures { λ v. ⌜ noting v (now (times .exit)) ≡ marked step decorrelation (noting w (now (times .entry))) up ⌝ }
+// The walk after a sample at which the level is crossed; the time of a group that starts there is put into the next place.
+fn crossed(step: u64, decorrelation: u64, w: Walk, times: &mut [u32]) -> Walk
+    requires { ⌜ Ready step decorrelation w 1 × (w .below ≡ true) ⌝ }
+    ensures { λ v. ⌜ noting v (now (times .exit)) ≡ marked step decorrelation (noting w (now (times .entry))) true ⌝ }
 {
-    if counts(w, up) {
+    if w.due <= w.time {
         put(w.time, w.count, times);
         return Walk {
-            below: !up,
+            below: false,
             time: w.time + step,
             count: w.count + 1,
             due: w.time + decorrelation,
         };
     }
     Walk {
+        below: false,
+        time: w.time + step,
+        count: w.count,
+        due: w.time + decorrelation,
+    }
+}
+
+// The walk after a sample that is above the level or not.
+fn stepped(step: u64, decorrelation: u64, w: Walk, up: bool, times: &mut [u32]) -> Walk
+    requires { ⌜ Ready step decorrelation w 1 ⌝ }
+    ensures { λ v. ⌜ noting v (now (times .exit)) ≡ marked step decorrelation (noting w (now (times .entry))) up ⌝ }
+{
+    if truth::both(w.below, up) {
+        return crossed(step, decorrelation, w, times);
+    }
+    Walk {
         below: !up,
         time: w.time + step,
         count: w.count,
-        due: truth::pick(truth::both(w.below, up), w.time + decorrelation, w.due),
+        due: w.due,
     }
 }
 

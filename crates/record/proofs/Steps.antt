@@ -137,6 +137,17 @@ module _ (r : Record) (x : ℤ) (s : Kept r) (h : r .ramp < r .n) where
       let t = mul-le-mul-right {m = r .latest - r .ramp} {n = r .recent - r .ramp} (r .step) (omega (arith, recent-after s)) in
       le-leb (timeAt (r .step) (r .ramp) (r .latest) + r .decorrelation) (timeAt (r .step) (r .ramp) (r .n)) (omega (arith, t, leb-true (timeAt (r .step) (r .ramp) (r .recent) + r .decorrelation) (timeAt (r .step) (r .ramp) (r .n)) e))
 
+  -- so one near the largest set's last is near the last one, and not the first
+  pub near-both : counts r ≡ false
+      → (eqb (r .crossings) 0 ≡ false) × (since (timeAt (r .step) (r .ramp)) (r .decorrelation) (r .latest) (r .n) ≡ false) × (since (timeAt (r .step) (r .ramp)) (r .decorrelation) (r .recent) (r .n) ≡ false)
+  near-both e = go (eqb (r .crossings) 0) (since (timeAt (r .step) (r .ramp)) (r .decorrelation) (r .latest) (r .n)) (since (timeAt (r .step) (r .ramp)) (r .decorrelation) (r .recent) (r .n)) e wider
+    where
+      go : (z b g : Bool) → (z || b) ≡ false → (g ≡ true → b ≡ true) → (z ≡ false) × (b ≡ false) × (g ≡ false)
+      go true b g e i = absurd (true≢false e)
+      go false true g e i = absurd (true≢false e)
+      go false false true e i = absurd (true≢false (sym (i refl)))
+      go false false false e i = (refl, refl, refl)
+
   marked-figures : (z b g : Bool) → eqb (r .crossings) 0 ≡ z → (g ≡ true → b ≡ true) → Failure (marked r x z (z || b) (z || g))
   marked-figures true b g e i =
       let c : r .crossings ≡ 0 = eqb-true _ _ e in

@@ -1,7 +1,7 @@
 // A record: one channel of samples at a fixed step, with a level, a ramp and a decorrelation time, whole or in pieces.
 // The state goes in by value and comes back in the answer, so a refusal leaves the caller's as it stood.
 ghost use mathlib.Core.Path.{_≡_};
-ghost use mathlib.Core.Bool.{true};
+ghost use mathlib.Core.Bool.{true, false};
 ghost use mathlib.Core.List.{foldl, []};
 ghost use Prim.Native.Nat.{_+_, _-_, _*_, _≤_, _<_};
 ghost use lib.ListN.{length};
@@ -9,7 +9,7 @@ ghost use Rattle.block.specs.Block.{anyAbove};
 ghost use Rattle.limits.specs.Limits.{mostSamples};
 ghost use Rattle.range.specs.Range.{firstBad};
 ghost use Rattle.record.specs.State.{stateOf, lastKept, noneKept, noGroups, failureKept, groupsKept, figuresKept, sound};
-ghost use Rattle.record.specs.Step.{moved, far, crossed, below, crosses, stepped};
+ghost use Rattle.record.specs.Step.{moved, far, counts, crossed, below, crosses, stepped};
 ghost use Rattle.record.specs.Answers.{opened, fed};
 use refusal::Refusal;
 
@@ -160,13 +160,32 @@ fn far(r: Record, place: u64) -> bool
     r.decorrelation <= (r.n - place) * r.step
 }
 
-// The state after a crossing at sample n, which is x. It joins the largest set if it is far from that one's last; it starts a group if it is far from the
-// crossing just before it.
-fn crossed(r: Record, x: i32) -> Record
-    requires { ⌜ (sound r ≡ true) × (r .ramp < r .n) ⌝ }
+// The state after a crossing at sample n, which is x, that is near the largest set's last, and so near the crossing just before it: it joins the last group.
+fn joining(r: Record, x: i32) -> Record
+    requires { ⌜ (sound r ≡ true) × (r .ramp < r .n) × (counts r ≡ false) ⌝ }
     ensures { λ s. ⌜ s ≡ crossed r x ⌝ }
 {
-    let c = far(r, r.latest);
+    Record {
+        step: r.step,
+        ramp: r.ramp,
+        level: r.level,
+        decorrelation: r.decorrelation,
+        n: r.n + 1,
+        last: x,
+        crossings: r.crossings + 1,
+        largest: r.largest,
+        first: r.first,
+        latest: r.latest,
+        recent: r.n,
+        groups: r.groups,
+    }
+}
+
+// The state after one that is far from it and joins the largest set; it starts a group if it is far from the crossing just before it.
+fn counted(r: Record, x: i32) -> Record
+    requires { ⌜ (sound r ≡ true) × (r .ramp < r .n) × (counts r ≡ true) ⌝ }
+    ensures { λ s. ⌜ s ≡ crossed r x ⌝ }
+{
     let g = far(r, r.recent);
     Record {
         step: r.step,
@@ -176,11 +195,23 @@ fn crossed(r: Record, x: i32) -> Record
         n: r.n + 1,
         last: x,
         crossings: r.crossings + 1,
-        largest: truth::pick(c, r.largest + 1, r.largest),
+        largest: r.largest + 1,
         first: truth::pick(r.crossings == 0, r.n, r.first),
-        latest: truth::pick(c, r.n, r.latest),
+        latest: r.n,
         recent: r.n,
         groups: truth::pick(g, r.groups + 1, r.groups),
+    }
+}
+
+// The state after a crossing at sample n, which is x.
+fn crossed(r: Record, x: i32) -> Record
+    requires { ⌜ (sound r ≡ true) × (r .ramp < r .n) ⌝ }
+    ensures { λ s. ⌜ s ≡ crossed r x ⌝ }
+{
+    if far(r, r.latest) {
+        counted(r, x)
+    } else {
+        joining(r, x)
     }
 }
 

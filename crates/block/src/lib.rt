@@ -1,6 +1,7 @@
 // A block of samples that are looked at together: where it ends, and whether a sample of it is above a level. Where none is, nothing of the block crosses
 // the level, and a pass over samples goes on behind it.
 ghost use mathlib.Core.Path.{_≡_};
+ghost use mathlib.Core.Bool.{_||_};
 ghost use Prim.Native.Nat.{min};
 ghost use lib.IntN.{pos, negℤ};
 ghost use Rattle.block.specs.Block.{blockEnd, anyAbove};
@@ -60,4 +61,11 @@ pub fn loud(level: u64, samples: &[i32]) -> bool
         i += 1;
     }
     found
+}
+
+// The same; or true, with no sample looked at, where the samples are taken for loud.
+pub fn may_be_loud(taken: bool, level: u64, samples: &[i32]) -> bool
+    ensures { λ r. ⌜ r ≡ (taken || anyAbove level (now (samples .entry))) ⌝ }
+{
+    if taken { true } else { loud(level, samples) }
 }

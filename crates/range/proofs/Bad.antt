@@ -85,9 +85,9 @@ quiet-higher a b (x ∷ p) l h =
     rw (le-ltb b (natAbs x) (omega (arith, ltb-false a (natAbs x) (w .0)))) (quiet-higher a b p l (w .1))
 
 -- so they need not be looked at
-pub if-loud : (a : ℕ) (p : List ℤ) {loud : Bool} → a ≤ sampleLimit → loud ≡ anyAbove a p → cond loud (firstBad p) (length p) ≡ firstBad p
-if-loud a p {loud} l e = rw e (go (anyAbove a p) refl)
+pub if-loud : (a : ℕ) (p : List ℤ) {loud : Bool} → a ≤ sampleLimit → (loud ≡ false → anyAbove a p ≡ false) → cond loud (firstBad p) (length p) ≡ firstBad p
+if-loud a p {loud} l e = go loud e
   where
-    go : (b : Bool) → anyAbove a p ≡ b → cond b (firstBad p) (length p) ≡ firstBad p
+    go : (b : Bool) → (b ≡ false → anyAbove a p ≡ false) → cond b (firstBad p) (length p) ≡ firstBad p
     go true q = refl
-    go false q = sym (quiet-good p (quiet-higher a sampleLimit p l q))
+    go false q = sym (quiet-good p (quiet-higher a sampleLimit p l (q refl)))

@@ -7,7 +7,7 @@ use native.Mathlib.Nat.{mul-le-mul-right}
 use native.Mathlib.Omega.{arith}
 use lib.Dec.{eqb, ltb}
 use lib.IntN.{ℤ}
-use borrow.Author.Tests.{eqb-true, eqb-false, ltb-true, leb-true, le-leb}
+use borrow.Author.Tests.{eqb-true, eqb-false, lt-ltb, ltb-true, leb-true, le-leb}
 use Rattle.magnitude.specs.Above.{above}
 use Rattle.largest.specs.Walk.{since}
 use Rattle.record.specs.declared.Record.{Record}
@@ -252,11 +252,20 @@ stepped-most r x = go (crosses r x)
     go true = refl
     go false = refl
 
--- after a sample: whether it is timed and at most the level
-pub stepped-below : (r : Record) (x : ℤ) → below (stepped r x) ≡ (ltb (stepped r x .ramp) (stepped r x .n) && not (above (r .level) x))
+-- after a timed sample the next one is timed
+pub stepped-timed : (r : Record) (x : ℤ) → r .ramp < r .n → stepped r x .ramp < stepped r x .n
 unfolding stepped
-stepped-below r x = go (crosses r x)
+stepped-timed r x h = go (crosses r x)
   where
-    go : (b : Bool) → below (cond b (crossed r x) (moved r 1 x)) ≡ (ltb (cond b (crossed r x) (moved r 1 x) .ramp) (cond b (crossed r x) (moved r 1 x) .n) && not (above (r .level) x))
-    go true = refl
-    go false = refl
+    go : (b : Bool) → cond b (crossed r x) (moved r 1 x) .ramp < cond b (crossed r x) (moved r 1 x) .n
+    go true = omega arith
+    go false = omega arith
+
+-- and a crossing may follow it where it is at most the level
+pub stepped-low : (r : Record) (x : ℤ) → stepped r x .ramp < stepped r x .n → below (stepped r x) ≡ not (above (r .level) x)
+unfolding stepped
+stepped-low r x = go (crosses r x)
+  where
+    go : (b : Bool) → cond b (crossed r x) (moved r 1 x) .ramp < cond b (crossed r x) (moved r 1 x) .n → below (cond b (crossed r x) (moved r 1 x)) ≡ not (above (r .level) x)
+    go true h = rw (lt-ltb _ _ h)
+    go false h = rw (lt-ltb _ _ h)

@@ -1,4 +1,5 @@
 pub mod State
+pub mod Gap
 pub mod Step
 pub mod Answers
 pub mod Pieces

@@ -3,12 +3,14 @@
 ghost use mathlib.Core.Path.{_≡_};
 ghost use mathlib.Core.Bool.{true, false};
 ghost use mathlib.Core.List.{foldl, []};
-ghost use Prim.Native.Nat.{_+_, _-_, _*_, _≤_, _<_};
+ghost use Prim.Native.Nat.{_+_, _-_, _≤_, _<_, min};
+ghost use lib.Dec.{ltb};
 ghost use lib.ListN.{length};
 ghost use Rattle.block.specs.Block.{anyAbove};
 ghost use Rattle.limits.specs.Limits.{mostSamples};
 ghost use Rattle.range.specs.Range.{firstBad};
 ghost use Rattle.record.specs.State.{stateOf, lastKept, noneKept, noGroups, failureKept, groupsKept, figuresKept, sound};
+ghost use Rattle.record.specs.Gap.{Gap};
 ghost use Rattle.record.specs.Step.{moved, far, counts, crossed, below, crosses, stepped};
 ghost use Rattle.record.specs.Answers.{opened, fed};
 use refusal::Refusal;
@@ -149,15 +151,23 @@ pub fn sound(r: Record) -> bool
     )
 }
 
-// Whether a crossing at sample n is the first, or at least the decorrelation time after the place of an earlier one.
-fn far(r: Record, place: u64) -> bool
-    requires { ⌜ (sound r ≡ true) × (place ≤ r .n) × (¬ (r .crossings ≡ 0) → r .ramp ≤ place) ⌝ }
+// How many samples after a place the decorrelation time has passed.
+fn gap_of(r: Record) -> u64
+    requires { ⌜ sound r ≡ true ⌝ }
+    ensures { λ g. ⌜ Gap (r .step) (r .decorrelation) g ⌝ }
+{
+    (r.decorrelation + (r.step - 1)) / r.step
+}
+
+// Whether a crossing at sample n is the first, or at least the decorrelation time, which is `gap` samples, after the place of an earlier one.
+fn far(r: Record, gap: u64, place: u64) -> bool
+    requires { ⌜ Gap (r .step) (r .decorrelation) gap × (place ≤ r .n) × (¬ (r .crossings ≡ 0) → r .ramp ≤ place) ⌝ }
     ensures { λ k. ⌜ k ≡ far r place ⌝ }
 {
     if r.crossings == 0 {
         return true;
     }
-    r.decorrelation <= (r.n - place) * r.step
+    gap <= r.n - place
 }
 
 // The state after a crossing at sample n, which is x, that is near the largest set's last, and so near the crossing just before it: it joins the last group.
@@ -182,11 +192,11 @@ fn joining(r: Record, x: i32) -> Record
 }
 
 // The state after one that is far from it and joins the largest set; it starts a group if it is far from the crossing just before it.
-fn counted(r: Record, x: i32) -> Record
-    requires { ⌜ (sound r ≡ true) × (r .ramp < r .n) × (counts r ≡ true) ⌝ }
+fn counted(r: Record, gap: u64, x: i32) -> Record
+    requires { ⌜ (sound r ≡ true) × (r .ramp < r .n) × (counts r ≡ true) × Gap (r .step) (r .decorrelation) gap ⌝ }
     ensures { λ s. ⌜ s ≡ crossed r x ⌝ }
 {
-    let g = far(r, r.recent);
+    let g = far(r, gap, r.recent);
     Record {
         step: r.step,
         ramp: r.ramp,
@@ -204,12 +214,12 @@ fn counted(r: Record, x: i32) -> Record
 }
 
 // The state after a crossing at sample n, which is x.
-fn crossed(r: Record, x: i32) -> Record
-    requires { ⌜ (sound r ≡ true) × (r .ramp < r .n) ⌝ }
+fn crossed(r: Record, gap: u64, x: i32) -> Record
+    requires { ⌜ (sound r ≡ true) × (r .ramp < r .n) × Gap (r .step) (r .decorrelation) gap ⌝ }
     ensures { λ s. ⌜ s ≡ crossed r x ⌝ }
 {
-    if far(r, r.latest) {
-        counted(r, x)
+    if far(r, gap, r.latest) {
+        counted(r, gap, x)
     } else {
         joining(r, x)
     }
@@ -245,46 +255,85 @@ fn below(r: Record) -> bool
 }
 
 // The state after sample n, which is x, of which it is known whether it crosses the level.
-fn step(r: Record, crossing: bool, x: i32) -> Record
-    requires { ⌜ (sound r ≡ true) × (r .n < mostSamples (r .step) (r .ramp)) × (crossing ≡ crosses r x) ⌝ }
+fn step(r: Record, gap: u64, crossing: bool, x: i32) -> Record
+    requires { ⌜ (sound r ≡ true) × (r .n < mostSamples (r .step) (r .ramp)) × (crossing ≡ crosses r x) × Gap (r .step) (r .decorrelation) gap ⌝ }
     ensures { λ s. ⌜ s ≡ stepped r x ⌝ }
 {
     if crossing {
-        crossed(r, x)
+        crossed(r, gap, x)
     } else {
         moved(r, 1, x)
     }
 }
 
-// The state after a piece whose samples are in range and not too many.
-fn run(r: Record, piece: &[i32]) -> Record
-    requires { ⌜ (sound r ≡ true) × (firstBad (now piece) ≡ length (now piece)) × (r .n + length (now piece) ≤ mostSamples (r .step) (r .ramp)) ⌝ }
-    ensures { λ s. ⌜ s ≡ foldl stepped r (now (piece .entry)) ⌝ }
+// The state after timed samples that are in range and not too many.
+fn run(r: Record, timed: &[i32]) -> Record
+    requires { ⌜ (sound r ≡ true) × (r .ramp < r .n) × (firstBad (now timed) ≡ length (now timed)) × (r .n + length (now timed) ≤ mostSamples (r .step) (r .ramp)) ⌝ }
+    ensures { λ s. ⌜ s ≡ foldl stepped r (now (timed .entry)) ⌝ }
 {
+    let gap = gap_of(r);
     let mut s = r;
     let mut low = below(r);
     let mut i = 0;
-    while i < piece.len() {
-        let x = piece[i];
+    while i < timed.len() {
+        let x = timed[i];
         let up = magnitude::above(s.level, x);
-        s = step(s, truth::both(low, up), x);
-        low = truth::both(s.ramp < s.n, !up);
+        s = step(s, gap, truth::both(low, up), x);
+        low = !up;
         i += 1;
     }
     s
 }
 
-// The same for a block of which it is known whether a sample is above the level. Where none is, no sample of it crosses, and only n and the last sample
+// How many of k samples no crossing can stand at: those up to the first timed one.
+fn leading(r: Record, k: usize) -> usize
+    requires { ⌜ sound r ≡ true ⌝ }
+    ensures { λ j. ⌜ j ≡ min k (r .ramp + 1 - r .n) ⌝ }
+{
+    if r.ramp < r.n {
+        return 0;
+    }
+    let left = r.ramp - r.n + 1;
+    if left < k as u64 { left as usize } else { k }
+}
+
+// The state after a block whose samples are in range and not too many: those of the ramp at once, the others one by one.
+fn step_all(r: Record, block: &[i32]) -> Record
+    requires { ⌜ (sound r ≡ true) × (firstBad (now block) ≡ length (now block)) × (0 < length (now block)) × (r .n + length (now block) ≤ mostSamples (r .step) (r .ramp)) ⌝ }
+    ensures { λ s. ⌜ s ≡ foldl stepped r (now (block .entry)) ⌝ }
+{
+    let lead = leading(r, block.len());
+    if lead == 0 {
+        return run(r, block);
+    }
+    let s = moved(r, lead as u64, block[lead - 1]);
+    if lead == block.len() {
+        return s;
+    }
+    run(s, &block[lead..])
+}
+
+// The same for a block of which it is known whether a sample may be above the level. Where none is, no sample of it crosses, and only n and the last sample
 // move.
 fn advance(r: Record, loud: bool, block: &[i32]) -> Record
-    requires { ⌜ (sound r ≡ true) × (loud ≡ anyAbove (r .level) (now block)) × (firstBad (now block) ≡ length (now block)) × (0 < length (now block)) × (r .n + length (now block) ≤ mostSamples (r .step) (r .ramp)) ⌝ }
+    requires { ⌜ (sound r ≡ true) × (loud ≡ false → anyAbove (r .level) (now block) ≡ false) × (firstBad (now block) ≡ length (now block)) × (0 < length (now block)) × (r .n + length (now block) ≤ mostSamples (r .step) (r .ramp)) ⌝ }
     ensures { λ s. ⌜ s ≡ foldl stepped r (now (block .entry)) ⌝ }
 {
     if loud {
-        return run(r, block);
+        return step_all(r, block);
     }
     let k = block.len();
     moved(r, k as u64, block[k - 1])
+}
+
+// Whether a block was so full of crossings that the next one is stepped with no look at it first.
+fn dense(before: u64, after: u64) -> bool
+    ensures { λ k. ⌜ k ≡ ltb 16 (after - before) ⌝ }
+{
+    if after < before {
+        return false;
+    }
+    16 < after - before
 }
 
 // The answer to a piece that there is room for, block by block, so that a quiet block is passed over at the speed of `loud`.
@@ -293,16 +342,19 @@ fn pass(r: Record, piece: &[i32]) -> Answer
     ensures { λ a. ⌜ a ≡ fed r (now (piece .entry)) ⌝ }
 {
     let mut s = r;
+    let mut full = false;
     let mut i = 0;
     while i < piece.len() {
         let end = block::end(i, piece.len());
         let part = &piece[i..end];
-        let loud = block::loud(s.level, part);
+        let loud = block::may_be_loud(full, s.level, part);
         let bad = range::first_bad_if(loud, part);
         if bad < part.len() {
             return Answer::Refused(Refusal::Sample((i + bad) as u64));
         }
+        let before = s.crossings;
         s = advance(s, loud, part);
+        full = dense(before, s.crossings);
         i = end;
     }
     Answer::Taken(s)

@@ -63,7 +63,7 @@ first-bad-if-requires c κs = search needs
 
 -- a block of which no sample is above the level has no bad one
 looked : (c : tie.After-first-bad-if Inv-loop μ-loop) → c .first-bad-if .result ≡ firstBad (take (c .before .before .before .end .result - c .before .before .before .before .before .loop .i) (drop (c .before .before .before .before .before .loop .i) (c .before .before .before .before .before .before .before .before .args .timed .now)))
-looked c = c .first-bad-if .ensures ∙ if-loud (c .before .before .before .before .before .before .before .before .args .level) (take (c .before .before .before .end .result - c .before .before .before .before .before .loop .i) (drop (c .before .before .before .before .before .loop .i) (c .before .before .before .before .before .before .before .before .args .timed .now))) (c .before .before .before .before .before .before .before .before .pre .1) (c .before .loud .ensures)
+looked c = c .first-bad-if .ensures ∙ if-loud (c .before .before .before .before .before .before .before .before .args .level) (take (c .before .before .before .end .result - c .before .before .before .before .before .loop .i) (drop (c .before .before .before .before .before .loop .i) (c .before .before .before .before .before .before .before .before .args .timed .now))) (c .before .before .before .before .before .before .before .before .pre .1) (λ e. sym (c .before .loud .ensures) ∙ e)
 
 -- the first bad sample of a block is that of all
 here : (c : tie.Then1 Inv-loop μ-loop) → (c .before .before .before .before .before .before .loop .i + c .before .first-bad-if .result ≡ firstBad (c .before .before .before .before .before .before .before .before .before .args .timed .now)) × (firstBad (c .before .before .before .before .before .before .before .before .before .args .timed .now) < length (c .before .before .before .before .before .before .before .before .before .args .timed .now))

@@ -1,4 +1,4 @@
--- `record::advance` meets its contract: a quiet block moves only n and the last sample (`quiet-run`); another is run sample by sample. Assumes
+-- `record::advance` meets its contract: a quiet block moves only n and the last sample (`quiet-still`); another is stepped. Assumes
 -- nothing.
 use borrow.Author.Needs.{needs}
 use Prim.Native.Nat.{_-_}
@@ -12,12 +12,12 @@ use Rattle.reading.specs.Reading.{sampleAt}
 use Rattle.record.specs.Step.{moved}
 use Rattle.record.proofs.Relations.{kept-from}
 use Rattle.record.proofs.Steps.{small}
-use Rattle.record.proofs.Quiet.{quiet-run}
+use Rattle.record.proofs.Quiet.{quiet-still, still-run}
 use Rattle.record.proofs.advance.Statement.{statement}
 use Rattle.record.proofs.advance.Tie as tie
 
-run-requires : tie.Need-run-requires
-run-requires c κs = search needs
+step-all-requires : tie.Need-step-all-requires
+step-all-requires c κs = search needs
 
 returns : tie.Need-returns
 returns c = search needs
@@ -39,13 +39,13 @@ returns-2 c =
     let r = c .before .before .before .args .r in
     let p = c .before .before .before .args .block .now in
     let f : SFits w32 (sampleAt p (length p - 1)) = search needs in
-    c .moved .ensures ∙ ap (moved r (length p)) (toZ-ofZ f) ∙ sym (quiet-run r p (sym (c .before .before .before .pre .1) ∙ c .before .before .if1 .left) (omega arith))
+    c .moved .ensures ∙ ap (moved r (length p)) (toZ-ofZ f) ∙ sym (still-run r p (quiet-still r p (c .before .before .before .pre .1 (c .before .before .if1 .left))) (omega arith))
 
 pub advance-spec : {M : Type 1} → statement M
 advance-spec =
     tie.close
     (tie.spec
-    run-requires
+    step-all-requires
     returns
     sub-moved
     mul-moved

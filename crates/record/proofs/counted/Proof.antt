@@ -10,16 +10,16 @@ use Rattle.record.proofs.counted.Tie as tie
 far-requires : tie.Need-far-requires
 far-requires c κs =
     let e = recent-earlier (kept-from (c .args .r) (c .pre .0)) in
-    (c .pre .0, e .within, e .timed)
-
-add-t4 : tie.Need-add-t4
-add-t4 c = let k = kept-from (c .before .before .args .r) (c .before .before .pre .0) in omega (arith, k .length, small k)
+    (c .pre .3, e .within, e .timed)
 
 add-t5 : tie.Need-add-t5
-add-t5 c = let k = kept-from (c .before .before .before .args .r) (c .before .before .before .pre .0) in omega (arith, k .length, small k, crossings-below k)
+add-t5 c = let k = kept-from (c .before .before .args .r) (c .before .before .pre .0) in omega (arith, k .length, small k)
 
 add-t6 : tie.Need-add-t6
-add-t6 c = let k = kept-from (c .before .before .before .before .args .r) (c .before .before .before .before .pre .0) in omega (arith, k .length, small k, crossings-below k, k .counts)
+add-t6 c = let k = kept-from (c .before .before .before .args .r) (c .before .before .before .pre .0) in omega (arith, k .length, small k, crossings-below k)
+
+add-t7 : tie.Need-add-t7
+add-t7 c = let k = kept-from (c .before .before .before .before .args .r) (c .before .before .before .before .pre .0) in omega (arith, k .length, small k, crossings-below k, k .counts)
 
 pick-requires : tie.Need-pick-requires
 pick-requires c κs = search needs
@@ -36,4 +36,4 @@ returns c = rw (c .before .before .before .before .before .before .before .befor
 pub counted-spec : {M : Type 1} → statement M
 counted-spec =
     tie.close
-    (tie.spec far-requires add-t4 add-t5 add-t6 pick-requires add-pick pick-requires-2 returns)
+    (tie.spec far-requires add-t5 add-t6 add-t7 pick-requires add-pick pick-requires-2 returns)

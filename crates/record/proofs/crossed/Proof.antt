@@ -11,10 +11,10 @@ use Rattle.record.proofs.crossed.Tie as tie
 far-requires : tie.Need-far-requires
 far-requires c κs =
     let e = latest-earlier (kept-from (c .args .r) (c .pre .0)) in
-    (c .pre .0, e .within, e .timed)
+    (c .pre .2, e .within, e .timed)
 
 counted-requires : tie.Need-counted-requires
-counted-requires c κs = (c .before .before .pre .0, c .before .before .pre .1, sym (c .before .far .ensures) ∙ c .if1 .taken)
+counted-requires c κs = (c .before .before .pre .0, c .before .before .pre .1, sym (c .before .far .ensures) ∙ c .if1 .taken, c .before .before .pre .2)
 
 joining-requires : tie.Need-joining-requires
 joining-requires c κs = (c .before .before .pre .0, c .before .before .pre .1, sym (c .before .far .ensures) ∙ c .if1 .left)

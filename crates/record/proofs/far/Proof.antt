@@ -3,12 +3,10 @@
 use Prim.Native.Nat.{ℕ, _+_, _-_, _*_, _≤_}
 use mathlib.Core.Path.{_≡_, refl, sym, ap, _∙_}
 use mathlib.Core.Bool.{Bool, true, false}
-use native.Mathlib.Nat.{mul-le-mul}
 use native.Mathlib.Omega.{arith}
 use lib.Dec.{leb}
 use borrow.Author.Tests.{eq-eqb, ne-eqb, leb-true, leb-false, le-leb, lt-leb}
-use Rattle.record.proofs.Relations.{kept-from}
-use Rattle.record.proofs.Steps.{items-of, small}
+use Rattle.record.proofs.Gaps.{in-samples}
 use Rattle.record.proofs.far.Statement.{statement}
 use Rattle.record.proofs.far.Tie as tie
 
@@ -26,19 +24,14 @@ returns c = simp (eq-eqb _ _ (c .if1 .taken))
 sub-result : tie.Need-sub-result
 sub-result c = c .before .before .before .pre .1
 
-mul-result : tie.Need-mul-result
-mul-result c =
-    let r = c .before .before .before .before .args .r in
-    let k = kept-from r (c .before .before .before .before .pre .0) in
-    omega (arith, mul-le-mul {n₁ = r .n - c .before .before .before .before .args .place} {m₁ = r .step} {n₂ = 11000001} {m₂ = 10000} (omega (arith, k .length, small k)) (items-of k .step-high))
-
 returns-2 : tie.Need-returns-2
 returns-2 c =
-    let r = c .before .before .before .before .before .args .r in
-    let p = c .before .before .before .before .before .args .place in
-    let l = c .before .before .before .before .before .pre .1 in
-    let h = c .before .before .before .before .before .pre .2 (c .before .before .before .if1 .left) in
-    rw (ne-eqb _ _ (c .before .before .before .if1 .left), apart (r .step) (r .decorrelation) (p - r .ramp) (r .n - p) (r .n - r .ramp) (omega arith))
+    let a = c .before .before .before in
+    let r = a .args .r in
+    let p = a .args .place in
+    let h = a .pre .2 (c .before .if1 .left) in
+    let l = a .pre .1 in
+    rw (ne-eqb _ _ (c .before .if1 .left), apart (r .step) (r .decorrelation) (p - r .ramp) (r .n - p) (r .n - r .ramp) (omega arith)) (in-samples (a .pre .0) (r .n - p))
 
 pub far-spec : {M : Type 1} → statement M
-far-spec = tie.close (tie.spec returns sub-result mul-result returns-2)
+far-spec = tie.close (tie.spec returns sub-result returns-2)

@@ -16,6 +16,7 @@ use Rattle.record.specs.Step.{stepped}
 use Rattle.range.specs.Range.{firstBad}
 use Rattle.range.proofs.Bad.{bad-append, bad-left, bad-within, if-loud}
 use Rattle.block.proofs.Cut.{end-within, block-length, block-cut}
+use Rattle.block.proofs.Quiet.{not-loud}
 use Rattle.record.proofs.Relations.{kept-from}
 use Rattle.record.proofs.Steps.{items-of}
 use Rattle.record.proofs.Cutting.{run-n, run-most, run-sound}
@@ -24,7 +25,7 @@ use Rattle.record.proofs.pass.Statement.{statement}
 use Rattle.record.proofs.pass.Tie as tie
 
 abbrev Inv-loop : tie.InvT-loop
-Inv-loop piece s₀ i₀ s i =
+Inv-loop piece s₀ full₀ i₀ s full i =
     (sound s ≡ true)
     × (i ≤ length piece)
     × (i + firstBad (drop i piece) ≡ firstBad piece)
@@ -32,7 +33,7 @@ Inv-loop piece s₀ i₀ s i =
     × (foldl stepped s (drop i piece) ≡ foldl stepped s₀ piece)
 
 abbrev μ-loop : tie.MeasureT-loop
-μ-loop piece s₀ i₀ s i = length piece - i
+μ-loop piece s₀ full₀ i₀ s full i = length piece - i
 
 loop-holds : tie.Need-loop-holds Inv-loop μ-loop
 loop-holds c = (c .pre .0, omega arith, zero-add _, omega arith, refl)
@@ -56,8 +57,8 @@ part-part-start c = omega (arith, within c)
 part-part-end : tie.Need-part-part-end Inv-loop μ-loop
 part-part-end c = omega (arith, within c)
 
-loud-requires : tie.Need-loud-requires Inv-loop μ-loop
-loud-requires c κs = search needs
+may-be-loud-requires : tie.Need-may-be-loud-requires Inv-loop μ-loop
+may-be-loud-requires c κs = search needs
 
 first-bad-if-requires : tie.Need-first-bad-if-requires Inv-loop μ-loop
 first-bad-if-requires c κs = search needs
@@ -66,7 +67,7 @@ first-bad-if-requires c κs = search needs
 looked : (c : tie.After-first-bad-if Inv-loop μ-loop) → c .first-bad-if .result ≡ firstBad (take (c .before .before .before .end .result - c .before .before .before .before .before .loop .i) (drop (c .before .before .before .before .before .loop .i) (c .before .before .before .before .before .before .args .piece .now)))
 looked c =
     let s = c .before .before .before .before .before .loop .s in
-    c .first-bad-if .ensures ∙ if-loud (s .level) (take (c .before .before .before .end .result - c .before .before .before .before .before .loop .i) (drop (c .before .before .before .before .before .loop .i) (c .before .before .before .before .before .before .args .piece .now))) (items-of (kept-from s (c .before .before .before .before .before .loop .inv .0)) .level-high) (c .before .loud .ensures)
+    c .first-bad-if .ensures ∙ if-loud (s .level) (take (c .before .before .before .end .result - c .before .before .before .before .before .loop .i) (drop (c .before .before .before .before .before .loop .i) (c .before .before .before .before .before .before .args .piece .now))) (items-of (kept-from s (c .before .before .before .before .before .loop .inv .0)) .level-high) (not-loud (c .before .before .before .before .before .loop .full) (s .level) _ (c .before .may-be-loud .ensures))
 
 -- the first bad sample of a block is that of the piece
 here : (c : tie.Then1 Inv-loop μ-loop) → (c .before .before .before .before .before .before .loop .i + c .before .first-bad-if .result ≡ firstBad (c .before .before .before .before .before .before .before .args .piece .now)) × (firstBad (c .before .before .before .before .before .before .before .args .piece .now) < length (c .before .before .before .before .before .before .before .args .piece .now))
@@ -82,8 +83,8 @@ here c =
     let v = c .before .before .before .before .before .before .loop .inv .2 in
     (omega arith, omega (arith, c .if1 .taken))
 
-add-t14 : tie.Need-add-t14 Inv-loop μ-loop
-add-t14 c = omega (arith, here c)
+add-t16 : tie.Need-add-t16 Inv-loop μ-loop
+add-t16 c = omega (arith, here c)
 
 returns : tie.Need-returns Inv-loop μ-loop
 returns c = ap (λ (k : ℕ). Refused (Sample k)) (here c .0) ∙ sym (fed-bad (c .before .before .before .before .before .before .before .args .r) (c .before .before .before .before .before .before .before .args .piece .now) (c .before .before .before .before .before .before .before .pre .0) (here c .1))
@@ -102,24 +103,27 @@ advance-requires : tie.Need-advance-requires Inv-loop μ-loop
 advance-requires c κs =
     let w = within (c .before .before .before .before) in
     let l = block-length (c .before .before .before .before .before .before .before .args .piece .now) (c .before .before .before .before .before .before .loop .i) (c .before .before .before .before .end .result) (omega arith) (omega arith) in
-    (c .before .before .before .before .before .before .loop .inv .0, c .before .before .loud .ensures, good c, omega arith, omega (arith, c .before .before .before .before .before .before .loop .inv .3))
+    (c .before .before .before .before .before .before .loop .inv .0, not-loud (c .before .before .before .before .before .before .loop .full) _ _ (c .before .before .may-be-loud .ensures), good c, omega arith, omega (arith, c .before .before .before .before .before .before .loop .inv .3))
+
+dense-requires : tie.Need-dense-requires Inv-loop μ-loop
+dense-requires c κs = search needs
 
 loop-less : tie.Need-loop-less Inv-loop μ-loop
-loop-less c = omega (arith, within (c .before .before .before .before .before))
+loop-less c = omega (arith, within (c .before .before .before .before .before .before))
 
 loop-again : tie.Need-loop-again Inv-loop μ-loop
 loop-again c =
-    let p = c .before .before .before .before .before .before .before .before .args .piece .now in
-    let i = c .before .before .before .before .before .before .before .loop .i in
-    let s = c .before .before .before .before .before .before .before .loop .s in
-    let v = c .before .before .before .before .before .before .before .loop .inv in
-    let e = c .before .before .before .before .before .end .result in
-    let w = within (c .before .before .before .before .before) in
+    let p = c .before .before .before .before .before .before .before .before .before .args .piece .now in
+    let i = c .before .before .before .before .before .before .before .before .loop .i in
+    let s = c .before .before .before .before .before .before .before .before .loop .s in
+    let v = c .before .before .before .before .before .before .before .before .loop .inv in
+    let e = c .before .before .before .before .before .before .end .result in
+    let w = within (c .before .before .before .before .before .before) in
     let block = take (e - i) (drop i p) in
     let l = block-length p i e (omega arith) (omega arith) in
     let k = block-cut p i e (omega arith) (omega arith) in
-    let g = good (c .before) in
-    rw (c .advance .ensures) (
+    let g = good (c .before .before) in
+    rw (c .before .advance .ensures) (
       run-sound s block (v .0) g (omega (arith, v .3)),
       omega arith,
       omega (arith, v .2, ap firstBad k ∙ bad-append block (drop e p) g),
@@ -147,11 +151,12 @@ pass-spec =
     sub-part
     part-part-start
     part-part-end
-    loud-requires
+    may-be-loud-requires
     first-bad-if-requires
-    add-t14
+    add-t16
     returns
     advance-requires
+    dense-requires
     loop-less
     loop-again
     returns-2)

@@ -1,0 +1,79 @@
+-- The answers, one law for each: what is answered, and what the slices hold then. Assumes nothing.
+use Prim.Native.Nat.{ℕ, _+_, _≤_, _<_}
+use mathlib.Core.Path.{_≡_, refl, _∙_}
+use mathlib.Core.Bool.{Bool, true, false, cond, not}
+use mathlib.Core.List.{List, map}
+use native.Mathlib.Nat.{zero-add}
+use native.Mathlib.Omega.{arith}
+use lib.ListN.{length, drop, length-map}
+use lib.Seq.{sets, sets-eq}
+use lib.Dec.{eqb, ltb}
+use lib.IntN.{ℤ}
+use borrow.Author.Tests.{eq-eqb, lt-ltb, le-ltb}
+use Rattle.refusal.specs.declared.Refusal.{Refusal}
+use Rattle.refusal.specs.declared.Refusal.the-variants.{Item, Sample, TooLong, TooShort, Room}
+use Rattle.limits.specs.Limits.{mostSamples}
+use Rattle.range.specs.Range.{firstBad}
+use Rattle.reading.specs.Reading.{tooFew}
+use Rattle.whole.specs.declared.Size.the-variants as size
+use Rattle.whole.specs.Tests.{tested}
+use Rattle.whole.proofs.Judged.{Fitting}
+use Rattle.chains.specs.declared.Peak.{Peak}
+use Rattle.chains.specs.Groups.{tops}
+use Rattle.runs.specs.Runs.{peaks}
+use Rattle.stretch.specs.Peaks.{sum, kept, close, handed}
+use Rattle.envelope.specs.declared.Found.{Found}
+use Rattle.envelope.specs.declared.Found.the-variants.{Peaks, Refused}
+use Rattle.envelope.specs.Step.{chosen}
+use Rattle.envelope.specs.Answers.{sizeOf, momentOf, itemAsked, placed, found, written, HandsOut, FindsTo}
+
+-- what a pass hands out with the peaks' own number and sum
+pub chosen-kept : (n s D τ : ℕ) (xs : List ℤ) → n ≡ length (peaks D xs) → s ≡ sum (peaks D xs) → chosen n s D τ xs ≡ tops (close τ) (kept (peaks D xs))
+unfolding chosen
+chosen-kept n s D τ xs p q = rw (p, q)
+
+-- ---- peaks handed out
+module _ (l : List Peak) (sizes times : List ℕ) where
+  pub no-sizes : length sizes < length l → HandsOut l sizes times (Refused (Room (length l))) sizes times
+  unfolding placed written
+  no-sizes h = record { answers = rw (lt-ltb _ _ h); sizes-left = refl; times-left = refl }
+
+  module _ (h : length l ≤ length sizes) where
+    pub no-times : length times < length l → HandsOut l sizes times (Refused (Room (length l))) sizes times
+    unfolding placed written
+    no-times k = record { answers = rw (le-ltb _ _ h, lt-ltb _ _ k); sizes-left = refl; times-left = refl }
+
+    -- the figures, put from a slice's start on
+    put : (f : Peak → ℕ) (slice : List ℕ) → length l ≤ length slice → sets slice 0 (map f l) ≡ written (Peaks (length l)) (map f l) slice
+    unfolding written
+    put f slice k = let m = length-map l f in sets-eq (map f l) slice 0 (omega arith) ∙ rw (zero-add, m)
+
+    pub all-placed : length l ≤ length times → HandsOut l sizes times (Peaks (length l)) (sets sizes 0 (map sizeOf l)) (sets times 0 (map momentOf l))
+    unfolding placed
+    all-placed k = record { answers = rw (le-ltb _ _ h, le-ltb _ _ k); sizes-left = put sizeOf sizes h; times-left = put momentOf times k }
+
+-- ---- the whole call
+module _ (D R τ : ℕ) (xs : List ℤ) (sizes times : List ℕ) where
+  -- a refusal of the tests that listing has
+  pub finds-refused : (f : Refusal) → tested D R 1 τ xs ≡ size.Refused f → FindsTo D R τ xs sizes times (Refused f) sizes times
+  unfolding tested found written
+  finds-refused f e = record { answers = go (eqb (itemAsked D R τ) 0) (ltb (firstBad xs) (length xs)) (ltb (mostSamples D R) (length xs)) (tooFew R (length xs)) e; sizes-left = refl; times-left = refl }
+    where
+      go : (i b l s : Bool)
+          → cond (not i) (size.Refused (Item (itemAsked D R τ))) (cond b (size.Refused (Sample (firstBad xs))) (cond l (size.Refused TooLong) (cond s (size.Refused TooShort) size.Fits))) ≡ size.Refused f
+          → Refused f ≡ cond (not i) (Refused (Item (itemAsked D R τ))) (cond b (Refused (Sample (firstBad xs))) (cond l (Refused TooLong) (cond s (Refused TooShort) (placed (length sizes) (length times) (length (handed D R τ xs))))))
+      go false b l s e = cc
+      go true true l s e = cc
+      go true false true s e = cc
+      go true false false true e = cc
+      go true false false false e = let z : _≡_ {A = ℕ} 0 1 = cc in absurd (omega arith)
+
+  module _ (f : Fitting D R 1 τ (length xs)) where
+    pub finds-bad : firstBad xs < length xs → FindsTo D R τ xs sizes times (Refused (Sample (firstBad xs))) sizes times
+    unfolding found written
+    finds-bad b = record { answers = rw (eq-eqb _ _ (f .items), lt-ltb _ _ b); sizes-left = refl; times-left = refl }
+
+    -- what the timed samples hand out is the record's
+    pub finds-good : length xs ≤ firstBad xs → {answer : Found} {sizesAfter timesAfter : List ℕ} → HandsOut (handed D R τ xs) sizes times answer sizesAfter timesAfter → FindsTo D R τ xs sizes times answer sizesAfter timesAfter
+    unfolding found
+    finds-good g h = record { answers = rw (eq-eqb _ _ (f .items), le-ltb _ _ g, le-ltb _ _ (f .most), le-ltb _ _ (f .few)) (h .answers); sizes-left = h .sizes-left; times-left = h .times-left }

@@ -1,0 +1,4 @@
+pub mod Come
+pub mod Turns
+pub mod Answered
+pub mod Unique

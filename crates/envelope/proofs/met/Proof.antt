@@ -1,0 +1,19 @@
+-- `envelope::met` meets its contract, which it follows word for word. Assumes nothing.
+use borrow.Author.Needs.{needs}
+use mathlib.Core.Path.{ap, _∙_}
+use mathlib.Core.Bool.{Bool}
+use Rattle.chains.specs.Machine.{turned}
+use Rattle.envelope.proofs.met.Statement.{statement}
+use Rattle.envelope.proofs.met.Tie as tie
+
+alike-requires : tie.Need-alike-requires
+alike-requires c κs = search needs
+
+turn-requires : tie.Need-turn-requires
+turn-requires c κs = search needs
+
+returns : tie.Need-returns
+returns c = c .turn .ensures ∙ ap (λ (k : Bool). turned k (c .before .before .before .args .g) (c .before .before .before .args .p)) (c .before .alike .ensures)
+
+pub met-spec : {M : Type 1} → statement M
+met-spec = tie.close (tie.spec alike-requires turn-requires returns)

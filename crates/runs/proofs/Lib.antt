@@ -1,0 +1,4 @@
+pub mod Sides
+pub mod Ahead
+pub mod Due
+pub mod Unique

@@ -8,7 +8,8 @@
  *   2    a sample is outside -1,000,000 to 1,000,000                            its place in the piece, the first
  *   3    the timed length of the record would pass 10,000,000 ms, on a sheet an exposure;   0
  *        the last time of a comma file would need more than 12 digits
- *   4    ending or listing with fewer than ramp + 2 samples; on a sheet exposure 0  0
+ *   4    ending, listing or finding peaks with fewer than ramp + 2 samples;     0
+ *        on a sheet exposure 0
  *   5    entering into a campaign of 100,000 records                            0
  *   6    entering into a campaign with 64 failures                              0
  *   7    more counted times, peaks, samples, records or bytes than the slice has the number of places needed
@@ -184,6 +185,16 @@ uint64_t chim_sheet_write(uint64_t standard, const int32_t *records, size_t reco
  * On a refusal *standard is 0. */
 uint64_t chim_sheet_records(const uint8_t *text, size_t text_len, int32_t *records, size_t records_len, uint64_t *standard, uint64_t *line, uint64_t *column,
                             uint64_t *carried);
+
+/* ---- the envelope peaks of a whole record */
+
+/* Samples from the ramp on, in runs of one sign (a zero belongs to the run before it, at the start to none), give a peak for each run but the first and the
+ * last: its largest magnitude, at the first sample that has it. A peak is high if it times the number of peaks is above their sum. Of each stretch of high
+ * peaks with one that is not high on both sides the largest is kept, of kept peaks each at most the decorrelation time after the one before the largest is handed
+ * out, both times the first on a tie. Writes the magnitudes to the start of `sizes` and the times in ms after the ramp to the start of `times`, whose other
+ * places stay; *carried is their number. Refuses 1 (items 1, 2 and 4; there is no level), 2, 3, 4, 7 if either slice is too short. */
+uint64_t chim_envelope_find(uint64_t step, uint64_t ramp, uint64_t decorrelation, const int32_t *samples, size_t samples_len, uint32_t *sizes, size_t sizes_len,
+                            uint32_t *times, size_t times_len, uint64_t *carried);
 
 /* ---- the tail of a list of peaks, thousandths of a degree or mm/s2 */
 

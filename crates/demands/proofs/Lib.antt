@@ -7,4 +7,5 @@ pub mod Request4
 pub mod Request5
 pub mod Stays
 pub mod Request9
+pub mod Request11
 pub mod Tail

@@ -1,9 +1,12 @@
 // Runs of one sign (document 02, request 11): the zeros before all runs, and the first run of some samples, found in one pass that holds no more than the
 // run so far. Who goes from run to run this way finds all of them.
 ghost use mathlib.Core.Path.{_≡_};
+ghost use mathlib.Core.Bool.{false};
+ghost use lib.ListN.{length, getD};
+ghost use lib.IntN.{pos};
 ghost use Prim.Native.Nat.{_<_};
 ghost use Rattle.runs.specs.Runs.{same, side, zeros, firstRun, second};
-ghost use Rattle.runs.specs.Step.{opened, longer};
+ghost use Rattle.runs.specs.Step.{longer};
 
 // A run: whether it is below zero, how many samples it has, and the first place in it that has its largest magnitude.
 pub struct Run {
@@ -34,18 +37,6 @@ fn stays(below: bool, x: i32) -> bool
     if below { !(0 < x) } else { !(x < 0) }
 }
 
-// The run of one sample.
-fn opened(x: i32) -> Run
-    ensures { λ r. ⌜ r ≡ opened x ⌝ }
-{
-    Run {
-        below: x < 0,
-        length: 1,
-        place: 0,
-        size: magnitude::magnitude(x),
-    }
-}
-
 // The run with one sample more.
 fn longer(r: Run, x: i32) -> Run
     requires { ⌜ r .length < 9223372036854775808 ⌝ }
@@ -68,6 +59,28 @@ fn longer(r: Run, x: i32) -> Run
     }
 }
 
+// The first run, on the side of its first sample. The side is an argument so that a call that knows it becomes a loop of its own, with one test less.
+fn run_on(below: bool, samples: &[i32]) -> Run
+    requires { ⌜ (0 < length (now samples)) × (below ≡ side false (getD (now samples) 0 (pos 0))) ⌝ }
+    ensures { λ r. ⌜ r ≡ firstRun (now (samples .entry)) ⌝ }
+{
+    let mut run = Run {
+        below,
+        length: 1,
+        place: 0,
+        size: magnitude::magnitude(samples[0]),
+    };
+    let mut i = 1;
+    while i < samples.len() {
+        if !stays(below, samples[i]) {
+            return run;
+        }
+        run = longer(run, samples[i]);
+        i += 1;
+    }
+    run
+}
+
 // The first run of samples that start with one; of no samples, a run without any.
 pub fn first_run(samples: &[i32]) -> Run
     ensures { λ r. ⌜ r ≡ firstRun (now (samples .entry)) ⌝ }
@@ -80,16 +93,10 @@ pub fn first_run(samples: &[i32]) -> Run
             size: 0,
         };
     }
-    let mut run = opened(samples[0]);
-    let mut i = 1;
-    while i < samples.len() {
-        if !stays(run.below, samples[i]) {
-            return run;
-        }
-        run = longer(run, samples[i]);
-        i += 1;
+    if samples[0] < 0 {
+        return run_on(true, samples);
     }
-    run
+    run_on(false, samples)
 }
 
 // Where the second run starts: past the zeros at the start and the first run.

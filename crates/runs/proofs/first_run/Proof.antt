@@ -1,118 +1,41 @@
--- `runs::first_run` meets its contract. The invariant: the run so far, with what is left after it, comes to the first run. The measure is what is left.
--- Assumes nothing.
-use Prim.Native.Nat.{_+_, _≤_, _-_}
-use mathlib.Core.Path.{_≡_, refl, sym, ap, _∙_}
-use native.Mathlib.Omega.{arith}
+-- `runs::first_run` meets its contract: the first sample tells the side. Assumes nothing.
 use borrow.Author.Needs.{needs}
-use borrow.Author.Tests.{not-true, not-false}
-use lib.ListN.{length, getD, drop, drop-of-length-le}
+use mathlib.Core.Path.{_≡_, sym, ap, _∙_}
+use native.Mathlib.Omega.{arith}
+use lib.ListN.{getD}
 use lib.IntN.{ℤ, pos}
+use lib.Signed.{ltZ}
 use mir.Val.{SFits}
 use mir.Syntax.{w32}
 use mir.Facts.{toZ-ofZ}
-use Rattle.magnitude.proofs.Turn.{turn}
-use Rattle.runs.specs.Runs.{same, side, firstRun}
-use Rattle.runs.specs.Step.{opened, longer}
-use Rattle.runs.proofs.Ahead.{ahead, ahead-on, ahead-off, no-run, first-ahead}
+use Rattle.runs.proofs.Ahead.{no-run}
+use Rattle.runs.proofs.Sides.{side-first}
 use Rattle.runs.proofs.first_run.Statement.{statement}
 use Rattle.runs.proofs.first_run.Tie as tie
 
-abbrev Inv-loop : tie.InvT-loop
-Inv-loop samples run₀ i₀ run i = (i ≤ length samples) × (run .length ≡ i) × (ahead run (drop i samples) ≡ firstRun samples)
-
-abbrev μ-loop : tie.MeasureT-loop
-μ-loop samples run₀ i₀ run i = length samples - i
-
-returns : tie.Need-returns Inv-loop μ-loop
+returns : tie.Need-returns
 returns c = no-run (c .before .args .samples .now) (c .if1 .taken)
 
-shared-slice-copy-out-opened : tie.Need-shared-slice-copy-out-opened Inv-loop μ-loop
-shared-slice-copy-out-opened c = omega arith
+shared-slice-copy-out-if2 : tie.Need-shared-slice-copy-out-if2
+shared-slice-copy-out-if2 c = search needs
 
-opened-requires : tie.Need-opened-requires Inv-loop μ-loop
-opened-requires c κs = search needs
-
-loop-holds : tie.Need-loop-holds Inv-loop μ-loop
-loop-holds c =
-    let p = c .before .before .before .args .samples .now in
-    let x = getD p 0 (pos 0) in
+run-on-requires : tie.Need-run-on-requires
+run-on-requires c κs =
+    let x = getD (c .before .before .before .args .samples .now) 0 (pos 0) in
     let f : SFits w32 x = search needs in
-    let q : c .opened .result ≡ opened x = c .opened .ensures ∙ ap opened (toZ-ofZ f) in
-    rw q (omega arith, refl, first-ahead x (drop 1 p) ∙ sym (turn firstRun p 0 (omega arith)))
+    (omega (arith, c .before .before .if1 .left), sym (c .if2 .taken) ∙ ap (λ (y : ℤ). ltZ y (pos 0)) (toZ-ofZ f) ∙ side-first x)
 
-mul-stays : tie.Need-mul-stays Inv-loop μ-loop
-mul-stays c = omega arith
+returns-2 : tie.Need-returns-2
+returns-2 c = search needs
 
-shared-slice-copy-out-stays : tie.Need-shared-slice-copy-out-stays Inv-loop μ-loop
-shared-slice-copy-out-stays c = omega arith
-
-stays-requires : tie.Need-stays-requires Inv-loop μ-loop
-stays-requires c κs = search needs
-
-returns-2 : tie.Need-returns-2 Inv-loop μ-loop
-returns-2 c =
-    let p = c .before .before .before .before .before .before .before .before .args .samples .now in
-    let i = c .before .before .before .before .loop .i in
-    let r = c .before .before .before .before .loop .run in
-    let x = getD p i (pos 0) in
+run-on-requires-2 : tie.Need-run-on-requires-2
+run-on-requires-2 c κs =
+    let x = getD (c .before .before .before .args .samples .now) 0 (pos 0) in
     let f : SFits w32 x = search needs in
-    let z = ap (λ (y : ℤ). same (r .below) (side (r .below) y)) (sym (toZ-ofZ f)) ∙ sym (c .before .stays .ensures) ∙ not-true _ (c .if2 .taken) in
-    sym (turn (ahead r) p i (omega arith) ∙ ahead-off r x (drop (i + 1) p) z) ∙ c .before .before .before .before .loop .inv .2
+    (omega (arith, c .before .before .if1 .left), sym (c .if2 .left) ∙ ap (λ (y : ℤ). ltZ y (pos 0)) (toZ-ofZ f) ∙ side-first x)
 
-mul-longer : tie.Need-mul-longer Inv-loop μ-loop
-mul-longer c = omega arith
-
-shared-slice-copy-out-longer : tie.Need-shared-slice-copy-out-longer Inv-loop μ-loop
-shared-slice-copy-out-longer c = omega arith
-
-longer-requires : tie.Need-longer-requires Inv-loop μ-loop
-longer-requires c κs = omega arith
-
-add-i : tie.Need-add-i Inv-loop μ-loop
-add-i c = omega arith
-
-loop-less : tie.Need-loop-less Inv-loop μ-loop
-loop-less c = omega arith
-
-loop-again : tie.Need-loop-again Inv-loop μ-loop
-loop-again c =
-    let p = c .before .before .before .before .before .before .before .before .before .before .args .samples .now in
-    let i = c .before .before .before .before .before .before .loop .i in
-    let r = c .before .before .before .before .before .before .loop .run in
-    let v = c .before .before .before .before .before .before .loop .inv in
-    let x = getD p i (pos 0) in
-    let f : SFits w32 x = search needs in
-    let z = ap (λ (y : ℤ). same (r .below) (side (r .below) y)) (sym (toZ-ofZ f)) ∙ sym (c .before .before .before .stays .ensures) ∙ not-false _ (c .before .before .if2 .left) in
-    let q : c .longer .result ≡ longer r x = c .longer .ensures ∙ ap (longer r) (toZ-ofZ f) in
-    rw q (omega arith, omega (arith, v .1), sym (turn (ahead r) p i (omega arith) ∙ ahead-on r x (drop (i + 1) p) z) ∙ v .2)
-
-returns-3 : tie.Need-returns-3 Inv-loop μ-loop
-unfolding ahead
-returns-3 c =
-    let p = c .before .before .before .before .before .args .samples .now in
-    let i = c .before .loop .i in
-    let r = c .before .loop .run in
-    let e : ahead r (drop i p) ≡ r = ap (ahead r) (drop-of-length-le p {i = i} (omega arith)) in
-    sym e ∙ c .before .loop .inv .2
+returns-3 : tie.Need-returns-3
+returns-3 c = search needs
 
 pub first-run-spec : {M : Type 1} → statement M
-first-run-spec =
-    tie.close
-    (tie.spec
-    Inv-loop
-    μ-loop
-    returns
-    shared-slice-copy-out-opened
-    opened-requires
-    loop-holds
-    mul-stays
-    shared-slice-copy-out-stays
-    stays-requires
-    returns-2
-    mul-longer
-    shared-slice-copy-out-longer
-    longer-requires
-    add-i
-    loop-less
-    loop-again
-    returns-3)
+first-run-spec = tie.close (tie.spec returns shared-slice-copy-out-if2 run-on-requires returns-2 run-on-requires-2 returns-3)

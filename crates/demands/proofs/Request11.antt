@@ -1,0 +1,82 @@
+-- Document 02 [11], what a customer who looks for envelope peaks may rely on: 1, 2, 3, 4, 7 are judged in this order, item 3 is never named, and a refusal leaves
+-- both slices as they stood; where none is given, both start with the peaks handed out and the rest stays. And of the definitions: there is one way to part a list
+-- into groups of neighbours that join; a peak is kept exactly if it is the first largest of a high stretch with a peak that is not high on both sides; what is
+-- handed out is more than the decorrelation time apart. The proof only puts together what `chains`, `stretch` and `envelope` have. Assumes nothing.
+use mathlib.Core.Path.{_≡_, refl, sym, _∙_}
+use mathlib.Core.Bool.{Bool, true, false, cond, not, _||_}
+use mathlib.Core.List.{List, [], _∷_, _++_, map}
+use native.Mathlib.Omega.{arith}
+use Prim.Native.Nat.{ℕ, _+_, _≤_}
+use lib.Dec.{eqb, ltb}
+use lib.IntN.{ℤ}
+use lib.ListN.{length, drop}
+use Rattle.refusal.specs.declared.Refusal.{Refusal}
+use Rattle.refusal.specs.declared.Refusal.the-variants.{Item, Room, Sample, TooLong, TooShort}
+use Rattle.limits.specs.Limits.{itemOutside, stepInRange, rampInRange, decorrelationInRange, mostSamples}
+use Rattle.range.specs.Range.{firstBad}
+use Rattle.reading.specs.Reading.{tooFew}
+use Rattle.chains.specs.declared.Peak.{Peak}
+use Rattle.chains.specs.Groups.{groups, largest}
+use Rattle.chains.specs.Meaning.{All, In, Spaced, Top, Well, joined}
+use Rattle.chains.proofs.Meant.{groups-joined, groups-only, groups-well}
+use Rattle.stretch.specs.Peaks.{handed, high, kept, sum}
+use Rattle.stretch.specs.Meaning.{Stands}
+use Rattle.stretch.proofs.Stretches.{standing-stands, stands-standing}
+use Rattle.stretch.proofs.Apart.{handed-apart}
+use Rattle.envelope.specs.declared.Found.{Found}
+use Rattle.envelope.specs.declared.Found.the-variants.{Peaks, Refused}
+use Rattle.envelope.specs.Answers.{FindsTo, found, itemAsked, momentOf, placed, sizeOf, written}
+use Rattle.envelope.proofs.Unique.{find-unique}
+use Rattle.demands.proofs.Demand1.{Decides, Test, _gives_, decide, decided, no}
+
+-- ---- the statement
+abbrev pub envelopeTests : ℕ → ℕ → ℕ → List ℤ → ℕ → ℕ → List Test
+envelopeTests D R τ xs sizes times =
+    not (eqb (itemAsked D R τ) 0) gives Item (itemAsked D R τ)
+    ∷ (ltb (firstBad xs) (length xs) gives Sample (firstBad xs)
+    ∷ (ltb (mostSamples D R) (length xs) gives TooLong
+    ∷ (tooFew R (length xs) gives TooShort
+    ∷ ((ltb sizes (length (handed D R τ xs)) || ltb times (length (handed D R τ xs))) gives Room (length (handed D R τ xs))
+    ∷ []))))
+
+-- p is the first largest of a high stretch of l with a peak that is not high on both sides
+abbrev pub Highest : List Peak → Peak → Type 0
+Highest l p = (g : List Peak) × Stands (high (length l) (sum l)) l g × Top p g
+
+pub record Request11 : Type 0 where
+  pub order : (D R τ : ℕ) (xs : List ℤ) (sizes times : ℕ) → Decides Refused (envelopeTests D R τ xs sizes times) (Peaks (length (handed D R τ xs))) (found D R τ xs sizes times)
+  pub no-level : (D R τ : ℕ) → ¬ (itemAsked D R τ ≡ 3)
+  pub stays : (D R τ : ℕ) (xs : List ℤ) (sizes times s t : List ℕ) (f : Refusal) → FindsTo D R τ xs sizes times (Refused f) s t → (s ≡ sizes) × (t ≡ times)
+  pub given : (D R τ : ℕ) (xs : List ℤ) (sizes times s t : List ℕ) (k : ℕ) → FindsTo D R τ xs sizes times (Peaks k) s t
+      → (s ≡ map sizeOf (handed D R τ xs) ++ drop k sizes) × (t ≡ map momentOf (handed D R τ xs) ++ drop k times)
+  pub parted : (joins : Peak → Peak → Bool) (l : List Peak) → (joined (groups joins l) ≡ l) × Well joins (groups joins l) × ((gs : List (List Peak)) → Well joins gs → groups joins (joined gs) ≡ gs)
+  pub highest : (l : List Peak) → All (Highest l) (kept l)
+  pub all-kept : (l : List Peak) (p : Peak) (g : List Peak) → Stands (high (length l) (sum l)) l (p ∷ g) → In (largest (p ∷ g)) (kept l)
+  pub apart : (D R τ : ℕ) (xs : List ℤ) → 1 ≤ D → Spaced (τ + 1) 0 (handed D R τ xs)
+  pub settled : (D R τ : ℕ) (xs : List ℤ) (sizes times : List ℕ) (x y : Found) (s t u v : List ℕ) → FindsTo D R τ xs sizes times x s u → FindsTo D R τ xs sizes times y t v → (x ≡ y) × (s ≡ t) × (u ≡ v)
+
+-- ---- the proof
+level-in-range : (D R τ : ℕ) → ¬ (itemAsked D R τ ≡ 3)
+unfolding itemOutside
+level-in-range D R τ = go (stepInRange D) (rampInRange R) (decorrelationInRange τ)
+  where
+    go : (a b d : Bool) → ¬ (_≡_ {A = ℕ} (cond (not a) 1 (cond (not b) 2 (cond (not d) 4 0))) 3)
+    go false b d e = absurd (omega (arith, e))
+    go true false d e = absurd (omega (arith, e))
+    go true true false e = absurd (omega (arith, e))
+    go true true true e = absurd (omega (arith, e))
+
+pub request-11 : Request11
+unfolding decide found placed written
+request-11 =
+    record {
+      order = λ D R τ xs sizes times. decided Refused (Peaks (length (handed D R τ xs))) (λ r s e. cc) (λ r e. no (cc)) (envelopeTests D R τ xs sizes times) (found D R τ xs sizes times) refl;
+      no-level = level-in-range;
+      stays = λ D R τ xs sizes times s t f p. (p .sizes-left, p .times-left);
+      given = λ D R τ xs sizes times s t k p. (p .sizes-left, p .times-left);
+      parted = λ joins l. (groups-joined joins l, groups-well joins l, groups-only joins);
+      highest = λ l. standing-stands (length l) (sum l) l;
+      all-kept = λ l p g h. stands-standing (length l) (sum l) l p g h;
+      apart = handed-apart;
+      settled = find-unique;
+    }

@@ -45,6 +45,7 @@ for _name, _result, _parameters in [
     ("chim_bench_verdict", _u64, [_rows, _size, _u64, _u64, _rate, _rate, _numbers]),
     ("chim_bench_rates", _u64, [_rows, _size, _u64, _u64, _rate, _rate, _rate, _numbers]),
     ("chim_bench_give_back", _u64, [_rows, _size, _u64, _u64, _numbers]),
+    ("chim_envelope_find", _u64, [_u64, _u64, _u64, _samples, _size, _times, _size, _times, _size, _numbers]),
     ("chim_tail_fit", _u64, [_times, _size, _u64, _times, _size, _numbers]),
     ("chim_sheet_write", _u64, [_u64, _samples, _size, ctypes.c_char_p, _size, _numbers]),
     ("chim_sheet_records", _u64, [ctypes.c_char_p, _size, _samples, _size, _numbers, _numbers, _numbers, _numbers]),
@@ -346,6 +347,29 @@ class Bench:
     def give_back(self, bureau, place):
         """The place is free again."""
         _ask(_lib.chim_bench_give_back, self._table, self.PLACES, _number(bureau), _number(place))
+
+
+class Peak(NamedTuple):
+    """An envelope peak: its magnitude, and its time in ms after the ramp."""
+
+    size: int
+    time: int
+
+
+def envelope_peaks(step, ramp, decorrelation, samples):
+    """The envelope peaks of a whole record, a list of Peak in order of time."""
+    items = [_number(item) for item in (step, ramp, decorrelation)]
+    xs, n = _slice(samples)
+    places = 0
+    while True:
+        sizes, times = (ctypes.c_uint32 * max(places, 1))(), (ctypes.c_uint32 * max(places, 1))()
+        try:
+            k = _ask(_lib.chim_envelope_find, *items, xs, n, sizes, places, times, places)
+            return [Peak(size, time) for size, time in zip(sizes[:k], times[:k])]
+        except Refusal as refusal:
+            if refusal.number != 7:
+                raise
+            places = refusal.carried
 
 
 class Tail(NamedTuple):

@@ -16,6 +16,7 @@ from chimenickel import (
     Record,
     Refusal,
     counted_times,
+    envelope_peaks,
     first_crossing,
     fit_tail,
     from_degrees,
@@ -193,6 +194,19 @@ class Records(unittest.TestCase):
         self.assertEqual(Bench.from_numbers(bench.numbers).verdict(2, 1), bench.verdict(2, 1))
         self.refused(8, 0, Bench.from_numbers, bench.numbers[:31])
         self.refused(8, 0, Bench.from_numbers([[0, 1, 0, 0, 0, 0]] + bench.numbers[1:]).take, 2, 1)
+
+    def test_envelope(self):
+        # the peaks are 7 1 9 8 1 9 9 1 8, of which 6 and more are high, and 9 and 9 stand between lower ones, 1500 ms apart
+        roll = [9, 0, 3, 5, 0, 5, -2, -7, 0, -7, 1, -9, 8, -1, 9, -9, 1, -8, 2]
+        self.assertEqual(envelope_peaks(500, 1, 1_499, roll), [(9, 5_000), (9, 6_500)])
+        self.assertEqual(envelope_peaks(500, 1, 1_500, roll), [(9, 5_000)])
+        self.assertEqual(envelope_peaks(500, 1, 1_500, array("i", roll))[0].time, 5_000)
+        self.assertEqual(envelope_peaks(500, 0, 0, [0, 0, 0]), [])
+        self.refused(1, 4, envelope_peaks, 500, 0, 10_000_001, roll)
+        self.refused(2, 1, envelope_peaks, 500, 0, 0, [0, 1_000_001])
+        self.refused(3, 0, envelope_peaks, 10_000, 0, 0, [0] * 1_002)
+        self.refused(4, 0, envelope_peaks, 500, 18, 0, roll)
+        self.assertRaises(OverflowError, envelope_peaks, 500, -1, 0, roll)
 
     def test_tail(self):
         tail = fit_tail([1, 4, 2, 8], 3)

@@ -275,9 +275,38 @@ static void tail(void) {
     hold(before == after);
 }
 
+/* the envelope peaks of any samples, into slices of any lengths: more than the decorrelation time apart, each a sample of that size at that time, and nothing
+ * beyond; with places enough the same call is taken */
+static void envelope(void) {
+    enum { MOST = 256 };
+    int32_t samples[MOST];
+    uint32_t sizes[MOST + 1], times[MOST + 1];
+    uint64_t step = number(2), ramp = number(1), tau = number(2), few = number(1), many = number(1), carried = 0, again = 0;
+    size_t n = 0;
+    while (left > 0 && n < MOST)
+        samples[n++] = (int32_t)number(1) - 128;
+    memset(sizes, 0xa5, sizeof sizes);
+    memset(times, 0xa5, sizeof times);
+    uint64_t answer = chim_envelope_find(step, ramp, tau, samples, n, sizes, few, times, many, &carried);
+    size_t written = answer == CHIM_TAKEN ? carried : 0;
+    hold(answer == CHIM_TAKEN || answer == CHIM_ITEM || answer == CHIM_TOO_LONG || answer == CHIM_TOO_SHORT || answer == CHIM_ROOM);
+    hold(answer != CHIM_ITEM || (carried == 1 && (step == 0 || step > 10000)));
+    hold(answer != CHIM_ROOM || few < carried || many < carried);
+    hold(written <= few && written <= many);
+    for (size_t i = written; i <= MOST; i++)
+        hold(sizes[i] == 0xa5a5a5a5 && times[i] == 0xa5a5a5a5);
+    for (size_t i = 0; i < written; i++) {
+        hold(times[i] % step == 0 && ramp + times[i] / step < n);
+        hold((uint32_t)labs(samples[ramp + times[i] / step]) == sizes[i]);
+        hold(i == 0 || times[i] > times[i - 1] + tau);
+    }
+    if (answer == CHIM_ROOM)
+        hold(chim_envelope_find(step, ramp, tau, samples, n, sizes, MOST, times, MOST, &again) == CHIM_TAKEN && again == carried);
+}
+
 int LLVMFuzzerTestOneInput(const uint8_t *data, size_t size) {
     in = data, left = size;
-    switch (number(1) % 8) {
+    switch (number(1) % 9) {
     case 0: sheet(); break;
     case 1: record(); break;
     case 2: list(); break;
@@ -286,6 +315,7 @@ int LLVMFuzzerTestOneInput(const uint8_t *data, size_t size) {
     case 5: bench(); break;
     case 6: comma(); break;
     case 7: ledger(); break;
+    case 8: envelope(); break;
     }
     return 0;
 }

@@ -67,6 +67,18 @@ extern "C" {
         carried: *mut u64,
     ) -> u64;
     pub fn chim_bench_give_back(table: *mut [u64; 6], table_len: usize, bureau: u64, place: u64, carried: *mut u64) -> u64;
+    pub fn chim_envelope_find(
+        step: u64,
+        ramp: u64,
+        decorrelation: u64,
+        samples: *const i32,
+        samples_len: usize,
+        sizes: *mut u32,
+        sizes_len: usize,
+        times: *mut u32,
+        times_len: usize,
+        carried: *mut u64,
+    ) -> u64;
     pub fn chim_tail_fit(peaks: *const u32, peaks_len: usize, k: u64, sorted: *mut u32, sorted_len: usize, carried: *mut u64) -> u64;
     pub fn chim_sheet_write(standard: u64, records: *const i32, records_len: usize, out: *mut u8, out_len: usize, carried: *mut u64) -> u64;
     pub fn chim_sheet_records(

@@ -447,6 +447,51 @@ impl Bench {
     }
 }
 
+/// An envelope peak: its magnitude, and its time in ms after the ramp.
+#[derive(Clone, Copy, Debug, PartialEq, Eq)]
+pub struct Peak {
+    pub size: u32,
+    pub time: u32,
+}
+
+/// Writes the envelope peaks of a whole record, in order, magnitudes from the start of `sizes` and times from the start of `times`, whose other places stay, and
+/// answers their number.
+pub fn envelope_peaks_into(
+    step: u64,
+    ramp: u64,
+    decorrelation: u64,
+    samples: &[i32],
+    sizes: &mut [u32],
+    times: &mut [u32],
+) -> Result<usize, Refusal> {
+    let k = answer(|carried| unsafe {
+        c::chim_envelope_find(
+            step,
+            ramp,
+            decorrelation,
+            samples.as_ptr(),
+            samples.len(),
+            sizes.as_mut_ptr(),
+            sizes.len(),
+            times.as_mut_ptr(),
+            times.len(),
+            carried,
+        )
+    })?;
+    Ok(k as usize)
+}
+
+/// The envelope peaks of a whole record, in order of time.
+pub fn envelope_peaks(step: u64, ramp: u64, decorrelation: u64, samples: &[i32]) -> Result<Vec<Peak>, Refusal> {
+    let (mut sizes, mut times) = (Vec::new(), Vec::new());
+    if let Err(Refusal::Room(places)) = envelope_peaks_into(step, ramp, decorrelation, samples, &mut sizes, &mut times) {
+        sizes.resize(places as usize, 0);
+        times.resize(places as usize, 0);
+    }
+    let k = envelope_peaks_into(step, ramp, decorrelation, samples, &mut sizes, &mut times)?;
+    Ok(sizes.iter().zip(&times).take(k).map(|(&size, &time)| Peak { size, time }).collect())
+}
+
 /// A tail: the peaks sorted downwards, and the Hill sum over the k largest in units of 1/65,536.
 #[derive(Clone, Debug, PartialEq, Eq)]
 pub struct Tail {
@@ -654,6 +699,21 @@ mod tests {
         let mut broken = *bench.numbers();
         broken[31][5] = 1;
         assert_eq!(Bench::from_numbers(broken).take(2, 1), Err(Refusal::BrokenState));
+    }
+
+    #[test]
+    fn envelope_peaks_are_found() {
+        let roll = [9, 0, 3, 5, 0, 5, -2, -7, 0, -7, 1, -9, 8, -1, 9, -9, 1, -8, 2];
+        let both = vec![Peak { size: 9, time: 5_000 }, Peak { size: 9, time: 6_500 }];
+        assert_eq!(envelope_peaks(500, 1, 1_499, &roll), Ok(both.clone()));
+        assert_eq!(envelope_peaks(500, 1, 1_500, &roll), Ok(both[..1].to_vec()));
+        let (mut sizes, mut times) = ([5; 3], [6; 1]);
+        assert_eq!(envelope_peaks_into(500, 1, 1_499, &roll, &mut sizes, &mut times), Err(Refusal::Room(2)));
+        assert_eq!((sizes, times), ([5; 3], [6; 1]));
+        assert_eq!(envelope_peaks_into(500, 1, 1_500, &roll, &mut sizes, &mut times), Ok(1));
+        assert_eq!((sizes, times), ([9, 5, 5], [5_000]));
+        assert_eq!(envelope_peaks(500, 1_000_001, 0, &roll), Err(Refusal::Item(2)));
+        assert_eq!(envelope_peaks(500, 18, 0, &roll), Err(Refusal::TooShort));
     }
 
     #[test]

@@ -208,11 +208,11 @@ fn count(timed: &[i32]) -> Totals
 {
     let mut total = Totals { number: 0, sum: 0 };
     let mut i = runs::second_run(timed);
-    let mut run = runs::first_run(&timed[i..]);
-    while i + run.length < timed.len() {
-        total = add(total, run.size);
-        i += run.length;
-        run = runs::first_run(&timed[i..]);
+    let mut next = runs::first_run(&timed[i..]);
+    while i + next.length < timed.len() {
+        total = add(total, next.size);
+        i += next.length;
+        next = runs::first_run(&timed[i..]);
     }
     total
 }

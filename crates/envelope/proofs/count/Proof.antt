@@ -17,16 +17,16 @@ use Rattle.envelope.proofs.count.Statement.{statement}
 use Rattle.envelope.proofs.count.Tie as tie
 
 abbrev Inv-loop : tie.InvT-loop
-Inv-loop timed total₀ i₀ run₀ total i run =
+Inv-loop timed total₀ i₀ next₀ total i next =
     (i ≤ length timed)
-    × (run ≡ firstRun (drop i timed))
+    × (next ≡ firstRun (drop i timed))
     × (total .number ≤ i)
     × (total .sum ≤ i * 4294967295)
     × ((D : ℕ) → total .number + length (due D i timed) ≡ length (peaks D timed))
     × ((D : ℕ) → total .sum + sum (due D i timed) ≡ sum (peaks D timed))
 
 abbrev μ-loop : tie.MeasureT-loop
-μ-loop timed total₀ i₀ run₀ total i run = length timed - i
+μ-loop timed total₀ i₀ next₀ total i next = length timed - i
 
 second-run-requires : tie.Need-second-run-requires Inv-loop μ-loop
 second-run-requires c κs = search needs
@@ -59,7 +59,7 @@ loop-holds c =
     (within (c .before .before), c .first-run .ensures ∙ ap firstRun (from-place k p), omega arith, omega arith, λ D. zero-add _ ∙ ap length (d D), λ D. zero-add _ ∙ ap sum (d D))
 
 add-if1 : tie.Need-add-if1 Inv-loop μ-loop
-add-if1 c = omega (arith, walk-fits (c .before .before .before .before .before .args .timed .now) (c .before .loop .i) (c .before .loop .run) (c .before .loop .inv .1) (c .before .loop .inv .0))
+add-if1 c = omega (arith, walk-fits (c .before .before .before .before .before .args .timed .now) (c .before .loop .i) (c .before .loop .next) (c .before .loop .inv .1) (c .before .loop .inv .0))
 
 add-requires : tie.Need-add-requires Inv-loop μ-loop
 add-requires c κs = (omega (arith, c .before .before .loop .inv .2, c .if1 .taken), omega (arith, c .before .before .loop .inv .3, c .if1 .taken))
@@ -83,14 +83,14 @@ first-run-requires-2 : tie.Need-first-run-requires-2 Inv-loop μ-loop
 first-run-requires-2 c κs = search needs
 
 loop-less : tie.Need-loop-less Inv-loop μ-loop
-loop-less c = omega (arith, c .before .before .before .before .if1 .taken, walk-holds (c .before .before .before .before .before .before .before .before .before .before .args .timed .now) (c .before .before .before .before .before .before .loop .i) (c .before .before .before .before .before .before .loop .run) (c .before .before .before .before .before .before .loop .inv .1) (c .before .before .before .before .if1 .taken) .0)
+loop-less c = omega (arith, c .before .before .before .before .if1 .taken, walk-holds (c .before .before .before .before .before .before .before .before .before .before .args .timed .now) (c .before .before .before .before .before .before .loop .i) (c .before .before .before .before .before .before .loop .next) (c .before .before .before .before .before .before .loop .inv .1) (c .before .before .before .before .if1 .taken) .0)
 
 loop-again : tie.Need-loop-again Inv-loop μ-loop
 unfolding sum
 loop-again c =
     let p = c .before .before .before .before .before .before .before .before .before .before .args .timed .now in
     let i = c .before .before .before .before .before .before .loop .i in
-    let r = c .before .before .before .before .before .before .loop .run in
+    let r = c .before .before .before .before .before .before .loop .next in
     let t = c .before .before .before .before .before .before .loop .total in
     let v = c .before .before .before .before .before .before .loop .inv in
     let h = c .before .before .before .before .if1 .taken in
@@ -111,7 +111,7 @@ unfolding sum
 returns c =
     let p = c .before .before .before .before .before .before .args .timed .now in
     let v = c .before .before .loop .inv in
-    let d = walk-ends p (c .before .before .loop .i) (c .before .before .loop .run) (v .1) (omega (arith, c .if1 .left)) in
+    let d = walk-ends p (c .before .before .loop .i) (c .before .before .loop .next) (v .1) (omega (arith, c .if1 .left)) in
     (omega (arith, v .2, v .0), λ D. omega (arith, v .4 D, ap length (d D)), λ D. omega (arith, v .5 D, ap sum (d D)))
 
 pub count-spec : {M : Type 1} → statement M

@@ -189,8 +189,8 @@ uint64_t chim_sheet_records(const uint8_t *text, size_t text_len, int32_t *recor
 /* ---- the envelope peaks of a whole record */
 
 /* Samples from the ramp on, in runs of one sign (a zero belongs to the run before it, at the start to none), give a peak for each run but the first and the
- * last: its largest magnitude, at the first sample that has it. A peak is high if it times the number of peaks is above their sum. Of each stretch of high
- * peaks with one that is not high on both sides the largest is kept, of kept peaks each at most the decorrelation time after the one before the largest is handed
+ * last: its largest magnitude, at the first sample that has it. High are those above the mean of all. Of each stretch of high peaks
+ * that has one which is not high on both sides the largest is kept, of kept peaks each at most the decorrelation time after the one before the largest is handed
  * out, both times the first on a tie. Writes the magnitudes to the start of `sizes` and the times in ms after the ramp to the start of `times`, whose other
  * places stay; *carried is their number. Refuses 1 (items 1, 2 and 4; there is no level), 2, 3, 4, 7 if either slice is too short. */
 uint64_t chim_envelope_find(uint64_t step, uint64_t ramp, uint64_t decorrelation, const int32_t *samples, size_t samples_len, uint32_t *sizes, size_t sizes_len,

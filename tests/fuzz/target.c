@@ -1,7 +1,8 @@
 /* A fuzz target over the whole C interface. The first byte of the input picks a part; the rest is a sheet, or numbers and samples to call with. What has
  * to hold whatever comes: a refusal leaves every lent array as it stood, what is handed out is never refused as broken, a piece cut anywhere leads to
- * the same record, a sheet's campaign is that of its records, a bureau's call leaves the other's places, and a comma file that is read is written
- * and read again; a sheet's records are refused as the sheet is, and written they are the sheet. */
+ * the same record, a sheet's campaign is that of its records, a bureau's call leaves the other's places, a comma file that is read is written
+ * and read again, a sheet's records are refused as the sheet is, and written they are the sheet, and envelope peaks are samples of the record, apart as they
+ * have to be. */
 #include <stdint.h>
 #include <stdlib.h>
 #include <string.h>

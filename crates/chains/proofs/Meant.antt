@@ -1,6 +1,6 @@
 -- `groups` parts a list in the only way that `Well` allows, and `largest` is the first of the largest. Assumes nothing.
 use Prim.Native.Nat.{ℕ, _≤_, _<_}
-use mathlib.Core.Path.{_≡_, refl, sym, ap, _∙_}
+use mathlib.Core.Path.{_≡_, refl, ap, _∙_}
 use mathlib.Core.Bool.{Bool, true, false, cond}
 use mathlib.Core.List.{List, [], _∷_, _++_, foldl, append-assoc, append-nil}
 use native.Mathlib.Omega.{arith}

@@ -1,5 +1,5 @@
 -- Members in a row taken in groups, and the largest of each group. Assumes nothing.
-use mathlib.Core.Bool.{Bool, true, false, cond}
+use mathlib.Core.Bool.{Bool, false, cond}
 use mathlib.Core.List.{List, [], _∷_, map, foldl, dropLast}
 use lib.ListN.{drop}
 use lib.Dec.{ltb}

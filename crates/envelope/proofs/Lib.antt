@@ -1,4 +1,5 @@
 pub mod Come
 pub mod Turns
+pub mod Passing
 pub mod Answered
 pub mod Unique

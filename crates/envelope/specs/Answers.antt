@@ -1,4 +1,4 @@
--- What the call answers: request [11]'s refusals, in listing's order, and what it leaves in the two slices. Assumes nothing.
+-- Document 02 [11], what the call answers: its refusals, in listing's order, and what it leaves in the two slices. Assumes nothing.
 use Prim.Native.Nat.{ℕ}
 use mathlib.Core.Path.{_≡_}
 use mathlib.Core.Bool.{cond, not, _||_}

@@ -1,6 +1,6 @@
 -- One more: what a pass becomes with the next peak, and what it hands out. Assumes nothing.
 use Prim.Native.Nat.{ℕ, _+_, _-_, _≤_}
-use mathlib.Core.Bool.{Bool, cond, _&&_}
+use mathlib.Core.Bool.{cond, _&&_}
 use mathlib.Core.List.{List}
 use lib.ListN.{set}
 use lib.IntN.{ℤ}

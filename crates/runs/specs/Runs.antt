@@ -1,7 +1,7 @@
--- Request [11], "Envelope peaks", its sentences of runs. D is the step; a sample is read as a `Peak`: its magnitude, its time in ms after the ramp, and
+-- Document 02 [11], its sentences of runs. D is the step; a sample is read as a `Peak`: its magnitude, its time in ms after the ramp, and
 -- whether it is below zero. Assumes nothing.
 use Prim.Native.Nat.{ℕ, suc, _+_, _*_}
-use mathlib.Core.Bool.{Bool, true, false, cond, not}
+use mathlib.Core.Bool.{Bool, false, cond, not}
 use mathlib.Core.List.{List, [], _∷_}
 use lib.ListN.{length, drop}
 use lib.Dec.{eqb}

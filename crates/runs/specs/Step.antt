@@ -1,5 +1,5 @@
 -- A run found sample by sample. Assumes nothing.
-use Prim.Native.Nat.{ℕ, _+_}
+use Prim.Native.Nat.{_+_}
 use mathlib.Core.Bool.{false, cond}
 use lib.Dec.{ltb}
 use lib.IntN.{ℤ, natAbs}

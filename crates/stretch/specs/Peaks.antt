@@ -1,4 +1,4 @@
--- Request [11], "Envelope peaks", its sentences of peaks: which are high, which are kept, and which are handed out. D is the step, R the ramp, τ the
+-- Document 02 [11], its sentences of peaks: which are high, which are kept, and which are handed out. D is the step, R the ramp, τ the
 -- decorrelation time, xs all samples. Assumes nothing.
 use Prim.Native.Nat.{ℕ, _+_, _*_}
 use mathlib.Core.Bool.{Bool}
@@ -10,11 +10,12 @@ use Rattle.chains.specs.declared.Peak.{Peak}
 use Rattle.chains.specs.Groups.{inner, those, tops}
 use Rattle.runs.specs.Runs.{same, peaks}
 
+-- the magnitudes added up
 unfoldable pub sum : List Peak → ℕ
 sum [] = 0
 sum (p ∷ l) = p .size + sum l
 
--- a peak is high if it times the number of peaks, n, is above their sum, s
+-- above the mean of n peaks with the sum s, in whole numbers
 abbrev pub high : ℕ → ℕ → Peak → Bool
 high n s p = ltb s (p .size * n)
 
@@ -26,6 +27,7 @@ alike n s p q = same (high n s p) (high n s q)
 abbrev pub standing : ℕ → ℕ → List Peak → List Peak
 standing n s l = those (high n s) (inner (tops (alike n s) l))
 
+-- among all peaks, whose own number and sum say which are high
 abbrev pub kept : List Peak → List Peak
 kept l = standing (length l) (sum l) l
 

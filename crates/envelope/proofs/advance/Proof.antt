@@ -1,6 +1,5 @@
 -- `envelope::advance` meets its contract, machine by machine. Assumes nothing.
 use borrow.Author.Needs.{needs}
-use mathlib.Core.Path.{ap, _∙_}
 use Rattle.envelope.specs.Step.{stepped}
 use Rattle.envelope.proofs.advance.Statement.{statement}
 use Rattle.envelope.proofs.advance.Tie as tie

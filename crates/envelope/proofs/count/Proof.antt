@@ -1,14 +1,11 @@
 -- `envelope::count` meets its contract. The invariant: the number and the sum so far and those of the peaks to come make those of all, whatever the step is.
 -- The measure is what is left. Assumes nothing.
 use Prim.Native.Nat.{ℕ, _+_, _-_, _*_, _≤_}
-use mathlib.Core.Path.{_≡_, sym, ap, _∙_}
-use mathlib.Core.List.{List}
+use mathlib.Core.Path.{_≡_, ap, _∙_}
 use native.Mathlib.Nat.{zero-add}
 use native.Mathlib.Omega.{arith}
 use borrow.Author.Needs.{needs}
 use lib.ListN.{length, drop}
-use Rattle.chains.specs.declared.Peak.{Peak}
-use Rattle.runs.specs.declared.Run.{Run}
 use Rattle.runs.specs.Runs.{peaks, firstRun}
 use Rattle.runs.proofs.Due.{due, due-first, from-place, second-fits, walk-fits, walk-holds, walk-next, walk-ends}
 use Rattle.stretch.specs.Peaks.{sum}

@@ -1,9 +1,8 @@
 -- `envelope::find` meets its contract: each answer is the law of `Answered` whose tests held on the way to it. Assumes nothing.
-use Prim.Native.Nat.{_+_, _-_}
-use mathlib.Core.Path.{_≡_, sym, ap, _∙_}
+use mathlib.Core.Path.{sym, ap, _∙_}
 use native.Mathlib.Omega.{arith}
 use borrow.Author.Needs.{needs}
-use lib.ListN.{length, drop, length-drop}
+use lib.ListN.{length, length-drop}
 use Rattle.limits.proofs.Items.{items}
 use Rattle.whole.proofs.Judged.{Fitting, fitting, refused-tested}
 use Rattle.runs.proofs.Due.{from-place}

@@ -1,9 +1,8 @@
 -- `envelope::peak` meets its contract: the timed length is at most 10,000,000 ms. Assumes nothing.
-use Prim.Native.Nat.{ℕ, _+_, _*_}
-use mathlib.Core.Path.{_≡_, ap}
+use Prim.Native.Nat.{ℕ, _+_}
+use mathlib.Core.Path.{ap}
 use native.Mathlib.Nat.{div-le-self}
 use native.Mathlib.Omega.{arith}
-use Rattle.chains.specs.declared.Peak.{Peak}
 use Rattle.limits.proofs.Items.{in-time}
 use Rattle.envelope.proofs.peak.Statement.{statement}
 use Rattle.envelope.proofs.peak.Tie as tie

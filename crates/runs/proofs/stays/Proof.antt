@@ -1,8 +1,4 @@
 -- `runs::stays` meets its contract, on either side. Assumes nothing.
-use mathlib.Core.Path.{ap, _∙_}
-use lib.IntN.{ℤ, pos}
-use lib.Signed.{ltZ}
-use mathlib.Core.Bool.{not}
 use mir.Facts.{toZ-ofZ}
 use Rattle.runs.proofs.Sides.{stays-below, stays-above}
 use Rattle.runs.proofs.stays.Statement.{statement}

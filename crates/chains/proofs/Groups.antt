@@ -4,7 +4,8 @@ use mathlib.Core.Path.{_≡_, refl, sym, ap, _∙_}
 use mathlib.Core.Bool.{Bool, true, false, cond}
 use mathlib.Core.List.{List, [], _∷_, map, foldl, dropLast}
 use Rattle.chains.specs.declared.Peak.{Peak}
-use Rattle.chains.specs.Groups.{attach, groups, larger, largest, tops}
+use Rattle.groups.specs.Groups.{attach, groups}
+use Rattle.chains.specs.Groups.{larger, largest, tops}
 
 module _ (joins : Peak → Peak → Bool) where
   unfoldable pub from : Peak → Peak → List Peak → List Peak

@@ -10,7 +10,8 @@ use lib.Dec.{ltb, eqb}
 use borrow.Author.Tests.{lt-ltb, le-ltb, eq-eqb, ne-eqb, ltb-true, ltb-false, eqb-true, eqb-false}
 use Rattle.chains.specs.declared.Peak.{Peak}
 use Rattle.chains.specs.declared.Group.{Group}
-use Rattle.chains.specs.Groups.{groups, larger, tops}
+use Rattle.groups.specs.Groups.{groups}
+use Rattle.chains.specs.Groups.{larger, tops}
 use Rattle.chains.specs.Machine.{turned, gave, closed}
 use Rattle.chains.proofs.Groups.{from, tops-from, not-last}
 

@@ -1,4 +1,4 @@
--- `groups` parts a list in the only way that `Well` allows, and `largest` is the first of the largest. Assumes nothing.
+-- `largest` is the first of the largest. Assumes nothing.
 use Prim.Native.Nat.{ℕ, _≤_, _<_}
 use mathlib.Core.Path.{_≡_, refl, ap, _∙_}
 use mathlib.Core.Bool.{Bool, true, false, cond}
@@ -7,70 +7,9 @@ use native.Mathlib.Omega.{arith}
 use lib.Dec.{ltb}
 use borrow.Author.Tests.{ltb-true, ltb-false}
 use Rattle.chains.specs.declared.Peak.{Peak}
-use Rattle.chains.specs.Groups.{attach, groups, larger, largest}
-use Rattle.chains.specs.Meaning.{joined, Linked, lastFrom, Cut, Well, All, Top}
+use Rattle.chains.specs.Groups.{larger, largest}
+use Rattle.chains.specs.Meaning.{All, Top}
 
-module _ {A : Type 0} (joins : A → A → Bool) where
-  attach-joined : (x : A) (gs : List (List A)) → Well joins gs → joined (attach joins x gs) ≡ x ∷ joined gs
-  unfolding attach
-  attach-joined x [] w = refl
-  attach-joined x ([] ∷ gs) w = absurd w
-  attach-joined x ((y ∷ g) ∷ gs) w = go (joins x y)
-    where
-      go : (b : Bool) → joined (cond b ((x ∷ y ∷ g) ∷ gs) ((x ∷ []) ∷ (y ∷ g) ∷ gs)) ≡ x ∷ y ∷ (g ++ joined gs)
-      go true = refl
-      go false = refl
-
-  attach-well : (x : A) (gs : List (List A)) → Well joins gs → Well joins (attach joins x gs)
-  unfolding attach
-  attach-well x [] w = (tt, tt, tt)
-  attach-well x ([] ∷ gs) w = absurd w
-  attach-well x ((y ∷ g) ∷ gs) w = go (joins x y) refl
-    where
-      go : (b : Bool) → joins x y ≡ b → Well joins (cond b ((x ∷ y ∷ g) ∷ gs) ((x ∷ []) ∷ (y ∷ g) ∷ gs))
-      go true e = ((e, w .0), w .1, w .2)
-      go false e = (tt, e, w)
-
-  pub groups-well : (l : List A) → Well joins (groups joins l)
-  unfolding groups
-  groups-well [] = tt
-  groups-well (x ∷ l) = attach-well x (groups joins l) (groups-well l)
-
-  pub groups-joined : (l : List A) → joined (groups joins l) ≡ l
-  unfolding groups
-  groups-joined [] = refl
-  groups-joined (x ∷ l) = attach-joined x (groups joins l) (groups-well l) ∙ ap (λ (m : List A). x ∷ m) (groups-joined l)
-
-  -- x opens the first group
-  pub opens : (x : A) (gs : List (List A)) → (g : List A) × (hs : List (List A)) × (attach joins x gs ≡ (x ∷ g) ∷ hs)
-  unfolding attach
-  opens x [] = ([], [], refl)
-  opens x ([] ∷ gs) = ([], gs, refl)
-  opens x ((y ∷ g) ∷ gs) = go (joins x y)
-    where
-      go : (b : Bool) → (h : List A) × (hs : List (List A)) × (cond b ((x ∷ y ∷ g) ∷ gs) ((x ∷ []) ∷ (y ∷ g) ∷ gs) ≡ (x ∷ h) ∷ hs)
-      go true = (y ∷ g, gs, refl)
-      go false = ([], (y ∷ g) ∷ gs, refl)
-
-  attach-cut : (x : A) (gs : List (List A)) → Cut joins x gs → attach joins x gs ≡ (x ∷ []) ∷ gs
-  unfolding attach
-  attach-cut x [] c = refl
-  attach-cut x ([] ∷ gs) c = absurd c
-  attach-cut x ((y ∷ g) ∷ gs) c = rw c
-
-  pub first-group : (x : A) (g : List A) (gs : List (List A)) → Linked joins x g → Cut joins (lastFrom joins x g) gs → groups joins (joined gs) ≡ gs → groups joins (x ∷ (g ++ joined gs)) ≡ (x ∷ g) ∷ gs
-  unfolding groups attach
-  first-group x [] gs l c e = ap (attach joins x) e ∙ attach-cut x gs c
-  first-group x (y ∷ g) gs l c e = ap (attach joins x) (first-group y g gs (l .1) c e) ∙ rw (l .0)
-
-  -- whoever parts a list so parts it as `groups` does
-  pub groups-only : (gs : List (List A)) → Well joins gs → groups joins (joined gs) ≡ gs
-  unfolding groups
-  groups-only [] w = refl
-  groups-only ([] ∷ gs) w = absurd w
-  groups-only ((x ∷ g) ∷ gs) w = first-group x g gs (w .0) (w .1) (groups-only gs (w .2))
-
--- ---- the largest
 all-append : (P : Peak → Type 0) (a b : List Peak) → All P a → All P b → All P (a ++ b)
 all-append P [] b h k = k
 all-append P (x ∷ a) b h k = (h .0, all-append P a b (h .1) k)

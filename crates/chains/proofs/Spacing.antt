@@ -6,7 +6,8 @@ use mathlib.Core.List.{List, [], _∷_, dropLast}
 use native.Mathlib.Omega.{arith}
 use lib.Dec.{ltb}
 use Rattle.chains.specs.declared.Peak.{Peak}
-use Rattle.chains.specs.Groups.{groups, inner, those, larger, tops}
+use Rattle.groups.specs.Groups.{groups}
+use Rattle.chains.specs.Groups.{inner, those, larger, tops}
 use Rattle.chains.specs.Meaning.{Spaced}
 use Rattle.chains.proofs.Groups.{from, tops-from}
 

@@ -1,20 +1,10 @@
--- Members in a row taken in groups, and the largest of each group. Assumes nothing.
+-- The largest member of each group of a row. Assumes nothing.
 use mathlib.Core.Bool.{Bool, false, cond}
 use mathlib.Core.List.{List, [], _∷_, map, foldl, dropLast}
 use lib.ListN.{drop}
 use lib.Dec.{ltb}
+use Rattle.groups.specs.Groups.{groups}
 use Rattle.chains.specs.declared.Peak.{Peak}
-
--- x stands in the group of the next member if the two join, and starts one of its own if not
-unfoldable pub attach : {A : Type 0} → (A → A → Bool) → A → List (List A) → List (List A)
-attach joins x [] = (x ∷ []) ∷ []
-attach joins x ([] ∷ gs) = (x ∷ []) ∷ gs
-attach joins x ((y ∷ g) ∷ gs) = cond (joins x y) ((x ∷ y ∷ g) ∷ gs) ((x ∷ []) ∷ (y ∷ g) ∷ gs)
-
--- neighbours that join stand in one group
-unfoldable pub groups : {A : Type 0} → (A → A → Bool) → List A → List (List A)
-groups joins [] = []
-groups joins (x ∷ l) = attach joins x (groups joins l)
 
 -- the first and the last are dropped
 abbrev pub inner : {A : Type 0} → List A → List A

@@ -16,9 +16,11 @@ use Rattle.limits.specs.Limits.{itemOutside, stepInRange, rampInRange, decorrel
 use Rattle.range.specs.Range.{firstBad}
 use Rattle.reading.specs.Reading.{tooFew}
 use Rattle.chains.specs.declared.Peak.{Peak}
-use Rattle.chains.specs.Groups.{groups, largest}
-use Rattle.chains.specs.Meaning.{All, In, Spaced, Top, Well, joined}
-use Rattle.chains.proofs.Meant.{groups-joined, groups-only, groups-well}
+use Rattle.groups.specs.Groups.{groups}
+use Rattle.chains.specs.Groups.{largest}
+use Rattle.groups.specs.Parting.{Parting}
+use Rattle.chains.specs.Meaning.{All, In, Spaced, Top}
+use Rattle.groups.proofs.Parting.{groups-only, groups-part}
 use Rattle.stretch.specs.Peaks.{handed, high, kept, sum}
 use Rattle.stretch.specs.Meaning.{Stands}
 use Rattle.stretch.proofs.Stretches.{standing-stands, stands-standing}
@@ -49,7 +51,7 @@ pub record Request11 : Type 0 where
   pub stays : (D R τ : ℕ) (xs : List ℤ) (sizes times s t : List ℕ) (f : Refusal) → FindsTo D R τ xs sizes times (Refused f) s t → (s ≡ sizes) × (t ≡ times)
   pub given : (D R τ : ℕ) (xs : List ℤ) (sizes times s t : List ℕ) (k : ℕ) → FindsTo D R τ xs sizes times (Peaks k) s t
       → (s ≡ map sizeOf (handed D R τ xs) ++ drop k sizes) × (t ≡ map momentOf (handed D R τ xs) ++ drop k times)
-  pub parted : (joins : Peak → Peak → Bool) (l : List Peak) → (joined (groups joins l) ≡ l) × Well joins (groups joins l) × ((gs : List (List Peak)) → Well joins gs → groups joins (joined gs) ≡ gs)
+  pub parted : (joins : Peak → Peak → Bool) (l : List Peak) → Parting joins l (groups joins l) × ((gs : List (List Peak)) → Parting joins l gs → gs ≡ groups joins l)
   pub highest : (l : List Peak) → All (Highest l) (kept l)
   pub all-kept : (l : List Peak) (p : Peak) (g : List Peak) → Stands (high (length l) (sum l)) l (p ∷ g) → In (largest (p ∷ g)) (kept l)
   pub apart : (D R τ : ℕ) (xs : List ℤ) → 1 ≤ D → Spaced (τ + 1) 0 (handed D R τ xs)
@@ -74,7 +76,7 @@ request-11 =
       no-level = level-in-range;
       stays = λ D R τ xs sizes times s t f p. (p .sizes-left, p .times-left);
       given = λ D R τ xs sizes times s t k p. (p .sizes-left, p .times-left);
-      parted = λ joins l. (groups-joined joins l, groups-well joins l, groups-only joins);
+      parted = λ joins l. (groups-part joins l, groups-only joins l);
       highest = λ l. standing-stands (length l) (sum l) l;
       all-kept = λ l p g h. stands-standing (length l) (sum l) l p g h;
       apart = handed-apart;

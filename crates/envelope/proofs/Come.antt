@@ -7,7 +7,8 @@ use mathlib.Core.List.{List, [], _∷_}
 use lib.Dec.{ltb}
 use Rattle.chains.specs.declared.Peak.{Peak}
 use Rattle.chains.specs.declared.Group.{Group}
-use Rattle.chains.specs.Groups.{groups, those, tops}
+use Rattle.groups.specs.Groups.{groups}
+use Rattle.chains.specs.Groups.{those, tops}
 use Rattle.chains.specs.Machine.{gave, closed}
 use Rattle.chains.proofs.Groups.{from}
 use Rattle.chains.proofs.Left.{turned-next, left, left-next, within, within-next, within-last, closed-none}

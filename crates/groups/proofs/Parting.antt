@@ -28,12 +28,12 @@ module _ {A : Type 0} (joins : A → A → Bool) where
       go true e = ((e, w .0), w .1, w .2)
       go false e = (tt, e, w)
 
-  groups-runs : (l : List A) → Runs joins (groups joins l)
+  pub groups-runs : (l : List A) → Runs joins (groups joins l)
   unfolding groups
   groups-runs [] = tt
   groups-runs (x ∷ l) = attach-runs x (groups joins l) (groups-runs l)
 
-  groups-together : (l : List A) → together (groups joins l) ≡ l
+  pub groups-together : (l : List A) → together (groups joins l) ≡ l
   unfolding groups
   groups-together [] = refl
   groups-together (x ∷ l) = attach-together x (groups joins l) (groups-runs l) ∙ ap (λ (m : List A). x ∷ m) (groups-together l)
@@ -41,18 +41,29 @@ module _ {A : Type 0} (joins : A → A → Bool) where
   pub groups-part : (l : List A) → Parting joins l (groups joins l)
   groups-part l = record { whole = groups-together l; runs = groups-runs l }
 
+  -- x opens the first group
+  pub opens : (x : A) (gs : List (List A)) → (g : List A) × (hs : List (List A)) × (attach joins x gs ≡ (x ∷ g) ∷ hs)
+  unfolding attach
+  opens x [] = ([], [], refl)
+  opens x ([] ∷ gs) = ([], gs, refl)
+  opens x ((y ∷ g) ∷ gs) = go (joins x y)
+    where
+      go : (b : Bool) → (h : List A) × (hs : List (List A)) × (cond b ((x ∷ y ∷ g) ∷ gs) ((x ∷ []) ∷ (y ∷ g) ∷ gs) ≡ (x ∷ h) ∷ hs)
+      go true = (y ∷ g, gs, refl)
+      go false = ([], (y ∷ g) ∷ gs, refl)
+
   attach-cut : (x : A) (gs : List (List A)) → Cut joins x gs → attach joins x gs ≡ (x ∷ []) ∷ gs
   unfolding attach
   attach-cut x [] c = refl
   attach-cut x ([] ∷ gs) c = absurd c
   attach-cut x ((y ∷ g) ∷ gs) c = rw c
 
-  first-group : (x : A) (g : List A) (gs : List (List A)) → Linked joins x g → Cut joins (lastFrom joins x g) gs → groups joins (together gs) ≡ gs → groups joins (x ∷ (g ++ together gs)) ≡ (x ∷ g) ∷ gs
+  pub first-group : (x : A) (g : List A) (gs : List (List A)) → Linked joins x g → Cut joins (lastFrom joins x g) gs → groups joins (together gs) ≡ gs → groups joins (x ∷ (g ++ together gs)) ≡ (x ∷ g) ∷ gs
   unfolding groups attach
   first-group x [] gs l c e = ap (attach joins x) e ∙ attach-cut x gs c
   first-group x (y ∷ g) gs l c e = ap (attach joins x) (first-group y g gs (l .1) c e) ∙ rw (l .0)
 
-  runs-only : (gs : List (List A)) → Runs joins gs → groups joins (together gs) ≡ gs
+  pub runs-only : (gs : List (List A)) → Runs joins gs → groups joins (together gs) ≡ gs
   unfolding groups
   runs-only [] w = refl
   runs-only ([] ∷ gs) w = absurd w

@@ -11,8 +11,9 @@ use lib.IntN.{ℤ, pos, natAbs}
 use lib.Signed.{ltZ}
 use Rattle.truth.proofs.Laws.{true≢false}
 use Rattle.chains.specs.declared.Peak.{Peak}
-use Rattle.chains.specs.Groups.{attach, groups, larger, largest}
-use Rattle.chains.proofs.Meant.{opens}
+use Rattle.groups.specs.Groups.{attach, groups}
+use Rattle.chains.specs.Groups.{larger, largest}
+use Rattle.groups.proofs.Parting.{opens}
 use Rattle.runs.specs.declared.Run.{Run}
 use Rattle.runs.specs.Runs.{same, side, point, points, sameSide, first, figures, firstRun, peakAt}
 use Rattle.runs.specs.Step.{opened, longer}

@@ -11,7 +11,8 @@ use lib.Dec.{eqb}
 use lib.IntN.{ℤ, natAbs}
 use Rattle.truth.proofs.Cases.{by-order}
 use Rattle.chains.specs.declared.Peak.{Peak}
-use Rattle.chains.specs.Groups.{groups, inner, larger, largest, tops}
+use Rattle.groups.specs.Groups.{groups}
+use Rattle.chains.specs.Groups.{inner, larger, largest, tops}
 use Rattle.runs.specs.declared.Run.{Run}
 use Rattle.runs.specs.Runs.{side, point, points, started, sameSide, peaks, zeros, first, figures, firstRun, peakAt, second}
 use Rattle.runs.specs.Step.{opened}

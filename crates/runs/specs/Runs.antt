@@ -8,7 +8,8 @@ use lib.Dec.{eqb}
 use lib.IntN.{ℤ, pos, natAbs}
 use lib.Signed.{ltZ}
 use Rattle.chains.specs.declared.Peak.{Peak}
-use Rattle.chains.specs.Groups.{groups, inner, largest, tops}
+use Rattle.groups.specs.Groups.{groups}
+use Rattle.chains.specs.Groups.{inner, largest, tops}
 use Rattle.runs.specs.declared.Run.{Run}
 
 -- two tests agree

@@ -8,7 +8,8 @@ use mathlib.Core.List.{List, [], _∷_, map}
 use lib.ListN.{drop}
 use lib.IntN.{ℤ, pos, negsuc}
 use Rattle.chains.specs.declared.Peak.{Peak}
-use Rattle.chains.specs.Groups.{attach, groups, those, larger, largest, tops}
+use Rattle.groups.specs.Groups.{attach, groups}
+use Rattle.chains.specs.Groups.{those, larger, largest, tops}
 use Rattle.runs.specs.Runs.{points, started, peaks}
 use Rattle.stretch.specs.Peaks.{sum, kept, handed}
 

@@ -7,12 +7,15 @@ use mathlib.Core.List.{List, [], _∷_, _++_, map, dropLast, append-assoc}
 use lib.ListN.{drop}
 use Rattle.truth.proofs.Laws.{true≢false}
 use Rattle.chains.specs.declared.Peak.{Peak}
-use Rattle.chains.specs.Groups.{attach, groups, those, largest, tops}
+use Rattle.groups.specs.Groups.{attach, groups}
+use Rattle.chains.specs.Groups.{those, largest, tops}
 use Rattle.runs.specs.Runs.{same}
 use Rattle.stretch.specs.Peaks.{high, alike, standing}
-use Rattle.chains.specs.Meaning.{joined, Linked, lastFrom, Cut, Well, All, Top, In}
+use Rattle.groups.specs.Parting.{together, Linked, lastFrom, Cut, Runs}
+use Rattle.chains.specs.Meaning.{All, Top, In}
 use Rattle.stretch.specs.Meaning.{Stands}
-use Rattle.chains.proofs.Meant.{groups-well, groups-joined, opens, first-group, largest-top}
+use Rattle.groups.proofs.Parting.{groups-runs, groups-together, opens, first-group}
+use Rattle.chains.proofs.Meant.{largest-top}
 
 -- all but the last
 abbrev front : Peak → List Peak → List Peak
@@ -67,14 +70,14 @@ module _ (n s : ℕ) where
     Kept : Peak → Type 0
     Kept p = (g : List Peak) × Stands H l g × Top p g
 
-    walk : (a : List Peak) (x : Peak) (gs : List (List Peak)) → l ≡ a ++ (x ∷ joined gs) → Cut f x gs → Well f gs → All Kept (those H (dropLast (map largest gs)))
+    walk : (a : List Peak) (x : Peak) (gs : List (List Peak)) → l ≡ a ++ (x ∷ together gs) → Cut f x gs → Runs f gs → All Kept (those H (dropLast (map largest gs)))
     unfolding those Kept
     walk a x [] e c w = tt
     walk a x ([] ∷ gs) e c w = absurd w
     walk a x ((y ∷ g) ∷ []) e c w = tt
     walk a x ((y ∷ g) ∷ ([] ∷ gs)) e c w = absurd (w .1)
     walk a x ((y ∷ g) ∷ ((z ∷ h) ∷ gs)) e c w =
-        let d : l ≡ (a ++ (x ∷ front y g)) ++ (lastFrom f y g ∷ joined ((z ∷ h) ∷ gs)) = e ∙ ap (λ (m : List Peak). a ++ (x ∷ m)) (last-split y g (joined ((z ∷ h) ∷ gs))) ∙ sym (append-assoc a (x ∷ front y g) (lastFrom f y g ∷ joined ((z ∷ h) ∷ gs))) in
+        let d : l ≡ (a ++ (x ∷ front y g)) ++ (lastFrom f y g ∷ together ((z ∷ h) ∷ gs)) = e ∙ ap (λ (m : List Peak). a ++ (x ∷ m)) (last-split y g (together ((z ∷ h) ∷ gs))) ∙ sym (append-assoc a (x ∷ front y g) (lastFrom f y g ∷ together ((z ∷ h) ∷ gs))) in
         go (H (largest (y ∷ g))) refl (walk (a ++ (x ∷ front y g)) (lastFrom f y g) ((z ∷ h) ∷ gs) d (w .1) (w .2))
       where
         go : (b : Bool) → H (largest (y ∷ g)) ≡ b → All Kept (those H (dropLast (map largest ((z ∷ h) ∷ gs)))) → All Kept (cond b (largest (y ∷ g) ∷ those H (dropLast (map largest ((z ∷ h) ∷ gs)))) (those H (dropLast (map largest ((z ∷ h) ∷ gs)))))
@@ -86,7 +89,7 @@ module _ (n s : ℕ) where
                   before = a;
                   first = x;
                   last = z;
-                  after = h ++ joined gs;
+                  after = h ++ together gs;
                   is = e;
                   all-high = all-alike true y g (w .0) k;
                   low-before = same-false (H x) (H y) c k;
@@ -101,12 +104,12 @@ module _ (n s : ℕ) where
   -- each kept peak is the largest of such a stretch
   pub standing-stands : (l : List Peak) → All (λ p. (g : List Peak) × Stands H l g × Top p g) (standing n s l)
   unfolding tops Kept those
-  standing-stands l = start (groups f l) (sym (groups-joined f l)) (groups-well f l)
+  standing-stands l = start (groups f l) (sym (groups-together f l)) (groups-runs f l)
     where
-      start : (gs : List (List Peak)) → l ≡ joined gs → Well f gs → All (Kept l) (those H (dropLast (drop 1 (map largest gs))))
+      start : (gs : List (List Peak)) → l ≡ together gs → Runs f gs → All (Kept l) (those H (dropLast (drop 1 (map largest gs))))
       start [] e w = tt
       start ([] ∷ gs) e w = absurd w
-      start ((x ∷ g) ∷ gs) e w = walk l (front x g) (lastFrom f x g) gs (e ∙ last-split x g (joined gs)) (w .1) (w .2)
+      start ((x ∷ g) ∷ gs) e w = walk l (front x g) (lastFrom f x g) gs (e ∙ last-split x g (together gs)) (w .1) (w .2)
 
 -- ---- and each such stretch's largest is kept
 those-append : (t : Peak → Bool) (a b : List Peak) → those t (a ++ b) ≡ those t a ++ those t b
@@ -155,9 +158,9 @@ module _ (n s : ℕ) where
     amid-base =
         let o = opens (alike n s) z (groups (alike n s) after) in
         let gs = (z ∷ o .0) ∷ o .1 in
-        let j : joined gs ≡ z ∷ after = sym (ap joined (o .2)) ∙ groups-joined (alike n s) (z ∷ after) in
+        let j : together gs ≡ z ∷ after = sym (ap together (o .2)) ∙ groups-together (alike n s) (z ∷ after) in
         let cut : Cut (alike n s) (lastFrom (alike n s) y g) gs = rw (last-high y g a, c) in
-        let k : groups (alike n s) (joined gs) ≡ gs = ap (groups (alike n s)) j ∙ o .2 in
+        let k : groups (alike n s) (together gs) ≡ gs = ap (groups (alike n s)) j ∙ o .2 in
         let e : groups (alike n s) (y ∷ (g ++ (z ∷ after))) ≡ (y ∷ g) ∷ gs = ap (λ (m : List Peak). groups (alike n s) (y ∷ (g ++ m))) (sym j) ∙ first-group (alike n s) y g gs (linked-high y g a) cut k in
         let d : alike n s x y ≡ false = rw (b, a .0) in
         record { head = x; heads = []; earlier = []; next = z ∷ o .0; later = o .1; is = ap (attach (alike n s) x) e ∙ rw d }

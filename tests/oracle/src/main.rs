@@ -381,14 +381,20 @@ impl Bench {
         s
     }
 
+    /// A sound record, its numbers and those of a sound campaign, and a short piece to feed.
+    fn sound_case(&mut self, odd: u64) -> (Record, Vec<u64>, Vec<u64>, Vec<i32>) {
+        let r = self.sound_record();
+        let record = record_numbers(&r);
+        let campaign = campaign_numbers(&self.sound_campaign());
+        let length = self.random.within(0, 6) as usize;
+        let piece = self.samples(length, r.items[2], odd);
+        (r, record, campaign, piece)
+    }
+
     /// Sound states, and the same with each number in turn damaged: fed, ended and entered.
     fn states(&mut self, times: u64) {
         for _ in 0..times {
-            let r = self.sound_record();
-            let record = record_numbers(&r);
-            let campaign = campaign_numbers(&self.sound_campaign());
-            let length = self.random.within(0, 6) as usize;
-            let piece = self.samples(length, r.items[2], 8);
+            let (_, record, campaign, piece) = self.sound_case(8);
             self.record_feed(&mut record.clone(), &piece);
             let places = if self.random.one_in(5) { self.random.within(0, 7) as usize } else { RESULT_NUMBERS };
             self.record_end(&record, places, &campaign);
@@ -407,11 +413,7 @@ impl Bench {
     /// The last crossing's place and the groups at each end of what document 02's [5] asks for, and one past it; and arrays of the lengths of before it.
     fn grouped_states(&mut self, times: u64) {
         for _ in 0..times {
-            let r = self.sound_record();
-            let record = record_numbers(&r);
-            let campaign = campaign_numbers(&self.sound_campaign());
-            let length = self.random.within(0, 6) as usize;
-            let piece = self.samples(length, r.items[2], 50);
+            let (r, record, campaign, piece) = self.sound_case(50);
             for recent in [0, 1, r.first, r.latest.wrapping_sub(1), r.latest, r.latest + 1, r.n.wrapping_sub(1), r.n, r.n + 1] {
                 for groups in [0, 1, 2, r.groups, r.largest.wrapping_sub(1), r.largest, r.largest + 1, r.crossings] {
                     let mut state = record.clone();

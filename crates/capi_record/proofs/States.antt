@@ -8,9 +8,11 @@ use lib.Dec.{eqb}
 use lib.IntN.{ℤ}
 use lib.ListN.{length}
 use Rattle.truth.proofs.Laws.{and-true, true≢false}
-use Rattle.record.proofs.Fed.{fed-broken, taken}
-use Rattle.record.proofs.Theorems.{fed-sound, opened-sound}
-use Rattle.record.specs.Answers.{fed, opened}
+use Rattle.feeding.proofs.Fed.{fed-broken, taken}
+use Rattle.record.proofs.Opening.{opened-sound}
+use Rattle.feeding.proofs.Theorems.{fed-sound}
+use Rattle.record.specs.Answers.{opened}
+use Rattle.feeding.specs.Answers.{fed}
 use Rattle.record.specs.State.{sound}
 use Rattle.record.specs.declared.Answer.the-variants.{Refused, Taken}
 use Rattle.record.specs.declared.Record.{Record}

@@ -4,7 +4,8 @@ use mathlib.Core.List.{List}
 use lib.IntN.{ℤ}
 use lib.ListN.{length}
 use Rattle.listing.specs.Answers.{listed, written}
-use Rattle.record.specs.Answers.{fed, opened}
+use Rattle.record.specs.Answers.{opened}
+use Rattle.feeding.specs.Answers.{fed}
 use Rattle.reading.specs.Reading.{countedTimes}
 use Rattle.listing.specs.declared.Listed.{Listed}
 use Rattle.listing.specs.declared.Listed.the-variants.{Refused, Times}

@@ -31,7 +31,7 @@ pub extern "C" fn chim_record_feed(state: &mut [u64], piece: &[i32], carried: &m
     ensures { λ n. ⌜ told n (now (carried .exit)) (now (state .exit)) ≡ recordFed (now (state .entry)) (now (piece .entry)) ⌝ }
 {
     let r = capi::record_of(state);
-    capi::keep_record(r.feed(piece), state, carried)
+    capi::keep_record(feeding::feed(r, piece), state, carried)
 }
 
 // The result of the record in `state`: crossings, groups, the first failure's place or 0, exposure, largest set; or refusal 8, 4. The record stays as it is.

@@ -135,7 +135,7 @@ fn fed(samples: &[i32]) -> Record {
     let record::Answer::Taken(r) = record::open(500, 0, 40_000, 2000) else {
         return broken();
     };
-    let record::Answer::Taken(s) = r.feed(samples) else {
+    let record::Answer::Taken(s) = feeding::feed(r, samples) else {
         return broken();
     };
     s

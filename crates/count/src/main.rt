@@ -67,7 +67,7 @@ struct Reached {
 fn fed(c: Count, x: i32) -> Count {
     let r = c.record;
     let one = [x; 1];
-    match r.feed(&one) {
+    match feeding::feed(r, &one) {
         record::Answer::Taken(s) => Count {
             record: s,
             lines: c.lines,

@@ -19,14 +19,15 @@ use Rattle.refusal.specs.declared.Refusal.the-variants.{BrokenState, CampaignFu
 use Rattle.poisson.specs.Rows.{rows}
 use Rattle.record.specs.declared.Answer.the-variants.{Refused, Taken}
 use Rattle.record.specs.declared.Record.{Record}
-use Rattle.record.specs.Answers.{fed, opened}
+use Rattle.record.specs.Answers.{opened}
+use Rattle.feeding.specs.Answers.{fed}
 use Rattle.limits.specs.Limits.{decorrelationInRange, itemOutside, levelInRange, longestTime, mostSamples, rampInRange, stepInRange}
 use Rattle.range.specs.Range.{firstBad}
 use Rattle.reading.specs.Reading.{counted, tooFew}
 use Rattle.listing.specs.declared.Listed.the-variants as listing
 use Rattle.listing.specs.Answers.{ListsTo, listed, written}
 use Rattle.record.specs.State.{sound, stateOf, tooShort}
-use Rattle.record.specs.Step.{stepped}
+use Rattle.feeding.specs.Step.{stepped}
 use Rattle.result.specs.declared.Ended.the-variants as ended
 use Rattle.result.specs.declared.Outcome.{Outcome}
 use Rattle.result.specs.declared.Result.{Result}

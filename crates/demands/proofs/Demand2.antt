@@ -22,10 +22,12 @@ use Rattle.listing.specs.declared.Listed.the-variants.{Times}
 use Rattle.listing.proofs.Answered.{times-number}
 use Rattle.record.specs.declared.Answer.the-variants.{Refused, Taken}
 use Rattle.record.specs.declared.Record.{Record}
-use Rattle.record.specs.Answers.{fed, opened}
-use Rattle.record.specs.Pieces.{AllTaken, joined}
+use Rattle.record.specs.Answers.{opened}
+use Rattle.feeding.specs.Answers.{fed}
+use Rattle.feeding.specs.Pieces.{AllTaken, joined}
 use Rattle.record.specs.State.{failed, stateOf}
-use Rattle.record.proofs.Theorems.{every-cutting, groups-fewer, groups-parted, join-taken, never-broken, opened-sound, pieces-whole, search-found, search-none, set-largest, times-apart}
+use Rattle.record.proofs.Opening.{opened-sound}
+use Rattle.feeding.proofs.Theorems.{every-cutting, groups-fewer, groups-parted, join-taken, never-broken, pieces-whole, search-found, search-none, set-largest, times-apart}
 use Rattle.campaign.specs.declared.Campaign.{Campaign}
 use Rattle.campaign.specs.Answers as campaigns
 use Rattle.campaign.specs.declared.Answer.the-variants as campaigned

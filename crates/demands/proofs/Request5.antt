@@ -8,14 +8,16 @@ use mathlib.Core.Logic.{_⊎_, inl, inr}
 use native.Mathlib.Omega.{arith}
 use lib.IntN.{ℤ}
 use Rattle.refusal.specs.declared.Refusal.the-variants.{BrokenState}
-use Rattle.record.specs.Answers.{fed, opened}
+use Rattle.record.specs.Answers.{opened}
+use Rattle.feeding.specs.Answers.{fed}
 use Rattle.record.specs.State.{countsKept, failed, failureKept, groupsKept, itemsKept, lastKept, lengthKept, noGroups, noneKept, sound}
 use Rattle.record.specs.declared.Answer.the-variants.{Refused, Taken}
 use Rattle.record.specs.declared.Record.{Record}
-use Rattle.record.proofs.Fed.{fed-broken}
+use Rattle.feeding.proofs.Fed.{fed-broken}
 use Rattle.record.proofs.Relations.{Failure, None, kept-from}
-use Rattle.record.proofs.Steps.{failure}
-use Rattle.record.proofs.Theorems.{fed-sound, opened-sound}
+use Rattle.record.proofs.Bounds.{failure}
+use Rattle.record.proofs.Opening.{opened-sound}
+use Rattle.feeding.proofs.Theorems.{fed-sound}
 
 -- ---- the statement
 -- document 01's relations

@@ -1,12 +1,5 @@
 pub mod Relations
-pub mod Steps
-pub mod Gaps
-pub mod Quiet
-pub mod Fed
-pub mod Whole
-pub mod Cutting
-pub mod Ramp
+pub mod Bounds
 pub mod Opening
 pub mod Times
-pub mod Theorems
 pub mod Unique

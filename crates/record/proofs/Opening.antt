@@ -28,7 +28,7 @@ opened-taken D R a τ s e =
     let o = only-taken (eqb (itemOutside D R a τ) 0) (itemOutside D R a τ) (stateOf D R a τ []) s e in
     (eqb-true _ 0 (o .0), o .1)
 
-pub fresh-sound : (D R a τ : ℕ) → itemOutside D R a τ ≡ 0 → sound (stateOf D R a τ []) ≡ true
+fresh-sound : (D R a τ : ℕ) → itemOutside D R a τ ≡ 0 → sound (stateOf D R a τ []) ≡ true
 unfolding stateOf passing firstOf lastOf walk groups
 fresh-sound D R a τ e =
     kept-sound (stateOf D R a τ [])
@@ -40,3 +40,6 @@ fresh-sound D R a τ e =
       counts = omega arith;
       figures = inl (record { first = refl; crossings = refl; largest = refl; latest = refl; recent = refl; groups = refl });
     })
+
+pub opened-sound : (D R a τ : ℕ) (s : Record) → opened D R a τ ≡ Taken s → sound s ≡ true
+opened-sound D R a τ s e = let o = opened-taken D R a τ s e in rw (← o .1) (fresh-sound D R a τ (o .0))

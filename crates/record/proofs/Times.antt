@@ -13,7 +13,7 @@ use Rattle.record.specs.State.{sound, failed, firstTime, wholeTime, tooS
 use Rattle.truth.proofs.Laws.{true≢false}
 use Rattle.limits.proofs.Items.{in-time}
 use Rattle.record.proofs.Relations.{None, Failure, kept-from}
-use Rattle.record.proofs.Steps.{items-of}
+use Rattle.record.proofs.Bounds.{items-of}
 
 spanned : (k D : ℕ) → 1 ≤ k → 1 ≤ D → k ≤ longestTime / D → (1 ≤ k * D) × (k * D ≤ longestTime)
 spanned k D h d l = (mul-le-mul {n₁ = 1} {m₁ = 1} {n₂ = k} {m₂ = D} h d, in-time k D l)

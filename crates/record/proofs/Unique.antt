@@ -3,18 +3,13 @@
 use Prim.Native.Nat.{ℕ}
 use mathlib.Core.Path.{_≡_, sym, _∙_}
 use mathlib.Core.Bool.{Bool}
-use mathlib.Core.List.{List}
-use lib.IntN.{ℤ}
 use Rattle.record.specs.declared.Record.{Record}
 use Rattle.record.specs.declared.Answer.{Answer}
 use Rattle.record.specs.State.{sound}
-use Rattle.record.specs.Answers.{opened, fed}
+use Rattle.record.specs.Answers.{opened}
 
 pub open-unique : (D R a τ : ℕ) (x y : Answer) → x ≡ opened D R a τ → y ≡ opened D R a τ → x ≡ y
 open-unique D R a τ x y e f = e ∙ sym f
-
-pub feed-unique : (r : Record) (p : List ℤ) (x y : Answer) → x ≡ fed r p → y ≡ fed r p → x ≡ y
-feed-unique r p x y e f = e ∙ sym f
 
 pub sound-unique : (r : Record) (x y : Bool) → x ≡ sound r → y ≡ sound r → x ≡ y
 sound-unique r x y e f = e ∙ sym f

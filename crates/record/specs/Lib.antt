@@ -1,5 +1,2 @@
 pub mod State
-pub mod Gap
-pub mod Step
 pub mod Answers
-pub mod Pieces

@@ -97,7 +97,7 @@ fn answer(a: Answer) {
 // What a piece gives after an answer; a refusal stays.
 fn then(a: Answer, piece: &[i32]) -> Answer {
     match a {
-        Answer::Taken(r) => r.feed(piece),
+        Answer::Taken(r) => feeding::feed(r, piece),
         Answer::Refused(f) => Answer::Refused(f),
     }
 }
@@ -235,7 +235,7 @@ fn broken() {
         groups: 0,
     };
     io::write_all(1, b"broken");
-    answer(r.feed(&[2000000i32]));
+    answer(feeding::feed(r, &[2000000i32]));
     io::write_all(1, b"\n");
 }
 

@@ -3,7 +3,7 @@ use native.Mathlib.Omega.{arith}
 use borrow.Author.Tests.{le-ltb, lt-ltb}
 use Rattle.truth.proofs.Laws.{said-no, said-yes}
 use Rattle.record.proofs.Relations.{kept-from}
-use Rattle.record.proofs.Steps.{items-of}
+use Rattle.record.proofs.Bounds.{items-of}
 use Rattle.result.specs.Result.{ending}
 use borrow.Author.Needs.{needs}
 use Rattle.result.proofs.end.Statement.{statement}

@@ -1,0 +1,9 @@
+pub mod Steps
+pub mod Gaps
+pub mod Quiet
+pub mod Fed
+pub mod Whole
+pub mod Cutting
+pub mod Ramp
+pub mod Theorems
+pub mod Unique

@@ -1,0 +1,39 @@
+-- `feeding::counted` meets its contract, which it follows word for word; the sums fit since n does and bounds the counts. Assumes nothing.
+use borrow.Author.Needs.{needs}
+use mir.Facts.{toZ-ofZ}
+use native.Mathlib.Omega.{arith}
+use Rattle.record.proofs.Relations.{kept-from}
+use Rattle.record.proofs.Bounds.{small, crossings-below, groups-within, recent-earlier}
+use Rattle.feeding.proofs.counted.Statement.{statement}
+use Rattle.feeding.proofs.counted.Tie as tie
+
+far-requires : tie.Need-far-requires
+far-requires c κs =
+    let e = recent-earlier (kept-from (c .args .r) (c .pre .0)) in
+    (c .pre .3, e .within, e .timed)
+
+add-t5 : tie.Need-add-t5
+add-t5 c = let k = kept-from (c .before .before .args .r) (c .before .before .pre .0) in omega (arith, k .length, small k)
+
+add-t6 : tie.Need-add-t6
+add-t6 c = let k = kept-from (c .before .before .before .args .r) (c .before .before .before .pre .0) in omega (arith, k .length, small k, crossings-below k)
+
+add-t7 : tie.Need-add-t7
+add-t7 c = let k = kept-from (c .before .before .before .before .args .r) (c .before .before .before .before .pre .0) in omega (arith, k .length, small k, crossings-below k, k .counts)
+
+pick-requires : tie.Need-pick-requires
+pick-requires c κs = search needs
+
+add-pick : tie.Need-add-pick
+add-pick c = let k = kept-from (c .before .before .before .before .before .before .before .args .r) (c .before .before .before .before .before .before .before .pre .0) in omega (arith, k .length, small k, crossings-below k, k .counts, groups-within k)
+
+pick-requires-2 : tie.Need-pick-requires-2
+pick-requires-2 c κs = search needs
+
+returns : tie.Need-returns
+returns c = rw (c .before .before .before .before .before .before .before .before .pre .2) (cc (toZ-ofZ (c .before .before .before .before .before .before .before .before .fits .x)))
+
+pub counted-spec : {M : Type 1} → statement M
+counted-spec =
+    tie.close
+    (tie.spec far-requires add-t5 add-t6 add-t7 pick-requires add-pick pick-requires-2 returns)

@@ -1,0 +1,69 @@
+-- `feeding::feed` meets its contract: each answer is the law of `Fed` whose tests held on the way to it. Assumes nothing.
+use mathlib.Core.Path.{_≡_, sym, _∙_}
+use mathlib.Core.Bool.{true}
+use native.Mathlib.Omega.{arith}
+use borrow.Author.Tests.{not-true, not-false}
+use Rattle.limits.specs.Limits.{mostSamples}
+use Rattle.record.specs.State.{sound}
+use Rattle.record.proofs.Relations.{Kept, kept-from}
+use Rattle.record.proofs.Bounds.{most-of}
+use Rattle.feeding.proofs.Fed.{fed-broken, fed-bad, fed-long}
+use borrow.Author.Needs.{needs}
+use Rattle.feeding.proofs.feed.Statement.{statement}
+use Rattle.feeding.proofs.feed.Tie as tie
+
+sound-requires : tie.Need-sound-requires
+sound-requires c κs = search needs
+
+returns : tie.Need-returns
+returns c = sym (fed-broken _ _ (sym (c .before .sound .ensures) ∙ not-true _ (c .if1 .taken)))
+
+-- past the first test the state is sound
+held : (c : tie.Else1) → sound (c .before .before .args .r) ≡ true
+held c = sym (c .before .sound .ensures) ∙ not-false _ (c .if1 .left)
+
+facts : (c : tie.Else1) → Kept (c .before .before .args .r)
+facts c = kept-from (c .before .before .args .r) (held c)
+
+most-samples-requires : tie.Need-most-samples-requires
+most-samples-requires c κs = search needs
+
+-- the room for samples
+most : (c : tie.After-most-samples) → c .most-samples .result ≡ mostSamples (c .before .before .before .args .r .step) (c .before .before .before .args .r .ramp)
+most c = c .most-samples .ensures ∙ most-of (facts (c .before))
+
+sub-room : tie.Need-sub-room
+sub-room c = omega (arith, most (c .before), facts (c .before .before) .length)
+
+pass-requires : tie.Need-pass-requires
+pass-requires c κs = (held (c .before .before .before), omega (arith, most (c .before .before), facts (c .before .before .before) .length))
+
+returns-2 : tie.Need-returns-2
+returns-2 c = search needs
+
+first-bad-requires : tie.Need-first-bad-requires
+first-bad-requires c κs = search needs
+
+returns-3 : tie.Need-returns-3
+returns-3 c =
+    let e = c .before .first-bad .ensures in
+    rw e (sym (fed-bad _ _ (held (c .before .before .before .before .before)) (omega arith)))
+
+returns-4 : tie.Need-returns-4
+returns-4 c =
+    let k = facts (c .before .before .before .before .before) in
+    sym (fed-long (c .before .before .before .before .before .before .before .args .r) (c .before .before .before .before .before .before .before .args .piece .now) (held (c .before .before .before .before .before)) (omega (arith, c .before .first-bad .ensures)) (omega (arith, most (c .before .before .before .before), k .length)))
+
+pub feed-spec : {M : Type 1} → statement M
+feed-spec =
+    tie.close
+    (tie.spec
+    sound-requires
+    returns
+    most-samples-requires
+    sub-room
+    pass-requires
+    returns-2
+    first-bad-requires
+    returns-3
+    returns-4)

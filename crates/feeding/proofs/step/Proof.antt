@@ -1,0 +1,28 @@
+-- `feeding::step` meets its contract, by its test. Assumes nothing.
+use borrow.Author.Needs.{needs}
+use mathlib.Core.Path.{sym, ap, _∙_}
+use mir.Facts.{toZ-ofZ}
+use native.Mathlib.Omega.{arith}
+use Rattle.feeding.specs.Step.{moved, crossed, stepped}
+use Rattle.record.proofs.Relations.{kept-from}
+use Rattle.record.proofs.Bounds.{small}
+use Rattle.feeding.proofs.Steps.{crosses-after}
+use Rattle.feeding.proofs.step.Statement.{statement}
+use Rattle.feeding.proofs.step.Tie as tie
+
+crossed-requires : tie.Need-crossed-requires
+crossed-requires c κs = (c .before .pre .0, crosses-after (c .before .args .r) (c .before .args .x) (sym (c .before .pre .2) ∙ c .if1 .taken), c .before .pre .3)
+
+moved-requires : tie.Need-moved-requires
+moved-requires c κs = let k = kept-from (c .before .args .r) (c .before .pre .0) in omega (arith, small k)
+
+returns : tie.Need-returns
+unfolding stepped
+returns c = rw (← c .before .before .pre .2, c .before .if1 .taken) (c .crossed .ensures ∙ ap (crossed (c .before .before .args .r)) (toZ-ofZ (c .before .before .fits .x)))
+
+returns-2 : tie.Need-returns-2
+unfolding stepped
+returns-2 c = rw (← c .before .before .pre .2, c .before .if1 .left) (c .moved .ensures ∙ ap (moved (c .before .before .args .r) 1) (toZ-ofZ (c .before .before .fits .x)))
+
+pub step-spec : {M : Type 1} → statement M
+step-spec = tie.close (tie.spec crossed-requires moved-requires returns returns-2)

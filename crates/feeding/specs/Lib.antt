@@ -1,0 +1,4 @@
+pub mod Gap
+pub mod Step
+pub mod Answers
+pub mod Pieces

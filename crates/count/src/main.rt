@@ -1,7 +1,7 @@
 // The clerk's counter: a simulator's comma file from standard input, and one line to standard output: samples, crossings, groups, largest set, time of the first
 // failure or a dash, exposure; or refused, the line at fault or 0, and the refusal's number. The four items of the record come as arguments. The file may have any length: it is
 // read through a fixed buffer, each right line is fed as it comes, and what the file as a whole would be refused for is kept until its end, a malformed line
-// alone ending the reading. What a line says is `comma::line_at`'s promise, what feeding and ending make of it is `record`'s and `result`'s; here bytes are only
+// alone ending the reading. What a line says is `comma::line_at`'s promise, what feeding and ending make of it is `feeding`'s and `result`'s; here bytes are only
 // carried. How it ended goes as a digit to a descriptor of its own, where bin/program waits for it.
 ghost use mathlib.Core.Path.{_≡_};
 ghost use mathlib.Core.Bool.{true};

@@ -2,7 +2,7 @@
 -- the groups of crossings, each listed by its first; they never exceed the largest set of crossings pairwise at least the decorrelation time apart; and a
 -- campaign's figures are document 000's over its list of records.
 --
--- D is the step, R the ramp, a the level and τ the decorrelation time. The proof gathers what the crates `record`, `listing` and `campaign` show. Assumes
+-- D is the step, R the ramp, a the level and τ the decorrelation time. The proof gathers what the crates `feeding`, `listing` and `campaign` show. Assumes
 -- nothing.
 use mathlib.Core.Path.{_≡_, ap, _∙_}
 use mathlib.Core.Bool.{false, true}

@@ -27,9 +27,10 @@ module _ (r : Record) (p : List ℤ) where
   unfolding fed
   fed-bad s h = rw (s, lt-ltb _ _ h)
 
-  pub fed-long : sound r ≡ true → length p ≤ firstBad p → mostSamples (r .step) (r .ramp) < r .n + length p → fed r p ≡ Refused TooLong
+  -- without room it is its length, unless a sample is bad
+  pub fed-full : sound r ≡ true → mostSamples (r .step) (r .ramp) < r .n + length p → fed r p ≡ cond (ltb (firstBad p) (length p)) (Refused (Sample (firstBad p))) (Refused TooLong)
   unfolding fed
-  fed-long s h l = rw (s, le-ltb _ _ h, lt-ltb _ _ l)
+  fed-full s l = rw (s, lt-ltb _ _ l)
 
   pub fed-taken : sound r ≡ true → length p ≤ firstBad p → r .n + length p ≤ mostSamples (r .step) (r .ramp) → fed r p ≡ Taken (foldl stepped r p)
   unfolding fed

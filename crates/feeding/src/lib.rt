@@ -1,13 +1,15 @@
 // Feeding a record: its samples, handed over in pieces. The state goes in by value and comes back in the answer, so a refusal leaves the caller's as it stood.
 ghost use mathlib.Core.Path.{_≡_};
-ghost use mathlib.Core.Bool.{true, false};
+ghost use mathlib.Core.Bool.{true, false, cond};
 ghost use mathlib.Core.List.{foldl};
 ghost use Prim.Native.Nat.{_+_, _-_, _≤_, _<_, min};
 ghost use lib.Dec.{ltb};
 ghost use lib.ListN.{length};
+ghost use Rattle.refusal.specs.declared.Refusal.the-variants.{Sample, TooLong};
 ghost use Rattle.block.specs.Block.{anyAbove};
 ghost use Rattle.limits.specs.Limits.{mostSamples};
 ghost use Rattle.range.specs.Range.{firstBad};
+ghost use Rattle.record.specs.declared.Answer.the-variants.{Refused};
 ghost use Rattle.record.specs.State.{sound};
 ghost use Rattle.feeding.specs.Gap.{Gap};
 ghost use Rattle.feeding.specs.Step.{moved, far, counts, crossed, below, crosses, stepped};
@@ -225,6 +227,17 @@ fn pass(r: Record, piece: &[i32]) -> Answer
     Answer::Taken(s)
 }
 
+// The answer to a piece that there is no room for: a bad sample of it goes before its length.
+fn too_long(piece: &[i32]) -> Answer
+    ensures { λ a. ⌜ a ≡ cond (ltb (firstBad (now (piece .entry))) (length (now (piece .entry)))) (Refused (Sample (firstBad (now (piece .entry))))) (Refused TooLong) ⌝ }
+{
+    let bad = range::first_bad(piece);
+    if bad < piece.len() {
+        return Answer::Refused(Refusal::Sample(bad as u64));
+    }
+    Answer::Refused(Refusal::TooLong)
+}
+
 // The record after the piece; or refusal 8, then 2 with the first bad place in the piece, then 3.
 pub fn feed(r: Record, piece: &[i32]) -> Answer
     ensures { λ a. ⌜ a ≡ fed r (now (piece .entry)) ⌝ }
@@ -236,9 +249,5 @@ pub fn feed(r: Record, piece: &[i32]) -> Answer
     if piece.len() as u64 <= room {
         return pass(r, piece);
     }
-    let bad = range::first_bad(piece);
-    if bad < piece.len() {
-        return Answer::Refused(Refusal::Sample(bad as u64));
-    }
-    Answer::Refused(Refusal::TooLong)
+    too_long(piece)
 }

@@ -1,9 +1,13 @@
 -- `feeding::counted` meets its contract, which it follows word for word; the sums fit since n does and bounds the counts. Assumes nothing.
 use borrow.Author.Needs.{needs}
+use Prim.Native.Nat.{_+_}
+use mathlib.Core.Path.{refl, ap, _∙_}
+use mathlib.Core.Bool.{Bool, cond}
 use mir.Facts.{toZ-ofZ}
 use native.Mathlib.Omega.{arith}
 use Rattle.record.proofs.Relations.{kept-from}
 use Rattle.record.proofs.Bounds.{small, crossings-below, groups-within, recent-earlier}
+use Rattle.feeding.proofs.Steps.{ext}
 use Rattle.feeding.proofs.counted.Statement.{statement}
 use Rattle.feeding.proofs.counted.Tie as tie
 
@@ -31,7 +35,11 @@ pick-requires-2 : tie.Need-pick-requires-2
 pick-requires-2 c κs = search needs
 
 returns : tie.Need-returns
-returns c = rw (c .before .before .before .before .before .before .before .before .pre .2) (cc (toZ-ofZ (c .before .before .before .before .before .before .before .before .fits .x)))
+returns c =
+    let a = c .before .before .before .before .before .before .before .before in
+    let r = a .args .r in
+    let g = ap (λ (b : Bool). cond b (r .groups + 1) (r .groups)) (c .before .before .before .before .before .before .before .far .ensures) in
+    rw (a .pre .2) (ext _ _ refl refl refl refl refl (toZ-ofZ (a .fits .x)) refl refl (c .before .before .pick .ensures) refl refl (c .pick2 .ensures ∙ g))
 
 pub counted-spec : {M : Type 1} → statement M
 counted-spec =

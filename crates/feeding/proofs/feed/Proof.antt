@@ -7,7 +7,7 @@ use Rattle.limits.specs.Limits.{mostSamples}
 use Rattle.record.specs.State.{sound}
 use Rattle.record.proofs.Relations.{Kept, kept-from}
 use Rattle.record.proofs.Bounds.{most-of}
-use Rattle.feeding.proofs.Fed.{fed-broken, fed-bad, fed-long}
+use Rattle.feeding.proofs.Fed.{fed-broken, fed-full}
 use borrow.Author.Needs.{needs}
 use Rattle.feeding.proofs.feed.Statement.{statement}
 use Rattle.feeding.proofs.feed.Tie as tie
@@ -41,18 +41,13 @@ pass-requires c κs = (held (c .before .before .before), omega (arith, most (c .
 returns-2 : tie.Need-returns-2
 returns-2 c = search needs
 
-first-bad-requires : tie.Need-first-bad-requires
-first-bad-requires c κs = search needs
+too-long-requires : tie.Need-too-long-requires
+too-long-requires c κs = search needs
 
 returns-3 : tie.Need-returns-3
 returns-3 c =
-    let e = c .before .first-bad .ensures in
-    rw e (sym (fed-bad _ _ (held (c .before .before .before .before .before)) (omega arith)))
-
-returns-4 : tie.Need-returns-4
-returns-4 c =
-    let k = facts (c .before .before .before .before .before) in
-    sym (fed-long (c .before .before .before .before .before .before .before .args .r) (c .before .before .before .before .before .before .before .args .piece .now) (held (c .before .before .before .before .before)) (omega (arith, c .before .first-bad .ensures)) (omega (arith, most (c .before .before .before .before), k .length)))
+    let k = facts (c .before .before .before .before) in
+    c .too-long .ensures ∙ sym (fed-full _ _ (held (c .before .before .before .before)) (omega (arith, most (c .before .before .before), k .length)))
 
 pub feed-spec : {M : Type 1} → statement M
 feed-spec =
@@ -64,6 +59,5 @@ feed-spec =
     sub-room
     pass-requires
     returns-2
-    first-bad-requires
-    returns-3
-    returns-4)
+    too-long-requires
+    returns-3)

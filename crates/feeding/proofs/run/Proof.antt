@@ -73,7 +73,7 @@ step-requires c κs =
     let v = c .before .before .before .before .loop .inv in
     let x = sampleAt (c .before .before .before .before .before .before .before .args .timed .now) (c .before .before .before .before .loop .i) in
     let z : toZ w32 (ofZ w32 x) ≡ x = toZ-ofZ (search needs) in
-    let u : c .before .above .result ≡ above (s .level) x = cc z in
+    let u : c .before .above .result ≡ above (s .level) x = c .before .above .ensures ∙ ap (above (s .level)) z in
     rw z (v .0, omega (arith, v .3), c .both .ensures ∙ ap (λ (y : Bool). y && c .before .above .result) (v .4) ∙ ap (λ (y : Bool). below s && y) u ∙ and-assoc (ltb (s .ramp) (s .n)) (not (above (s .level) (s .last))) (above (s .level) x), v .6)
 
 add-i : tie.Need-add-i Inv-loop μ-loop
@@ -91,15 +91,15 @@ loop-again c =
     let v = b .loop .inv in
     let x = sampleAt p i in
     let z : toZ w32 (ofZ w32 x) ≡ x = toZ-ofZ (search needs) in
-    let e : c .step .result ≡ stepped s x = cc z in
-    let u : c .before .before .above .result ≡ above (s .level) x = cc z in
+    let e : c .step .result ≡ stepped s x = c .step .ensures ∙ ap (stepped s) z in
+    let u : c .before .before .above .result ≡ above (s .level) x = c .before .before .above .ensures ∙ ap (above (s .level)) z in
     let g = good-head x (drop (i + 1) p) (sym (turn firstBad p i (omega arith)) ∙ v .2 ∙ omega (arith, length-drop (i + 1) p)) in
     let k = stepped-sound s x (v .0) (g .0) (omega (arith, v .3)) in
     let m = stepped-most s x in
     let n = stepped-n s x in
     let after = stepped-timed s x (v .5) in
     let l = ap not u ∙ sym (stepped-low s x after) in
-    rw (l, e) (k, omega arith, omega (arith, g .1, length-drop (i + 1) p), omega (arith, v .3, n), refl, after, gap-stays s x (v .6), sym (turn (foldl stepped s) p i (omega arith)) ∙ v .7)
+    rw (l, e) (k, omega arith, g .1 ∙ length-drop (i + 1) p, omega (arith, v .3, n), refl, after, gap-stays s x (v .6), sym (turn (foldl stepped s) p i (omega arith)) ∙ v .7)
 
 returns : tie.Need-returns Inv-loop μ-loop
 returns c =

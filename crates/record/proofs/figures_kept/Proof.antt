@@ -23,10 +23,10 @@ both-requires-2 : tie.Need-both-requires-2
 both-requires-2 c κs = search needs
 
 returns : tie.Need-returns
-returns c = rw (eq-eqb _ _ (c .before .before .before .if1 .taken)) cc
+returns c = rw (eq-eqb _ _ (c .before .before .before .if1 .taken), c .both .ensures, c .before .no-groups .ensures, c .before .before .none-kept .ensures)
 
 returns-2 : tie.Need-returns-2
-returns-2 c = rw (ne-eqb _ _ (c .before .before .before .if1 .left)) cc
+returns-2 c = rw (ne-eqb _ _ (c .before .before .before .if1 .left), c .both2 .ensures, c .before .groups-kept .ensures, c .before .before .failure-kept .ensures)
 
 pub figures-kept-spec : {M : Type 1} → statement M
 figures-kept-spec =

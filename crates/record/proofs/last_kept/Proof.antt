@@ -21,7 +21,7 @@ both-requires c κs = search needs
 returns : tie.Need-returns
 returns c =
     let f : SFits w32 (c .before .before .before .before .before .before .args .r .last) = search needs in
-    cc (toZ-ofZ f)
+    rw (c .both .ensures, c .before .either .ensures, c .before .before .magnitude .ensures, c .before .before .before .before .in-range .ensures, toZ-ofZ f)
 
 pub last-kept-spec : {M : Type 1} → statement M
 last-kept-spec =

@@ -15,7 +15,7 @@ both-requires c κs = search needs
 returns : tie.Need-returns
 returns c =
     let f : SFits w32 (c .before .before .before .before .args .r .last) = search needs in
-    cc (toZ-ofZ f)
+    rw (c .both .ensures, c .before .above .ensures, toZ-ofZ f)
 
 pub below-spec : {M : Type 1} → statement M
 below-spec = tie.close (tie.spec above-requires both-requires returns)

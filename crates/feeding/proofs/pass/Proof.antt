@@ -81,7 +81,7 @@ here c =
     let k = looked (c .before) in
     let f = ap firstBad (block-cut p i e (omega arith) (omega arith)) ∙ bad-left block (drop e p) (omega (arith, c .if1 .taken)) in
     let v = c .before .before .before .before .before .before .loop .inv .2 in
-    (omega arith, omega (arith, c .if1 .taken))
+    (ap (λ (j : ℕ). i + j) (k ∙ sym f) ∙ v, omega (arith, c .if1 .taken))
 
 add-t16 : tie.Need-add-t16 Inv-loop μ-loop
 add-t16 c = omega (arith, here c)

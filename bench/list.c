@@ -47,7 +47,8 @@ int main(void) {
                  {"10,000,000: every second, all counted", MOST, 2, 0},
                  {"100,000: never above", 100000, 0, 5000},
                  {"100,000: every 10,000th", 100000, 10000, 5000},
-                 {"100,000: every second", 100000, 2, 5000}};
+                 {"100,000: every second", 100000, 2, 5000},
+                 {"100,000: every second, all counted", 100000, 2, 0}};
     int32_t *samples = malloc(MOST * sizeof *samples);
     uint32_t *ours = malloc(MOST * sizeof *ours), *theirs = malloc(MOST * sizeof *theirs);
     if (samples == NULL || ours == NULL || theirs == NULL)

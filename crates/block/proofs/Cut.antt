@@ -14,10 +14,10 @@ use Rattle.block.specs.Block.{blockEnd}
 
 pub end-within : (i n : ℕ) {e : ℕ} → e ≡ blockEnd i n → i < n → (i < e) × (e ≤ n)
 unfolding blockEnd
-end-within i n {e} d h = rw d (go (leb (i + 256) n) refl)
+end-within i n {e} d h = rw d (go (leb (i + 64) n) refl)
   where
-    go : (b : Bool) → leb (i + 256) n ≡ b → (i < cond b (i + 256) n) × (cond b (i + 256) n ≤ n)
-    go true e = (omega arith, leb-true (i + 256) n e)
+    go : (b : Bool) → leb (i + 64) n ≡ b → (i < cond b (i + 64) n) × (cond b (i + 64) n ≤ n)
+    go true e = (omega arith, leb-true (i + 64) n e)
     go false e = (h, omega arith)
 
 module _ (xs : List ℤ) (i e : ℕ) (h : i ≤ e) (l : e ≤ length xs) where

@@ -1,4 +1,4 @@
 pub mod Cut
 pub mod Quiet
-pub mod Ends
+pub mod Sides
 pub mod Unique

@@ -32,8 +32,3 @@ quiet-at a xs i e k l h m q =
     let p : i + (k - i) ≡ k = omega arith in
     ap (above a) (sym (getD-take (e - i) (drop i xs) (k - i) (pos 0) j ∙ getD-drop i xs (k - i) (pos 0) ∙ ap (λ (n : ℕ). getD xs n (pos 0)) p))
     ∙ each-quiet a (take (e - i) (drop i xs)) (k - i) q (omega (arith, block-length xs i e (omega arith) l))
-
--- what may not be loud is quiet
-pub not-loud : (taken : Bool) (a : ℕ) (xs : List ℤ) {loud : Bool} → loud ≡ (taken || anyAbove a xs) → loud ≡ false → anyAbove a xs ≡ false
-not-loud true a xs e f = absurd (true≢false (sym e ∙ f))
-not-loud false a xs e f = sym e ∙ f

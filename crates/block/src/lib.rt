@@ -1,18 +1,12 @@
-// A block of samples that are looked at together: where it ends, and whether a sample of it is above a level. Where none is, nothing of the block crosses
-// the level, and a pass over samples goes on behind it.
+// A block of samples that are looked at together: where it stops, and its two ends, the lowest sample and the highest, which say whether one of its samples is
+// above a level or out of range. Where none is above the level, nothing of the block crosses it, and a pass over samples goes on behind it.
 ghost use mathlib.Core.Path.{_≡_};
-ghost use mathlib.Core.Bool.{_||_};
-ghost use Prim.Native.Nat.{min};
-ghost use lib.IntN.{pos, negℤ};
-ghost use Rattle.block.specs.Block.{blockEnd, anyAbove};
+ghost use mathlib.Core.Bool.{cond, _||_};
+ghost use Rattle.magnitude.specs.Above.{above};
+ghost use Rattle.block.specs.Block.{blockEnd, lowest, highest, anyAbove};
 
-// Enough samples to be worth it, few enough that one above the level costs little.
-const BLOCK: usize = 256;
-
-// The ends of an i32.
-const LOWEST: i32 = -2_147_483_648;
-
-const HIGHEST: i32 = 2_147_483_647;
+// Enough samples to be worth it; few enough that one above the level costs little, and that a processor fetches the next block while it steps through this one.
+const BLOCK: usize = 64;
 
 // Where the block that starts at i ends, of n samples.
 pub fn end(i: usize, n: usize) -> usize
@@ -24,48 +18,52 @@ pub fn end(i: usize, n: usize) -> usize
     if n - BLOCK < i { n } else { i + BLOCK }
 }
 
-// The lower end of what is at most the level, as far down as an i32 goes.
-fn lower_end(level: u64) -> i32
-    ensures { λ r. ⌜ r ≡ negℤ (pos (min level 2147483648)) ⌝ }
-{
-    if 2_147_483_647 < level {
-        LOWEST
-    } else {
-        0 - (level as i32)
-    }
+// The ends of a block: the lowest and the highest of its samples and 0.
+pub struct Ends {
+    pub lowest: i32,
+    pub highest: i32,
 }
 
-// The upper end.
-fn upper_end(level: u64) -> i32
-    ensures { λ r. ⌜ r ≡ pos (min level 2147483647) ⌝ }
+// x where the test holds, else y.
+fn chosen(b: bool, x: i32, y: i32) -> i32
+    ensures { λ r. ⌜ r ≡ cond b x y ⌝ }
 {
-    if 2_147_483_647 < level {
-        HIGHEST
-    } else {
-        level as i32
-    }
+    if b { x } else { y }
 }
 
-// Whether a sample is above the level: past one of two ends. It looks at every sample, and compares numbers of 32 bits, which lets a machine take several at
-// once.
-pub fn loud(level: u64, samples: &[i32]) -> bool
-    ensures { λ r. ⌜ r ≡ anyAbove level (now (samples .entry)) ⌝ }
+// The ends of the samples. It looks at every sample once, and compares numbers of 32 bits, which lets a machine take several at once.
+pub fn ends_of(samples: &[i32]) -> Ends
+    ensures { λ r. ⌜ r .lowest ≡ lowest (now (samples .entry)) ⌝ }
+    ensures { λ r. ⌜ r .highest ≡ highest (now (samples .entry)) ⌝ }
 {
-    let low = lower_end(level);
-    let high = upper_end(level);
-    let mut found = false;
+    let mut low: i32 = 0;
+    let mut high: i32 = 0;
     let mut i = 0;
     while i < samples.len() {
         let x = samples[i];
-        found = truth::either(found, truth::either(x < low, high < x));
+        low = chosen(x < low, x, low);
+        high = chosen(high < x, x, high);
         i += 1;
     }
-    found
+    Ends {
+        lowest: low,
+        highest: high,
+    }
 }
 
-// The same; or true, with no sample looked at, where the samples are taken for loud.
-pub fn may_be_loud(taken: bool, level: u64, samples: &[i32]) -> bool
-    ensures { λ r. ⌜ r ≡ (taken || anyAbove level (now (samples .entry))) ⌝ }
+// Whether one of the ends is above the level.
+pub fn past(level: u64, e: Ends) -> bool
+    ensures { λ r. ⌜ r ≡ (above level (e .lowest) || above level (e .highest)) ⌝ }
 {
-    if taken { true } else { loud(level, samples) }
+    truth::either(
+        magnitude::above(level, e.lowest),
+        magnitude::above(level, e.highest),
+    )
+}
+
+// Whether a sample is above the level: one of their ends is.
+pub fn loud(level: u64, samples: &[i32]) -> bool
+    ensures { λ r. ⌜ r ≡ anyAbove level (now (samples .entry)) ⌝ }
+{
+    past(level, ends_of(samples))
 }

@@ -180,10 +180,10 @@ fn step_all(r: Record, block: &[i32]) -> Record
     run(s, &block[lead..])
 }
 
-// The same for a block of which it is known whether a sample may be above the level. Where none is, no sample of it crosses, and only n and the last sample
+// The same for a block of which it is known whether a sample is above the level. Where none is, no sample of it crosses, and only n and the last sample
 // move.
 fn advance(r: Record, loud: bool, block: &[i32]) -> Record
-    requires { ⌜ (sound r ≡ true) × (loud ≡ false → anyAbove (r .level) (now block) ≡ false) × (firstBad (now block) ≡ length (now block)) × (0 < length (now block)) × (r .n + length (now block) ≤ mostSamples (r .step) (r .ramp)) ⌝ }
+    requires { ⌜ (sound r ≡ true) × (loud ≡ anyAbove (r .level) (now block)) × (firstBad (now block) ≡ length (now block)) × (0 < length (now block)) × (r .n + length (now block) ≤ mostSamples (r .step) (r .ramp)) ⌝ }
     ensures { λ s. ⌜ s ≡ foldl stepped r (now (block .entry)) ⌝ }
 {
     if loud {
@@ -193,35 +193,23 @@ fn advance(r: Record, loud: bool, block: &[i32]) -> Record
     moved(r, k as u64, block[k - 1])
 }
 
-// Whether a block was so full of crossings that the next one is stepped with no look at it first.
-fn dense(before: u64, after: u64) -> bool
-    ensures { λ k. ⌜ k ≡ ltb 16 (after - before) ⌝ }
-{
-    if after < before {
-        return false;
-    }
-    16 < after - before
-}
-
-// The answer to a piece that there is room for, block by block, so that a quiet block is passed over at the speed of `loud`.
+// The answer to a piece that there is room for, block by block. A block's two ends say whether a sample of it is out of range, and whether one is above the level:
+// a quiet block is passed over at the speed of `ends_of`.
 fn pass(r: Record, piece: &[i32]) -> Answer
     requires { ⌜ (sound r ≡ true) × (r .n + length (now piece) ≤ mostSamples (r .step) (r .ramp)) ⌝ }
     ensures { λ a. ⌜ a ≡ fed r (now (piece .entry)) ⌝ }
 {
     let mut s = r;
-    let mut full = false;
     let mut i = 0;
     while i < piece.len() {
         let end = block::end(i, piece.len());
         let part = &piece[i..end];
-        let loud = block::may_be_loud(full, s.level, part);
-        let bad = range::first_bad_if(loud, part);
+        let ends = block::ends_of(part);
+        let bad = range::first_bad_if(range::outside(ends), part);
         if bad < part.len() {
             return Answer::Refused(Refusal::Sample((i + bad) as u64));
         }
-        let before = s.crossings;
-        s = advance(s, loud, part);
-        full = dense(before, s.crossings);
+        s = advance(s, block::past(s.level, ends), part);
         i = end;
     }
     Answer::Taken(s)

@@ -1,9 +1,10 @@
 // The counted times of a whole record, each group's by its first crossing, listed into lent memory. The timed samples are read once, block by block, and a quiet block is passed over. The times
-// found on the way are kept aside, since refusal 7 must know their number before anything is written; only if they are too many is the record read again.
+// found on the way are kept aside, since refusal 7 must know their number before anything is written; only if they are too many is the record read again. Where that is to be expected, and
+// the lent slice has room for half as many times as there are samples, which are the most, they are not counted first.
 ghost use mathlib.Core.Path.{_≡_};
 ghost use mathlib.Core.Bool.{true};
 ghost use mathlib.Core.List.{foldl};
-ghost use Prim.Native.Nat.{_*_, _≤_};
+ghost use Prim.Native.Nat.{_+_, _*_, _≤_};
 ghost use lib.ListN.{length, set, take};
 ghost use lib.Seq.{paste};
 ghost use Rattle.block.specs.Block.{anyAbove};
@@ -21,6 +22,11 @@ pub enum Listed {
 
 // How many times are kept aside: with a decorrelation time of 5 s or more no record has more.
 const KEPT: usize = 2_048;
+
+// So many samples in the middle of a record are looked at, and if so many of them are counted, more times than are kept aside are expected.
+const LOOK: usize = 1_024;
+
+const CROWD: u64 = 256;
 
 // The walk before a timed sample: its time, whether a timed sample at most the level stands before it, how many groups were counted, and from what time
 // on a crossing starts a group.
@@ -153,7 +159,7 @@ fn advance(
 
 // The walk over all timed samples, up to the first bad one.
 fn pass(step: u64, level: u64, decorrelation: u64, timed: &[i32], times: &mut [u32]) -> Found
-    requires { ⌜ Ready step decorrelation start (length (now timed)) × (level ≤ 1000000) ⌝ }
+    requires { ⌜ Ready step decorrelation start (length (now timed)) ⌝ }
     ensures { λ r. ⌜ Passes step level decorrelation (now (timed .entry)) (now (times .entry)) r (now (times .exit)) ⌝ }
 {
     let mut w = start();
@@ -161,11 +167,12 @@ fn pass(step: u64, level: u64, decorrelation: u64, timed: &[i32], times: &mut [u
     while i < timed.len() {
         let end = block::end(i, timed.len());
         let part = &timed[i..end];
-        let loud = block::loud(level, part);
-        let bad = range::first_bad_if(loud, part);
+        let ends = block::ends_of(part);
+        let bad = range::first_bad_if(range::outside(ends), part);
         if bad < part.len() {
             return Found::Bad((i + bad) as u64);
         }
+        let loud = block::past(level, ends);
         w = advance(step, level, decorrelation, w, loud, part, times);
         i = end;
     }
@@ -194,7 +201,7 @@ fn write(
     kept: &[u32],
     times: &mut [u32],
 ) -> Listed
-    requires { ⌜ Ready step decorrelation start (length (now timed)) × (level ≤ 1000000) × (firstBad (now timed) ≡ length (now timed)) × (count ≡ length (countedTimes step 0 level decorrelation (now timed))) × (count ≤ length (now kept) → take count (now kept) ≡ countedTimes step 0 level decorrelation (now timed)) ⌝ }
+    requires { ⌜ Ready step decorrelation start (length (now timed)) × (firstBad (now timed) ≡ length (now timed)) × (count ≡ length (countedTimes step 0 level decorrelation (now timed))) × (count ≤ length (now kept) → take count (now kept) ≡ countedTimes step 0 level decorrelation (now timed)) ⌝ }
     ensures { λ r. ⌜ WritesTo (countedTimes step 0 level decorrelation (now (timed .entry))) (now (times .entry)) r (now (times .exit)) ⌝ }
 {
     if (times.len() as u64) < count {
@@ -219,13 +226,59 @@ fn settle(
     kept: &[u32],
     times: &mut [u32],
 ) -> Listed
-    requires { ⌜ Ready step decorrelation start (length (now timed)) × (ramp ≤ 1000000) × (level ≤ 1000000) × Heard step level decorrelation (now timed) found (now kept) ⌝ }
+    requires { ⌜ Ready step decorrelation start (length (now timed)) × (ramp ≤ 1000000) × Heard step level decorrelation (now timed) found (now kept) ⌝ }
     ensures { λ r. ⌜ ListsTimed step ramp level decorrelation (now (timed .entry)) (now (times .entry)) r (now (times .exit)) ⌝ }
 {
     match found {
         Found::Bad(k) => Listed::Refused(Refusal::Sample(ramp + k)),
         Found::Count(n) => write(step, level, decorrelation, timed, n, kept, times),
     }
+}
+
+// Whether the times are written straight into a slice of so many places. Room for half as many as samples it must have; the rest is a guess, on which only the time that it takes depends.
+fn straightway(step: u64, level: u64, decorrelation: u64, timed: &[i32], places: usize) -> bool
+    requires { ⌜ Ready step decorrelation start (length (now timed)) ⌝ }
+    ensures { λ r. ⌜ (r ≡ true → length (now (timed .entry)) ≤ 2 * places + 1) ⌝ }
+{
+    let half = timed.len() / 2;
+    if half <= KEPT {
+        return false;
+    }
+    if places < half {
+        return false;
+    }
+    let mut first = [0u32; 1];
+    let found = pass(
+        step,
+        level,
+        decorrelation,
+        &timed[half..half + LOOK],
+        &mut first,
+    );
+    if let Found::Count(n) = found {
+        return CROWD <= n;
+    }
+    false
+}
+
+// The timed samples, listed into a slice with room for all times there can be: only refusal 2 can come.
+fn straight(
+    step: u64,
+    ramp: u64,
+    level: u64,
+    decorrelation: u64,
+    timed: &[i32],
+    times: &mut [u32],
+) -> Listed
+    requires { ⌜ Ready step decorrelation start (length (now timed)) × (ramp ≤ 1000000) × (length (now timed) ≤ 2 * length (now times) + 1) ⌝ }
+    ensures { λ r. ⌜ ListsTimed step ramp level decorrelation (now (timed .entry)) (now (times .entry)) r (now (times .exit)) ⌝ }
+{
+    let bad = range::first_bad(timed);
+    if bad < timed.len() {
+        return Listed::Refused(Refusal::Sample(ramp + bad as u64));
+    }
+    let w = along(step, level, decorrelation, start(), timed, times);
+    Listed::Times(w.count)
 }
 
 // The timed samples, listed.
@@ -237,9 +290,12 @@ fn list_timed(
     timed: &[i32],
     times: &mut [u32],
 ) -> Listed
-    requires { ⌜ Ready step decorrelation start (length (now timed)) × (ramp ≤ 1000000) × (level ≤ 1000000) ⌝ }
+    requires { ⌜ Ready step decorrelation start (length (now timed)) × (ramp ≤ 1000000) ⌝ }
     ensures { λ r. ⌜ ListsTimed step ramp level decorrelation (now (timed .entry)) (now (times .entry)) r (now (times .exit)) ⌝ }
 {
+    if straightway(step, level, decorrelation, timed, times.len()) {
+        return straight(step, ramp, level, decorrelation, timed, times);
+    }
     let mut kept = [0u32; KEPT];
     let found = pass(step, level, decorrelation, timed, &mut kept);
     settle(step, ramp, level, decorrelation, timed, found, &kept, times)

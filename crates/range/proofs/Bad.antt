@@ -1,15 +1,17 @@
 -- The first bad sample of a piece, taken apart and joined. Assumes nothing.
 use Prim.Native.Nat.{ℕ, suc, _+_, _≤_, _<_, suc-le-suc}
-use mathlib.Core.Path.{_≡_, refl, sym, ap}
-use mathlib.Core.Bool.{Bool, true, false, cond}
+use mathlib.Core.Path.{_≡_, refl, sym, ap, _∙_}
+use mathlib.Core.Bool.{Bool, true, false, cond, not, _&&_, _||_}
 use mathlib.Core.List.{List, [], _∷_, _++_}
 use native.Mathlib.Omega.{arith}
 use lib.ListN.{length}
+use lib.Dec.{leb, ltb}
 use lib.IntN.{ℤ, natAbs}
-use borrow.Author.Tests.{leb-true, ltb-false, le-leb, le-ltb}
+use borrow.Author.Tests.{leb-true, leb-false, ltb-false, le-leb, le-ltb, lt-ltb}
 use Rattle.truth.proofs.Laws.{true≢false}
-use Rattle.block.specs.Block.{anyAbove}
+use Rattle.block.specs.Block.{lowest, highest, anyAbove}
 use Rattle.block.proofs.Quiet.{first-quiet}
+use Rattle.block.proofs.Sides.{ends-say}
 use Rattle.range.specs.Range.{sampleLimit, sampleInRange, firstBad}
 
 pub bad-in : (x : ℤ) (xs : List ℤ) → sampleInRange x ≡ true → firstBad (x ∷ xs) ≡ suc (firstBad xs)
@@ -76,18 +78,25 @@ loud-bad (x ∷ p) h = go (sampleInRange x) refl (loud-bad p)
     go true e i = suc-le-suc (i (rw (le-ltb sampleLimit (natAbs x) (leb-true (natAbs x) sampleLimit e)) at h))
     go false e i = omega arith
 
--- samples none of which is above a level within the range are in range
-quiet-higher : (a b : ℕ) (p : List ℤ) → a ≤ b → anyAbove a p ≡ false → anyAbove b p ≡ false
-unfolding anyAbove
-quiet-higher a b [] l h = refl
-quiet-higher a b (x ∷ p) l h =
-    let w = first-quiet a x p h in
-    rw (le-ltb b (natAbs x) (omega (arith, ltb-false a (natAbs x) (w .0)))) (quiet-higher a b p l (w .1))
-
--- so they need not be looked at
-pub if-loud : (a : ℕ) (p : List ℤ) {loud : Bool} → a ≤ sampleLimit → (loud ≡ false → anyAbove a p ≡ false) → cond loud (firstBad p) (length p) ≡ firstBad p
-if-loud a p {loud} l e = go loud e
+-- the ends of samples say whether one is bad
+turned : (n : ℕ) → not (leb n sampleLimit) ≡ ltb sampleLimit n
+turned n = go (leb n sampleLimit) refl
   where
-    go : (b : Bool) → (b ≡ false → anyAbove a p ≡ false) → cond b (firstBad p) (length p) ≡ firstBad p
+    go : (b : Bool) → leb n sampleLimit ≡ b → not b ≡ ltb sampleLimit n
+    go true e = sym (le-ltb sampleLimit n (leb-true n sampleLimit e))
+    go false e = sym (lt-ltb sampleLimit n (leb-false n sampleLimit e))
+
+neither : (b c : Bool) → not (b && c) ≡ (not b || not c)
+neither true c = refl
+neither false c = refl
+
+pub ends-bad : (p : List ℤ) → not (sampleInRange (lowest p) && sampleInRange (highest p)) ≡ anyAbove sampleLimit p
+ends-bad p = neither (sampleInRange (lowest p)) (sampleInRange (highest p)) ∙ rw (turned (natAbs (lowest p)), turned (natAbs (highest p))) (ends-say sampleLimit p)
+
+-- where they are in range, no sample need be looked at
+pub if-outside : (p : List ℤ) {outside : Bool} → outside ≡ anyAbove sampleLimit p → cond outside (firstBad p) (length p) ≡ firstBad p
+if-outside p {outside} e = go outside e
+  where
+    go : (b : Bool) → b ≡ anyAbove sampleLimit p → cond b (firstBad p) (length p) ≡ firstBad p
     go true q = refl
-    go false q = sym (quiet-good p (quiet-higher a sampleLimit p l (q refl)))
+    go false q = sym (quiet-good p (sym q))

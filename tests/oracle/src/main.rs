@@ -480,15 +480,15 @@ impl Bench {
     }
 
     /// A bad sample, or one just within the range, at the first and the last place of the first, a middle and the last block of a library that looks at
-    /// 256 samples at a time; in a piece, in a piece that there is no room for, and in a whole record.
+    /// 64 samples at a time; in a piece, in a piece that there is no room for, and in a whole record.
     fn ends(&mut self) {
         let values = [i32::MIN, i32::MIN + 1, -SAMPLE - 1, -SAMPLE, SAMPLE, SAMPLE + 1, i32::MAX];
-        for n in [256, 257, 700, 768] {
-            for place in [0, 1, 254, 255, 256, 257, 511, 512, n - 1].into_iter().filter(|&place| place < n) {
+        for n in [64, 65, 175, 192, 257] {
+            for place in [0, 1, 62, 63, 64, 65, 127, 128, n - 1].into_iter().filter(|&place| place < n) {
                 for value in values {
                     let mut samples = vec![0; n];
                     samples[place] = value;
-                    for (items, step_back) in [([500, 0, 40_000, 0], 0), ([500, 3, 1_000_000, 0], 0), ([10_000, 0, 40_000, 0], 400)] {
+                    for (items, step_back) in [([500, 0, 40_000, 0], 0), ([500, 3, 1_000_000, 0], 0), ([10_000, 0, 40_000, 0], 500)] {
                         let mut state = vec![0; RECORD_NUMBERS];
                         self.record_open(items, &mut state);
                         let before: Vec<i32> = vec![0; step_back];

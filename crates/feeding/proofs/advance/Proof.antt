@@ -39,7 +39,7 @@ returns-2 c =
     let r = c .before .before .before .args .r in
     let p = c .before .before .before .args .block .now in
     let f : SFits w32 (sampleAt p (length p - 1)) = search needs in
-    c .moved .ensures ∙ ap (moved r (length p)) (toZ-ofZ f) ∙ sym (still-run r p (quiet-still r p (c .before .before .before .pre .1 (c .before .before .if1 .left))) (omega arith))
+    c .moved .ensures ∙ ap (moved r (length p)) (toZ-ofZ f) ∙ sym (still-run r p (quiet-still r p (sym (c .before .before .before .pre .1) ∙ c .before .before .if1 .left)) (omega arith))
 
 pub advance-spec : {M : Type 1} → statement M
 advance-spec =

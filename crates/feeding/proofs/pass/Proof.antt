@@ -14,18 +14,16 @@ use Rattle.limits.specs.Limits.{mostSamples}
 use Rattle.record.specs.State.{sound}
 use Rattle.feeding.specs.Step.{stepped}
 use Rattle.range.specs.Range.{firstBad}
-use Rattle.range.proofs.Bad.{bad-append, bad-left, bad-within, if-loud}
+use Rattle.range.proofs.Bad.{bad-append, bad-left, bad-within, ends-bad, if-outside}
 use Rattle.block.proofs.Cut.{end-within, block-length, block-cut}
-use Rattle.block.proofs.Quiet.{not-loud}
-use Rattle.record.proofs.Relations.{kept-from}
-use Rattle.record.proofs.Bounds.{items-of}
+use Rattle.block.proofs.Sides.{ends-say}
 use Rattle.feeding.proofs.Cutting.{run-n, run-most, run-sound}
 use Rattle.feeding.proofs.Fed.{fed-bad, fed-taken}
 use Rattle.feeding.proofs.pass.Statement.{statement}
 use Rattle.feeding.proofs.pass.Tie as tie
 
 abbrev Inv-loop : tie.InvT-loop
-Inv-loop piece s₀ full₀ i₀ s full i =
+Inv-loop piece s₀ i₀ s i =
     (sound s ≡ true)
     × (i ≤ length piece)
     × (i + firstBad (drop i piece) ≡ firstBad piece)
@@ -33,7 +31,7 @@ Inv-loop piece s₀ full₀ i₀ s full i =
     × (foldl stepped s (drop i piece) ≡ foldl stepped s₀ piece)
 
 abbrev μ-loop : tie.MeasureT-loop
-μ-loop piece s₀ full₀ i₀ s full i = length piece - i
+μ-loop piece s₀ i₀ s i = length piece - i
 
 loop-holds : tie.Need-loop-holds Inv-loop μ-loop
 loop-holds c = (c .pre .0, omega arith, zero-add _, omega arith, refl)
@@ -57,73 +55,80 @@ part-part-start c = omega (arith, within c)
 part-part-end : tie.Need-part-part-end Inv-loop μ-loop
 part-part-end c = omega (arith, within c)
 
-may-be-loud-requires : tie.Need-may-be-loud-requires Inv-loop μ-loop
-may-be-loud-requires c κs = search needs
+ends-of-requires : tie.Need-ends-of-requires Inv-loop μ-loop
+ends-of-requires c κs = search needs
+
+outside-requires : tie.Need-outside-requires Inv-loop μ-loop
+outside-requires c κs = search needs
 
 first-bad-if-requires : tie.Need-first-bad-if-requires Inv-loop μ-loop
 first-bad-if-requires c κs = search needs
 
--- a block of which no sample is above the level has no bad one
-looked : (c : tie.After-first-bad-if Inv-loop μ-loop) → c .first-bad-if .result ≡ firstBad (take (c .before .before .before .end .result - c .before .before .before .before .before .loop .i) (drop (c .before .before .before .before .before .loop .i) (c .before .before .before .before .before .before .args .piece .now)))
+-- a block whose ends are in range has no bad sample
+looked : (c : tie.After-first-bad-if Inv-loop μ-loop) → c .first-bad-if .result ≡ firstBad (take (c .before .before .before .before .end .result - c .before .before .before .before .before .before .loop .i) (drop (c .before .before .before .before .before .before .loop .i) (c .before .before .before .before .before .before .before .args .piece .now)))
 looked c =
-    let s = c .before .before .before .before .before .loop .s in
-    c .first-bad-if .ensures ∙ if-loud (s .level) (take (c .before .before .before .end .result - c .before .before .before .before .before .loop .i) (drop (c .before .before .before .before .before .loop .i) (c .before .before .before .before .before .before .args .piece .now))) (items-of (kept-from s (c .before .before .before .before .before .loop .inv .0)) .level-high) (not-loud (c .before .before .before .before .before .loop .full) (s .level) _ (c .before .may-be-loud .ensures))
+    let ends = c .before .before .ends-of .ensures in
+    c .first-bad-if .ensures ∙ if-outside _ (c .before .outside .ensures ∙ rw (ends .0, ends .1) (ends-bad _))
 
 -- the first bad sample of a block is that of the piece
-here : (c : tie.Then1 Inv-loop μ-loop) → (c .before .before .before .before .before .before .loop .i + c .before .first-bad-if .result ≡ firstBad (c .before .before .before .before .before .before .before .args .piece .now)) × (firstBad (c .before .before .before .before .before .before .before .args .piece .now) < length (c .before .before .before .before .before .before .before .args .piece .now))
+here : (c : tie.Then1 Inv-loop μ-loop) → (c .before .before .before .before .before .before .before .loop .i + c .before .first-bad-if .result ≡ firstBad (c .before .before .before .before .before .before .before .before .args .piece .now)) × (firstBad (c .before .before .before .before .before .before .before .before .args .piece .now) < length (c .before .before .before .before .before .before .before .before .args .piece .now))
 here c =
-    let p = c .before .before .before .before .before .before .before .args .piece .now in
-    let i = c .before .before .before .before .before .before .loop .i in
-    let e = c .before .before .before .before .end .result in
-    let w = within (c .before .before .before .before) in
+    let p = c .before .before .before .before .before .before .before .before .args .piece .now in
+    let i = c .before .before .before .before .before .before .before .loop .i in
+    let e = c .before .before .before .before .before .end .result in
+    let w = within (c .before .before .before .before .before) in
     let block = take (e - i) (drop i p) in
     let l = block-length p i e (omega arith) (omega arith) in
     let k = looked (c .before) in
     let f = ap firstBad (block-cut p i e (omega arith) (omega arith)) ∙ bad-left block (drop e p) (omega (arith, c .if1 .taken)) in
-    let v = c .before .before .before .before .before .before .loop .inv .2 in
+    let v = c .before .before .before .before .before .before .before .loop .inv .2 in
     (ap (λ (j : ℕ). i + j) (k ∙ sym f) ∙ v, omega (arith, c .if1 .taken))
 
-add-t16 : tie.Need-add-t16 Inv-loop μ-loop
-add-t16 c = omega (arith, here c)
+add-t14 : tie.Need-add-t14 Inv-loop μ-loop
+add-t14 c = omega (arith, here c)
 
 returns : tie.Need-returns Inv-loop μ-loop
-returns c = ap (λ (k : ℕ). Refused (Sample k)) (here c .0) ∙ sym (fed-bad (c .before .before .before .before .before .before .before .args .r) (c .before .before .before .before .before .before .before .args .piece .now) (c .before .before .before .before .before .before .before .pre .0) (here c .1))
+returns c = ap (λ (k : ℕ). Refused (Sample k)) (here c .0) ∙ sym (fed-bad (c .before .before .before .before .before .before .before .before .args .r) (c .before .before .before .before .before .before .before .before .args .piece .now) (c .before .before .before .before .before .before .before .before .pre .0) (here c .1))
 
 -- past the test no sample of the block is bad
-good : (c : tie.Else1 Inv-loop μ-loop) → firstBad (take (c .before .before .before .before .end .result - c .before .before .before .before .before .before .loop .i) (drop (c .before .before .before .before .before .before .loop .i) (c .before .before .before .before .before .before .before .args .piece .now))) ≡ length (take (c .before .before .before .before .end .result - c .before .before .before .before .before .before .loop .i) (drop (c .before .before .before .before .before .before .loop .i) (c .before .before .before .before .before .before .before .args .piece .now)))
+good : (c : tie.Else1 Inv-loop μ-loop) → firstBad (take (c .before .before .before .before .before .end .result - c .before .before .before .before .before .before .before .loop .i) (drop (c .before .before .before .before .before .before .before .loop .i) (c .before .before .before .before .before .before .before .before .args .piece .now))) ≡ length (take (c .before .before .before .before .before .end .result - c .before .before .before .before .before .before .before .loop .i) (drop (c .before .before .before .before .before .before .before .loop .i) (c .before .before .before .before .before .before .before .before .args .piece .now)))
 good c =
-    let p = c .before .before .before .before .before .before .before .args .piece .now in
-    let i = c .before .before .before .before .before .before .loop .i in
-    let e = c .before .before .before .before .end .result in
-    let w = within (c .before .before .before .before) in
+    let p = c .before .before .before .before .before .before .before .before .args .piece .now in
+    let i = c .before .before .before .before .before .before .before .loop .i in
+    let e = c .before .before .before .before .before .end .result in
+    let w = within (c .before .before .before .before .before) in
     let l = block-length p i e (omega arith) (omega arith) in
     omega (arith, bad-within (take (e - i) (drop i p)), looked (c .before), c .if1 .left)
 
+past-requires : tie.Need-past-requires Inv-loop μ-loop
+past-requires c κs = search needs
+
 advance-requires : tie.Need-advance-requires Inv-loop μ-loop
 advance-requires c κs =
-    let w = within (c .before .before .before .before) in
-    let l = block-length (c .before .before .before .before .before .before .before .args .piece .now) (c .before .before .before .before .before .before .loop .i) (c .before .before .before .before .end .result) (omega arith) (omega arith) in
-    (c .before .before .before .before .before .before .loop .inv .0, not-loud (c .before .before .before .before .before .before .loop .full) _ _ (c .before .before .may-be-loud .ensures), good c, omega arith, omega (arith, c .before .before .before .before .before .before .loop .inv .3))
-
-dense-requires : tie.Need-dense-requires Inv-loop μ-loop
-dense-requires c κs = search needs
+    let l = c .before .before .before .before .before .before .before .before .loop in
+    let p = c .before .before .before .before .before .before .before .before .before .args .piece .now in
+    let e = c .before .before .before .before .before .before .end .result in
+    let w = within (c .before .before .before .before .before .before) in
+    let k = block-length p (l .i) e (omega arith) (omega arith) in
+    let ends = c .before .before .before .before .ends-of .ensures in
+    (l .inv .0, c .past .ensures ∙ rw (ends .0, ends .1) (ends-say (l .s .level) _), good (c .before), omega arith, omega (arith, l .inv .3))
 
 loop-less : tie.Need-loop-less Inv-loop μ-loop
-loop-less c = omega (arith, within (c .before .before .before .before .before .before))
+loop-less c = omega (arith, within (c .before .before .before .before .before .before .before))
 
 loop-again : tie.Need-loop-again Inv-loop μ-loop
 loop-again c =
-    let p = c .before .before .before .before .before .before .before .before .before .args .piece .now in
-    let i = c .before .before .before .before .before .before .before .before .loop .i in
-    let s = c .before .before .before .before .before .before .before .before .loop .s in
-    let v = c .before .before .before .before .before .before .before .before .loop .inv in
-    let e = c .before .before .before .before .before .before .end .result in
-    let w = within (c .before .before .before .before .before .before) in
+    let p = c .before .before .before .before .before .before .before .before .before .before .args .piece .now in
+    let i = c .before .before .before .before .before .before .before .before .before .loop .i in
+    let s = c .before .before .before .before .before .before .before .before .before .loop .s in
+    let v = c .before .before .before .before .before .before .before .before .before .loop .inv in
+    let e = c .before .before .before .before .before .before .before .end .result in
+    let w = within (c .before .before .before .before .before .before .before) in
     let block = take (e - i) (drop i p) in
     let l = block-length p i e (omega arith) (omega arith) in
     let k = block-cut p i e (omega arith) (omega arith) in
     let g = good (c .before .before) in
-    rw (c .before .advance .ensures) (
+    rw (c .advance .ensures) (
       run-sound s block (v .0) g (omega (arith, v .3)),
       omega arith,
       omega (arith, v .2, ap firstBad k ∙ bad-append block (drop e p) g),
@@ -151,12 +156,13 @@ pass-spec =
     sub-part
     part-part-start
     part-part-end
-    may-be-loud-requires
+    ends-of-requires
+    outside-requires
     first-bad-if-requires
-    add-t16
+    add-t14
     returns
+    past-requires
     advance-requires
-    dense-requires
     loop-less
     loop-again
     returns-2)

@@ -75,7 +75,7 @@ list-timed-requires : tie.Need-list-timed-requires
 list-timed-requires c κs =
     let f = fit (c .before .before .before .before .before) in
     let i = items (c .before .before .before .before .before .before .before .before .before .args .step) (c .before .before .before .before .before .before .before .before .before .args .ramp) (c .before .before .before .before .before .before .before .before .before .args .level) (c .before .before .before .before .before .before .before .before .before .args .decorrelation) (f .items) in
-    (rw (timed (c .before .before .before .before .before)) (ready (c .before .before .before .before .before .before .before .before .before .args .step) (c .before .before .before .before .before .before .before .before .before .args .ramp) (c .before .before .before .before .before .before .before .before .before .args .level) (c .before .before .before .before .before .before .before .before .before .args .decorrelation) (c .before .before .before .before .before .before .before .before .before .args .samples .now) f), i .ramp, i .level-high)
+    (rw (timed (c .before .before .before .before .before)) (ready (c .before .before .before .before .before .before .before .before .before .args .step) (c .before .before .before .before .before .before .before .before .before .args .ramp) (c .before .before .before .before .before .before .before .before .before .args .level) (c .before .before .before .before .before .before .before .before .before .args .decorrelation) (c .before .before .before .before .before .before .before .before .before .args .samples .now) f), i .ramp)
 
 same-length : tie.Need-same-length
 same-length c = search needs

@@ -9,8 +9,9 @@ use borrow.Author.Needs.{needs}
 use lib.ListN.{length, take, drop, drop-of-length-le}
 use borrow.Author.Tests.{lt-ltb, le-ltb}
 use Rattle.block.proofs.Cut.{end-within, block-length, block-cut}
+use Rattle.block.proofs.Sides.{ends-say}
 use Rattle.range.specs.Range.{firstBad}
-use Rattle.range.proofs.Bad.{bad-append, bad-left, bad-within, if-loud}
+use Rattle.range.proofs.Bad.{bad-append, bad-left, bad-within, ends-bad, if-outside}
 use Rattle.listing.specs.declared.Found.the-variants.{Count}
 use Rattle.listing.specs.Walk.{start, Noting, noting, noted, Ready}
 use Rattle.listing.proofs.Steps.{ready-less, ready-after, walked-length}
@@ -34,7 +35,7 @@ start-requires c κs = search needs
 loop-holds : tie.Need-loop-holds Inv-loop μ-loop
 loop-holds c =
     let e : length (c .before .before .args .timed .now) ≡ length (c .before .before .args .timed .now) - 0 = omega arith in
-    rw (c .start .ensures) (omega arith, rw e at (c .before .before .pre .0), zero-add _, refl, refl)
+    rw (c .start .ensures) (omega arith, rw e at (c .before .before .pre), zero-add _, refl, refl)
 
 end-requires : tie.Need-end-requires Inv-loop μ-loop
 end-requires c κs = search needs
@@ -55,65 +56,74 @@ part-part-start c = omega (arith, within c)
 part-part-end : tie.Need-part-part-end Inv-loop μ-loop
 part-part-end c = omega (arith, within c)
 
-loud-requires : tie.Need-loud-requires Inv-loop μ-loop
-loud-requires c κs = search needs
+ends-of-requires : tie.Need-ends-of-requires Inv-loop μ-loop
+ends-of-requires c κs = search needs
+
+outside-requires : tie.Need-outside-requires Inv-loop μ-loop
+outside-requires c κs = search needs
 
 first-bad-if-requires : tie.Need-first-bad-if-requires Inv-loop μ-loop
 first-bad-if-requires c κs = search needs
 
--- a block of which no sample is above the level has no bad one
-looked : (c : tie.After-first-bad-if Inv-loop μ-loop) → c .first-bad-if .result ≡ firstBad (take (c .before .before .before .end .result - c .before .before .before .before .before .loop .i) (drop (c .before .before .before .before .before .loop .i) (c .before .before .before .before .before .before .before .before .args .timed .now)))
-looked c = c .first-bad-if .ensures ∙ if-loud (c .before .before .before .before .before .before .before .before .args .level) (take (c .before .before .before .end .result - c .before .before .before .before .before .loop .i) (drop (c .before .before .before .before .before .loop .i) (c .before .before .before .before .before .before .before .before .args .timed .now))) (c .before .before .before .before .before .before .before .before .pre .1) (λ e. sym (c .before .loud .ensures) ∙ e)
+-- a block whose ends are in range has no bad sample
+looked : (c : tie.After-first-bad-if Inv-loop μ-loop) → c .first-bad-if .result ≡ firstBad (take (c .before .before .before .before .end .result - c .before .before .before .before .before .before .loop .i) (drop (c .before .before .before .before .before .before .loop .i) (c .before .before .before .before .before .before .before .before .before .args .timed .now)))
+looked c =
+    let ends = c .before .before .ends-of .ensures in
+    c .first-bad-if .ensures ∙ if-outside _ (c .before .outside .ensures ∙ rw (ends .0, ends .1) (ends-bad _))
 
 -- the first bad sample of a block is that of all
-here : (c : tie.Then1 Inv-loop μ-loop) → (c .before .before .before .before .before .before .loop .i + c .before .first-bad-if .result ≡ firstBad (c .before .before .before .before .before .before .before .before .before .args .timed .now)) × (firstBad (c .before .before .before .before .before .before .before .before .before .args .timed .now) < length (c .before .before .before .before .before .before .before .before .before .args .timed .now))
+here : (c : tie.Then1 Inv-loop μ-loop) → (c .before .before .before .before .before .before .before .loop .i + c .before .first-bad-if .result ≡ firstBad (c .before .before .before .before .before .before .before .before .before .before .args .timed .now)) × (firstBad (c .before .before .before .before .before .before .before .before .before .before .args .timed .now) < length (c .before .before .before .before .before .before .before .before .before .before .args .timed .now))
 here c =
-    let p = c .before .before .before .before .before .before .before .before .before .args .timed .now in
-    let i = c .before .before .before .before .before .before .loop .i in
-    let e = c .before .before .before .before .end .result in
-    let w = within (c .before .before .before .before) in
+    let p = c .before .before .before .before .before .before .before .before .before .before .args .timed .now in
+    let i = c .before .before .before .before .before .before .before .loop .i in
+    let e = c .before .before .before .before .before .end .result in
+    let w = within (c .before .before .before .before .before) in
     let block = take (e - i) (drop i p) in
     let l = block-length p i e (omega arith) (omega arith) in
     let k = looked (c .before) in
     let f = ap firstBad (block-cut p i e (omega arith) (omega arith)) ∙ bad-left block (drop e p) (omega (arith, c .if1 .taken)) in
-    let v = c .before .before .before .before .before .before .loop .inv .2 in
+    let v = c .before .before .before .before .before .before .before .loop .inv .2 in
     (omega arith, omega (arith, c .if1 .taken))
 
-add-t17 : tie.Need-add-t17 Inv-loop μ-loop
-add-t17 c = omega (arith, here c)
+add-t18 : tie.Need-add-t18 Inv-loop μ-loop
+add-t18 c = omega (arith, here c)
 
 same-length : tie.Need-same-length Inv-loop μ-loop
-same-length c = c .before .before .before .before .before .before .loop .inv .3
+same-length c = c .before .before .before .before .before .before .before .loop .inv .3
 
 returns : tie.Need-returns Inv-loop μ-loop
 returns c = record { answers = rw (here c .0, lt-ltb _ _ (here c .1)); leaves = λ e. absurd (omega (arith, here c)) }
 
+past-requires : tie.Need-past-requires Inv-loop μ-loop
+past-requires c κs = search needs
+
 advance-requires : tie.Need-advance-requires Inv-loop μ-loop
 advance-requires c κs =
-    let w = within (c .before .before .before .before .before) in
-    let l = block-length (c .before .before .before .before .before .before .before .before .before .before .args .timed .now) (c .before .before .before .before .before .before .before .loop .i) (c .before .before .before .before .before .end .result) (omega arith) (omega arith) in
-    (ready-less (omega arith) (c .before .before .before .before .before .before .before .loop .inv .1), c .before .before .before .loud .ensures, omega arith)
+    let w = within (c .before .before .before .before .before .before .before) in
+    let l = block-length (c .before .before .before .before .before .before .before .before .before .before .before .before .args .timed .now) (c .before .before .before .before .before .before .before .before .before .loop .i) (c .before .before .before .before .before .before .before .end .result) (omega arith) (omega arith) in
+    let ends = c .before .before .before .before .before .ends-of .ensures in
+    (ready-less (omega arith) (c .before .before .before .before .before .before .before .before .before .loop .inv .1), c .before .past .ensures ∙ rw (ends .0, ends .1) (ends-say _ _), omega arith)
 
 loop-less : tie.Need-loop-less Inv-loop μ-loop
-loop-less c = omega (arith, within (c .before .before .before .before .before .before .before .before))
+loop-less c = omega (arith, within (c .before .before .before .before .before .before .before .before .before .before))
 
 loop-again : tie.Need-loop-again Inv-loop μ-loop
 loop-again c =
-    let g = c .before .before .before .before .before .before .before .before .before .before .before .before .before .args in
+    let g = c .before .before .before .before .before .before .before .before .before .before .before .before .before .before .before .args in
     let p = g .timed .now in
-    let i = c .before .before .before .before .before .before .before .before .before .before .loop .i in
-    let w = c .before .before .before .before .before .before .before .before .before .before .loop .w in
-    let ts = c .before .before .before .before .before .before .before .before .before .before .loop .times in
-    let inv = c .before .before .before .before .before .before .before .before .before .before .loop .inv in
-    let e = c .before .before .before .before .before .before .before .before .end .result in
-    let h = within (c .before .before .before .before .before .before .before .before) in
+    let i = c .before .before .before .before .before .before .before .before .before .before .before .before .loop .i in
+    let w = c .before .before .before .before .before .before .before .before .before .before .before .before .loop .w in
+    let ts = c .before .before .before .before .before .before .before .before .before .before .before .before .loop .times in
+    let inv = c .before .before .before .before .before .before .before .before .before .before .before .before .loop .inv in
+    let e = c .before .before .before .before .before .before .before .before .before .before .end .result in
+    let h = within (c .before .before .before .before .before .before .before .before .before .before) in
     let block = take (e - i) (drop i p) in
     let l = block-length p i e (omega arith) (omega arith) in
     let k = block-cut p i e (omega arith) (omega arith) in
     let f = noted (g .step) (g .level) (g .decorrelation) in
     let a = c .before .before .advance .ensures in
-    let d = looked (c .before .before .before .before .before) in
-    let good : firstBad block ≡ length block = omega (arith, bad-within block, c .before .before .before .before .if1 .left) in (
+    let d = looked (c .before .before .before .before .before .before) in
+    let good : firstBad block ≡ length block = omega (arith, bad-within block, c .before .before .before .before .before .if1 .left) in (
       h .1,
       rw (ap (λ (s : Noting). s .walk) a) (ready-after (g .level) ts block (length p - e) (omega arith) (inv .1)),
       omega (arith, inv .2, ap firstBad k ∙ bad-append block (drop e p) good),
@@ -151,11 +161,13 @@ pass-spec =
     sub-part
     part-part-start
     part-part-end
-    loud-requires
+    ends-of-requires
+    outside-requires
     first-bad-if-requires
-    add-t17
+    add-t18
     same-length
     returns
+    past-requires
     advance-requires
     loop-less
     loop-again

@@ -17,7 +17,7 @@ enum-known-found c = search needs
 
 -- the first bad sample
 bad : (c : tie.After-known-told) → (c .before .found .given .0 .0 ≡ firstBad (c .before .before .before .before .before .args .timed .now)) × (firstBad (c .before .before .before .before .before .args .timed .now) < length (c .before .before .before .before .before .args .timed .now))
-bad c = heard-bad (c .before .before .before .before .before .args .step) (c .before .before .before .before .before .args .level) (c .before .before .before .before .before .args .decorrelation) (c .before .before .before .before .before .args .timed .now) (rw (c .before .found .given .1) at (c .before .before .before .before .before .pre .3))
+bad c = heard-bad (c .before .before .before .before .before .args .step) (c .before .before .before .before .before .args .level) (c .before .before .before .before .before .args .decorrelation) (c .before .before .before .before .before .args .timed .now) (rw (c .before .found .given .1) at (c .before .before .before .before .before .pre .2))
 
 add-t12 : tie.Need-add-t12
 add-t12 c = omega (arith, bad c, ready-short (c .before .before .before .before .before .pre .0))
@@ -27,10 +27,10 @@ enum-known-found-2 c = search needs
 
 -- the count, and the times kept aside
 count : (c : tie.After-known-told2) → Told (c .before .before .before .before .before .args .step) (c .before .before .before .before .before .args .level) (c .before .before .before .before .before .args .decorrelation) (c .before .before .before .before .before .args .timed .now) (c .before .before .before .before .before .args .kept .now) (c .before .found2 .given .0 .0)
-count c = heard-count (c .before .before .before .before .before .args .step) (c .before .before .before .before .before .args .level) (c .before .before .before .before .before .args .decorrelation) (c .before .before .before .before .before .args .timed .now) (rw (c .before .found2 .given .1) at (c .before .before .before .before .before .pre .3))
+count c = heard-count (c .before .before .before .before .before .args .step) (c .before .before .before .before .before .args .level) (c .before .before .before .before .before .args .decorrelation) (c .before .before .before .before .before .args .timed .now) (rw (c .before .found2 .given .1) at (c .before .before .before .before .before .pre .2))
 
 write-requires : tie.Need-write-requires
-write-requires c κs = (c .before .before .before .before .before .before .pre .0, c .before .before .before .before .before .before .pre .2, count (c .before) .good, count (c .before) .number, count (c .before) .times)
+write-requires c κs = (c .before .before .before .before .before .before .pre .0, count (c .before) .good, count (c .before) .number, count (c .before) .times)
 
 returns : tie.Need-returns
 returns c = record { bad = λ h. (ap (λ (k : ℕ). Refused (Sample (c .before .before .before .before .before .args .ramp + k))) (bad c .0), refl); good = λ g. absurd (omega (arith, bad c)) }

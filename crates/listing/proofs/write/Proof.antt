@@ -6,14 +6,14 @@ use native.Mathlib.Omega.{arith}
 use lib.ListN.{length, drop}
 use borrow.Author.Needs.{needs}
 use Rattle.reading.specs.Reading.{countedTimes}
-use Rattle.listing.proofs.Noting.{heard}
-use Rattle.listing.proofs.Answered.{writes-room, writes-times, sets-front}
+use Rattle.listing.proofs.Answered.{writes-room, writes-times}
+use Rattle.listing.proofs.Heard.{walked-times}
 use Rattle.listing.proofs.write.Statement.{statement}
 use Rattle.listing.proofs.write.Tie as tie
 
 returns : tie.Need-returns
 returns c =
-    let n = c .before .before .before .pre .3 in
+    let n = c .before .before .before .pre .2 in
     rw n (writes-room (countedTimes (c .before .before .before .args .step) 0 (c .before .before .before .args .level) (c .before .before .before .args .decorrelation) (c .before .before .before .args .timed .now)) (c .before .before .before .args .times .now) (omega arith))
 
 copy-requires : tie.Need-copy-requires
@@ -24,9 +24,9 @@ same-length c = search needs
 
 returns-2 : tie.Need-returns-2
 returns-2 c =
-    let n = c .before .before .before .before .before .before .before .before .pre .3 in
+    let n = c .before .before .before .before .before .before .before .before .pre .2 in
     let e = c .before .before .copy .ensures in
-    rw (e, zero-add, c .before .before .before .before .before .before .before .before .pre .4 (omega arith), n) (writes-times (countedTimes (c .before .before .before .before .before .before .before .before .args .step) 0 (c .before .before .before .before .before .before .before .before .args .level) (c .before .before .before .before .before .before .before .before .args .decorrelation) (c .before .before .before .before .before .before .before .before .args .timed .now)) (c .before .before .before .before .before .before .before .before .args .times .now) (omega arith))
+    rw (e, zero-add, c .before .before .before .before .before .before .before .before .pre .3 (omega arith), n) (writes-times (countedTimes (c .before .before .before .before .before .before .before .before .args .step) 0 (c .before .before .before .before .before .before .before .before .args .level) (c .before .before .before .before .before .before .before .before .args .decorrelation) (c .before .before .before .before .before .before .before .before .args .timed .now)) (c .before .before .before .before .before .before .before .before .args .times .now) (omega arith))
 
 pass-requires : tie.Need-pass-requires
 pass-requires c κs = search needs
@@ -36,9 +36,8 @@ same-length-2 c = search needs
 
 returns-3 : tie.Need-returns-3
 returns-3 c =
-    let n = c .before .before .before .before .before .before .before .before .pre .3 in
-    let s = heard (c .before .before .before .before .before .before .before .before .args .step) (c .before .before .before .before .before .before .before .before .args .level) (c .before .before .before .before .before .before .before .before .args .decorrelation) (c .before .before .before .before .before .before .before .before .args .timed .now) (c .before .before .before .before .before .before .before .before .args .times .now) in
-    let e = c .before .before .pass .ensures .leaves (c .before .before .before .before .before .before .before .before .pre .2) ∙ s .slice ∙ sets-front (countedTimes (c .before .before .before .before .before .before .before .before .args .step) 0 (c .before .before .before .before .before .before .before .before .args .level) (c .before .before .before .before .before .before .before .before .args .decorrelation) (c .before .before .before .before .before .before .before .before .args .timed .now)) (c .before .before .before .before .before .before .before .before .args .times .now) (omega arith) in
+    let n = c .before .before .before .before .before .before .before .before .pre .2 in
+    let e = c .before .before .pass .ensures .leaves (c .before .before .before .before .before .before .before .before .pre .1) ∙ walked-times (c .before .before .before .before .before .before .before .before .args .step) (c .before .before .before .before .before .before .before .before .args .level) (c .before .before .before .before .before .before .before .before .args .decorrelation) (c .before .before .before .before .before .before .before .before .args .timed .now) (c .before .before .before .before .before .before .before .before .args .times .now) (omega arith) in
     rw (e, n) (writes-times (countedTimes (c .before .before .before .before .before .before .before .before .args .step) 0 (c .before .before .before .before .before .before .before .before .args .level) (c .before .before .before .before .before .before .before .before .args .decorrelation) (c .before .before .before .before .before .before .before .before .args .timed .now)) (c .before .before .before .before .before .before .before .before .args .times .now) (omega arith))
 
 pub write-spec : {M : Type 1} → statement M

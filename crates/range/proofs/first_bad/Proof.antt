@@ -7,9 +7,10 @@ use native.Mathlib.Nat.{zero-add}
 use native.Mathlib.Omega.{arith}
 use borrow.Author.Needs.{needs}
 use lib.ListN.{length, take, drop, drop-of-length-le}
+use Rattle.block.specs.Block.{anyAbove}
 use Rattle.block.proofs.Cut.{end-within, block-length, block-cut}
-use Rattle.range.specs.Range.{firstBad}
-use Rattle.range.proofs.Bad.{bad-append, bad-left, quiet-good, loud-bad}
+use Rattle.range.specs.Range.{sampleLimit, firstBad}
+use Rattle.range.proofs.Bad.{bad-append, bad-left, quiet-good, loud-bad, ends-bad}
 use Rattle.range.proofs.first_bad.Statement.{statement}
 use Rattle.range.proofs.first_bad.Tie as tie
 
@@ -41,50 +42,54 @@ part-part-start c = omega (arith, within c)
 part-part-end : tie.Need-part-part-end Inv-loop μ-loop
 part-part-end c = omega (arith, within c)
 
-cast-loud : tie.Need-cast-loud Inv-loop μ-loop
-cast-loud c = search needs
+ends-of-requires : tie.Need-ends-of-requires Inv-loop μ-loop
+ends-of-requires c κs = search needs
 
-loud-requires : tie.Need-loud-requires Inv-loop μ-loop
-loud-requires c κs = search needs
+outside-requires : tie.Need-outside-requires Inv-loop μ-loop
+outside-requires c κs = search needs
 
 first-of-requires : tie.Need-first-of-requires Inv-loop μ-loop
 first-of-requires c κs = search needs
 
+-- the ends say whether a sample of the block is past the limit
+told : (c : tie.After-outside Inv-loop μ-loop) → c .outside .result ≡ anyAbove sampleLimit (take (c .before .before .before .end .result - c .before .before .before .before .before .loop .i) (drop (c .before .before .before .before .before .loop .i) (c .before .before .before .before .before .before .args .samples .now)))
+told c = c .outside .ensures ∙ rw (c .before .ends-of .ensures .0, c .before .ends-of .ensures .1) (ends-bad _)
+
 -- the first bad sample of a block past the limit is that of all
-here : (c : tie.After-first-of Inv-loop μ-loop) → (c .before .before .before .before .before .before .loop .i + c .first-of .result ≡ firstBad (c .before .before .before .before .before .before .before .args .samples .now)) × (c .first-of .result < c .before .before .before .before .end .result - c .before .before .before .before .before .before .loop .i)
+here : (c : tie.After-first-of Inv-loop μ-loop) → (c .before .before .before .before .before .before .before .loop .i + c .first-of .result ≡ firstBad (c .before .before .before .before .before .before .before .before .args .samples .now)) × (c .first-of .result < c .before .before .before .before .before .end .result - c .before .before .before .before .before .before .before .loop .i)
 here c =
+    let p = c .before .before .before .before .before .before .before .before .args .samples .now in
+    let i = c .before .before .before .before .before .before .before .loop .i in
+    let e = c .before .before .before .before .before .end .result in
+    let w = within (c .before .before .before .before .before) in
+    let block = take (e - i) (drop i p) in
+    let l = block-length p i e (omega arith) (omega arith) in
+    let h = loud-bad block (sym (told (c .before .before)) ∙ c .before .if1 .taken) in
+    let f = ap firstBad (block-cut p i e (omega arith) (omega arith)) ∙ bad-left block (drop e p) h in
+    let g = c .first-of .ensures in
+    let v = c .before .before .before .before .before .before .before .loop .inv .1 in
+    (omega arith, omega arith)
+
+add-result : tie.Need-add-result Inv-loop μ-loop
+add-result c = omega (arith, here c, within (c .before .before .before .before .before))
+
+returns : tie.Need-returns Inv-loop μ-loop
+returns c = here c .0
+
+loop-less : tie.Need-loop-less Inv-loop μ-loop
+loop-less c = omega (arith, within (c .before .before .before .before))
+
+loop-again : tie.Need-loop-again Inv-loop μ-loop
+loop-again c =
     let p = c .before .before .before .before .before .before .before .args .samples .now in
     let i = c .before .before .before .before .before .before .loop .i in
     let e = c .before .before .before .before .end .result in
     let w = within (c .before .before .before .before) in
     let block = take (e - i) (drop i p) in
     let l = block-length p i e (omega arith) (omega arith) in
-    let h = loud-bad block (sym (c .before .before .loud .ensures) ∙ c .before .if1 .taken) in
-    let f = ap firstBad (block-cut p i e (omega arith) (omega arith)) ∙ bad-left block (drop e p) h in
-    let g = c .first-of .ensures in
-    let v = c .before .before .before .before .before .before .loop .inv .1 in
-    (omega arith, omega arith)
-
-add-result : tie.Need-add-result Inv-loop μ-loop
-add-result c = omega (arith, here c, within (c .before .before .before .before))
-
-returns : tie.Need-returns Inv-loop μ-loop
-returns c = here c .0
-
-loop-less : tie.Need-loop-less Inv-loop μ-loop
-loop-less c = omega (arith, within (c .before .before .before))
-
-loop-again : tie.Need-loop-again Inv-loop μ-loop
-loop-again c =
-    let p = c .before .before .before .before .before .before .args .samples .now in
-    let i = c .before .before .before .before .before .loop .i in
-    let e = c .before .before .before .end .result in
-    let w = within (c .before .before .before) in
-    let block = take (e - i) (drop i p) in
-    let l = block-length p i e (omega arith) (omega arith) in
-    let g = quiet-good block (sym (c .before .loud .ensures) ∙ c .if1 .left) in
+    let g = quiet-good block (sym (told (c .before)) ∙ c .if1 .left) in
     let f = ap firstBad (block-cut p i e (omega arith) (omega arith)) ∙ bad-append block (drop e p) g in
-    let v = c .before .before .before .before .before .loop .inv .1 in
+    let v = c .before .before .before .before .before .before .loop .inv .1 in
     (omega arith, omega arith)
 
 returns-2 : tie.Need-returns-2 Inv-loop μ-loop
@@ -106,8 +111,8 @@ first-bad-spec =
     sub-part
     part-part-start
     part-part-end
-    cast-loud
-    loud-requires
+    ends-of-requires
+    outside-requires
     first-of-requires
     add-result
     returns

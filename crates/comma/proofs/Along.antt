@@ -23,6 +23,7 @@ use Rattle.comma.specs.Line.{roll, right, lineLength}
 use Rattle.comma.specs.Text.{firstWrong, samplesOf}
 use Rattle.comma.specs.Survey.{AllGood, surveyed}
 use Rattle.comma.proofs.Lines.{Turn, turn, First, first-line}
+use Rattle.comma.proofs.At.{LineRead}
 use Rattle.comma.proofs.Answered.{found-wrong}
 
 -- a sample is in range if its size is
@@ -143,6 +144,17 @@ module _ {D : ℕ} {text : List ℕ} {at time count sound : ℕ} (a : Along D te
       same : (m n : ℕ) → cond (eqb m n) n m ≡ m
       same m n = by-test (eqb m n) (λ e. rw e (sym (eqb-true m n e))) (λ e. rw e)
 
+-- where all are good, the line at a place is right, and the reader comes to the next
+module _ {D : ℕ} {text : List ℕ} {at time count : ℕ} (a : Along D text at time count count) (g : AllGood D (linesOf text)) where
+  pub all-right : at < length text → right time (drop at text) ≡ true
+  all-right inside =
+      by-test (right time (drop at text))
+      (λ r. r)
+      (λ r. let w = found-wrong D (linesOf text) count (sym (stopped a inside r)) in absurd (omega (arith, w .place, w .some, g .right)))
+
+  good-on : (r : right time (drop at text) ≡ true) → D ≤ 10000 → Along D text (next D text at time r) (time + D) (count + 1) (count + 1)
+  good-on r small = rw (eq-eqb count count refl) at (on a r small true (sym (in-size a r (g .in-range))))
+
 -- the samples that are left go behind those that are put
 pub record Putting (D : ℕ) (text : List ℕ) (samples₀ samples : List ℤ) (at count : ℕ) : Type 0 where
   pub same : length samples ≡ length samples₀
@@ -151,7 +163,7 @@ pub record Putting (D : ℕ) (text : List ℕ) (samples₀ samples : List ℤ) (
 pub put-none : (D : ℕ) (text : List ℕ) (samples : List ℤ) → Putting D text samples samples 0 0
 put-none D text samples = record { same = refl; left = λ g. refl }
 
-pub put-as : {D : ℕ} {text : List ℕ} {samples₀ samples samples′ : List ℤ} {at at′ count : ℕ}
+put-as : {D : ℕ} {text : List ℕ} {samples₀ samples samples′ : List ℤ} {at at′ count : ℕ}
     → samples ≡ samples′ → at ≡ at′ → Putting D text samples₀ samples′ at′ count → Putting D text samples₀ samples at count
 put-as e f p = rw (e, f) p
 
@@ -160,7 +172,7 @@ sampled : {b b′ : Bool} {n n′ : ℕ} → b ≡ b′ → n ≡ n′ → leb n
 sampled e f h = rw (← e, ← f, h)
 
 module _ {D : ℕ} {text : List ℕ} {at time count sound : ℕ} (a : Along D text at time count sound) {samples₀ samples : List ℤ} (p : Putting D text samples₀ samples at count) where
-  pub put-on : (r : right time (drop at text) ≡ true) (b : Bool) (n : ℕ) → below (roll (drop at text)) ≡ b → size (unsigned (roll (drop at text))) ≡ n
+  put-on : (r : right time (drop at text) ≡ true) (b : Bool) (n : ℕ) → below (roll (drop at text)) ≡ b → size (unsigned (roll (drop at text))) ≡ n
       → Putting D text samples₀ (set samples count (cond (leb n largestSize) (signed b n) (pos 0))) (next D text at time r) (count + 1)
   put-on r b n sign value =
       record {
@@ -175,6 +187,13 @@ module _ {D : ℕ} {text : List ℕ} {at time count sound : ℕ} (a : Along D te
   unfolding linesOf
   put-all past g = ap (λ ls. sets samples count (samplesOf (linesOf ls))) (sym (drop-of-length-le text past)) ∙ p .left g
 
-  -- with a wrong line not all are good
-  pub put-wrong : {n : ℕ} → Wrong n ≡ surveyed D (linesOf text) → AllGood D (linesOf text) → samples ≡ sets samples₀ 0 (samplesOf (linesOf text))
-  put-wrong e g = let w = found-wrong D (linesOf text) _ (sym e) in absurd (omega (arith, w .place, w .some, g .right))
+-- where all are good, a line that was read and put
+module _ {D : ℕ} {text : List ℕ} {at time count : ℕ} (a : Along D text at time count count) {b : Bool} {n end : ℕ} (l : LineRead text at time b n end) where
+  pub filled-place : (at < end) × (end ≤ length text)
+  filled-place = rw (l .place) (step-place D text at time (l .is) (a .within))
+
+  pub filled-on : AllGood D (linesOf text) → D ≤ 10000 → {samples₀ samples samples′ : List ℤ} → Putting D text samples₀ samples at count
+      → samples′ ≡ set samples count (cond (leb n largestSize) (signed b n) (pos 0))
+      → Along D text end (time + D) (count + 1) (count + 1) × Putting D text samples₀ samples′ end (count + 1)
+  filled-on g small p stored =
+      (rw (l .place) (good-on a g (l .is) small), put-as stored (l .place) (put-on a p (l .is) b n (l .sign) (l .value)))

@@ -1,6 +1,8 @@
 pub mod Shape
 pub mod Lines
 pub mod At
+pub mod Times
+pub mod PlainLine
 pub mod Answered
 pub mod Along
 pub mod Puts

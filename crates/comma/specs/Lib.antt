@@ -1,4 +1,5 @@
 pub mod Line
+pub mod Plain
 pub mod Text
 pub mod Answers
 pub mod Survey

@@ -1,22 +1,18 @@
--- Degrees by their parts: whole degrees, a point or none, digits behind it, and what follows. From it the two forms that the reader looks for first,
--- 41.500 and 4.250 before an LF. Assumes nothing.
-use mathlib.Core.Path.{_≡_, refl, sym}
+-- Degrees by their parts: whole degrees, a point or none, digits behind it, and what follows. Assumes nothing.
+use mathlib.Core.Path.{_≡_, refl}
 use mathlib.Core.Bool.{Bool, true, false}
-use mathlib.Core.List.{List, [], _∷_, _++_}
-use Prim.Native.Nat.{ℕ, suc, _+_, _-_, _*_, _≤_, _<_}
-use native.Mathlib.Nat.{add-zero, add-assoc}
-use native.Mathlib.Numerals.{add-one}
-use native.Mathlib.Omega.{arith}
+use mathlib.Core.List.{List, _∷_, _++_}
+use Prim.Native.Nat.{ℕ, _+_, _*_, _≤_}
+use native.Mathlib.Nat.{add-zero}
 use lib.Dec.{eqb}
-use lib.ListN.{length, getD, drop}
-use lib.Seq.{drop-cons, drop-append-seam}
+use lib.ListN.{length, drop}
+use lib.Seq.{drop-append-seam}
 use borrow.Author.Tests.{le-leb}
-use Rattle.truth.proofs.Laws.{and-true}
-use Rattle.decimal.specs.Decimal.{zeroByte, isDigit, allDigits, isNumber, valueOf}
-use Rattle.decimal.specs.Leading.{leading, behind}
+use Rattle.decimal.specs.Decimal.{isDigit, allDigits, isNumber, valueOf}
+use Rattle.decimal.specs.Leading.{leading}
 use Rattle.decimal.proofs.Text.{sound}
 use Rattle.decimal.proofs.Leading.{leading-is}
-use Rattle.degrees.specs.declared.Degrees.the-variants.{Says, Bad}
+use Rattle.degrees.specs.declared.Degrees.the-variants.{Says}
 use Rattle.degrees.specs.Degrees.{point, first, isSize, sizeLength, filled, size, sizeAt}
 
 -- a text starts with degrees of so many thousandths and so many bytes
@@ -54,54 +50,3 @@ module _ (w : List ℕ) (n : isNumber w ≡ true) where
 pub sized-at : (s : List ℕ) (at : ℕ) (minus : Bool) {text : List ℕ} {n bytes : ℕ} → drop at s ≡ text → Sized text n bytes → Says minus n (at + bytes) ≡ sizeAt s at minus
 unfolding sizeAt
 sized-at s at minus e z = rw (e, z .right, z .value, z .count)
-
--- the bytes from a place on, one by one
-pub next-byte : (s : List ℕ) (at : ℕ) → at < length s → drop at s ≡ getD s at 0 ∷ drop (at + 1) s
-next-byte s at h = rw (add-one) (drop-cons s at 0 h)
-
-module _ (s : List ℕ) (at : ℕ) (h : at + 7 ≤ length s) where
-  step : (n : ℕ) → n < 7 → drop (at + n) s ≡ getD s (at + n) 0 ∷ drop (at + (n + 1)) s
-  step n l = rw (← add-assoc at n 1) (next-byte s (at + n) (omega arith))
-
-  pub seven : drop at s
-      ≡ getD s at 0 ∷ getD s (at + 1) 0 ∷ getD s (at + 2) 0 ∷ getD s (at + 3) 0 ∷ getD s (at + 4) 0 ∷ getD s (at + 5) 0 ∷ getD s (at + 6) 0 ∷ drop (at + 7) s
-  seven = rw (next-byte s at (omega arith), step 1 (omega arith), step 2 (omega arith), step 3 (omega arith), step 4 (omega arith), step 5 (omega arith), step 6 (omega arith))
-
-module _ (a b c d : ℕ) (rest : List ℕ) (ds : allDigits (a ∷ b ∷ c ∷ d ∷ []) ≡ true) where
-  -- each of the four
-  pub four : (isDigit a ≡ true) × (isDigit b ≡ true) × (isDigit c ≡ true) × (isDigit d ≡ true)
-  unfolding allDigits
-  four =
-      let (one, rest₁) = and-true (isDigit a) (allDigits (b ∷ c ∷ d ∷ [])) ds in
-      let (two, rest₂) = and-true (isDigit b) (allDigits (c ∷ d ∷ [])) rest₁ in
-      let (three, rest₃) = and-true (isDigit c) (allDigits (d ∷ [])) rest₂ in
-      (one, two, three, and-true (isDigit d) true rest₃ .0)
-
-  last-three : allDigits (b ∷ c ∷ d ∷ []) ≡ true
-  unfolding allDigits
-  last-three = and-true (isDigit a) (allDigits (b ∷ c ∷ d ∷ [])) ds .1
-
-  one-number : isNumber (a ∷ []) ≡ true
-  unfolding isNumber allDigits
-  one-number = rw (four .0)
-
-  short-sum : valueOf (a ∷ b ∷ c ∷ d ∷ []) ≡ valueOf (a ∷ []) * 1000 + valueOf (filled (b ∷ c ∷ d ∷ []))
-  unfolding valueOf filled
-  short-sum = omega arith
-
-  -- 4.250
-  pub short-form : Sized (a ∷ point ∷ b ∷ c ∷ d ∷ 10 ∷ rest) (valueOf (a ∷ b ∷ c ∷ d ∷ [])) 5
-  short-form = rw short-sum (with-point (a ∷ []) one-number (b ∷ c ∷ d ∷ []) (10 ∷ rest) last-three (omega arith) (omega arith) refl)
-
-  module _ (t : ℕ) (digit : isDigit t ≡ true) (some : eqb t zeroByte ≡ false) where
-    two-number : isNumber (t ∷ a ∷ []) ≡ true
-    unfolding isNumber allDigits
-    two-number = rw (digit, four .0, some)
-
-    long-sum : (t - zeroByte) * 10000 + valueOf (a ∷ b ∷ c ∷ d ∷ []) ≡ valueOf (t ∷ a ∷ []) * 1000 + valueOf (filled (b ∷ c ∷ d ∷ []))
-    unfolding valueOf filled
-    long-sum = omega arith
-
-    -- 41.500
-    pub long-form : Sized (t ∷ a ∷ point ∷ b ∷ c ∷ d ∷ 10 ∷ rest) ((t - zeroByte) * 10000 + valueOf (a ∷ b ∷ c ∷ d ∷ [])) 6
-    long-form = rw long-sum (with-point (t ∷ a ∷ []) two-number (b ∷ c ∷ d ∷ []) (10 ∷ rest) last-three (omega arith) (omega arith) refl)

@@ -1,11 +1,12 @@
 -- Laws of a sample's sign and of its text. Assumes nothing.
-use mathlib.Core.Path.{_≡_, refl, sym, ap}
-use mathlib.Core.Bool.{Bool, true, false}
+use mathlib.Core.Path.{_≡_, refl, sym, ap, _∙_}
+use mathlib.Core.Bool.{Bool, true, false, cond, not}
 use mathlib.Core.List.{List, [], _∷_}
 use Prim.Native.Nat.{ℕ, zero, suc, _+_, _/_, _≤_}
 use native.Mathlib.Nat.{add-assoc}
 use native.Mathlib.Omega.{arith}
-use borrow.Author.Tests.{ltb-true, lt-ltb, le-ltb}
+use borrow.Author.Tests.{ltb-true, lt-ltb, le-ltb, eq-eqb, ne-eqb}
+use lib.Dec.{eqb}
 use lib.IntN.{ℤ, pos, negsuc, negℤ, natAbs, _-ℤ_}
 use lib.ListN.{length, drop, length-append}
 use lib.Seq.{drop-drop}
@@ -44,10 +45,20 @@ pub abs-small : (x : ℤ) → SFits w32 x → natAbs x ≤ 2147483648
 abs-small (pos n) f = omega arith
 abs-small (negsuc n) f = omega arith
 
+-- whether there is a minus is told by the place behind it
+sign-told : (b : Bool) (at : ℕ) → not (eqb (at + cond b 1 0) at) ≡ b
+sign-told true at = rw (ne-eqb (at + 1) at (λ e. omega arith))
+sign-told false at = rw (eq-eqb (at + 0) at (omega arith))
+
 -- degrees are read behind their sign
-pub by-size : (s : List ℕ) (at : ℕ) → degreesAt s at ≡ sizeAt s (at + signLength (drop at s)) (below (drop at s))
+by-size : (s : List ℕ) (at : ℕ) → degreesAt s at ≡ sizeAt s (at + signLength (drop at s)) (below (drop at s))
 unfolding degreesAt sizeAt
 by-size s at = simp (drop-drop, add-assoc)
+
+pub behind-sign : (s : List ℕ) (at from : ℕ) → from ≡ at + signLength (drop at s) → sizeAt s from (not (eqb from at)) ≡ degreesAt s at
+behind-sign s at from e =
+    let b = below (drop at s) in
+    ap (λ f. sizeAt s f (not (eqb f at))) e ∙ ap (sizeAt s (at + cond b 1 0)) (sign-told b at) ∙ sym (by-size s at)
 
 -- what an answer of the reader says
 pub record ReadsAs (s : List ℕ) (at : ℕ) (b : Bool) (n next : ℕ) : Type 0 where

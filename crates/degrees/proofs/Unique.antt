@@ -2,16 +2,19 @@
 use mathlib.Core.Path.{_≡_}
 use mathlib.Core.Bool.{Bool, cond}
 use mathlib.Core.List.{List}
-use Prim.Native.Nat.{ℕ}
+use Prim.Native.Nat.{ℕ, _+_}
 use lib.Dec.{leb}
 use lib.IntN.{ℤ, pos}
-use lib.ListN.{length}
+use lib.ListN.{length, drop}
 use Rattle.text.specs.Write.{written, placeAfter}
 use Rattle.degrees.specs.declared.Degrees.{Degrees}
-use Rattle.degrees.specs.Degrees.{degreesAt, degreesText, signed, largestSize}
+use Rattle.degrees.specs.Degrees.{signLength, degreesAt, degreesText, signed, largestSize}
 
 pub degrees-at-unique : (s : List ℕ) (at : ℕ) (r q : Degrees) → r ≡ degreesAt s at → q ≡ degreesAt s at → r ≡ q
 degrees-at-unique s at r q e f = cc
+
+pub past-minus-unique : (s : List ℕ) (at r q : ℕ) → r ≡ at + signLength (drop at s) → q ≡ at + signLength (drop at s) → r ≡ q
+past-minus-unique s at r q e f = cc
 
 pub degrees-length-unique : (x : ℤ) (r q : ℕ) → r ≡ length (degreesText x) → q ≡ length (degreesText x) → r ≡ q
 degrees-length-unique x r q e f = cc

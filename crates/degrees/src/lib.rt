@@ -1,24 +1,19 @@
 // Degrees in text, by document 02 [1]: a minus or none, whole degrees as a number of the sheet, and a point with one to three digits or none. A sample is
-// in thousandths of a degree. The commonest forms, 4.250 and 41.500 before an LF, are looked for first and need no loop.
+// in thousandths of a degree.
 ghost use mathlib.Core.Path.{_≡_};
-ghost use mathlib.Core.Bool.{true, cond};
-ghost use mathlib.Core.List.{[], _∷_};
-ghost use Prim.Native.Nat.{_+_, _-_, _*_, _≤_, _<_};
-ghost use lib.ListN.{length, getD};
+ghost use mathlib.Core.Bool.{cond};
+ghost use mathlib.Core.List.{_∷_};
+ghost use Prim.Native.Nat.{_+_, _*_, _≤_, _<_};
+ghost use lib.ListN.{length, drop};
 ghost use lib.Dec.{eqb, leb};
 ghost use lib.IntN.{pos};
-ghost use Rattle.decimal.specs.Decimal.{zeroByte, isDigit, allDigits, valueOf};
-ghost use Rattle.degrees.specs.Degrees.{point, degreesAt, sizeAt, sign, signed, threeDigits, degreesText, longestDegrees, largestSize};
+ghost use Rattle.degrees.specs.Degrees.{point, signLength, degreesAt, sizeAt, sign, signed, threeDigits, degreesText, longestDegrees, largestSize};
 ghost use Rattle.text.specs.Write.{written, placeAfter};
 use decimal::Lead;
-
-const ZERO: u8 = 48;
 
 const MINUS: u8 = 45;
 
 const POINT: u8 = 46;
-
-const LF: u8 = 10;
 
 // What degrees in text say.
 pub enum Degrees {
@@ -31,112 +26,22 @@ pub enum Degrees {
 pub fn degrees_at(s: &[u8], at: usize) -> Degrees
     ensures { λ r. ⌜ r ≡ degreesAt (now (s .entry)) at ⌝ }
 {
-    let minus = decimal::stands(s, at, MINUS);
-    size_at(s, past_sign(at, minus), minus)
+    let from = past_minus(s, at);
+    size_at(s, from, from != at)
 }
 
-// The place behind the sign. One call of `size_at` for both signs lets the compiler draw it into a reader's loop.
-fn past_sign(at: usize, minus: bool) -> usize
-    requires { ⌜ (minus ≡ true → at < 18446744073709551615) ⌝ }
-    ensures { λ r. ⌜ r ≡ at + cond minus 1 0 ⌝ }
+// The place behind the minus that may stand at `at`.
+pub fn past_minus(s: &[u8], at: usize) -> usize
+    ensures { λ r. ⌜ r ≡ at + signLength (drop at (now (s .entry))) ⌝ }
 {
-    if minus { at + 1 } else { at }
+    if decimal::stands(s, at, MINUS) {
+        return at + 1;
+    }
+    at
 }
 
 // Reads degrees without a sign, `minus` being the sign that stood before them.
 fn size_at(s: &[u8], at: usize, minus: bool) -> Degrees
-    ensures { λ r. ⌜ r ≡ sizeAt (now (s .entry)) at minus ⌝ }
-{
-    if !text::has_room(s.len(), at, 7) {
-        return any_at(s, at, minus);
-    }
-    if s[at + 2] == POINT {
-        return long_at(s, at, minus);
-    }
-    if s[at + 1] == POINT {
-        return short_at(s, at, minus);
-    }
-    any_at(s, at, minus)
-}
-
-// 41.500 before an LF, or any form.
-fn long_at(s: &[u8], at: usize, minus: bool) -> Degrees
-    requires { ⌜ at + 7 ≤ length (now s) ⌝ }
-    requires { ⌜ getD (now s) (at + 2) 0 ≡ point ⌝ }
-    ensures { λ r. ⌜ r ≡ sizeAt (now (s .entry)) at minus ⌝ }
-{
-    let tens = s[at];
-    let ones = s[at + 1];
-    let tenths = s[at + 3];
-    let hundredths = s[at + 4];
-    let thousandths = s[at + 5];
-    if !truth::both(
-        truth::both(decimal::is_digit(tens), tens != ZERO),
-        truth::both(
-            four_digits(ones, tenths, hundredths, thousandths),
-            s[at + 6] == LF,
-        ),
-    ) {
-        return any_at(s, at, minus);
-    }
-    let rest = four_value(ones, tenths, hundredths, thousandths);
-    Degrees::Says(minus, digit_value(tens) * 10000 + rest, at + 6)
-}
-
-// 4.250 before an LF, or any form.
-fn short_at(s: &[u8], at: usize, minus: bool) -> Degrees
-    requires { ⌜ at + 7 ≤ length (now s) ⌝ }
-    requires { ⌜ getD (now s) (at + 1) 0 ≡ point ⌝ }
-    ensures { λ r. ⌜ r ≡ sizeAt (now (s .entry)) at minus ⌝ }
-{
-    let ones = s[at];
-    let tenths = s[at + 2];
-    let hundredths = s[at + 3];
-    let thousandths = s[at + 4];
-    if !truth::both(
-        four_digits(ones, tenths, hundredths, thousandths),
-        s[at + 5] == LF,
-    ) {
-        return any_at(s, at, minus);
-    }
-    Degrees::Says(
-        minus,
-        four_value(ones, tenths, hundredths, thousandths),
-        at + 5,
-    )
-}
-
-fn four_digits(a: u8, b: u8, c: u8, d: u8) -> bool
-    ensures { λ r. ⌜ r ≡ allDigits (a ∷ b ∷ c ∷ d ∷ []) ⌝ }
-{
-    truth::both(
-        decimal::is_digit(a),
-        truth::both(
-            decimal::is_digit(b),
-            truth::both(
-                decimal::is_digit(c),
-                truth::both(decimal::is_digit(d), true),
-            ),
-        ),
-    )
-}
-
-fn digit_value(b: u8) -> u64
-    requires { ⌜ isDigit b ≡ true ⌝ }
-    ensures { λ r. ⌜ (r ≡ b - zeroByte) × (r < 10) ⌝ }
-{
-    (b - ZERO) as u64
-}
-
-fn four_value(a: u8, b: u8, c: u8, d: u8) -> u64
-    requires { ⌜ allDigits (a ∷ b ∷ c ∷ d ∷ []) ≡ true ⌝ }
-    ensures { λ r. ⌜ (r ≡ valueOf (a ∷ b ∷ c ∷ d ∷ [])) × (r < 10000) ⌝ }
-{
-    digit_value(a) * 1000 + digit_value(b) * 100 + digit_value(c) * 10 + digit_value(d)
-}
-
-// Degrees of any form.
-fn any_at(s: &[u8], at: usize, minus: bool) -> Degrees
     ensures { λ r. ⌜ r ≡ sizeAt (now (s .entry)) at minus ⌝ }
 {
     let Lead::Number(whole, end) = decimal::leading_at(s, at) else {

@@ -59,7 +59,7 @@ module _ (c : tie.After-known-told2) where
   Next = c .before .minus .given .0 .1 .1 .0
 
   reads : ReadsAs (S told) (End told + 1) Minus Size Next
-  reads = degrees-read (S told) (End told + 1) Minus Size Next (sym (c .before .before .before .degrees-at .ensures) ∙ c .before .minus .given .1)
+  reads = degrees-read (S told) (End told + 1) Minus Size Next (sym (c .before .before .before .roll-at .ensures) ∙ c .before .minus .given .1)
 
 feed : (c : tie.After-stands2) → let d = c .before in c .stands2 .result ≡ eqb (getD (S (told d)) (Next d) 0) lineFeed
 feed c = let d = c .before in c .stands2 .ensures ∙ stands-byte (S (told d)) (Next d) lineFeed (omega arith)
@@ -87,11 +87,11 @@ stands-requires c κs = search needs
 returns-3 : tie.Need-returns-3
 returns-3 c = let d = c .before .before .before in sym (no-comma (S d) (At d) (Time d) (Found d) (End d) (leads d) (said-no (mark (c .before)) (c .if2 .taken)))
 
-add-degrees-at : tie.Need-add-degrees-at
-add-degrees-at c = let d = c .before .before .before in omega (arith, stands-inside (S d) (End d) comma (omega arith) (said-yes (mark (c .before)) (c .if2 .left)))
+add-roll-at : tie.Need-add-roll-at
+add-roll-at c = let d = c .before .before .before in omega (arith, stands-inside (S d) (End d) comma (omega arith) (said-yes (mark (c .before)) (c .if2 .left)))
 
-degrees-at-requires : tie.Need-degrees-at-requires
-degrees-at-requires c κs = search needs
+roll-at-requires : tie.Need-roll-at-requires
+roll-at-requires c κs = search needs
 
 enum-known-minus : tie.Need-enum-known-minus
 enum-known-minus c = search needs
@@ -103,7 +103,7 @@ returns-4 : tie.Need-returns-4
 returns-4 c =
     let e = c .before .before .before in
     let d = e .before .before .before in
-    sym (no-degrees (S d) (At d) (Time d) (Found d) (End d) (leads d) (degrees-none (S d) (End d + 1) (sym (c .before .before .degrees-at .ensures) ∙ c .enum-told2 .given .1)))
+    sym (no-degrees (S d) (At d) (Time d) (Found d) (End d) (leads d) (degrees-none (S d) (End d + 1) (sym (c .before .before .roll-at .ensures) ∙ c .enum-told2 .given .1)))
 
 stands-requires-2 : tie.Need-stands-requires-2
 stands-requires-2 c κs = search needs
@@ -137,8 +137,8 @@ line-at-spec =
     returns-2
     stands-requires
     returns-3
-    add-degrees-at
-    degrees-at-requires
+    add-roll-at
+    roll-at-requires
     enum-known-minus
     enum-told-2
     returns-4

@@ -1,71 +1,162 @@
--- `degrees::size_at` meets its contract: each way to read meets it, and the forms have the room that they ask for. Assumes nothing.
+-- `degrees::size_at` meets its contract: the number, the byte behind it and the digits behind a point decide, each return by its law of `Sizes`. Assumes
+-- nothing.
 use mathlib.Core.Path.{_≡_, sym, _∙_}
-use Prim.Native.Nat.{_+_, _≤_}
+use mathlib.Core.Bool.{Bool, true, cond}
+use mathlib.Core.List.{List}
+use Prim.Native.Nat.{ℕ, _+_, _-_, _*_, _<_, _≤_}
+use native.Mathlib.Nat.{lt-of-lt-of-le, pow-le-pow-right}
 use native.Mathlib.Omega.{arith}
 use borrow.Author.Needs.{needs}
-use borrow.Author.Tests.{leb-true}
-use lib.ListN.{length}
+use lib.Dec.{eqb}
+use lib.ListN.{length, getD, drop}
 use denote.Ref.{now}
-use Rattle.truth.proofs.Laws.{said-yes}
+use Rattle.truth.proofs.Cases.{by-test}
+use Rattle.truth.proofs.Laws.{said-no, said-yes}
+use Rattle.decimal.specs.Decimal.{longest, leadingDigits}
+use Rattle.decimal.proofs.Text.{value-below}
+use Rattle.decimal.proofs.Reading.{leading-all}
+use Rattle.decimal.proofs.Leading.{LeadsTo, leads-number, leads-none, stands-byte}
+use Rattle.degrees.specs.Degrees.{point}
+use Rattle.degrees.proofs.Sizes.{size-bad, size-plain, size-none, size-many, size-some}
 use Rattle.degrees.proofs.size_at.Statement.{statement}
 use Rattle.degrees.proofs.size_at.Tie as tie
 
-room : (c : tie.Else1) → c .before .before .before .args .at + 7 ≤ length (now (c .before .before .before .args .s))
-room c = let a = c .before .before .before .args in leb-true (a .at + 7) (length (now (a .s))) (said-yes (c .before .has-room .ensures) (c .if1 .left))
+-- filled up with zeros, three digits are below 100,000
+cond-below : (n v : ℕ) → v < 1000 → cond (eqb n 1) (v * 100) (cond (eqb n 2) (v * 10) v) < 100000
+cond-below n v h = by-test (eqb n 1) (λ e. rw e (omega arith)) (λ e. rw e (by-test (eqb n 2) (λ f. rw f (omega arith)) (λ f. rw f (omega arith))))
 
-has-room-requires : tie.Need-has-room-requires
-has-room-requires c κs = search needs
+-- the number that stands at the place
+module _ (c : tie.After-known-told) where
+  abbrev start : tie.Start
+  start = c .before .before .before .before .before
 
-any-at-requires : tie.Need-any-at-requires
-any-at-requires c κs = search needs
+  abbrev S : List ℕ
+  S = now (start .args .s)
+
+  abbrev At : ℕ
+  At = start .args .at
+
+  abbrev Minus : Bool
+  Minus = start .args .minus
+
+  abbrev Whole : ℕ
+  Whole = c .before .whole .given .0 .0
+
+  abbrev End : ℕ
+  End = c .before .whole .given .0 .1 .0
+
+  leads : LeadsTo S At Whole End
+  leads = leads-number S At Whole End (sym (c .before .before .before .leading-at .ensures) ∙ c .before .whole .given .1)
+
+-- the digits behind a point
+module _ (c : tie.After-run-at) where
+  abbrev told : tie.After-known-told
+  told = c .before .before .before
+
+  abbrev Run : List ℕ
+  Run = leadingDigits longest (drop (End told + 1) (S told))
+
+  pointed : eqb (getD (S told) (End told) 0) point ≡ true
+  pointed = sym (stands-byte (S told) (End told) point (omega arith)) ∙ said-yes (c .before .before .stands .ensures) (c .before .if1 .left)
+
+leading-at-requires : tie.Need-leading-at-requires
+leading-at-requires c κs = search needs
+
+enum-known-whole : tie.Need-enum-known-whole
+enum-known-whole c = search needs
+
+enum-told : tie.Need-enum-told
+enum-told c = search needs
 
 returns : tie.Need-returns
-returns c = search needs
+returns c =
+    let a = c .before .before .before .before .args in
+    sym (size-bad (now (a .s)) (a .at) (a .minus) (leads-none (now (a .s)) (a .at) (sym (c .before .before .leading-at .ensures) ∙ c .enum-told .given .1)))
 
-add-if2 : tie.Need-add-if2
-add-if2 c = omega (arith, room c)
+stands-requires : tie.Need-stands-requires
+stands-requires c κs = search needs
 
-shared-slice-read-if2 : tie.Need-shared-slice-read-if2
-shared-slice-read-if2 c = omega (arith, room (c .before))
-
-long-at-requires : tie.Need-long-at-requires
-long-at-requires c κs = (room (c .before .before), c .if2 .taken)
+mul-t11 : tie.Need-mul-t11
+mul-t11 c = omega (arith, leads (c .before .before) .small)
 
 returns-2 : tie.Need-returns-2
-returns-2 c = search needs
+returns-2 c =
+    let d = c .before .before in
+    sym (size-plain (S d) (At d) (Minus d) (Whole d) (End d) (leads d) (sym (stands-byte (S d) (End d) point (omega arith)) ∙ said-no (c .before .stands .ensures) (c .if1 .taken)))
 
-add-if3 : tie.Need-add-if3
-add-if3 c = omega (arith, room (c .before .before))
+add-run-at : tie.Need-add-run-at
+add-run-at c = omega (arith, leads (c .before .before) .within)
 
-shared-slice-read-if3 : tie.Need-shared-slice-read-if3
-shared-slice-read-if3 c = omega (arith, room (c .before .before .before))
+run-at-requires : tie.Need-run-at-requires
+run-at-requires c κs = search needs
 
-short-at-requires : tie.Need-short-at-requires
-short-at-requires c κs = (room (c .before .before .before .before), c .if3 .taken)
+add-count : tie.Need-add-count
+add-count c = omega (arith, leads (told c) .within)
+
+sub-count : tie.Need-sub-count
+sub-count c = omega (arith, c .before .run-at .ensures .1)
 
 returns-3 : tie.Need-returns-3
-returns-3 c = search needs
-
-any-at-requires-2 : tie.Need-any-at-requires-2
-any-at-requires-2 c κs = search needs
+returns-3 c =
+    let r = c .before .before in
+    let d = told r in
+    sym (size-none (S d) (At d) (Minus d) (Whole d) (End d) (leads d) (pointed r) (omega (arith, r .run-at .ensures .1, c .if2 .taken)))
 
 returns-4 : tie.Need-returns-4
-returns-4 c = search needs
+returns-4 c =
+    let r = c .before .before .before in
+    let d = told r in
+    sym (size-many (S d) (At d) (Minus d) (Whole d) (End d) (leads d) (pointed r) (omega (arith, r .run-at .ensures .1, c .if3 .taken)))
+
+few : (c : tie.Else3) → length (Run (c .before .before .before)) ≤ 3
+few c = omega (arith, c .before .before .before .run-at .ensures .1, c .if3 .left)
+
+small : (c : tie.Else3) → c .before .before .before .run-at .result .value < 1000
+small c =
+    let r = c .before .before .before in
+    rw (r .run-at .ensures .0)
+    (lt-of-lt-of-le (value-below (Run r) (leading-all longest (drop (End (told r) + 1) (S (told r))))) (pow-le-pow-right {n = 10} (omega arith) {j = 3} (few c)))
+
+mul-t13 : tie.Need-mul-t13
+mul-t13 c = omega (arith, leads (told (c .before .before .before)) .small)
+
+filled-requires : tie.Need-filled-requires
+filled-requires c κs = small c
+
+add-t15 : tie.Need-add-t15
+add-t15 c =
+    let d = told (c .before .before .before .before) in
+    omega (arith, leads d .small, c .filled .ensures, cond-below (c .before .before .before .before .run-at .result .end - (End d + 1)) (c .before .before .before .before .run-at .result .value) (small (c .before)))
+
+returns-5 : tie.Need-returns-5
+returns-5 c =
+    let r = c .before .before .before .before in
+    let d = told r in
+    let some : 1 ≤ length (Run r) = omega (arith, r .run-at .ensures .1, c .before .before .if2 .left) in
+    let count : r .run-at .result .end - (End d + 1) ≡ length (Run r) = omega (arith, r .run-at .ensures .1) in
+    let value = r .run-at .ensures .0 in
+    let end = r .run-at .ensures .1 in
+    let worth = c .filled .ensures in
+    rw (size-some (S d) (At d) (Minus d) (Whole d) (End d) (leads d) (pointed r) some (few (c .before))) (cc)
 
 pub size-at-spec : {M : Type 1} → statement M
 size-at-spec =
     tie.close
     (tie.spec
-    has-room-requires
-    any-at-requires
+    leading-at-requires
+    enum-known-whole
+    enum-told
     returns
-    add-if2
-    shared-slice-read-if2
-    long-at-requires
+    stands-requires
+    mul-t11
     returns-2
-    add-if3
-    shared-slice-read-if3
-    short-at-requires
+    add-run-at
+    run-at-requires
+    add-count
+    sub-count
     returns-3
-    any-at-requires-2
-    returns-4)
+    returns-4
+    mul-t13
+    filled-requires
+    add-t15
+    returns-5)

@@ -1,8 +1,8 @@
--- `degrees::four_digits` meets its contract: the tests one by one. Assumes nothing.
+-- `plain::four_digits` meets its contract: the tests one by one. Assumes nothing.
 use Rattle.decimal.specs.Decimal.{allDigits}
 use borrow.Author.Needs.{needs}
-use Rattle.degrees.proofs.four_digits.Statement.{statement}
-use Rattle.degrees.proofs.four_digits.Tie as tie
+use Rattle.plain.proofs.four_digits.Statement.{statement}
+use Rattle.plain.proofs.four_digits.Tie as tie
 
 is-digit-requires : tie.Need-is-digit-requires
 is-digit-requires c κs = search needs

@@ -1,13 +1,13 @@
--- `degrees::four_value` meets its contract: the digits by their places. Assumes nothing.
+-- `comma::four_value` meets its contract: the digits by their places. Assumes nothing.
 use mathlib.Core.Path.{_≡_}
 use mathlib.Core.Bool.{true}
 use mathlib.Core.List.{[]}
 use native.Mathlib.Omega.{arith}
 use Rattle.decimal.specs.Decimal.{isDigit, valueOf}
-use Rattle.degrees.proofs.Forms.{four}
+use Rattle.plain.proofs.Plain.{four}
 use borrow.Author.Needs.{needs}
-use Rattle.degrees.proofs.four_value.Statement.{statement}
-use Rattle.degrees.proofs.four_value.Tie as tie
+use Rattle.comma.proofs.four_value.Statement.{statement}
+use Rattle.comma.proofs.four_value.Tie as tie
 
 digits : (c : tie.Start) → let a = c .args in (isDigit (a .a) ≡ true) × (isDigit (a .b) ≡ true) × (isDigit (a .c) ≡ true) × (isDigit (a .d) ≡ true)
 digits c = four (c .args .a) (c .args .b) (c .args .c) (c .args .d) [] (c .pre)

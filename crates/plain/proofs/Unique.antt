@@ -1,0 +1,8 @@
+-- Two answers that a promise allows are the same answer. Assumes nothing.
+use mathlib.Core.Path.{_≡_}
+use mathlib.Core.List.{List}
+use Prim.Native.Nat.{ℕ}
+use Rattle.plain.specs.Plain.{plainBytes}
+
+pub plain-bytes-unique : (s : List ℕ) (at r q : ℕ) → r ≡ plainBytes s at → q ≡ plainBytes s at → r ≡ q
+plain-bytes-unique s at r q e f = cc

@@ -6,14 +6,9 @@ use Prim.Native.Nat.{ℕ, _+_, _%_}
 use lib.ListN.{length, drop}
 use Rattle.text.specs.Write.{written, placeAfter}
 use Rattle.decimal.specs.Decimal.{zeroByte, isDigit, longest, leadingDigits, valueOf, digitsOf}
-use Rattle.decimal.specs.Field.{fieldAt}
 use Rattle.decimal.specs.Leading.{standsAt, leadingAt}
-use Rattle.decimal.specs.declared.Field.{Field}
 use Rattle.decimal.specs.declared.Lead.{Lead}
 use Rattle.decimal.specs.declared.Run.{Run}
-
-pub number-at-unique : (s : List ℕ) (at : ℕ) (r q : Field) → r ≡ fieldAt s at → q ≡ fieldAt s at → r ≡ q
-number-at-unique s at r q e f = cc
 
 pub is-digit-unique : (b : ℕ) (r q : Bool) → r ≡ isDigit b → q ≡ isDigit b → r ≡ q
 is-digit-unique b r q e f = cc

@@ -27,7 +27,7 @@ use Rattle.reading.specs.Reading.{counted, tooFew}
 use Rattle.listing.specs.declared.Listed.the-variants as listing
 use Rattle.listing.specs.Answers.{ListsTo, listed, written}
 use Rattle.record.specs.State.{sound, stateOf, tooShort}
-use Rattle.feeding.specs.Step.{stepped}
+use Rattle.steps.specs.Step.{stepped}
 use Rattle.result.specs.declared.Ended.the-variants as ended
 use Rattle.result.specs.declared.Outcome.{Outcome}
 use Rattle.result.specs.declared.Result.{Result}

@@ -1,7 +1,7 @@
 -- The answers, one law for each: what is answered, and what the slices hold then. Assumes nothing.
 use Prim.Native.Nat.{ℕ, _≤_, _<_}
 use mathlib.Core.Path.{_≡_, refl, _∙_}
-use mathlib.Core.Bool.{Bool, true, false, cond, not}
+use mathlib.Core.Bool.{Bool, true, false, cond, not, _||_, true≢false}
 use mathlib.Core.List.{List, map}
 use native.Mathlib.Nat.{zero-add}
 use native.Mathlib.Omega.{arith}
@@ -9,7 +9,7 @@ use lib.ListN.{length, length-map}
 use lib.Seq.{sets, sets-eq}
 use lib.Dec.{eqb, ltb}
 use lib.IntN.{ℤ}
-use borrow.Author.Tests.{eq-eqb, lt-ltb, le-ltb}
+use borrow.Author.Tests.{eq-eqb, lt-ltb, le-ltb, ltb-false}
 use Rattle.refusal.specs.declared.Refusal.{Refusal}
 use Rattle.refusal.specs.declared.Refusal.the-variants.{Item, Sample, TooLong, TooShort, Room}
 use Rattle.limits.specs.Limits.{mostSamples}
@@ -21,7 +21,7 @@ use Rattle.whole.proofs.Judged.{Fitting}
 use Rattle.chains.specs.declared.Peak.{Peak}
 use Rattle.chains.specs.Groups.{tops}
 use Rattle.runs.specs.Runs.{peaks}
-use Rattle.stretch.specs.Peaks.{sum, kept, close, handed}
+use Rattle.stretch.specs.Peaks.{sum, kept, close, handed, short}
 use Rattle.envelope.specs.declared.Found.{Found}
 use Rattle.envelope.specs.declared.Found.the-variants.{Peaks, Refused}
 use Rattle.envelope.specs.Step.{chosen}
@@ -33,24 +33,25 @@ unfolding chosen
 chosen-kept n s D τ xs p q = rw (p, q)
 
 -- ---- peaks handed out
+neither : (a b : Bool) → (a || b) ≡ false → (a ≡ false) × (b ≡ false)
+neither true b e = absurd (true≢false e)
+neither false b e = (refl, e)
+
 module _ (l : List Peak) (sizes times : List ℕ) where
-  pub no-sizes : length sizes < length l → HandsOut l sizes times (Refused (Room (length l))) sizes times
+  pub no-room : short (length sizes) (length times) (length l) ≡ true → HandsOut l sizes times (Refused (Room (length l))) sizes times
   unfolding placed written
-  no-sizes h = record { answers = rw (lt-ltb _ _ h); sizes-left = refl; times-left = refl }
+  no-room e = record { answers = rw e; sizes-left = refl; times-left = refl }
 
-  module _ (h : length l ≤ length sizes) where
-    pub no-times : length times < length l → HandsOut l sizes times (Refused (Room (length l))) sizes times
-    unfolding placed written
-    no-times k = record { answers = rw (le-ltb _ _ h, lt-ltb _ _ k); sizes-left = refl; times-left = refl }
+  -- the figures, put from a slice's start on
+  put : (f : Peak → ℕ) (slice : List ℕ) → length l ≤ length slice → sets slice 0 (map f l) ≡ written (Peaks (length l)) (map f l) slice
+  unfolding written
+  put f slice k = let m = length-map l f in sets-eq (map f l) slice 0 (omega arith) ∙ rw (zero-add, m)
 
-    -- the figures, put from a slice's start on
-    put : (f : Peak → ℕ) (slice : List ℕ) → length l ≤ length slice → sets slice 0 (map f l) ≡ written (Peaks (length l)) (map f l) slice
-    unfolding written
-    put f slice k = let m = length-map l f in sets-eq (map f l) slice 0 (omega arith) ∙ rw (zero-add, m)
-
-    pub all-placed : length l ≤ length times → HandsOut l sizes times (Peaks (length l)) (sets sizes 0 (map sizeOf l)) (sets times 0 (map momentOf l))
-    unfolding placed
-    all-placed k = record { answers = rw (le-ltb _ _ h, le-ltb _ _ k); sizes-left = put sizeOf sizes h; times-left = put momentOf times k }
+  pub all-placed : short (length sizes) (length times) (length l) ≡ false → HandsOut l sizes times (Peaks (length l)) (sets sizes 0 (map sizeOf l)) (sets times 0 (map momentOf l))
+  unfolding placed
+  all-placed e =
+      let o = neither (ltb (length sizes) (length l)) (ltb (length times) (length l)) e in
+      record { answers = rw e; sizes-left = put sizeOf sizes (ltb-false _ _ (o .0)); times-left = put momentOf times (ltb-false _ _ (o .1)) }
 
 -- ---- the whole call
 module _ (D R τ : ℕ) (xs : List ℤ) (sizes times : List ℕ) where

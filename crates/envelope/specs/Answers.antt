@@ -1,7 +1,7 @@
 -- Document 02 [11], what the call answers: its refusals, in listing's order, and what it leaves in the two slices. Assumes nothing.
 use Prim.Native.Nat.{ℕ}
 use mathlib.Core.Path.{_≡_}
-use mathlib.Core.Bool.{cond, not, _||_}
+use mathlib.Core.Bool.{cond, not}
 use mathlib.Core.List.{List, _++_, map}
 use lib.ListN.{length, drop}
 use lib.Dec.{ltb, eqb}
@@ -11,7 +11,7 @@ use Rattle.limits.specs.Limits.{itemOutside, mostSamples}
 use Rattle.range.specs.Range.{firstBad}
 use Rattle.reading.specs.Reading.{tooFew}
 use Rattle.chains.specs.declared.Peak.{Peak}
-use Rattle.stretch.specs.Peaks.{handed}
+use Rattle.stretch.specs.Peaks.{handed, short}
 use Rattle.envelope.specs.declared.Found.{Found}
 use Rattle.envelope.specs.declared.Found.the-variants.{Peaks, Refused}
 
@@ -28,7 +28,7 @@ itemAsked D R τ = itemOutside D R 1 τ
 
 -- k peaks into slices of so many places: 7 if either is too short, with the number needed
 unfoldable pub placed : ℕ → ℕ → ℕ → Found
-placed sizes times k = cond (ltb sizes k || ltb times k) (Refused (Room k)) (Peaks k)
+placed sizes times k = cond (short sizes times k) (Refused (Room k)) (Peaks k)
 
 -- 1, 2, 3, 4 as in listing, then 7
 unfoldable pub found : ℕ → ℕ → ℕ → List ℤ → ℕ → ℕ → Found

@@ -7,8 +7,8 @@ ghost use Prim.Native.Nat.{ℕ, _+_, _*_, _/_, _<_, _≤_};
 ghost use lib.ListN.{set, length};
 ghost use lib.Seq.{sets};
 ghost use Rattle.chains.specs.Machine.{empty, turned, gave};
-ghost use Rattle.runs.specs.Runs.{same, peaks, peakAt};
-ghost use Rattle.stretch.specs.Peaks.{sum, high, alike, kept, close};
+ghost use Rattle.runs.specs.Runs.{peaks, peakAt};
+ghost use Rattle.stretch.specs.Peaks.{sum, kept, close};
 ghost use Rattle.chains.specs.Groups.{tops};
 ghost use Rattle.envelope.specs.Step.{met, chainsAfter, stepped, fresh, Fits, chosen, added, noting};
 ghost use Rattle.envelope.specs.Answers.{sizeOf, momentOf, HandsOut, FindsTo};
@@ -31,14 +31,8 @@ struct Envelope {
 
 // How many peaks there are, and their sum.
 struct Totals {
-    number: u64,
+    number: u32,
     sum: u64,
-}
-
-fn same(a: bool, b: bool) -> bool
-    ensures { λ r. ⌜ r ≡ same a b ⌝ }
-{
-    if a { b } else { !b }
 }
 
 fn empty() -> Group
@@ -83,56 +77,31 @@ fn gave(g: Group, h: Group) -> bool
     truth::both(1 < g.opened, g.opened != h.opened)
 }
 
-// Whether a peak is high among n with the sum s.
-fn high(n: u64, s: u64, p: Peak) -> bool
-    requires { ⌜ n ≤ 20000000 ⌝ }
-    ensures { λ r. ⌜ r ≡ high n s p ⌝ }
-{
-    s < p.size as u64 * n
-}
-
-fn alike(n: u64, s: u64, p: Peak, q: Peak) -> bool
-    requires { ⌜ n ≤ 20000000 ⌝ }
-    ensures { λ r. ⌜ r ≡ alike n s p q ⌝ }
-{
-    same(high(n, s, p), high(n, s, q))
-}
-
-// Whether the gap from a kept peak to the next is not more than the decorrelation time.
-fn close(decorrelation: u64, p: Peak, q: Peak) -> bool
-    requires { ⌜ decorrelation ≤ 10000000 ⌝ }
-    ensures { λ r. ⌜ r ≡ close decorrelation p q ⌝ }
-{
-    q.time as u64 <= p.time as u64 + decorrelation
-}
-
 // The stretches with the peak p.
-fn met(n: u64, s: u64, g: Group, p: Peak) -> Group
-    requires { ⌜ (n ≤ 20000000) × (g .opened < 20000000) ⌝ }
+fn met(n: u32, s: u64, g: Group, p: Peak) -> Group
+    requires { ⌜ g .opened < 20000000 ⌝ }
     ensures { λ h. ⌜ h ≡ met n s g p ⌝ }
 {
-    let last = g.last;
-    turn(alike(n, s, last, p), g, p)
+    turn(stretch::in_stretch(n, s, g, p), g, p)
 }
 
 // The chains, with the largest of the stretch that was closed on the way to h, if it is high.
-fn chains_after(n: u64, s: u64, decorrelation: u64, e: Envelope, h: Group) -> Group
-    requires { ⌜ (n ≤ 20000000) × (decorrelation ≤ 10000000) × (e .chains .opened < 20000000) ⌝ }
+fn chains_after(n: u32, s: u64, decorrelation: u32, e: Envelope, h: Group) -> Group
+    requires { ⌜ e .chains .opened < 20000000 ⌝ }
     ensures { λ c. ⌜ c ≡ chainsAfter n s decorrelation e h ⌝ }
 {
     let stretches = e.stretches;
     let g = e.chains;
     let best = stretches.best;
-    if truth::both(gave(stretches, h), high(n, s, best)) {
-        let last = g.last;
-        return turn(close(decorrelation, last, best), g, best);
+    if truth::both(gave(stretches, h), stretch::high(n, s, best)) {
+        return turn(stretch::in_chain(decorrelation, g, best), g, best);
     }
     g
 }
 
 // The pass with the peak p.
-fn advance(n: u64, s: u64, decorrelation: u64, e: Envelope, p: Peak) -> Envelope
-    requires { ⌜ (n ≤ 20000000) × (decorrelation ≤ 10000000) × Fits 19999999 e ⌝ }
+fn advance(n: u32, s: u64, decorrelation: u32, e: Envelope, p: Peak) -> Envelope
+    requires { ⌜ Fits 19999999 e ⌝ }
     ensures { λ f. ⌜ f ≡ stepped n s decorrelation e p ⌝ }
 {
     let stretches = e.stretches;
@@ -190,6 +159,26 @@ fn hand(g: Group, opened: u64, sizes: &mut [u32], times: &mut [u32])
     place(times, k, best.time);
 }
 
+// The pass with the peak p, which hands out the chain that it closes, if it closes one.
+fn onward(
+    n: u32,
+    s: u64,
+    decorrelation: u32,
+    e: Envelope,
+    p: Peak,
+    sizes: &mut [u32],
+    times: &mut [u32],
+) -> Envelope
+    requires { ⌜ Fits 19999999 e ⌝ }
+    ensures { λ f. ⌜ (f ≡ stepped n s decorrelation e p) × (now (sizes .exit) ≡ noting (e .chains) (f .chains .opened) (e .chains .best .size) (now (sizes .entry))) × (now (times .exit) ≡ noting (e .chains) (f .chains .opened) (e .chains .best .time) (now (times .entry))) ⌝ }
+{
+    let f = advance(n, s, decorrelation, e, p);
+    let chains = e.chains;
+    let after = f.chains;
+    hand(chains, after.opened, sizes, times);
+    f
+}
+
 // The totals with a peak of that size.
 fn add(t: Totals, size: u32) -> Totals
     requires { ⌜ (t .number < 20000000) × (t .sum ≤ 20000000 * 4294967295) ⌝ }
@@ -204,7 +193,7 @@ fn add(t: Totals, size: u32) -> Totals
 // The first pass over the timed samples: from run to run, without the first and the last.
 fn count(timed: &[i32]) -> Totals
     requires { ⌜ length (now timed) ≤ 10000001 ⌝ }
-    ensures { λ r. ⌜ (r .number ≤ 20000000) × ((D : ℕ) → r .number ≡ length (peaks D (now (timed .entry)))) × ((D : ℕ) → r .sum ≡ sum (peaks D (now (timed .entry)))) ⌝ }
+    ensures { λ r. ⌜ ((D : ℕ) → r .number ≡ length (peaks D (now (timed .entry)))) × ((D : ℕ) → r .sum ≡ sum (peaks D (now (timed .entry)))) ⌝ }
 {
     let mut total = Totals { number: 0, sum: 0 };
     let mut i = runs::second_run(timed);
@@ -220,25 +209,21 @@ fn count(timed: &[i32]) -> Totals
 // A later pass: hands out the chains' largest, into the places that there are, and answers their number.
 fn pass(
     step: u64,
-    n: u64,
+    n: u32,
     s: u64,
-    decorrelation: u64,
+    decorrelation: u32,
     timed: &[i32],
     sizes: &mut [u32],
     times: &mut [u32],
 ) -> u64
-    requires { ⌜ (length (now timed) ≤ 1 + 10000000 / step) × (n ≤ 20000000) × (decorrelation ≤ 10000000) ⌝ }
+    requires { ⌜ length (now timed) ≤ 1 + 10000000 / step ⌝ }
     ensures { λ r. ⌜ (r ≡ length (chosen n s step decorrelation (now (timed .entry)))) × (now (sizes .exit) ≡ sets (now (sizes .entry)) 0 (map sizeOf (chosen n s step decorrelation (now (timed .entry))))) × (now (times .exit) ≡ sets (now (times .entry)) 0 (map momentOf (chosen n s step decorrelation (now (timed .entry))))) ⌝ }
 {
     let mut e = fresh();
     let mut i = runs::second_run(timed);
     let mut run = runs::first_run(&timed[i..]);
     while i + run.length < timed.len() {
-        let f = advance(n, s, decorrelation, e, peak(step, i, run));
-        let chains = e.chains;
-        let after = f.chains;
-        hand(chains, after.opened, sizes, times);
-        e = f;
+        e = onward(n, s, decorrelation, e, peak(step, i, run), sizes, times);
         i += run.length;
         run = runs::first_run(&timed[i..]);
     }
@@ -261,24 +246,14 @@ fn hand_out(
     let all = count(timed);
     let number = all.number;
     let sum = all.sum;
+    let gap = decorrelation as u32;
     let mut scrap = [0; 1];
     let mut spare = [0; 1];
-    let needed = pass(
-        step,
-        number,
-        sum,
-        decorrelation,
-        timed,
-        &mut scrap,
-        &mut spare,
-    );
-    if (sizes.len() as u64) < needed {
+    let needed = pass(step, number, sum, gap, timed, &mut scrap, &mut spare);
+    if stretch::short(sizes.len(), times.len(), needed) {
         return Found::Refused(Refusal::Room(needed));
     }
-    if (times.len() as u64) < needed {
-        return Found::Refused(Refusal::Room(needed));
-    }
-    pass(step, number, sum, decorrelation, timed, sizes, times);
+    pass(step, number, sum, gap, timed, sizes, times);
     Found::Peaks(needed)
 }
 

@@ -12,10 +12,10 @@ use Rattle.record.specs.declared.Record.{Record}
 use Rattle.record.specs.declared.Answer.the-variants.{Taken}
 use Rattle.limits.specs.Limits.{mostSamples}
 use Rattle.record.specs.State.{sound}
-use Rattle.feeding.specs.Step.{stepped}
+use Rattle.steps.specs.Step.{stepped}
 use Rattle.range.specs.Range.{firstBad}
 use Rattle.feeding.specs.Answers.{fed}
-use Rattle.feeding.proofs.Steps.{stepped-sound, stepped-n, stepped-most}
+use Rattle.steps.proofs.Steps.{stepped-sound, stepped-n, stepped-most}
 use Rattle.range.proofs.Bad.{good-head, good-left, bad-append}
 use Rattle.feeding.proofs.Fed.{taken, fed-taken}
 

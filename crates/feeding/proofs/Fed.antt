@@ -13,7 +13,7 @@ use Rattle.record.specs.declared.Record.{Record}
 use Rattle.record.specs.declared.Answer.the-variants.{Taken, Refused}
 use Rattle.limits.specs.Limits.{mostSamples}
 use Rattle.record.specs.State.{sound}
-use Rattle.feeding.specs.Step.{stepped}
+use Rattle.steps.specs.Step.{stepped}
 use Rattle.range.specs.Range.{firstBad}
 use Rattle.feeding.specs.Answers.{fed}
 use Rattle.range.proofs.Bad.{bad-within}

@@ -11,7 +11,7 @@ use lib.IntN.{ℤ}
 use borrow.Author.Tests.{leb-true, leb-false, le-leb, lt-leb}
 use Rattle.record.specs.declared.Record.{Record}
 use Rattle.feeding.specs.Gap.{Gap}
-use Rattle.feeding.specs.Step.{crosses, crossed, moved, stepped}
+use Rattle.steps.specs.Step.{crosses, crossed, moved, stepped}
 
 pub rounded-up : (D τ : ℕ) → 1 ≤ D → Gap D τ ((τ + (D - 1)) / D)
 rounded-up D τ some =

@@ -1,8 +1,6 @@
-pub mod Steps
 pub mod Gaps
 pub mod Quiet
 pub mod Fed
-pub mod Whole
 pub mod Cutting
 pub mod Ramp
 pub mod Theorems

@@ -14,8 +14,8 @@ use Rattle.block.specs.Block.{anyAbove}
 use Rattle.block.proofs.Quiet.{first-quiet}
 use Rattle.record.specs.declared.Record.{Record}
 use Rattle.reading.specs.Reading.{sampleAt, lastOf}
-use Rattle.feeding.specs.Step.{crosses, moved, stepped}
-use Rattle.feeding.proofs.Steps.{ext}
+use Rattle.steps.specs.Step.{crosses, moved, stepped}
+use Rattle.steps.proofs.Steps.{ext}
 
 pub data Still : Record → List ℤ → Type 0 where
   none : {r : Record} → Still r []

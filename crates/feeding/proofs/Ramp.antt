@@ -14,7 +14,7 @@ use Rattle.range.proofs.Bad.{bad-append, good-left}
 use Rattle.reading.specs.Reading.{sampleAt}
 use Rattle.record.specs.declared.Record.{Record}
 use Rattle.record.specs.State.{sound}
-use Rattle.feeding.specs.Step.{moved, stepped}
+use Rattle.steps.specs.Step.{moved, stepped}
 use Rattle.feeding.proofs.Cutting.{run-sound}
 use Rattle.feeding.proofs.Quiet.{ramp-still, still-run}
 

@@ -18,14 +18,14 @@ use Rattle.record.specs.declared.Record.{Record}
 use Rattle.record.specs.declared.Answer.the-variants.{Taken, Refused}
 use Rattle.reading.specs.Reading.{timeAt, crossesAt, crossings, firstCrossing, groups, counted, countedTimes, largestSet}
 use Rattle.record.specs.State.{stateOf, sound, failed}
-use Rattle.feeding.specs.Step.{stepped}
+use Rattle.steps.specs.Step.{stepped}
 use Rattle.range.specs.Range.{firstBad}
 use Rattle.record.specs.Answers.{opened}
 use Rattle.feeding.specs.Answers.{fed}
 use Rattle.feeding.specs.Pieces.{AllTaken, end, piece, joined}
 use Rattle.record.proofs.Relations.{kept-from}
 use Rattle.record.proofs.Opening.{opened-taken, opened-sound}
-use Rattle.feeding.proofs.Whole.{state}
+use Rattle.steps.proofs.Whole.{state}
 use Rattle.feeding.proofs.Fed.{taken, fed-taken, not-broken}
 use Rattle.feeding.proofs.Cutting.{run-sound, joins, splits}
 use Rattle.reading.proofs.First.{searched}

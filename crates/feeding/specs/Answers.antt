@@ -12,7 +12,7 @@ use Rattle.record.specs.declared.Record.{Record}
 use Rattle.record.specs.declared.Answer.{Answer}
 use Rattle.record.specs.declared.Answer.the-variants.{Taken, Refused}
 use Rattle.record.specs.State.{sound}
-use Rattle.feeding.specs.Step.{stepped}
+use Rattle.steps.specs.Step.{stepped}
 
 -- A piece 8, 2, 3: the state after its samples one by one
 unfoldable pub fed : Record → List ℤ → Answer

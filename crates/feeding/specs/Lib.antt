@@ -1,4 +1,3 @@
 pub mod Gap
-pub mod Step
 pub mod Answers
 pub mod Pieces

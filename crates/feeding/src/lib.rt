@@ -12,7 +12,7 @@ ghost use Rattle.range.specs.Range.{firstBad};
 ghost use Rattle.record.specs.declared.Answer.the-variants.{Refused};
 ghost use Rattle.record.specs.State.{sound};
 ghost use Rattle.feeding.specs.Gap.{Gap};
-ghost use Rattle.feeding.specs.Step.{moved, far, counts, crossed, below, crosses, stepped};
+ghost use Rattle.steps.specs.Step.{moved, far, counts, crossed, below, crosses, stepped};
 ghost use Rattle.feeding.specs.Answers.{fed};
 use record::Answer;
 use record::Record;

@@ -9,11 +9,11 @@ use lib.ListN.{length}
 use borrow.Author.Tests.{eq-eqb, ne-eqb, leb-true}
 use Rattle.truth.proofs.Cases.{by-test}
 use Rattle.truth.proofs.Laws.{and-true}
-use Rattle.decimal.specs.declared.Field.{Field}
-use Rattle.decimal.specs.declared.Field.the-variants.{Number, Empty, Strange, LeadingZero, TooLong}
-use Rattle.decimal.specs.Field.{fieldAt}
-use Rattle.decimal.proofs.Back.{read-only}
-use Rattle.decimal.proofs.Faults.{strangePlace, strange-within}
+use Rattle.fields.specs.declared.Field.{Field}
+use Rattle.fields.specs.declared.Field.the-variants.{Number, Empty, Strange, LeadingZero, TooLong}
+use Rattle.fields.specs.Field.{fieldAt}
+use Rattle.fields.proofs.Back.{read-only}
+use Rattle.fields.proofs.Faults.{strangePlace, strange-within}
 use Rattle.form.specs.Form.{longestLine, begins, endsLine, isLine, standardWord}
 use Rattle.form.specs.Column.{behind, columnIn, firstOf, isParted, mostNumber, recordColumn, recordFields, standardColumn, standardFields}
 

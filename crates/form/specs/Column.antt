@@ -5,9 +5,10 @@ use mathlib.Core.Bool.{Bool, cond, _&&_}
 use mathlib.Core.List.{List, [], _∷_}
 use lib.ListN.{length}
 use lib.Dec.{eqb, leb}
-use Rattle.decimal.specs.declared.Field.{Field}
-use Rattle.decimal.specs.declared.Field.the-variants.{Number, Empty, Strange, LeadingZero, TooLong}
-use Rattle.decimal.specs.Field.{tab, lineFeed, fieldAt}
+use Rattle.fields.specs.declared.Field.{Field}
+use Rattle.fields.specs.declared.Field.the-variants.{Number, Empty, Strange, LeadingZero, TooLong}
+use Rattle.decimal.specs.Field.{tab, lineFeed}
+use Rattle.fields.specs.Field.{fieldAt}
 use Rattle.form.specs.Form.{isLine, begins, standardWord}
 
 -- ---- the line as a whole

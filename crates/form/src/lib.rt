@@ -3,10 +3,10 @@
 ghost use mathlib.Core.Path.{_≡_};
 ghost use Prim.Native.Nat.{_≤_};
 ghost use lib.ListN.{length};
-ghost use Rattle.decimal.specs.Field.{fieldAt};
+ghost use Rattle.fields.specs.Field.{fieldAt};
 ghost use Rattle.form.specs.Form.{longestLine, isLine, begins};
 ghost use Rattle.form.specs.Column.{howMany, isParted, columnIn, behind, standardFields, recordFields, standardColumn, recordColumn};
-use decimal::Field;
+use fields::Field;
 
 const TAB: u8 = 9;
 
@@ -84,7 +84,7 @@ fn look_at(text: &[u8], at: usize, low: u64, high: u64) -> Look
     ensures { λ r. ⌜ r .next ≡ behind (fieldAt (now (text .entry)) at) ⌝ }
     ensures { λ r. ⌜ r .next ≤ 100 ⌝ }
 {
-    let f = decimal::number_at(text, at);
+    let f = fields::number_at(text, at);
     let first = (at as u64) + 1;
     match f {
         Field::Number(v, next) => Look {

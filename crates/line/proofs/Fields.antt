@@ -14,12 +14,13 @@ use borrow.Author.Tests.{eqb-true}
 use Rattle.truth.proofs.Cases.{by-test}
 use Rattle.truth.proofs.Laws.{and-true}
 use Rattle.decimal.specs.Decimal.{longest, digitsOf}
-use Rattle.decimal.specs.Field.{fieldAt, fieldText}
-use Rattle.decimal.specs.declared.Field.{Field}
-use Rattle.decimal.specs.declared.Field.the-variants.{Number, Empty, Strange, LeadingZero, TooLong}
-use Rattle.decimal.proofs.Back.{read-only}
+use Rattle.decimal.specs.Field.{fieldText}
+use Rattle.fields.specs.Field.{fieldAt}
+use Rattle.fields.specs.declared.Field.{Field}
+use Rattle.fields.specs.declared.Field.the-variants.{Number, Empty, Strange, LeadingZero, TooLong}
+use Rattle.fields.proofs.Back.{read-only}
 use Rattle.form.specs.Form.{begins}
-use Rattle.decimal.proofs.Field.{the-type}
+use Rattle.fields.proofs.Field.{the-type}
 use Rattle.line.specs.declared.Step.{Step}
 use Rattle.line.specs.Line.{startsWith, endedBy, fieldThen, withNumber}
 

@@ -21,9 +21,10 @@ use Rattle.result.specs.declared.Ended.the-variants.{Given}
 use Rattle.result.specs.declared.Result.{Result}
 use Rattle.result.proofs.Given.{given-bounds}
 use Rattle.decimal.specs.Decimal.{digitsOf, longest}
-use Rattle.decimal.specs.Field.{tab, lineFeed, isEnd, endsHere, fieldText}
-use Rattle.decimal.specs.declared.Field.the-variants.{Number}
-use Rattle.decimal.proofs.Back.{read-back}
+use Rattle.decimal.specs.Field.{tab, lineFeed, fieldText}
+use Rattle.fields.specs.Field.{isEnd, endsHere}
+use Rattle.fields.specs.declared.Field.the-variants.{Number}
+use Rattle.fields.proofs.Back.{read-back}
 use Rattle.decimal.proofs.Text.{field-few}
 use Rattle.campaign.specs.declared.Answer.{Answer}
 use Rattle.campaign.specs.declared.Answer.the-variants.{Refused, Taken}

@@ -7,9 +7,10 @@ use lib.Dec.{eqb, leb, ltb}
 use Rattle.refusal.specs.declared.Refusal.the-variants.{BrokenState, Line, TooLong, TooShort}
 use Rattle.limits.specs.Limits.{longestTime}
 use Rattle.result.specs.declared.Outcome.{Outcome}
-use Rattle.decimal.specs.declared.Field.{Field}
-use Rattle.decimal.specs.declared.Field.the-variants.{Number, Empty, Strange, LeadingZero, TooLong}
-use Rattle.decimal.specs.Field.{tab, lineFeed, fieldAt}
+use Rattle.fields.specs.declared.Field.{Field}
+use Rattle.fields.specs.declared.Field.the-variants.{Number, Empty, Strange, LeadingZero, TooLong}
+use Rattle.decimal.specs.Field.{tab, lineFeed}
+use Rattle.fields.specs.Field.{fieldAt}
 use Rattle.form.specs.Form.{isLine, begins, standardWord}
 use Rattle.form.specs.Column.{standardColumn, recordColumn}
 use Rattle.campaign.specs.declared.Answer.{Answer}

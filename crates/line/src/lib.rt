@@ -8,7 +8,7 @@ ghost use Rattle.campaign.specs.State.{sound};
 ghost use Rattle.line.specs.Line.{fieldThen, lineAfter, malformed, outcome, standardLine, recordLine, stepping, telling};
 use campaign::Answer;
 use campaign::Campaign;
-use decimal::Field;
+use fields::Field;
 use refusal::Refusal;
 use result::Outcome;
 
@@ -35,7 +35,7 @@ pub enum Step {
 fn field_then(end: u8, text: &[u8], at: usize) -> Field
     ensures { λ r. ⌜ r ≡ fieldThen end (now (text .entry)) at ⌝ }
 {
-    let field = decimal::number_at(text, at);
+    let field = fields::number_at(text, at);
     match field {
         Field::Number(value, next) => {
             if text.len() <= next {

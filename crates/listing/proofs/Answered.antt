@@ -3,10 +3,8 @@ use Prim.Native.Nat.{ℕ, _+_, _≤_, _<_}
 use mathlib.Core.Path.{_≡_, refl, ap, _∙_}
 use mathlib.Core.Bool.{Bool, true, false, cond, not}
 use mathlib.Core.List.{List, _++_}
-use native.Mathlib.Nat.{zero-add}
 use native.Mathlib.Omega.{arith}
 use lib.ListN.{length, drop, length-map}
-use lib.Seq.{sets, sets-eq}
 use lib.Dec.{eqb, ltb}
 use lib.IntN.{ℤ}
 use borrow.Author.Tests.{eq-eqb, lt-ltb, le-ltb}
@@ -32,10 +30,6 @@ module _ (ts before : List ℕ) where
   pub writes-times : length ts ≤ length before → WritesTo ts before (Times (length ts)) (ts ++ drop (length ts) before)
   unfolding written
   writes-times l = record { answers = rw (le-ltb _ _ l); leaves = refl }
-
-  -- put one by one from the slice's start on
-  pub sets-front : length ts ≤ length before → sets before 0 ts ≡ ts ++ drop (length ts) before
-  sets-front l = sets-eq ts before 0 (omega arith) ∙ rw zero-add
 
 -- ---- the whole listing
 module _ (D R a τ : ℕ) (xs : List ℤ) (slice : List ℕ) where

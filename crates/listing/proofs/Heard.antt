@@ -1,25 +1,22 @@
--- What the first pass tells: the first bad sample, or how many failures are counted and, if there was room for them, their times. And for how many there
--- must be room at most (`half-counted`). Assumes nothing.
-use Prim.Native.Nat.{ℕ, suc, _+_, _*_, _≤_, _<_}
+-- What the first pass tells: the first bad sample, or how many failures are counted and, if there was room for them, their times. Assumes nothing.
+use Prim.Native.Nat.{ℕ, _≤_, _<_}
 use mathlib.Core.Path.{_≡_, refl, sym, ap, _∙_}
-use mathlib.Core.Bool.{Bool, true, false, cond, not, _&&_}
-use mathlib.Core.List.{List, [], _∷_, foldl, _++_}
-use native.Mathlib.Nat.{zero-add}
+use mathlib.Core.Bool.{Bool, true, false, cond}
+use mathlib.Core.List.{List, foldl}
 use native.Mathlib.Omega.{arith}
 use lib.ListN.{length, take, drop}
 use lib.Seq.{take-at}
-use lib.Dec.{ltb, leb}
+use lib.Dec.{ltb}
 use lib.IntN.{ℤ}
 use borrow.Author.Tests.{ltb-true, ltb-false}
-use Rattle.magnitude.specs.Above.{above}
 use Rattle.range.specs.Range.{firstBad}
 use Rattle.range.proofs.Bad.{bad-within}
 use Rattle.reading.specs.Reading.{countedTimes}
+use Rattle.walk.specs.Walk.{start, noting, noted}
+use Rattle.walk.proofs.Walked.{walked-count, walked-times}
 use Rattle.listing.specs.declared.Found.{Found}
 use Rattle.listing.specs.declared.Found.the-variants.{Count, Bad}
-use Rattle.listing.specs.Walk.{start, stepped, Noting, noting, noted, Passes, Heard}
-use Rattle.listing.proofs.Noting.{heard}
-use Rattle.listing.proofs.Answered.{sets-front}
+use Rattle.listing.specs.Pass.{Heard}
 
 only-bad : (b : Bool) (k n m : ℕ) → Bad k ≡ cond b (Bad m) (Count n) → (b ≡ true) × (k ≡ m)
 only-bad true k n m e = (refl, cc)
@@ -28,34 +25,6 @@ only-bad false k n m e = let z : _≡_ {A = ℕ} 0 1 = cc in absurd (omega arith
 only-count : (b : Bool) (k n m : ℕ) → Count k ≡ cond b (Bad m) (Count n) → (b ≡ false) × (k ≡ n)
 only-count true k n m e = let z : _≡_ {A = ℕ} 0 1 = cc in absurd (omega arith)
 only-count false k n m e = (refl, cc)
-
--- ---- a walk over all samples
-module _ (D a τ : ℕ) (xs : List ℤ) (ts : List ℕ) where
-  pub walked-count : foldl (noted D a τ) (noting start ts) xs .walk .count ≡ length (countedTimes D 0 a τ xs)
-  walked-count = heard D a τ xs ts .counted ∙ zero-add _
-
-  -- into a slice with room for them
-  pub walked-times : length (countedTimes D 0 a τ xs) ≤ length ts → foldl (noted D a τ) (noting start ts) xs .times ≡ countedTimes D 0 a τ xs ++ drop (length (countedTimes D 0 a τ xs)) ts
-  walked-times l = heard D a τ xs ts .slice ∙ sets-front (countedTimes D 0 a τ xs) ts l
-
--- at most half of the samples are counted: just before each stands one at most the level
-half-step : (b up d : Bool) (c n : ℕ) → 2 * c + cond b 1 0 ≤ n → 2 * cond ((b && up) && d) (c + 1) c + cond (not up) 1 0 ≤ suc n
-half-step true true true c n l = omega arith
-half-step true true false c n l = omega arith
-half-step true false d c n l = omega arith
-half-step false true d c n l = omega arith
-half-step false false d c n l = omega arith
-
-module _ (D a τ : ℕ) where
-  half-walked : (s : Noting) (xs : List ℤ) (n : ℕ) → 2 * s .walk .count + cond (s .walk .below) 1 0 ≤ n → 2 * foldl (noted D a τ) s xs .walk .count ≤ n + length xs
-  unfolding noted stepped
-  half-walked s [] n l = omega arith
-  half-walked s (x ∷ xs) n l =
-      let i = half-walked (noted D a τ s x) xs (suc n) (half-step (s .walk .below) (above a x) (leb (s .walk .due) (s .walk .time)) (s .walk .count) n l) in
-      omega (arith, i)
-
-  pub half-counted : (xs : List ℤ) → 2 * length (countedTimes D 0 a τ xs) ≤ length xs
-  half-counted xs = omega (arith, half-walked (noting start []) xs 0 (omega arith), walked-count D a τ xs [])
 
 -- ---- what the first pass found
 -- the count, and the times in `kept`

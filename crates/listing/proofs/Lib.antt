@@ -1,5 +1,4 @@
-pub mod Steps
-pub mod Noting
+pub mod Ready
 pub mod Answered
 pub mod Heard
 pub mod Unique

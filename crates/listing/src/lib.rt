@@ -10,9 +10,11 @@ ghost use lib.Seq.{paste};
 ghost use Rattle.block.specs.Block.{anyAbove};
 ghost use Rattle.range.specs.Range.{firstBad};
 ghost use Rattle.reading.specs.Reading.{countedTimes};
-ghost use Rattle.listing.specs.Walk.{passed, start, noting, marked, noted, Ready, Passes, Heard};
+ghost use Rattle.walk.specs.Walk.{passed, start, noting, marked, noted, Ready};
+ghost use Rattle.listing.specs.Pass.{Passes, Heard};
 ghost use Rattle.listing.specs.Answers.{WritesTo, ListsTimed, ListsTo};
 use refusal::Refusal;
+use walk::Walk;
 use whole::Size;
 
 pub enum Listed {
@@ -27,15 +29,6 @@ const KEPT: usize = 2_048;
 const LOOK: usize = 1_024;
 
 const CROWD: u64 = 256;
-
-// The walk before a timed sample: its time, whether a timed sample at most the level stands before it, how many groups were counted, and from what time
-// on a crossing starts a group.
-struct Walk {
-    below: bool,
-    time: u64,
-    count: u64,
-    due: u64,
-}
 
 // How many groups are counted, or the place of the first bad sample.
 enum Found {
@@ -83,7 +76,7 @@ fn crossed(step: u64, decorrelation: u64, w: Walk, times: &mut [u32]) -> Walk
     requires { ⌜ Ready step decorrelation w 1 × (w .below ≡ true) ⌝ }
     ensures { λ v. ⌜ noting v (now (times .exit)) ≡ marked step decorrelation (noting w (now (times .entry))) true ⌝ }
 {
-    if w.due <= w.time {
+    if walk::starts(w) {
         put(w.time, w.count, times);
         return Walk {
             below: false,

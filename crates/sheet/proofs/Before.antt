@@ -8,8 +8,8 @@ use lib.Dec.{eqb}
 use lib.ListN.{length}
 use Rattle.truth.proofs.Cases.{by-test}
 use Rattle.refusal.specs.declared.Refusal.{Refusal}
-use Rattle.decimal.specs.declared.Field.{Field}
-use Rattle.decimal.specs.declared.Field.the-variants.{Number, Empty, Strange, LeadingZero, TooLong}
+use Rattle.fields.specs.declared.Field.{Field}
+use Rattle.fields.specs.declared.Field.the-variants.{Number, Empty, Strange, LeadingZero, TooLong}
 use Rattle.decimal.specs.Field.{tab, lineFeed}
 use Rattle.campaign.specs.declared.Answer.{Answer}
 use Rattle.campaign.specs.declared.Answer.the-variants.{Taken, Refused}

@@ -6,7 +6,8 @@ use Prim.Native.Nat.{ℕ}
 use Rattle.poisson.specs.Tables.{l, u, lowerRows, upperRows}
 use Rattle.refusal.specs.declared.Refusal.the-variants.{Line, TooShort}
 use Rattle.decimal.specs.Decimal.{allDigits, isNumber, valueOf, digitsWithin, digitsOf}
-use Rattle.decimal.specs.Field.{faultIn, fieldOf, fieldText, readAs, fieldAt, strangeIn}
+use Rattle.decimal.specs.Field.{fieldText}
+use Rattle.fields.specs.Field.{faultIn, fieldOf, readAs, fieldAt, strangeIn}
 use Rattle.campaign.specs.Answers.{entering}
 use Rattle.campaign.specs.State.{censored, sound}
 use Rattle.sheet.specs.declared.Reading.the-variants.{Stopped}

@@ -1,3 +1,4 @@
 pub mod Stretches
 pub mod Apart
 pub mod Example
+pub mod Unique

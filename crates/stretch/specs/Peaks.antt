@@ -1,7 +1,7 @@
 -- Document 02 [11], its sentences of peaks: which are high, which are kept, and which are handed out. D is the step, R the ramp, τ the
 -- decorrelation time, xs all samples. Assumes nothing.
 use Prim.Native.Nat.{ℕ, _+_, _*_}
-use mathlib.Core.Bool.{Bool}
+use mathlib.Core.Bool.{Bool, _||_}
 use mathlib.Core.List.{List, [], _∷_}
 use lib.ListN.{length, drop}
 use lib.Dec.{ltb, leb}
@@ -38,3 +38,7 @@ close τ p q = leb (q .time) (p .time + τ)
 -- what is handed out: the largest of each chain. The timed samples are those numbered R and above
 abbrev pub handed : ℕ → ℕ → ℕ → List ℤ → List Peak
 handed D R τ xs = tops (close τ) (kept (peaks D (drop R xs)))
+
+-- k peaks do not fit one of two slices of so many places
+abbrev pub short : ℕ → ℕ → ℕ → Bool
+short sizes times k = ltb sizes k || ltb times k

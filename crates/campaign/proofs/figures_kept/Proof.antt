@@ -16,7 +16,7 @@ both-requires-3 : tie.Need-both-requires-3
 both-requires-3 c κs = search needs
 
 returns : tie.Need-returns
-returns c = cc
+returns c = rw (c .both3 .ensures, c .before .before .before .before .before .both .ensures, c .before .both2 .ensures)
 
 pub figures-kept-spec : {M : Type 1} → statement M
 figures-kept-spec =

@@ -28,7 +28,7 @@ both-requires-4 : tie.Need-both-requires-4
 both-requires-4 c κs = search needs
 
 returns : tie.Need-returns
-returns c = cc
+returns c = rw (c .both4 .ensures, c .before .before .before .before .before .before .before .before .before .before .before .before .before .either .ensures, c .before .both3 .ensures, c .before .before .before .before .before .before .before .before .either2 .ensures, c .before .before .before .before .before .before .before .before .before .before .both .ensures, c .before .before .both2 .ensures, c .before .before .before .before .before .either3 .ensures, c .before .before .before .either4 .ensures)
 
 pub last-kept-spec : {M : Type 1} → statement M
 last-kept-spec =

@@ -27,7 +27,7 @@ both-requires-3 c κs = search needs
 
 returns-2 : tie.Need-returns-2
 unfolding sound
-returns-2 c = rw (le-leb _ _ (c .before .before .before .before .before .before .before .if1 .left)) (cc)
+returns-2 c = rw (le-leb _ _ (c .before .before .before .before .before .before .before .if1 .left), c .both3 .ensures, c .before .before .before .before .both .ensures, c .before .both2 .ensures, c .before .before .before .figures-kept .ensures, c .before .before .last-kept .ensures)
 
 pub sound-spec : {M : Type 1} → statement M
 sound-spec =

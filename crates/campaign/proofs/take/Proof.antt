@@ -23,7 +23,7 @@ add-t10 : tie.Need-add-t10
 add-t10 c = search needs
 
 returns-3 : tie.Need-returns-3
-returns-3 c = rw (ne-eqb _ _ (c .before .before .before .before .before .before .if1 .left), ne-eqb _ _ (c .before .before .before .before .if2 .left)) (cc)
+returns-3 c = rw (ne-eqb _ _ (c .before .before .before .before .before .before .if1 .left), ne-eqb _ _ (c .before .before .before .before .if2 .left), c .before .pick .ensures)
 
 pub take-spec : {M : Type 1} → statement M
 take-spec = tie.close (tie.spec returns returns-2 add-t7 add-pick pick-requires add-t10 returns-3)

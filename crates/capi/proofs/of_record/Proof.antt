@@ -12,7 +12,7 @@ code-of-requires c κs = search needs
 returns : tie.Need-returns
 returns c =
     let f : SFits w32 (c .before .before .args .r .last) = search needs in
-    cc (toZ-ofZ f)
+    rw (c .code-of .ensures, toZ-ofZ f)
 
 pub of-record-spec : {M : Type 1} → statement M
 of-record-spec = tie.close (tie.spec code-of-requires returns)

@@ -68,7 +68,7 @@ returns-3 : tie.Need-returns-3
 unfolding recordOf
 returns-3 c =
     let f : SFits w32 (c .before .before .before .before .before .before .sample-of .result) = search needs in
-    rw (eq-eqb _ recordNumbers (c .before .before .before .before .before .before .before .before .before .before .before .before .before .before .before .if1 .left), le-leb _ highestCode (c .before .before .before .before .before .before .before .before .before .before .before .before .before .if2 .left)) (cc (toZ-ofZ f))
+    rw (eq-eqb _ recordNumbers (c .before .before .before .before .before .before .before .before .before .before .before .before .before .before .before .if1 .left), le-leb _ highestCode (c .before .before .before .before .before .before .before .before .before .before .before .before .before .if2 .left), toZ-ofZ f, c .before .before .before .before .before .before .sample-of .ensures)
 
 pub record-of-spec : {M : Type 1} → statement M
 record-of-spec =

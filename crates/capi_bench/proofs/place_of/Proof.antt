@@ -28,7 +28,7 @@ array-read-t25 : tie.Need-array-read-t25
 array-read-t25 c = search needs
 
 returns : tie.Need-returns
-returns c = cc
+returns c = rw (c .pick .ensures)
 
 pub place-of-spec : {M : Type 1} → statement M
 place-of-spec =

@@ -7,7 +7,7 @@ flag-requires : tie.Need-flag-requires
 flag-requires c κs = search needs
 
 returns : tie.Need-returns
-returns c = cc
+returns c = rw (c .flag .ensures)
 
 pub row-of-spec : {M : Type 1} → statement M
 row-of-spec = tie.close (tie.spec flag-requires returns)

@@ -10,7 +10,7 @@ both-requires : tie.Need-both-requires
 both-requires c κs = search needs
 
 returns : tie.Need-returns
-returns c = cc
+returns c = rw (c .both .ensures, c .before .same-campaign .ensures)
 
 pub same-place-spec : {M : Type 1} → statement M
 same-place-spec = tie.close (tie.spec same-campaign-requires both-requires returns)

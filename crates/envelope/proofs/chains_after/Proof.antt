@@ -20,16 +20,16 @@ high-requires c κs = search needs
 both-requires : tie.Need-both-requires
 both-requires c κs = search needs
 
-close-requires : tie.Need-close-requires
-close-requires c κs = search needs
+in-chain-requires : tie.Need-in-chain-requires
+in-chain-requires c κs = search needs
 
 turn-requires : tie.Need-turn-requires
 turn-requires c κs = search needs
 
 returns : tie.Need-returns
 returns c =
-    rw (sym (both (c .before .before .before .before)) ∙ c .before .before .before .if1 .taken)
-    (c .turn .ensures ∙ ap (λ (k : Bool). turned k (c .before .before .before .before .before .before .before .before .before .before .args .e .chains) (c .before .before .before .before .before .before .before .before .before .before .args .e .stretches .best)) (c .before .close .ensures))
+    rw (sym (both (c .before .before .before)) ∙ c .before .before .if1 .taken)
+    (c .turn .ensures ∙ ap (λ (k : Bool). turned k (c .before .before .before .before .before .before .before .before .before .args .e .chains) (c .before .before .before .before .before .before .before .before .before .args .e .stretches .best)) (c .before .in-chain .ensures))
 
 returns-2 : tie.Need-returns-2
 returns-2 c = rw (sym (both (c .before)) ∙ c .if1 .left)
@@ -41,7 +41,7 @@ chains-after-spec =
     gave-requires
     high-requires
     both-requires
-    close-requires
+    in-chain-requires
     turn-requires
     returns
     returns-2)

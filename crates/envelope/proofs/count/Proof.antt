@@ -109,7 +109,7 @@ returns c =
     let p = c .before .before .before .before .before .before .args .timed .now in
     let v = c .before .before .loop .inv in
     let d = walk-ends p (c .before .before .loop .i) (c .before .before .loop .next) (v .1) (omega (arith, c .if1 .left)) in
-    (omega (arith, v .2, v .0), λ D. omega (arith, v .4 D, ap length (d D)), λ D. omega (arith, v .5 D, ap sum (d D)))
+    (λ D. omega (arith, v .4 D, ap length (d D)), λ D. omega (arith, v .5 D, ap sum (d D)))
 
 pub count-spec : {M : Type 1} → statement M
 count-spec =

@@ -6,14 +6,14 @@ use Rattle.chains.specs.Machine.{turned}
 use Rattle.envelope.proofs.met.Statement.{statement}
 use Rattle.envelope.proofs.met.Tie as tie
 
-alike-requires : tie.Need-alike-requires
-alike-requires c κs = search needs
+in-stretch-requires : tie.Need-in-stretch-requires
+in-stretch-requires c κs = search needs
 
 turn-requires : tie.Need-turn-requires
 turn-requires c κs = search needs
 
 returns : tie.Need-returns
-returns c = c .turn .ensures ∙ ap (λ (k : Bool). turned k (c .before .before .before .args .g) (c .before .before .before .args .p)) (c .before .alike .ensures)
+returns c = c .turn .ensures ∙ ap (λ (k : Bool). turned k (c .before .before .args .g) (c .before .before .args .p)) (c .before .in-stretch .ensures)
 
 pub met-spec : {M : Type 1} → statement M
-met-spec = tie.close (tie.spec alike-requires turn-requires returns)
+met-spec = tie.close (tie.spec in-stretch-requires turn-requires returns)

@@ -57,25 +57,20 @@ add-if1 c = omega (arith, walk-fits (c .before .before .before .before .before .
 peak-requires : tie.Need-peak-requires Inv-loop μ-loop
 peak-requires c κs = omega (arith, c .if1 .taken, walk-holds (c .before .before .before .before .before .before .before .before .before .args .timed .now) (c .before .before .loop .i) (c .before .before .loop .run) (c .before .before .loop .inv .here) (c .if1 .taken) .1)
 
-advance-requires : tie.Need-advance-requires Inv-loop μ-loop
-advance-requires c κs = let d = div-le-self 10000000 (c .before .before .before .before .before .before .before .before .before .before .args .step) in (search needs, search needs, (omega (arith, c .before .before .before .loop .inv .fits .0, c .before .if1 .taken, d), omega (arith, c .before .before .before .loop .inv .fits .1, c .before .if1 .taken, d)))
-
-hand-requires : tie.Need-hand-requires Inv-loop μ-loop
-hand-requires c κs =
-    let k : c .before .before .before .before .before .before .before .before .loop .e .chains .opened ≤ 20000000 = omega (arith, c .before .before .before .before .before .before .before .before .loop .inv .fits .1, c .before .before .before .before .before .before .before .before .loop .inv .within, c .before .before .before .before .before .before .before .before .before .before .before .before .before .before .before .pre .0, div-le-self 10000000 (c .before .before .before .before .before .before .before .before .before .before .before .before .before .before .before .args .step)) in
-    k
+onward-requires : tie.Need-onward-requires Inv-loop μ-loop
+onward-requires c κs = let d = div-le-self 10000000 (c .before .before .before .before .before .before .before .before .before .before .before .before .args .step) in (omega (arith, c .before .before .before .before .before .loop .inv .fits .0, c .before .before .before .if1 .taken, d), omega (arith, c .before .before .before .before .before .loop .inv .fits .1, c .before .before .before .if1 .taken, d))
 
 add-i : tie.Need-add-i Inv-loop μ-loop
-add-i c = omega (arith, c .before .before .before .before .before .before .before .before .before .before .before .before .if1 .taken, c .before .before .before .before .before .before .before .before .before .before .before .before .before .before .before .before .before .before .before .before .before .pre .0, div-le-self 10000000 (c .before .before .before .before .before .before .before .before .before .before .before .before .before .before .before .before .before .before .before .before .before .args .step))
+add-i c = omega (arith, c .before .before .before .before .before .before .before .before .before .if1 .taken, c .before .before .before .before .before .before .before .before .before .before .before .before .before .before .before .before .before .before .pre, div-le-self 10000000 (c .before .before .before .before .before .before .before .before .before .before .before .before .before .before .before .before .before .before .args .step))
 
 mul-first-run-2 : tie.Need-mul-first-run-2 Inv-loop μ-loop
-mul-first-run-2 c = omega (arith, c .before .before .before .before .before .before .before .before .before .before .before .before .if1 .taken, c .before .before .before .before .before .before .before .before .before .before .before .before .before .before .before .before .before .before .before .before .before .pre .0, div-le-self 10000000 (c .before .before .before .before .before .before .before .before .before .before .before .before .before .before .before .before .before .before .before .before .before .args .step))
+mul-first-run-2 c = omega (arith, c .before .before .before .before .before .before .before .before .before .if1 .taken, c .before .before .before .before .before .before .before .before .before .before .before .before .before .before .before .before .before .before .pre, div-le-self 10000000 (c .before .before .before .before .before .before .before .before .before .before .before .before .before .before .before .before .before .before .args .step))
 
 sub-first-run-2 : tie.Need-sub-first-run-2 Inv-loop μ-loop
-sub-first-run-2 c = omega (arith, c .before .before .before .before .before .before .before .before .before .before .before .before .if1 .taken, c .before .before .before .before .before .before .before .before .before .before .before .before .before .before .before .before .before .before .before .before .before .pre .0, div-le-self 10000000 (c .before .before .before .before .before .before .before .before .before .before .before .before .before .before .before .before .before .before .before .before .before .args .step))
+sub-first-run-2 c = omega (arith, c .before .before .before .before .before .before .before .before .before .if1 .taken, c .before .before .before .before .before .before .before .before .before .before .before .before .before .before .before .before .before .before .pre, div-le-self 10000000 (c .before .before .before .before .before .before .before .before .before .before .before .before .before .before .before .before .before .before .args .step))
 
 part-first-run-start-2 : tie.Need-part-first-run-start-2 Inv-loop μ-loop
-part-first-run-start-2 c = omega (arith, c .before .before .before .before .before .before .before .before .before .before .before .before .if1 .taken, c .before .before .before .before .before .before .before .before .before .before .before .before .before .before .before .before .before .before .before .before .before .pre .0, div-le-self 10000000 (c .before .before .before .before .before .before .before .before .before .before .before .before .before .before .before .before .before .before .before .before .before .args .step))
+part-first-run-start-2 c = omega (arith, c .before .before .before .before .before .before .before .before .before .if1 .taken, c .before .before .before .before .before .before .before .before .before .before .before .before .before .before .before .before .before .before .pre, div-le-self 10000000 (c .before .before .before .before .before .before .before .before .before .before .before .before .before .before .before .before .before .before .args .step))
 
 part-first-run-end-2 : tie.Need-part-first-run-end-2 Inv-loop μ-loop
 part-first-run-end-2 c = search needs
@@ -84,33 +79,34 @@ first-run-requires-2 : tie.Need-first-run-requires-2 Inv-loop μ-loop
 first-run-requires-2 c κs = search needs
 
 loop-less : tie.Need-loop-less Inv-loop μ-loop
-loop-less c = omega (arith, c .before .before .before .before .before .before .before .before .before .before .before .before .before .before .if1 .taken, walk-holds (c .before .before .before .before .before .before .before .before .before .before .before .before .before .before .before .before .before .before .before .before .before .before .before .args .timed .now) (c .before .before .before .before .before .before .before .before .before .before .before .before .before .before .before .before .loop .i) (c .before .before .before .before .before .before .before .before .before .before .before .before .before .before .before .before .loop .run) (c .before .before .before .before .before .before .before .before .before .before .before .before .before .before .before .before .loop .inv .here) (c .before .before .before .before .before .before .before .before .before .before .before .before .before .before .if1 .taken) .0)
+loop-less c = omega (arith, c .before .before .before .before .before .before .before .before .before .before .before .if1 .taken, walk-holds (c .before .before .before .before .before .before .before .before .before .before .before .before .before .before .before .before .before .before .before .before .args .timed .now) (c .before .before .before .before .before .before .before .before .before .before .before .before .before .loop .i) (c .before .before .before .before .before .before .before .before .before .before .before .before .before .loop .run) (c .before .before .before .before .before .before .before .before .before .before .before .before .before .loop .inv .here) (c .before .before .before .before .before .before .before .before .before .before .before .if1 .taken) .0)
 
 loop-again : tie.Need-loop-again Inv-loop μ-loop
 loop-again c =
-    let a = c .before .before .before .before .before .before .before .before .before .before .before .before .before .before .before .before .before .before .before .before .before .before .before .args in
-    let i = c .before .before .before .before .before .before .before .before .before .before .before .before .before .before .before .before .loop .i in
-    let r = c .before .before .before .before .before .before .before .before .before .before .before .before .before .before .before .before .loop .run in
-    let e = c .before .before .before .before .before .before .before .before .before .before .before .before .before .before .before .before .loop .e in
-    let ss = c .before .before .before .before .before .before .before .before .before .before .before .before .before .before .before .before .loop .sizes in
-    let ts = c .before .before .before .before .before .before .before .before .before .before .before .before .before .before .before .before .loop .times in
+    let a = c .before .before .before .before .before .before .before .before .before .before .before .before .before .before .before .before .before .before .before .before .args in
+    let i = c .before .before .before .before .before .before .before .before .before .before .before .before .before .loop .i in
+    let r = c .before .before .before .before .before .before .before .before .before .before .before .before .before .loop .run in
+    let e = c .before .before .before .before .before .before .before .before .before .before .before .before .before .loop .e in
+    let ss = c .before .before .before .before .before .before .before .before .before .before .before .before .before .loop .sizes in
+    let ts = c .before .before .before .before .before .before .before .before .before .before .before .before .before .loop .times in
     let f = stepped (a .n) (a .s) (a .decorrelation) e (peakAt (a .step) (i * a .step) r) in
-    let q : c .before .before .before .before .before .before .before .before .before .before .before .before .advance .result ≡ f = c .before .before .before .before .before .before .before .before .before .before .before .before .advance .ensures ∙ ap (stepped (a .n) (a .s) (a .decorrelation) e) (c .before .before .before .before .before .before .before .before .before .before .before .before .before .peak .ensures) in
-    let hs : c .before .before .before .before .before .before .before .hand .last .1 .1 .0 ≡ noting (e .chains) (f .chains .opened) (e .chains .best .size) ss = c .before .before .before .before .before .before .before .hand .ensures .0 ∙ ap (λ (g : Envelope). noting (e .chains) (g .chains .opened) (e .chains .best .size) ss) q in
-    let ht : c .before .before .before .before .before .before .before .hand .last .1 .1 .1 .0 ≡ noting (e .chains) (f .chains .opened) (e .chains .best .time) ts = c .before .before .before .before .before .before .before .hand .ensures .1 ∙ ap (λ (g : Envelope). noting (e .chains) (g .chains .opened) (e .chains .best .time) ts) q in
-    rw (q, hs, ht) (passing-on (a .step) (a .n) (a .s) (a .decorrelation) (a .timed .now) (a .sizes .now) (a .times .now) (c .before .before .before .before .before .before .before .before .before .before .before .before .before .before .before .before .loop .inv) (c .before .before .before .before .before .before .before .before .before .before .before .before .before .before .if1 .taken) (c .first-run2 .result) (c .first-run2 .ensures ∙ ap firstRun (from-place (i + r .length) (a .timed .now))))
+    let o = c .before .before .before .before .before .before .before .onward in
+    let q : o .result ≡ f = o .ensures .0 ∙ ap (stepped (a .n) (a .s) (a .decorrelation) e) (c .before .before .before .before .before .before .before .before .before .before .peak .ensures) in
+    let hs : o .last .1 .1 .1 .1 .1 .0 ≡ noting (e .chains) (f .chains .opened) (e .chains .best .size) ss = o .ensures .1 ∙ ap (λ (g : Envelope). noting (e .chains) (g .chains .opened) (e .chains .best .size) ss) q in
+    let ht : o .last .1 .1 .1 .1 .1 .1 .0 ≡ noting (e .chains) (f .chains .opened) (e .chains .best .time) ts = o .ensures .2 ∙ ap (λ (g : Envelope). noting (e .chains) (g .chains .opened) (e .chains .best .time) ts) q in
+    rw (q, hs, ht) (passing-on (a .step) (a .n) (a .s) (a .decorrelation) (a .timed .now) (a .sizes .now) (a .times .now) (c .before .before .before .before .before .before .before .before .before .before .before .before .before .loop .inv) (c .before .before .before .before .before .before .before .before .before .before .before .if1 .taken) (c .first-run2 .result) (c .first-run2 .ensures ∙ ap firstRun (from-place (i + r .length) (a .timed .now))))
 
 add-hand : tie.Need-add-hand Inv-loop μ-loop
 add-hand c = omega (arith, c .before .before .before .before .loop .inv .fits .1, c .before .before .before .before .loop .inv .within, div-le-self 10000000 (c .before .before .before .before .before .before .before .before .before .before .before .args .step))
 
-hand-requires-2 : tie.Need-hand-requires-2 Inv-loop μ-loop
-hand-requires-2 c κs = omega (arith, c .before .before .before .before .before .before .loop .inv .fits .1, c .before .before .before .before .before .before .loop .inv .within, div-le-self 10000000 (c .before .before .before .before .before .before .before .before .before .before .before .before .before .args .step))
+hand-requires : tie.Need-hand-requires Inv-loop μ-loop
+hand-requires c κs = omega (arith, c .before .before .before .before .before .before .loop .inv .fits .1, c .before .before .before .before .before .before .loop .inv .within, div-le-self 10000000 (c .before .before .before .before .before .before .before .before .before .before .before .before .before .args .step))
 
 same-length : tie.Need-same-length Inv-loop μ-loop
-same-length c = ap length (c .before .before .before .before .hand2 .ensures .0) ∙ noting-length (c .before .before .before .before .before .before .before .before .before .before .before .loop .e .chains) (c .before .before .before .before .before .before .before .before .before .before .before .loop .e .chains .opened + 1) (c .before .before .before .before .before .before .before .before .before .before .before .loop .e .chains .best .size) (c .before .before .before .before .before .before .before .before .before .before .before .loop .sizes) ∙ c .before .before .before .before .before .before .before .before .before .before .before .loop .inv .sizes-long
+same-length c = ap length (c .before .before .before .before .hand .ensures .0) ∙ noting-length (c .before .before .before .before .before .before .before .before .before .before .before .loop .e .chains) (c .before .before .before .before .before .before .before .before .before .before .before .loop .e .chains .opened + 1) (c .before .before .before .before .before .before .before .before .before .before .before .loop .e .chains .best .size) (c .before .before .before .before .before .before .before .before .before .before .before .loop .sizes) ∙ c .before .before .before .before .before .before .before .before .before .before .before .loop .inv .sizes-long
 
 same-length-2 : tie.Need-same-length-2 Inv-loop μ-loop
-same-length-2 c = ap length (c .before .before .before .before .hand2 .ensures .1) ∙ noting-length (c .before .before .before .before .before .before .before .before .before .before .before .loop .e .chains) (c .before .before .before .before .before .before .before .before .before .before .before .loop .e .chains .opened + 1) (c .before .before .before .before .before .before .before .before .before .before .before .loop .e .chains .best .time) (c .before .before .before .before .before .before .before .before .before .before .before .loop .times) ∙ c .before .before .before .before .before .before .before .before .before .before .before .loop .inv .times-long
+same-length-2 c = ap length (c .before .before .before .before .hand .ensures .1) ∙ noting-length (c .before .before .before .before .before .before .before .before .before .before .before .loop .e .chains) (c .before .before .before .before .before .before .before .before .before .before .before .loop .e .chains .opened + 1) (c .before .before .before .before .before .before .before .before .before .before .before .loop .e .chains .best .time) (c .before .before .before .before .before .before .before .before .before .before .before .loop .times) ∙ c .before .before .before .before .before .before .before .before .before .before .before .loop .inv .times-long
 
 returns : tie.Need-returns Inv-loop μ-loop
 returns c =
@@ -118,8 +114,8 @@ returns c =
     let v = c .before .before .before .before .before .before .before .before .before .before .before .loop .inv in
     let h : length (a .timed .now) ≤ c .before .before .before .before .before .before .before .before .before .before .before .loop .i + c .before .before .before .before .before .before .before .before .before .before .before .loop .run .length = omega (arith, c .before .before .before .before .before .before .before .before .before .if1 .left) in (
       passing-number (a .step) (a .n) (a .s) (a .decorrelation) (a .timed .now) (a .sizes .now) (a .times .now) v h,
-      c .before .before .before .before .hand2 .ensures .0 ∙ passing-sizes (a .step) (a .n) (a .s) (a .decorrelation) (a .timed .now) (a .sizes .now) (a .times .now) v h,
-      c .before .before .before .before .hand2 .ensures .1 ∙ passing-times (a .step) (a .n) (a .s) (a .decorrelation) (a .timed .now) (a .sizes .now) (a .times .now) v h,
+      c .before .before .before .before .hand .ensures .0 ∙ passing-sizes (a .step) (a .n) (a .s) (a .decorrelation) (a .timed .now) (a .sizes .now) (a .times .now) v h,
+      c .before .before .before .before .hand .ensures .1 ∙ passing-times (a .step) (a .n) (a .s) (a .decorrelation) (a .timed .now) (a .sizes .now) (a .times .now) v h,
     )
 
 pub pass-spec : {M : Type 1} → statement M
@@ -138,8 +134,7 @@ pass-spec =
     loop-holds
     add-if1
     peak-requires
-    advance-requires
-    hand-requires
+    onward-requires
     add-i
     mul-first-run-2
     sub-first-run-2
@@ -149,7 +144,7 @@ pass-spec =
     loop-less
     loop-again
     add-hand
-    hand-requires-2
+    hand-requires
     same-length
     same-length-2
     returns)

@@ -9,7 +9,7 @@ use mir.Val.{SFits}
 use mir.Syntax.{w32}
 use mir.Facts.{toZ-ofZ}
 use Rattle.reading.specs.Reading.{sampleAt}
-use Rattle.feeding.specs.Step.{moved}
+use Rattle.steps.specs.Step.{moved}
 use Rattle.record.proofs.Relations.{kept-from}
 use Rattle.record.proofs.Bounds.{small}
 use Rattle.feeding.proofs.Quiet.{quiet-still, still-run}

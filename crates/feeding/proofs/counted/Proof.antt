@@ -7,7 +7,7 @@ use mir.Facts.{toZ-ofZ}
 use native.Mathlib.Omega.{arith}
 use Rattle.record.proofs.Relations.{kept-from}
 use Rattle.record.proofs.Bounds.{small, crossings-below, groups-within, recent-earlier}
-use Rattle.feeding.proofs.Steps.{ext}
+use Rattle.steps.proofs.Steps.{ext}
 use Rattle.feeding.proofs.counted.Statement.{statement}
 use Rattle.feeding.proofs.counted.Tie as tie
 

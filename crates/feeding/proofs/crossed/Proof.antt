@@ -2,7 +2,7 @@
 use borrow.Author.Needs.{needs}
 use mathlib.Core.Path.{sym, ap, _∙_}
 use mir.Facts.{toZ-ofZ}
-use Rattle.feeding.specs.Step.{crossed}
+use Rattle.steps.specs.Step.{crossed}
 use Rattle.record.proofs.Relations.{kept-from}
 use Rattle.record.proofs.Bounds.{latest-earlier}
 use Rattle.feeding.proofs.crossed.Statement.{statement}

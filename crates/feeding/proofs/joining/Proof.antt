@@ -4,7 +4,7 @@ use mir.Facts.{toZ-ofZ}
 use native.Mathlib.Omega.{arith}
 use Rattle.record.proofs.Relations.{kept-from}
 use Rattle.record.proofs.Bounds.{small, crossings-below}
-use Rattle.feeding.proofs.Steps.{near-both}
+use Rattle.steps.proofs.Steps.{near-both}
 use Rattle.feeding.proofs.joining.Statement.{statement}
 use Rattle.feeding.proofs.joining.Tie as tie
 

@@ -12,7 +12,7 @@ use Rattle.refusal.specs.declared.Refusal.the-variants.{Sample}
 use Rattle.record.specs.declared.Answer.the-variants.{Taken, Refused}
 use Rattle.limits.specs.Limits.{mostSamples}
 use Rattle.record.specs.State.{sound}
-use Rattle.feeding.specs.Step.{stepped}
+use Rattle.steps.specs.Step.{stepped}
 use Rattle.range.specs.Range.{firstBad}
 use Rattle.range.proofs.Bad.{bad-append, bad-left, bad-within, ends-bad, if-outside}
 use Rattle.block.proofs.Cut.{end-within, block-length, block-cut}

@@ -20,9 +20,9 @@ use Rattle.range.proofs.Bad.{good-head}
 use Rattle.reading.specs.Reading.{sampleAt}
 use Rattle.record.specs.State.{sound}
 use Rattle.feeding.specs.Gap.{Gap}
-use Rattle.feeding.specs.Step.{below, crosses, stepped}
+use Rattle.steps.specs.Step.{below, crosses, stepped}
 use Rattle.feeding.proofs.Gaps.{gap-stays}
-use Rattle.feeding.proofs.Steps.{stepped-sound, stepped-n, stepped-most, stepped-timed, stepped-low}
+use Rattle.steps.proofs.Steps.{stepped-sound, stepped-n, stepped-most, stepped-timed, stepped-low}
 use Rattle.feeding.proofs.run.Statement.{statement}
 use Rattle.feeding.proofs.run.Tie as tie
 

@@ -3,10 +3,10 @@ use borrow.Author.Needs.{needs}
 use mathlib.Core.Path.{sym, ap, _∙_}
 use mir.Facts.{toZ-ofZ}
 use native.Mathlib.Omega.{arith}
-use Rattle.feeding.specs.Step.{moved, crossed, stepped}
+use Rattle.steps.specs.Step.{moved, crossed, stepped}
 use Rattle.record.proofs.Relations.{kept-from}
 use Rattle.record.proofs.Bounds.{small}
-use Rattle.feeding.proofs.Steps.{crosses-after}
+use Rattle.steps.proofs.Steps.{crosses-after}
 use Rattle.feeding.proofs.step.Statement.{statement}
 use Rattle.feeding.proofs.step.Tie as tie
 

@@ -10,7 +10,7 @@ use mir.Val.{SFits}
 use mir.Syntax.{w32}
 use mir.Facts.{toZ-ofZ}
 use Rattle.reading.specs.Reading.{sampleAt}
-use Rattle.feeding.specs.Step.{moved, stepped}
+use Rattle.steps.specs.Step.{moved, stepped}
 use Rattle.feeding.proofs.Ramp.{led, led-good, led-on, led-sound}
 use Rattle.record.proofs.Relations.{kept-from}
 use Rattle.record.proofs.Bounds.{small}

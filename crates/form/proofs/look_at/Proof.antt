@@ -4,11 +4,11 @@ use mathlib.Core.Path.{_≡_, refl, sym, ap, _∙_}
 use native.Mathlib.Omega.{arith}
 use lib.ListN.{length}
 use denote.Ref.{now}
-use Rattle.decimal.specs.Field.{fieldAt}
-use Rattle.decimal.specs.declared.Field.{Field}
-use Rattle.decimal.specs.declared.Field.the-variants.{Number, Strange}
-use Rattle.decimal.proofs.Back.{read-only}
-use Rattle.decimal.proofs.Faults.{strangePlace, strange-within}
+use Rattle.fields.specs.Field.{fieldAt}
+use Rattle.fields.specs.declared.Field.{Field}
+use Rattle.fields.specs.declared.Field.the-variants.{Number, Strange}
+use Rattle.fields.proofs.Back.{read-only}
+use Rattle.fields.proofs.Faults.{strangePlace, strange-within}
 use borrow.Author.Needs.{needs}
 use Rattle.form.proofs.look_at.Statement.{statement}
 use Rattle.form.proofs.look_at.Tie as tie

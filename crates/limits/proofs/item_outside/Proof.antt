@@ -30,7 +30,7 @@ pick-requires-4 c κs = search needs
 
 returns : tie.Need-returns
 unfolding itemOutside
-returns c = cc
+returns c = rw (c .pick4 .ensures, c .before .between4 .ensures, c .before .before .pick3 .ensures, c .before .before .before .between3 .ensures, c .before .before .before .before .pick2 .ensures, c .before .before .before .before .before .between2 .ensures, c .before .before .before .before .before .before .pick .ensures, c .before .before .before .before .before .before .before .between .ensures)
 
 pub item-outside-spec : {M : Type 1} → statement M
 item-outside-spec =

@@ -7,7 +7,7 @@ use borrow.Author.Tests.{eq-eqb, ne-eqb}
 use lib.ListN.{drop-of-length-le}
 use lib.Seq.{drop-cons}
 use denote.Ref.{now}
-use Rattle.decimal.specs.Field.{fieldAt}
+use Rattle.fields.specs.Field.{fieldAt}
 use Rattle.line.specs.Line.{startsWith, endedBy, fieldThen}
 use borrow.Author.Needs.{needs}
 use Rattle.line.proofs.field_then.Statement.{statement}

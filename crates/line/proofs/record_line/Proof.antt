@@ -9,7 +9,7 @@ use denote.Ref.{now}
 use Rattle.truth.proofs.Laws.{holds, said-no, said-yes}
 use Rattle.campaign.proofs.Relations.{kept-from}
 use Rattle.decimal.specs.Field.{tab, lineFeed}
-use Rattle.decimal.specs.declared.Field.the-variants.{Number}
+use Rattle.fields.specs.declared.Field.the-variants.{Number}
 use Rattle.form.specs.Form.{isLine}
 use Rattle.line.specs.Line.{fieldThen, isRecord, lineAfter, outcome, recordLine}
 use Rattle.line.proofs.Fields.{other-field}

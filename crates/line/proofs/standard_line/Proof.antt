@@ -5,7 +5,7 @@ use borrow.Author.Tests.{eq-eqb, ne-eqb}
 use lib.ListN.{length}
 use denote.Ref.{now}
 use Rattle.decimal.specs.Field.{lineFeed}
-use Rattle.decimal.specs.declared.Field.the-variants.{Number}
+use Rattle.fields.specs.declared.Field.the-variants.{Number}
 use Rattle.truth.proofs.Laws.{said-no, said-yes}
 use Rattle.form.specs.Form.{standardWord, begins, isLine}
 use Rattle.line.specs.Line.{fieldThen, outcome, standardLine}

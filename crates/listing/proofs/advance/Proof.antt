@@ -1,9 +1,9 @@
 -- `listing::advance` meets its contract: over a quiet block only the time moves (`quiet-block`); another is walked sample by sample. Assumes nothing.
 use mathlib.Core.Path.{sym, ap, _∙_}
 use borrow.Author.Needs.{needs}
-use Rattle.listing.specs.declared.Walk.{Walk}
-use Rattle.listing.specs.Walk.{noting}
-use Rattle.listing.proofs.Steps.{quiet-block}
+use Rattle.walk.specs.declared.Walk.{Walk}
+use Rattle.walk.specs.Walk.{noting}
+use Rattle.walk.proofs.Steps.{quiet-block}
 use Rattle.listing.proofs.advance.Statement.{statement}
 use Rattle.listing.proofs.advance.Tie as tie
 

@@ -12,8 +12,8 @@ use mir.Val.{toZ, ofZ}
 use mir.Facts.{toZ-ofZ}
 use Rattle.magnitude.specs.Above.{above}
 use Rattle.magnitude.proofs.Turn.{turn}
-use Rattle.listing.specs.Walk.{Noting, noting, marked, noted, Ready}
-use Rattle.listing.proofs.Steps.{ready-less, ready-next, noted-length}
+use Rattle.walk.specs.Walk.{Noting, noting, marked, noted, Ready}
+use Rattle.walk.proofs.Steps.{ready-less, ready-next, noted-length}
 use Rattle.listing.proofs.along.Statement.{statement}
 use Rattle.listing.proofs.along.Tie as tie
 

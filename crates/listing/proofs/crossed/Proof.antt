@@ -1,9 +1,12 @@
 -- `listing::crossed` meets its contract: the test says whether a group starts; the sums fit since the walk is ready for a sample. Assumes nothing.
+use mathlib.Core.Path.{sym, _∙_}
 use borrow.Author.Needs.{needs}
-use borrow.Author.Tests.{le-leb, lt-leb}
-use Rattle.listing.specs.Walk.{stepped}
+use Rattle.walk.specs.Walk.{stepped}
 use Rattle.listing.proofs.crossed.Statement.{statement}
 use Rattle.listing.proofs.crossed.Tie as tie
+
+starts-requires : tie.Need-starts-requires
+starts-requires c κs = search needs
 
 put-requires : tie.Need-put-requires
 put-requires c κs = search needs
@@ -22,7 +25,7 @@ same-length c = search needs
 
 returns : tie.Need-returns
 unfolding stepped
-returns c = rw (c .before .before .before .before .before .before .before .before .before .before .pre .1, le-leb _ _ (c .before .before .before .before .before .before .before .if1 .taken), c .before .before .before .before .before .put .ensures)
+returns c = rw (c .before .before .before .before .before .before .before .before .before .before .pre .1, sym (c .before .before .before .before .before .before .before .before .starts .ensures) ∙ c .before .before .before .before .before .before .before .if1 .taken, c .before .before .before .before .before .put .ensures)
 
 add-t12 : tie.Need-add-t12
 add-t12 c = search needs
@@ -32,9 +35,9 @@ add-t13 c = search needs
 
 returns-2 : tie.Need-returns-2
 unfolding stepped
-returns-2 c = rw (c .before .before .before .before .before .pre .1, lt-leb _ _ (c .before .before .if1 .left))
+returns-2 c = rw (c .before .before .before .before .before .pre .1, sym (c .before .before .before .starts .ensures) ∙ c .before .before .if1 .left)
 
 pub crossed-spec : {M : Type 1} → statement M
 crossed-spec =
     tie.close
-    (tie.spec put-requires add-t9 add-t10 add-t11 same-length returns add-t12 add-t13 returns-2)
+    (tie.spec starts-requires put-requires add-t9 add-t10 add-t11 same-length returns add-t12 add-t13 returns-2)

@@ -11,7 +11,7 @@ use Rattle.range.specs.Range.{firstBad}
 use Rattle.range.proofs.Bad.{bad-append, bad-left, bad-within}
 use Rattle.limits.proofs.Items.{items}
 use Rattle.whole.proofs.Judged.{Fitting, fitting, refused-tested}
-use Rattle.listing.proofs.Steps.{ready}
+use Rattle.listing.proofs.Ready.{ready}
 use Rattle.listing.proofs.Answered.{lists-refused, lists-bad, lists-good}
 use Rattle.listing.proofs.list.Statement.{statement}
 use Rattle.listing.proofs.list.Tie as tie

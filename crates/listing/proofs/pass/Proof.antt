@@ -13,8 +13,8 @@ use Rattle.block.proofs.Sides.{ends-say}
 use Rattle.range.specs.Range.{firstBad}
 use Rattle.range.proofs.Bad.{bad-append, bad-left, bad-within, ends-bad, if-outside}
 use Rattle.listing.specs.declared.Found.the-variants.{Count}
-use Rattle.listing.specs.Walk.{start, Noting, noting, noted, Ready}
-use Rattle.listing.proofs.Steps.{ready-less, ready-after, walked-length}
+use Rattle.walk.specs.Walk.{start, Noting, noting, noted, Ready}
+use Rattle.walk.proofs.Steps.{ready-less, ready-after, walked-length}
 use Rattle.listing.proofs.pass.Statement.{statement}
 use Rattle.listing.proofs.pass.Tie as tie
 

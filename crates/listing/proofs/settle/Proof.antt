@@ -7,7 +7,7 @@ use borrow.Author.Needs.{needs}
 use Rattle.range.specs.Range.{firstBad}
 use Rattle.refusal.specs.declared.Refusal.the-variants.{Sample}
 use Rattle.listing.specs.declared.Listed.the-variants.{Refused}
-use Rattle.listing.proofs.Steps.{ready-short}
+use Rattle.walk.proofs.Steps.{ready-short}
 use Rattle.listing.proofs.Heard.{heard-bad, heard-count, Told}
 use Rattle.listing.proofs.settle.Statement.{statement}
 use Rattle.listing.proofs.settle.Tie as tie

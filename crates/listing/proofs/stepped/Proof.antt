@@ -3,7 +3,7 @@ use mathlib.Core.Path.{_≡_, sym, _∙_}
 use mathlib.Core.Bool.{true}
 use borrow.Author.Needs.{needs}
 use Rattle.truth.proofs.Laws.{and-true}
-use Rattle.listing.specs.Walk.{stepped}
+use Rattle.walk.specs.Walk.{stepped}
 use Rattle.listing.proofs.stepped.Statement.{statement}
 use Rattle.listing.proofs.stepped.Tie as tie
 

@@ -7,9 +7,9 @@ use borrow.Author.Needs.{needs}
 use Rattle.refusal.specs.declared.Refusal.the-variants.{Sample}
 use Rattle.reading.specs.Reading.{countedTimes}
 use Rattle.listing.specs.declared.Listed.the-variants.{Refused}
-use Rattle.listing.specs.Walk.{Noting}
+use Rattle.walk.specs.Walk.{Noting}
 use Rattle.listing.proofs.Answered.{writes-times}
-use Rattle.listing.proofs.Heard.{walked-count, walked-times, half-counted}
+use Rattle.walk.proofs.Walked.{walked-count, walked-times, half-counted}
 use Rattle.listing.proofs.straight.Statement.{statement}
 use Rattle.listing.proofs.straight.Tie as tie
 

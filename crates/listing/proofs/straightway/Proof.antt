@@ -5,7 +5,7 @@ use native.Mathlib.Omega.{arith}
 use lib.ListN.{length}
 use borrow.Author.Needs.{needs}
 use Rattle.block.proofs.Cut.{block-length}
-use Rattle.listing.proofs.Steps.{ready-less}
+use Rattle.walk.proofs.Steps.{ready-less}
 use Rattle.listing.proofs.straightway.Statement.{statement}
 use Rattle.listing.proofs.straightway.Tie as tie
 

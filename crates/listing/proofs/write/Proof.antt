@@ -7,7 +7,7 @@ use lib.ListN.{length, drop}
 use borrow.Author.Needs.{needs}
 use Rattle.reading.specs.Reading.{countedTimes}
 use Rattle.listing.proofs.Answered.{writes-room, writes-times}
-use Rattle.listing.proofs.Heard.{walked-times}
+use Rattle.walk.proofs.Walked.{walked-times}
 use Rattle.listing.proofs.write.Statement.{statement}
 use Rattle.listing.proofs.write.Tie as tie
 

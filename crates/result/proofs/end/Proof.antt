@@ -28,7 +28,7 @@ exposure-of-requires c κs = (said-yes (c .before .before .before .before .sound
 
 returns-3 : tie.Need-returns-3
 unfolding ending
-returns-3 c = rw (said-yes (c .before .before .before .before .before .sound .ensures) (c .before .before .before .before .if1 .left), le-ltb _ _ (c .before .if2 .left)) (cc)
+returns-3 c = rw (said-yes (c .before .before .before .before .before .sound .ensures) (c .before .before .before .before .if1 .left), le-ltb _ _ (c .before .if2 .left), c .exposure-of .ensures)
 
 pub end-spec : {M : Type 1} → statement M
 end-spec = tie.close (tie.spec sound-requires returns add-if2 returns-2 exposure-of-requires returns-3)

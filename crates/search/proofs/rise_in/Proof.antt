@@ -81,7 +81,7 @@ told c =
     let i = c .before .before .before .before .loop .i in
     let e : SFits w32 (sampleAt (g .samples .now) (i - 1)) = search needs in
     let f : SFits w32 (sampleAt (g .samples .now) i) = search needs in
-    cc (toZ-ofZ e, toZ-ofZ f)
+    c .rises .ensures ∙ rw (toZ-ofZ e, toZ-ofZ f)
 
 returns-2 : tie.Need-returns-2 Inv-loop μ-loop
 returns-2 c =

@@ -21,7 +21,7 @@ both-requires-4 c κs = search needs
 
 -- src/lib.rt:47:1
 returns : tie.Need-returns
-returns c = cc
+returns c = rw (c .both4 .ensures, c .before .both3 .ensures, c .before .before .both2 .ensures, c .before .before .before .both .ensures)
 
 pub zeros-spec : {M : Type 1} → statement M
 zeros-spec =

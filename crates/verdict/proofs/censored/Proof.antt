@@ -1,5 +1,7 @@
 -- `verdict::censored` meets its contract: a sound state is counted, a broken one refused. Assumes nothing.
+use mathlib.Core.Path.{ap}
 use Rattle.truth.proofs.Laws.{holds, said-no, said-yes}
+use Rattle.verdict.specs.declared.Counted.the-variants.{Count}
 use Rattle.verdict.specs.Answers.{counting}
 use Rattle.campaign.proofs.Relations.{kept-from}
 use borrow.Author.Needs.{needs}
@@ -18,7 +20,7 @@ censored-of-requires c κs = kept-from (c .before .before .args .c) (holds (said
 
 returns-2 : tie.Need-returns-2
 unfolding counting
-returns-2 c = rw (said-yes (c .before .before .sound .ensures) (c .before .if1 .left)) (cc)
+returns-2 c = rw (said-yes (c .before .before .sound .ensures) (c .before .if1 .left)) (ap Count (c .censored-of .ensures))
 
 pub censored-spec : {M : Type 1} → statement M
 censored-spec = tie.close (tie.spec sound-requires returns censored-of-requires returns-2)

@@ -21,7 +21,7 @@ add-result c = search needs
 
 returns-2 : tie.Need-returns-2
 unfolding censored
-returns-2 c = rw (ne-eqb _ _ (c .before .before .if1 .left)) (cc)
+returns-2 c = rw (ne-eqb _ _ (c .before .before .if1 .left), c .before .pick .ensures)
 
 pub censored-of-spec : {M : Type 1} → statement M
 censored-of-spec = tie.close (tie.spec returns pick-requires sub-result add-result returns-2)

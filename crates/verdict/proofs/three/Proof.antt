@@ -16,7 +16,7 @@ upper-rate-requires : tie.Need-upper-rate-requires
 upper-rate-requires c κs = search needs
 
 returns : tie.Need-returns
-returns c = cc
+returns c = rw (c .before .before .quotient .ensures, c .before .lower-rate .ensures, c .upper-rate .ensures)
 
 pub three-spec : {M : Type 1} → statement M
 three-spec =

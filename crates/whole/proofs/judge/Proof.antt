@@ -36,7 +36,7 @@ most c = c .most-samples .ensures ∙ most-in-range (c .before .before .before .
 
 -- what the test of the length says
 tested : (c : tie.After-both) → c .both .result ≡ (leb (length (c .before .before .before .before .args .samples .now)) (mostSamples (c .before .before .before .before .args .step) (c .before .before .before .before .args .ramp)) && leb (c .before .before .before .before .args .ramp + 2) (length (c .before .before .before .before .args .samples .now)))
-tested c = cc (most (c .before))
+tested c = rw (c .both .ensures, most (c .before))
 
 returns-2 : tie.Need-returns-2
 returns-2 c = sized-fits (c .before .before .before .before .before .args .step) (c .before .before .before .before .before .args .ramp) (c .before .before .before .before .before .args .level) (c .before .before .before .before .before .args .decorrelation) (c .before .before .before .before .before .args .samples .now) (ranged (c .before .before .before)) (sym (tested (c .before)) ∙ c .if2 .taken)

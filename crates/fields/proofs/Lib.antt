@@ -1,0 +1,5 @@
+pub mod Reading
+pub mod Faults
+pub mod Back
+pub mod Unique
+pub mod Examples

@@ -1,0 +1,4 @@
+pub mod Noting
+pub mod Steps
+pub mod Walked
+pub mod Unique

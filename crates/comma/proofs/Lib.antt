@@ -1,10 +1,2 @@
-pub mod Shape
-pub mod Lines
 pub mod At
-pub mod Times
-pub mod PlainLine
-pub mod Answered
-pub mod Along
-pub mod Puts
-pub mod Back
 pub mod Unique

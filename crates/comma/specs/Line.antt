@@ -8,7 +8,7 @@ use lib.IntN.{ℤ}
 use Rattle.decimal.specs.Decimal.{isNumber, valueOf, digitsOf}
 use Rattle.decimal.specs.Field.{lineFeed}
 use Rattle.decimal.specs.Leading.{leading, behind}
-use Rattle.degrees.specs.Degrees.{first, below, unsigned, size, isDegrees, degreesLength, sampleOf, degreesText}
+use Rattle.degrees.specs.Degrees.{first, below, unsigned, size, isDegrees, degreesLength, degreesText}
 use Rattle.comma.specs.declared.Line.{Line}
 use Rattle.comma.specs.declared.Line.the-variants.{Says, Wrong}
 

@@ -3,3 +3,4 @@ pub mod Forms
 pub mod Parts
 pub mod Signs
 pub mod Unique
+pub mod Thousandths

@@ -14,11 +14,12 @@ use Rattle.limits.specs.Limits.{stepInRange}
 use Rattle.range.specs.Range.{firstBad}
 use Rattle.decimal.specs.Decimal.{longest}
 use Rattle.decimal.specs.Lines.{linesOf}
-use Rattle.comma.specs.declared.Reading.the-variants.{Samples, Refused}
-use Rattle.comma.specs.declared.Writing.the-variants.{Bytes, Refused as Declined}
 use Rattle.comma.specs.Text.{firstWrong, samplesOf, textOf}
-use Rattle.comma.specs.Answers.{filledBy, laidBy, lastTime, reading, readingLines, writing}
-use Rattle.comma.proofs.Back.{read-again, read-back}
+use Rattle.intake.specs.declared.Reading.the-variants.{Samples, Refused}
+use Rattle.intake.specs.Answers.{filledBy, reading, readingLines}
+use Rattle.scribe.specs.declared.Writing.the-variants.{Bytes, Refused as Declined}
+use Rattle.scribe.specs.Answers.{laidBy, lastTime, writing}
+use Rattle.scribe.proofs.Back.{read-again, read-back}
 use Rattle.demands.proofs.Demand1.{Decides, Test, _gives_, decide, decided}
 
 -- ---- the statement

@@ -1,5 +1,5 @@
 -- Laws of plain degrees: the bytes of each form are degrees of that size and length. Assumes nothing.
-use mathlib.Core.Path.{_≡_, refl, _∙_}
+use mathlib.Core.Path.{_≡_, refl, sym, _∙_}
 use mathlib.Core.Bool.{true, false, not, _&&_}
 use mathlib.Core.List.{List, [], _∷_}
 use Prim.Native.Nat.{ℕ, _+_, _-_, _*_, _≤_, _<_}
@@ -9,7 +9,7 @@ use native.Mathlib.Omega.{arith}
 use lib.Dec.{eqb, leb}
 use lib.ListN.{length, getD, drop}
 use lib.Seq.{drop-cons}
-use borrow.Author.Tests.{eqb-true, not-true, leb-true}
+use borrow.Author.Tests.{eqb-true, eqb-false, not-true, leb-true, le-leb}
 use Rattle.truth.proofs.Cases.{by-test}
 use Rattle.truth.proofs.Laws.{and-true}
 use Rattle.decimal.specs.Decimal.{zeroByte, isDigit, allDigits, isNumber, valueOf}
@@ -19,7 +19,7 @@ use Rattle.degrees.specs.declared.Degrees.the-variants.{Says}
 use Rattle.degrees.specs.Degrees.{point, filled, signLength, size, degreesAt}
 use Rattle.degrees.proofs.Forms.{Sized, with-point, sized-at}
 use Rattle.degrees.proofs.Signs.{behind-sign}
-use Rattle.plain.specs.Plain.{byteAt, shortDigits, longDigits, shortAt, longAt, Form, short, long, Plain, plainBytes}
+use Rattle.plain.specs.Plain.{byteAt, shortDigits, longDigits, shortAt, longAt, Form, short, long, Plain, plainBytes, shortSize, longSize, plainSize}
 
 -- the bytes from a place on, one by one
 next-byte : (s : List ℕ) (at : ℕ) → at < length s → drop at s ≡ getD s at 0 ∷ drop (at + 1) s
@@ -99,30 +99,38 @@ module _ (s : List ℕ) (at : ℕ) where
       record { tens = tens; some = not-true _ other; digits = digits; feed = eqb-true _ _ feed }
 
   short-sized : at + 7 ≤ length s → byteAt s at 1 ≡ point → (f : ShortFacts)
-      → Sized (drop at s) (valueOf (shortDigits s at)) 5
+      → Sized (drop at s) (shortSize s at) 5
   short-sized room mark f =
       let bytes = rw (mark, f .feed) at (seven s at room) in
       rw bytes (short-form (getD s at 0) (byteAt s at 2) (byteAt s at 3) (byteAt s at 4) (byteAt s at 6 ∷ drop (at + 7) s) (f .digits))
 
   long-sized : at + 7 ≤ length s → byteAt s at 2 ≡ point → (f : LongFacts)
-      → Sized (drop at s) ((getD s at 0 - zeroByte) * 10000 + valueOf (longDigits s at)) 6
+      → Sized (drop at s) (longSize s at) 6
   long-sized room mark f =
       let bytes = rw (mark, f .feed) at (seven s at room) in
       rw bytes (long-form (byteAt s at 1) (byteAt s at 3) (byteAt s at 4) (byteAt s at 5) (drop (at + 7) s) (f .digits) (getD s at 0) (f .tens) (f .some))
 
-  pub short-of : {bytes : ℕ} → Plain s at bytes → bytes ≡ 5 → ShortFacts × Sized (drop at s) (valueOf (shortDigits s at)) 5
+  pub short-of : {bytes : ℕ} → Plain s at bytes → bytes ≡ 5 → ShortFacts × Sized (drop at s) (shortSize s at) 5
   short-of p e = by-form (p .form) e
     where
-      by-form : {bytes : ℕ} → Form s at bytes → bytes ≡ 5 → ShortFacts × Sized (drop at s) (valueOf (shortDigits s at)) 5
+      by-form : {bytes : ℕ} → Form s at bytes → bytes ≡ 5 → ShortFacts × Sized (drop at s) (shortSize s at) 5
       by-form (short mark h) e = (short-facts h, short-sized (p .room) mark (short-facts h))
       by-form (long mark h) e = absurd (omega arith)
 
-  pub long-of : {bytes : ℕ} → Plain s at bytes → ¬ (bytes ≡ 5) → LongFacts × Sized (drop at s) ((getD s at 0 - zeroByte) * 10000 + valueOf (longDigits s at)) 6
+  pub long-of : {bytes : ℕ} → Plain s at bytes → ¬ (bytes ≡ 5) → LongFacts × Sized (drop at s) (longSize s at) 6
   long-of p e = by-form (p .form) e
     where
-      by-form : {bytes : ℕ} → Form s at bytes → ¬ (bytes ≡ 5) → LongFacts × Sized (drop at s) ((getD s at 0 - zeroByte) * 10000 + valueOf (longDigits s at)) 6
+      by-form : {bytes : ℕ} → Form s at bytes → ¬ (bytes ≡ 5) → LongFacts × Sized (drop at s) (longSize s at) 6
       by-form (short mark h) e = absurd (e refl)
       by-form (long mark h) e = (long-facts h, long-sized (p .room) mark (long-facts h))
+
+  -- the digits of plain degrees are worth their thousandths
+  pub plain-size : {bytes : ℕ} → Plain s at bytes → plainSize s at bytes ≡ size (drop at s)
+  unfolding plainSize
+  plain-size {bytes} p =
+      by-test (eqb bytes 5)
+      (λ e. rw (le-leb _ _ (p .room), e) (sym (short-of p (eqb-true _ _ e) .1 .value)))
+      (λ e. rw (le-leb _ _ (p .room), e) (sym (long-of p (eqb-false _ _ e) .1 .value)))
 
   -- what plain degrees are: a size in range, and LF behind it
   pub record PlainFacts (bytes : ℕ) : Type 0 where

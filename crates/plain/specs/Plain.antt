@@ -1,11 +1,11 @@
 -- Plain degrees: one or two digits, a point and three digits, before an LF, as simulators write them. Assumes nothing.
-use Prim.Native.Nat.{ℕ, _+_, _≤_}
+use Prim.Native.Nat.{ℕ, _+_, _-_, _*_, _≤_}
 use mathlib.Core.Path.{_≡_}
 use mathlib.Core.Bool.{Bool, true, cond, not, _&&_}
 use mathlib.Core.List.{List, [], _∷_}
 use lib.ListN.{length, getD}
 use lib.Dec.{eqb, leb}
-use Rattle.decimal.specs.Decimal.{zeroByte, isDigit, allDigits}
+use Rattle.decimal.specs.Decimal.{zeroByte, isDigit, allDigits, valueOf}
 use Rattle.decimal.specs.Field.{lineFeed}
 use Rattle.degrees.specs.Degrees.{point}
 
@@ -47,3 +47,14 @@ plainBytes s at =
     (cond (eqb (byteAt s at 1) point) (cond (shortAt s at) 5 0)
     0))
     0
+
+-- the thousandths of 4.250 and of 41.500
+abbrev pub shortSize : List ℕ → ℕ → ℕ
+shortSize s at = valueOf (shortDigits s at)
+
+abbrev pub longSize : List ℕ → ℕ → ℕ
+longSize s at = (getD s at 0 - zeroByte) * 10000 + valueOf (longDigits s at)
+
+-- the thousandths of plain degrees of so many bytes; 0 where less than seven bytes stand at the place
+unfoldable pub plainSize : List ℕ → ℕ → ℕ → ℕ
+plainSize s at bytes = cond (leb (at + 7) (length s)) (cond (eqb bytes 5) (shortSize s at) (longSize s at)) 0

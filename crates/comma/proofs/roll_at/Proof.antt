@@ -3,7 +3,7 @@ use native.Mathlib.Omega.{arith}
 use borrow.Author.Needs.{needs}
 use denote.Ref.{now}
 use Rattle.plain.specs.Plain.{Plain}
-use Rattle.plain.proofs.Plain.{plain-of, plain-facts, plain-read}
+use Rattle.plain.proofs.Plain.{plain-of, plain-facts, plain-size, plain-read}
 use Rattle.comma.proofs.roll_at.Statement.{statement}
 use Rattle.comma.proofs.roll_at.Tie as tie
 
@@ -22,8 +22,8 @@ degrees-at-requires c κs = search needs
 returns : tie.Need-returns
 returns c = search needs
 
-plain-size-requires : tie.Need-plain-size-requires
-plain-size-requires c κs = plain c
+size-at-requires : tie.Need-size-at-requires
+size-at-requires c κs = search needs
 
 add-t7 : tie.Need-add-t7
 add-t7 c = omega (arith, plain-facts _ _ (plain (c .before)) .room)
@@ -32,7 +32,7 @@ returns-2 : tie.Need-returns-2
 returns-2 c =
     let p = c .before .before .before in
     let a = p .before .before .args in
-    rw (c .plain-size .ensures) (plain-read (now (a .s)) (a .at) (p .past-minus .result) (p .past-minus .ensures) (plain (c .before)))
+    rw (c .size-at .ensures, plain-size _ _ (plain (c .before))) (plain-read (now (a .s)) (a .at) (p .past-minus .result) (p .past-minus .ensures) (plain (c .before)))
 
 pub roll-at-spec : {M : Type 1} → statement M
 roll-at-spec =
@@ -42,6 +42,6 @@ roll-at-spec =
     bytes-at-requires
     degrees-at-requires
     returns
-    plain-size-requires
+    size-at-requires
     add-t7
     returns-2)

@@ -1,0 +1,4 @@
+pub mod Dial
+pub mod Turn
+pub mod Shown
+pub mod Unique

@@ -1,0 +1,10 @@
+pub mod Rolls
+pub mod Shape
+pub mod Lines
+pub mod Times
+pub mod PlainLine
+pub mod Running
+pub mod Answered
+pub mod Along
+pub mod Front
+pub mod Unique

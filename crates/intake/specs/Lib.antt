@@ -1,0 +1,5 @@
+pub mod Forms
+pub mod Roll
+pub mod Plain
+pub mod Answers
+pub mod Survey

@@ -1,0 +1,3 @@
+pub mod Puts
+pub mod Back
+pub mod Unique

@@ -1,12 +1,11 @@
 -- The four forms of plain degrees behind a comma, as eight bytes side by side are held against them. Assumes nothing.
-use mathlib.Core.Path.{_≡_, refl, sym, ap, _∙_}
-use mathlib.Core.Bool.{true, false}
-use mathlib.Core.List.{List, [], _∷_}
+use mathlib.Core.Path.{_≡_, refl, ap, _∙_}
+use mathlib.Core.Bool.{true}
+use mathlib.Core.List.{List, []}
 use Prim.Native.Nat.{ℕ, _+_, _-_, _/_, _%_, _≤_, _<_}
 use native.Mathlib.Nat.{add-zero, add-assoc}
 use native.Mathlib.Omega.{arith}
-use lib.Bits.{bitAnd}
-use lib.ListN.{length, getD, take, drop}
+use lib.ListN.{length, getD, drop}
 use lib.Seq.{getD-drop}
 use lib.Dec.{eqb}
 use borrow.Author.Tests.{eq-eqb, ne-eqb, eqb-true, eqb-false}
@@ -17,10 +16,10 @@ use Rattle.decimal.proofs.Text.{digit-range}
 use Rattle.degrees.specs.Degrees.{minus, point, signLength}
 use Rattle.plain.specs.Plain.{byteAt, Form, short, long, Plain}
 use Rattle.plain.proofs.Plain.{four, long-of}
-use Rattle.word.specs.Word.{word, Small}
+use Rattle.word.specs.Word.{word}
 use Rattle.word.specs.Form.{digit}
 use Rattle.intake.specs.Forms.{plusLong, plusShort, minusLong, minusShort}
-use Rattle.word.proofs.Row.{row, row-is}
+use Rattle.word.proofs.Row.{row}
 use Rattle.word.proofs.Form.{Is, Are, first-is, others-are, the-byte, a-digit}
 use Rattle.intake.specs.Roll.{PlainRoll}
 

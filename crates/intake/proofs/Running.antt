@@ -4,47 +4,46 @@ use mathlib.Core.Path.{_≡_, refl, sym, ap, _∙_}
 use mathlib.Core.Bool.{true}
 use mathlib.Core.List.{List}
 use Prim.Native.Nat.{ℕ, zero, suc, _+_, _-_, _*_, _/_, _^_, _≤_, _<_}
-use native.Mathlib.Nat.{add-zero, zero-mul}
+use native.Mathlib.Nat.{add-zero, add-suc}
 use native.Mathlib.Omega.{arith}
+use lib.Pow.{shr-shr}
 use lib.ListN.{length, take, drop, length-drop}
 use lib.Seq.{length-take-le, getD-drop}
-use Rattle.decimal.specs.Decimal.{longest, allDigits, valueOf, digitsOf}
+use Rattle.decimal.specs.Decimal.{allDigits, valueOf}
 use Rattle.word.specs.Word.{word, Small}
 use Rattle.word.proofs.Bytes.{bytes-from, word-front}
 use Rattle.dial.specs.Dial.{dial, each, turned}
 use Rattle.dial.proofs.Turn.{moved}
 use Rattle.dial.proofs.Shown.{shown-wide}
-use Rattle.comma.specs.Line.{lineLength}
 use Rattle.intake.specs.Roll.{PlainRoll}
 use Rattle.intake.specs.Plain.{Narrow, PlainLines, none, more}
 use Rattle.intake.proofs.Times.{narrow-on}
 use Rattle.intake.proofs.PlainLine.{whole-roll, roll-within}
 
--- a width of one to eight
-one-to-eight : (P : ℕ → Type 0) → P 1 → P 2 → P 3 → P 4 → P 5 → P 6 → P 7 → P 8 → (w : ℕ) → 1 ≤ w → w ≤ 8 → P w
-one-to-eight P a b c d e f g h zero l m = absurd (omega arith)
-one-to-eight P a b c d e f g h (suc zero) l m = a
-one-to-eight P a b c d e f g h (suc (suc zero)) l m = b
-one-to-eight P a b c d e f g h (suc (suc (suc zero))) l m = c
-one-to-eight P a b c d e f g h (suc (suc (suc (suc zero)))) l m = d
-one-to-eight P a b c d e f g h (suc (suc (suc (suc (suc zero))))) l m = e
-one-to-eight P a b c d e f g h (suc (suc (suc (suc (suc (suc zero)))))) l m = f
-one-to-eight P a b c d e f g h (suc (suc (suc (suc (suc (suc (suc zero))))))) l m = g
-one-to-eight P a b c d e f g h (suc (suc (suc (suc (suc (suc (suc (suc zero)))))))) l m = h
-one-to-eight P a b c d e f g h (suc (suc (suc (suc (suc (suc (suc (suc (suc w))))))))) l m = absurd (omega arith)
+-- a shift to the right leaves the zeros in front
+zeros-front : (k j : ℕ) → each 48 (k + j) / 2 ^ (8 * j) ≡ each 48 k
+unfolding each
+zeros-front k zero = rw add-zero (omega arith)
+zeros-front k (suc j) =
+    let wide : 8 * suc j ≡ 8 + 8 * j = omega arith in
+    rw (add-suc, wide, ← shr-shr) (ap (λ (v : ℕ). v / 2 ^ (8 * j)) (omega arith) ∙ zeros-front k j)
 
 module _ (width : ℕ) (some : 1 ≤ width) (few : width ≤ 8) where
+  eight : width + (8 - width) ≡ 8
+  eight = omega arith
+
+  shift : 64 - 8 * width ≡ 8 * (8 - width)
+  shift = omega arith
+
   -- as many zeros as the time is wide
-  pub zeros-are : 0x3030303030303030 / 2 ^ (64 - 8 * width) ≡ each 48 width
+  zeros-are : 0x3030303030303030 / 2 ^ (64 - 8 * width) ≡ each 48 width
   unfolding each
-  zeros-are = one-to-eight (λ w. 0x3030303030303030 / 2 ^ (64 - 8 * w) ≡ each 48 w) refl refl refl refl refl refl refl refl width some few
+  zeros-are = rw shift (rw eight at (zeros-front width (8 - width)))
 
   -- the bytes in front of eight
   front : (s : List ℕ) (at : ℕ) → at + 8 ≤ length s → Small s at 8 → word (take 8 (drop at s)) / 2 ^ (64 - 8 * width) ≡ word (take width (drop at s))
   front s at room small =
-      let eight : width + (8 - width) ≡ 8 = omega arith in
-      let shift : 64 - 8 * width ≡ 8 * (8 - width) = omega arith in
-      rw (shift) (rw eight at (word-front (drop at s) width (8 - width) (λ i l. rw getD-drop (small i (omega arith))) (omega (arith, length-drop at s))))
+      rw shift (rw eight at (word-front (drop at s) width (8 - width) (λ i l. rw getD-drop (small i (omega arith))) (omega (arith, length-drop at s))))
 
   pub due-stands : (s : List ℕ) (at time : ℕ) → at + 8 ≤ length s → Small s at 8 → time < 10 ^ 8
       → word (take 8 (drop at s)) / 2 ^ (64 - 8 * width) ≡ dial 8 time + 0x3030303030303030 / 2 ^ (64 - 8 * width)

@@ -1,6 +1,6 @@
 -- Bytes held against a form: where nothing of their turned bits meets the mask, nor with the digits moved on by six, each byte is of its kind. Byte by byte, with
 -- what stands before as an accumulator. Assumes nothing.
-use mathlib.Core.Path.{_≡_, refl, sym, ap, subst, _∙_}
+use mathlib.Core.Path.{_≡_, refl, sym, ap, _∙_}
 use mathlib.Core.Bool.{Bool, true, not, _&&_, _||_}
 use mathlib.Core.List.{List, [], _∷_, map, foldl}
 use Prim.Native.Nat.{ℕ, zero, suc, _+_, _-_, _*_, _/_, _%_, _^_, _≤_, _<_}

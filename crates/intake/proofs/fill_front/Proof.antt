@@ -1,14 +1,14 @@
 -- `intake::fill_front` meets its contract: `Along` and `Putting` are its invariant, and the plain lines that are ahead keep them. What is left of the front falls.
 -- Assumes nothing.
 use mathlib.Core.Path.{_≡_, sym, ap, _∙_}
-use mathlib.Core.Bool.{Bool, true, cond}
+use mathlib.Core.Bool.{Bool, cond}
 use mathlib.Core.List.{List}
 use Prim.Native.Nat.{ℕ, suc, _+_, _-_, _*_, _/_, _%_, _<_, _≤_}
 use native.Mathlib.Nat.{zero-mul, mul-le-mul-right}
 use native.Mathlib.Omega.{arith}
 use lib.Dec.{eqb, leb}
 use lib.IntN.{pos}
-use lib.ListN.{length, drop, set}
+use lib.ListN.{length, set}
 use mir.Facts.{toZ-ofZ}
 use mir.Syntax.{w32}
 use mir.Val.{SFits}
@@ -16,7 +16,7 @@ use denote.Ref.{now}
 use borrow.Author.Needs.{needs}
 use borrow.Author.Tests.{le-leb}
 use Rattle.decimal.specs.Decimal.{digitsOf}
-use Rattle.decimal.proofs.Text.{digits-some, digits-below}
+use Rattle.decimal.proofs.Text.{digits-some}
 use Rattle.degrees.specs.Degrees.{signed, largestSize}
 use Rattle.plain.proofs.Plain.{plain-facts}
 use Rattle.comma.proofs.At.{LineRead}
@@ -24,7 +24,7 @@ use Rattle.intake.specs.Roll.{AnyRoll, rollSize}
 use Rattle.intake.specs.Plain.{Narrow, none}
 use Rattle.intake.proofs.Times.{narrow-on}
 use Rattle.intake.proofs.PlainLine.{roll-read, roll-within}
-use Rattle.intake.proofs.Along.{Along, Putting, of-front, put-none, filled-place, filled-on}
+use Rattle.intake.proofs.Along.{Along, Putting, of-front, put-none, filled-on}
 use Rattle.intake.proofs.Front.{Ahead, First, forward, first, arrived}
 use Rattle.intake.proofs.fill_front.Statement.{statement}
 use Rattle.intake.proofs.fill_front.Tie as tie

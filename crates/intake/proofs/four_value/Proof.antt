@@ -1,5 +1,5 @@
 -- `intake::four_value` meets its contract: the zeros of four digits are worth 53,328. Assumes nothing.
-use mathlib.Core.List.{[], _∷_}
+use mathlib.Core.List.{[]}
 use Prim.Native.Nat.{ℕ, _+_, _≤_, _<_}
 use native.Mathlib.Omega.{arith}
 use Rattle.decimal.specs.Decimal.{zeroByte, valueOf}

@@ -1,5 +1,5 @@
 -- `intake::held` meets its contract: both tests held. Assumes nothing.
-use mathlib.Core.Path.{_≡_, sym, ap, _∙_}
+use mathlib.Core.Path.{sym, ap, _∙_}
 use Prim.Native.Nat.{ℕ}
 use lib.Bits.{bitAnd}
 use borrow.Author.Tests.{eqb-true}

@@ -1,5 +1,5 @@
 -- `intake::plain_front` meets its contract: a run stands behind the runs before it; what is left of the text falls. Assumes nothing.
-use Prim.Native.Nat.{_+_, _-_, _*_}
+use Prim.Native.Nat.{_-_, _*_}
 use native.Mathlib.Omega.{arith}
 use native.Mathlib.Nat.{add-mul}
 use lib.ListN.{length}

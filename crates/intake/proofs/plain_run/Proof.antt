@@ -1,12 +1,12 @@
 -- `intake::plain_run` meets its contract: `Running` is its invariant, and what is left of the text falls. Assumes nothing.
-use mathlib.Core.Path.{_≡_, sym, ap, _∙_}
-use Prim.Native.Nat.{ℕ, _+_, _-_, _*_, _/_, _^_, _≤_, _<_}
+use mathlib.Core.Path.{sym, ap, _∙_}
+use Prim.Native.Nat.{ℕ, _+_, _-_, _*_, _/_, _^_, _≤_}
 use native.Mathlib.Nat.{div-le-self}
 use native.Mathlib.Omega.{arith}
 use borrow.Author.Needs.{needs}
 use lib.ListN.{length}
 use denote.Ref.{now}
-use Rattle.dial.specs.Dial.{dial, each}
+use Rattle.dial.specs.Dial.{each}
 use Rattle.dial.proofs.Turn.{fits}
 use Rattle.intake.specs.Roll.{PlainRoll}
 use Rattle.intake.proofs.PlainLine.{roll-within}

@@ -7,8 +7,7 @@ use native.Mathlib.Omega.{arith}
 use mir.Facts.{toZ-ofZ}
 use mir.Syntax.{w32}
 use mir.Val.{SFits}
-use denote.Ref.{now}
-use Rattle.plain.specs.Plain.{Form, short, long, Plain}
+use Rattle.plain.specs.Plain.{Form, short, long}
 use Rattle.intake.specs.Roll.{PlainRoll}
 use borrow.Author.Needs.{needs}
 use Rattle.intake.proofs.plain_sample.Statement.{statement}

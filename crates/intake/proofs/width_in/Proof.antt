@@ -1,8 +1,8 @@
 -- `intake::width_in` meets its contract: where the comma stands behind the last width, this is the time's width; else its digits are counted. Assumes nothing.
-use lib.ListN.{getD, drop}
+use lib.ListN.{drop}
 use lib.Seq.{getD-drop}
 use denote.Ref.{now}
-use Rattle.intake.proofs.Times.{as-wide, narrow-own}
+use Rattle.intake.proofs.Times.{as-wide}
 use borrow.Author.Needs.{needs}
 use Rattle.intake.proofs.width_in.Statement.{statement}
 use Rattle.intake.proofs.width_in.Tie as tie

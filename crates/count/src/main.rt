@@ -30,8 +30,6 @@ const TAB: u8 = 9;
 
 const LF: u8 = 10;
 
-const CR: u8 = 13;
-
 // The most bytes of a line: two numbers of 12 digits, comma, minus, point, three digits, LF.
 const LONGEST_LINE: usize = 31;
 
@@ -305,9 +303,6 @@ fn serve(start: Count, text: &mut [u8], shown: bool) -> u8
 fn item(i: usize) -> u64 {
     let mut buffer = [0u8; 32];
     let n = os::arg(i, &mut buffer);
-    if n > 32 {
-        return u64::MAX;
-    }
     let Lead::Number(v, end) = decimal::leading_at(&buffer[..n], 0) else {
         return u64::MAX;
     };

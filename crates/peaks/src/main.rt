@@ -239,11 +239,22 @@ fn tell(sizes: &[u32], times: &[u32], k: u64) -> u8 {
     READ
 }
 
-// More samples than are held.
-fn too_many() -> u8 {
-    let words = b"peaks: the record has more samples than the 1,500,000 that are held\n";
+// More than is held, as `words` tell.
+fn not_held(words: &[u8]) -> u8 {
     io::write_all(STDERR_FILENO, words);
     FAILED
+}
+
+fn too_many() -> u8 {
+    not_held(b"peaks: the record has more samples than the 1,500,000 that are held\n")
+}
+
+// A refusal of the held samples. The places for the peaks are not the customer's, so 7 is not for him.
+fn declined(f: Refusal) -> u8 {
+    if let Refusal::Room(_) = f {
+        return not_held(b"peaks: the record has more peaks than the 100,000 that are held\n");
+    }
+    refused(0, f)
 }
 
 // What the held samples hand out.
@@ -259,7 +270,7 @@ fn found(items: Items, samples: &[i32]) -> u8 {
         &mut times,
     ) {
         Found::Peaks(k) => tell(&sizes, &times, k),
-        Found::Refused(f) => refused(0, f),
+        Found::Refused(f) => declined(f),
     }
 }
 
@@ -328,9 +339,6 @@ fn serve(start: Count, text: &mut [u8], samples: &mut [i32], shown: bool) -> u8
 fn item(i: usize) -> u64 {
     let mut buffer = [0u8; 32];
     let n = os::arg(i, &mut buffer);
-    if n > 32 {
-        return u64::MAX;
-    }
     let Lead::Number(v, end) = decimal::leading_at(&buffer[..n], 0) else {
         return u64::MAX;
     };

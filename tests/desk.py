@@ -1,0 +1,61 @@
+"""How a clerk's program is tried: its standard input handed over in pieces, each by one read, and its standard error on a terminal."""
+import os
+import re
+import socket
+import subprocess
+import threading
+
+
+def in_pieces(words, pieces):
+    """The status, standard output and standard error of a program that gets each piece by a read of its own. A pipe would join those that come before the program
+    reads; a socket that keeps its messages apart does not. No piece is empty or longer than the program's buffer has room for."""
+    ours, theirs = socket.socketpair(socket.AF_UNIX, socket.SOCK_SEQPACKET)
+    with theirs:
+        process = subprocess.Popen(words, stdin=theirs, stdout=subprocess.PIPE, stderr=subprocess.PIPE)
+
+    def feed():
+        with ours:
+            try:
+                for piece in pieces:
+                    ours.send(piece)
+            except (BrokenPipeError, ConnectionResetError):  # it has read enough
+                pass
+
+    thread = threading.Thread(target=feed)
+    thread.start()
+    out, err = process.communicate()
+    thread.join()
+    return process.returncode, out, err
+
+
+def cut(text, r):
+    """The text in pieces of one byte to 60,000."""
+    at = 0
+    while at < len(text):
+        end = at + r.choice([1, 1, 2, 3, 7, 30, 31, 32, 1_000, 60_000])
+        yield text[at:end]
+        at = end
+
+
+def signs(words, text):
+    """The numbers of lines that a program shows where its standard error is a terminal; None where it shows anything else."""
+    ours, theirs = os.openpty()
+    try:
+        process = subprocess.Popen(words, stdin=subprocess.PIPE, stdout=subprocess.DEVNULL, stderr=theirs)
+        os.close(theirs)
+        process.communicate(text)
+        shown = b""
+        try:
+            while more := os.read(ours, 4096):
+                shown += more
+        except OSError:  # the other end is closed
+            pass
+    finally:
+        os.close(ours)
+    return [int(n) for n in re.findall(rb"\d+", shown)] if re.fullmatch(rb"(?:\d+ lines\r)*", shown) else None
+
+
+def lively(words, text):
+    """Whether each million lines of the text made one sign, by the end of the 64 KiB that were being read."""
+    shown, lines = signs(words, text), text.count(b"\n")
+    return shown is not None and len(shown) == lines // 1_000_000 and all(0 <= n - 1_000_000 * k <= 65_536 for k, n in enumerate(shown, 1))

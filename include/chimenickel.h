@@ -15,6 +15,7 @@
  *   7    more counted times, peaks, samples, records or bytes than the slice has the number of places needed
  *   8    a state's array has another length, or numbers that are no state;      0
  *        a flag is neither 0 nor 1, or a result's exposure not 1 to 10,000,000
+ *        a campaign of a loading condition is no state                          the situation's number, the lowest
  *   9    a line of a job sheet is malformed                                     the line's number
  *   10   a line of a comma file is malformed or has a wrong time                the line's number
  *   13   a bureau other than 1 or 2                                             0
@@ -22,6 +23,7 @@
  *   15   a place that is not in the table, or not the bureau's own              0
  *   16   a list of more than 4,096 peaks, or k outside 2 to its length          0
  *   17   a peak is 0 or above 1,000,000                                         its place in the list, the first
+ *   18   a loading condition of no campaign, or of more than 64                 0
  *
  * Where several hold, the first in the order that stands at the function is given.
  *
@@ -79,6 +81,9 @@ extern "C" {
 
 enum { CHIM_RECORD_NUMBERS = 12, CHIM_RESULT_NUMBERS = 5, CHIM_CAMPAIGN_NUMBERS = 5, CHIM_BENCH_PLACES = 32, CHIM_PLACE_NUMBERS = 6 };
 
+/* The most situations of a loading condition, and room for the report of any. */
+enum { CHIM_MOST_SITUATIONS = 64, CHIM_REPORT_BYTES = 1832 };
+
 /* The places of a result. */
 enum { CHIM_CROSSINGS = 0, CHIM_COUNTED = 1, CHIM_FIRST = 2, CHIM_EXPOSURE = 3, CHIM_LARGEST_SET = 4 };
 
@@ -98,10 +103,14 @@ enum {
     CHIM_BUREAU_FULL = 14,
     CHIM_NOT_ITS_OWN = 15,
     CHIM_TAIL = 16,
-    CHIM_PEAK = 17
+    CHIM_PEAK = 17,
+    CHIM_CONDITION = 18
 };
 
 enum { CHIM_NO_RECORD = 0, CHIM_ACCEPT = 1, CHIM_REJECT = 2, CHIM_CONTINUE = 3 };
+
+/* What a loading condition comes to. */
+enum { CHIM_ACCEPTED = 1, CHIM_REJECTED = 2, CHIM_OPEN = 3 };
 
 /* ---- a record: one channel of samples at a fixed step */
 
@@ -166,6 +175,22 @@ uint64_t chim_bench_rates(uint64_t (*table)[6], size_t table_len, uint64_t burea
 
 /* Gives the bureau's place back: it is free and all zeros then. Refuses 8, 13, 15. */
 uint64_t chim_bench_give_back(uint64_t (*table)[6], size_t table_len, uint64_t bureau, uint64_t place, uint64_t *carried);
+
+/* ---- a loading condition: one campaign for each design situation, 1 to 64
+ *
+ * Campaigns are rows of five numbers each, as above, and `situations` is the number of rows; a situation's number is that of its row, 1 for the first. Each campaign
+ * is judged at its own standard. Rows are read and not changed. C before C23 has no way from rows that are not const to rows that are, which gcc -pedantic
+ * says; (const uint64_t(*)[5])rows is the cast. */
+
+/* *carried is what the condition comes to: one rejected campaign makes it CHIM_REJECTED, it takes every campaign to make it CHIM_ACCEPTED, and anything else leaves it
+ * CHIM_OPEN; one without a record is neither accepted nor rejected. Refuses 18, 8 with the lowest situation. */
+uint64_t chim_condition_judge(const uint64_t (*campaigns)[5], size_t situations, uint64_t *carried);
+
+/* Writes the condition's report into `out`, whose other bytes stay; *carried is its length. Fields are parted by a tab, lines ended by LF. A line for each situation has
+ * its number, N, N*, T, the verdict's letter (A, R, C; E while there is no record) and the blocks billed, of five failures each, one that is begun counted too. The last line
+ * has the word total, the sums of M, N, T and the blocks, and A, R or O for what the condition comes to. Refuses 18, 8 with the lowest situation, 7 with the bytes needed.
+ * Room for 40 bytes and 28 for each situation is always enough. */
+uint64_t chim_condition_report(const uint64_t (*campaigns)[5], size_t situations, uint8_t *out, size_t room, uint64_t *carried);
 
 /* ---- a job sheet: `text` is the whole of it, as bin/tally reads it */
 

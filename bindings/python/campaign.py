@@ -1,7 +1,7 @@
-"""A campaign at one failure in two hours: a roll that crosses 40 degrees, then quiet records by their exposure. It prints what examples/c/campaign.c
-prints."""
+"""A campaign at one failure in two hours: a roll that crosses 40 degrees, then quiet records by their exposure; at the end its loading
+condition, with a second situation that has no record yet. It prints what examples/c/campaign.c prints."""
 
-from chimenickel import Campaign, Case, Record, Refusal, counted_times, read_records, write_sheet
+from chimenickel import Campaign, Case, Record, Refusal, counted_times, read_records, write_report, write_sheet
 
 
 def show(campaign):
@@ -41,3 +41,4 @@ sheet = write_sheet(7_200_000, records)
 standard, back = read_records(sheet)
 same = "the same" if back == records else "others"
 print(f"sheet: {len(sheet)} bytes, standard {standard} ms, {len(back)} records read back, {same}")
+print(write_report([campaign, Campaign(7_200_000)]).decode(), end="")

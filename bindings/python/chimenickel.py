@@ -2,7 +2,8 @@
 
 A Record is one channel of roll or acceleration, fed whole or in pieces; a record's Result is seen before it enters a
 Campaign, which gives the verdict. Samples and levels are in
-thousandths of a degree or in mm/s2, times in ms, rates in failures a second. What the library cannot take raises Refusal, and then nothing has
+thousandths of a degree or in mm/s2, times in ms, rates in failures a second. Campaigns, one for each design situation, make a loading
+condition (judge_condition, write_report). What the library cannot take raises Refusal, and then nothing has
 changed. A number that is no 64-bit whole number, or a sample that is no 32-bit one, raises OverflowError before the library is asked.
 
 The library is looked for in the folder that CHIMENICKEL_LIB names, or else where bin/build-lib writes it.
@@ -27,6 +28,8 @@ _rate = ctypes.POINTER(ctypes.c_double)
 _size = ctypes.c_size_t
 _row = ctypes.c_uint64 * 6
 _rows = ctypes.POINTER(_row)
+_campaign = ctypes.c_uint64 * 5
+_campaigns = ctypes.POINTER(_campaign)
 
 for _name, _result, _parameters in [
     ("chim_record_open", _u64, [_u64, _u64, _u64, _u64, _numbers, _size, _numbers]),
@@ -45,6 +48,8 @@ for _name, _result, _parameters in [
     ("chim_bench_verdict", _u64, [_rows, _size, _u64, _u64, _rate, _rate, _numbers]),
     ("chim_bench_rates", _u64, [_rows, _size, _u64, _u64, _rate, _rate, _rate, _numbers]),
     ("chim_bench_give_back", _u64, [_rows, _size, _u64, _u64, _numbers]),
+    ("chim_condition_judge", _u64, [_campaigns, _size, _numbers]),
+    ("chim_condition_report", _u64, [_campaigns, _size, ctypes.c_char_p, _size, _numbers]),
     ("chim_envelope_find", _u64, [_u64, _u64, _u64, _samples, _size, _times, _size, _times, _size, _numbers]),
     ("chim_tail_fit", _u64, [_times, _size, _u64, _times, _size, _numbers]),
     ("chim_sheet_write", _u64, [_u64, _samples, _size, ctypes.c_char_p, _size, _numbers]),
@@ -59,8 +64,8 @@ for _name, _result, _parameters in [
 
 
 class Refusal(Exception):
-    """Why nothing was done: the refusal's number and what it carries; for a job sheet also the line that it stands on, and the
-    column where a malformed line is at fault (0 where the line as a whole is)."""
+    """Why nothing was done: the refusal's number and what it carries, which for 8 is the situation's number in a loading condition and else 0; for a job
+    sheet also the line that it stands on, and the column where a malformed line is at fault (0 where the line as a whole is)."""
 
     MEANINGS = {
         1: "opening item {} is outside its range",
@@ -78,6 +83,7 @@ class Refusal(Exception):
         15: "the place is not the bureau's own",
         16: "there are more than 4,096 peaks, or k is outside 2 to their number",
         17: "the peak at place {} is 0 or above 1,000,000",
+        18: "there is no campaign, or there are more than 64",
     }
 
     def __init__(self, number, carried):
@@ -304,6 +310,37 @@ class Campaign(_State):
     def rates(self):
         """The estimate and its 95% bounds; None while there is no record."""
         return _rated(_lib.chim_campaign_rates, self._state, self.LENGTH)
+
+
+class Standing(enum.IntEnum):
+    """What a loading condition comes to."""
+
+    ACCEPTED = 1
+    REJECTED = 2
+    OPEN = 3
+
+
+def _situations(campaigns):
+    """A pointer to rows and their number."""
+    rows = [campaign._state for campaign in campaigns]
+    return (_campaign * max(len(rows), 1))(*rows), len(rows)
+
+
+def judge_condition(campaigns):
+    """What a loading condition of 1 to 64 campaigns, one for each design situation, comes to: one that is rejected rejects it, it takes every one to
+    accept it, and anything else leaves it open. A broken campaign raises Refusal 8 with its situation's number, 1 for the first."""
+    return Standing(_ask(_lib.chim_condition_judge, *_situations(campaigns)))
+
+
+def write_report(campaigns):
+    """The report of a loading condition as bytes: for each situation its number, N, N*, T, letter and blocks billed; then total, the sums of M, N, T and blocks, and
+    A, R or O. Refuses as judge_condition does."""
+    rows, n = _situations(campaigns)
+    # room for any report of so many situations, of which no more than 64 are taken
+    size = 40 + 28 * min(n, 64)
+    out = ctypes.create_string_buffer(size)
+    written = _ask(_lib.chim_condition_report, rows, n, out, size)
+    return out.raw[:written]
 
 
 class Bench:

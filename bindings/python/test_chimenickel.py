@@ -15,16 +15,19 @@ from chimenickel import (
     Case,
     Record,
     Refusal,
+    Standing,
     counted_times,
     envelope_peaks,
     first_crossing,
     fit_tail,
     from_degrees,
+    judge_condition,
     lower_row,
     read_comma,
     read_records,
     upper_row,
     write_comma,
+    write_report,
     write_sheet,
 )
 
@@ -194,6 +197,25 @@ class Records(unittest.TestCase):
         self.assertEqual(Bench.from_numbers(bench.numbers).verdict(2, 1), bench.verdict(2, 1))
         self.refused(8, 0, Bench.from_numbers, bench.numbers[:31])
         self.refused(8, 0, Bench.from_numbers([[0, 1, 0, 0, 0, 0]] + bench.numbers[1:]).take, 2, 1)
+
+    def test_conditions(self):
+        def campaign(records, failures, exposure, failed):
+            return Campaign.from_numbers([7_200_000, records, failures, exposure, failed])
+
+        empty, going = Campaign(7_200_000), Campaign.read_sheet(b"standard\t7200000\n1\t0\t1800000\n2\t1\t933980\n")
+        accepted, rejected = campaign(3, 0, 26_559_937, 0), campaign(1, 1, 182_282, 1)
+        self.assertEqual(write_report([going, empty]), b"1\t1\t1\t2733980\tC\t1\n2\t0\t0\t0\tE\t0\ntotal\t2\t1\t2733980\t1\tO\n")
+        self.assertEqual(write_report([accepted, rejected]), b"1\t0\t1\t26559937\tA\t0\n2\t1\t1\t182282\tR\t1\ntotal\t4\t1\t26742219\t1\tR\n")
+        self.assertEqual(judge_condition([accepted] * 64), Standing.ACCEPTED)
+        self.assertEqual(judge_condition([accepted] * 63 + [rejected]), Standing.REJECTED)
+        self.assertEqual([judge_condition([accepted, other]) for other in (going, empty)], [Standing.OPEN] * 2)
+        full = campaign(100_000, 64, 1_000_000_000_000, 1)
+        self.assertEqual(len(write_report(full for _ in range(64))), 1_823)
+        broken = campaign(1, 1, 182_282, 2)
+        for call in (judge_condition, write_report):
+            self.refused(18, 0, call, [])
+            self.refused(18, 0, call, [broken] * 65)
+            self.refused(8, 2, call, [going, broken, broken])
 
     def test_envelope(self):
         # the peaks are 7 1 9 8 1 9 9 1 8, of which 6 and more are high, and 9 and 9 stand between lower ones, 1500 ms apart

@@ -1,4 +1,5 @@
-/* A campaign at one failure in 7,200,000 ms (two hours): a roll that crosses 40 degrees, then quiet records by their exposure. */
+/* A campaign at one failure in 7,200,000 ms (two hours): a roll that crosses 40 degrees, then quiet records by their exposure; at the end its
+ * loading condition, with a second situation that has no record yet. */
 #include "chimenickel.h"
 #include <inttypes.h>
 #include <stdio.h>
@@ -59,5 +60,13 @@ int main(void) {
     if (refusal == CHIM_TAKEN)
         printf("sheet: %" PRIu64 " bytes, standard %" PRIu64 " ms, %" PRIu64 " records read back, %s\n", bytes, standard, carried,
                memcmp(back, records, sizeof records) ? "others" : "the same");
+
+    uint64_t situations[2][CHIM_CAMPAIGN_NUMBERS];
+    uint8_t report[CHIM_REPORT_BYTES];
+    memcpy(situations[0], campaign, sizeof campaign);
+    chim_campaign_open(7200000, situations[1], CHIM_CAMPAIGN_NUMBERS, &carried);
+    refusal = chim_condition_report((const uint64_t(*)[CHIM_CAMPAIGN_NUMBERS])situations, 2, report, sizeof report, &bytes);
+    if (refusal == CHIM_TAKEN)
+        fwrite(report, 1, bytes, stdout);
     return 0;
 }

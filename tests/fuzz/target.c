@@ -1,9 +1,11 @@
 /* A fuzz target over the whole C interface. The first byte of the input picks a part; the rest is a sheet, or numbers and samples to call with. What has
  * to hold whatever comes: a refusal leaves every lent array as it stood, what is handed out is never refused as broken, a piece cut anywhere leads to
  * the same record, a sheet's campaign is that of its records, a bureau's call leaves the other's places, a comma file that is read is written
- * and read again, a sheet's records are refused as the sheet is, and written they are the sheet, and envelope peaks are samples of the record, apart as they
- * have to be. */
+ * and read again, a sheet's records are refused as the sheet is, and written they are the sheet, envelope peaks are samples of the record, apart as they
+ * have to be, and a loading condition is what its campaigns are told one by one. */
+#include <inttypes.h>
 #include <stdint.h>
+#include <stdio.h>
 #include <stdlib.h>
 #include <string.h>
 
@@ -305,9 +307,82 @@ static void envelope(void) {
         hold(chim_envelope_find(step, ramp, tau, samples, n, sizes, MOST, times, MOST, &again) == CHIM_TAKEN && again == carried);
 }
 
+/* one campaign of a condition: any numbers, or one that records were entered into */
+static void situation(uint64_t *state) {
+    uint64_t carried, kind = number(1) % 8;
+    for (size_t k = 0; k < CHIM_CAMPAIGN_NUMBERS; k++)
+        state[k] = kind == 0 ? number(k == 4 ? 1 : 1 + k) : 0;
+    if (kind == 0)
+        return;
+    chim_campaign_open(1 + number(3), state, CHIM_CAMPAIGN_NUMBERS, &carried);
+    for (; kind > 1; kind--)
+        chim_campaign_enter(state, CHIM_CAMPAIGN_NUMBERS, number(1) % 2, 1 + number(3) % 10000000, &carried);
+}
+
+/* what the report's line at `at` has to be, by what the campaign alone is told; the place behind it */
+static size_t one_line(const uint8_t *report, size_t at, const uint64_t *state, size_t i, uint64_t told) {
+    char line[64];
+    uint64_t censored;
+    hold(chim_campaign_censored(state, CHIM_CAMPAIGN_NUMBERS, &censored) == CHIM_TAKEN);
+    int n = snprintf(line, sizeof line, "%zu\t%" PRIu64 "\t%" PRIu64 "\t%" PRIu64 "\t%c\t%" PRIu64 "\n", i + 1, state[2], censored, state[3], "EARC"[told],
+                     state[2] / 5 + (state[2] % 5 != 0));
+    hold(memcmp(report + at, line, (size_t)n) == 0);
+    return at + (size_t)n;
+}
+
+/* a loading condition of up to 66 campaigns, into a buffer of any length: judged and reported alike, refused by the first campaign that is refused alone, told by what
+ * each is told alone, and nothing beyond the report */
+static void condition(void) {
+    enum { MOST = CHIM_MOST_SITUATIONS + 2, BYTES = CHIM_REPORT_BYTES };
+    static uint64_t rows[MOST][CHIM_CAMPAIGN_NUMBERS], before[MOST][CHIM_CAMPAIGN_NUMBERS], told[MOST];
+    static uint8_t report[BYTES + 1];
+    const uint64_t(*lent)[CHIM_CAMPAIGN_NUMBERS] = (const uint64_t(*)[CHIM_CAMPAIGN_NUMBERS])rows;
+    uint64_t n = number(1) % (MOST + 1), room = number(2) % (BYTES + 1), come = 7, bytes = 7, broken = 0, sums[4] = {0};
+    int rejected = 0, accepted = 1;
+    for (size_t i = 0; i < n; i++) {
+        double lower, upper;
+        if (left > 0 || i == 0)
+            situation(rows[i]);
+        else
+            memcpy(rows[i], rows[0], sizeof rows[i]);
+        if (chim_campaign_verdict(rows[i], CHIM_CAMPAIGN_NUMBERS, &lower, &upper, &told[i]) != CHIM_TAKEN && broken == 0)
+            broken = i + 1;
+        rejected |= told[i] == CHIM_REJECT;
+        accepted &= told[i] == CHIM_ACCEPT;
+    }
+    memcpy(before, rows, sizeof rows);
+    memset(report, 0xa5, sizeof report);
+    uint64_t judged = chim_condition_judge(lent, n, &come), answer = chim_condition_report(lent, n, report, room, &bytes);
+    hold(memcmp(before, rows, sizeof rows) == 0);
+    hold((judged == CHIM_CONDITION) == (n == 0 || n > CHIM_MOST_SITUATIONS));
+    size_t at = 0;
+    if (judged != CHIM_TAKEN) {
+        hold(answer == judged && bytes == come);
+        hold(judged == CHIM_CONDITION ? come == 0 : judged == CHIM_BROKEN_STATE && broken != 0 && come == broken);
+    } else {
+        hold(broken == 0 && come == (rejected ? CHIM_REJECTED : accepted ? CHIM_ACCEPTED : CHIM_OPEN));
+        hold(answer == (bytes > room ? CHIM_ROOM : CHIM_TAKEN) && bytes <= 40 + 28 * n);
+    }
+    if (answer == CHIM_TAKEN) {
+        for (size_t i = 0; i < n; i++) {
+            at = one_line(report, at, rows[i], i, told[i]);
+            for (size_t k = 0; k < 3; k++)
+                sums[k] += rows[i][k + 1];
+            sums[3] += (rows[i][2] + 4) / 5;
+        }
+        char line[64];
+        int last = snprintf(line, sizeof line, "total\t%" PRIu64 "\t%" PRIu64 "\t%" PRIu64 "\t%" PRIu64 "\t%c\n", sums[0], sums[1], sums[2], sums[3], " ARO"[come]);
+        hold(memcmp(report + at, line, (size_t)last) == 0);
+        at += (size_t)last;
+        hold(at == bytes);
+    }
+    for (; at <= BYTES; at++)
+        hold(report[at] == 0xa5);
+}
+
 int LLVMFuzzerTestOneInput(const uint8_t *data, size_t size) {
     in = data, left = size;
-    switch (number(1) % 9) {
+    switch (number(1) % 10) {
     case 0: sheet(); break;
     case 1: record(); break;
     case 2: list(); break;
@@ -317,6 +392,7 @@ int LLVMFuzzerTestOneInput(const uint8_t *data, size_t size) {
     case 6: comma(); break;
     case 7: ledger(); break;
     case 8: envelope(); break;
+    case 9: condition(); break;
     }
     return 0;
 }

@@ -1,7 +1,7 @@
-//! A campaign at one failure in two hours: a roll that crosses 40 degrees, then quiet records by their exposure. It prints what
-//! examples/c/campaign.c prints.
+//! A campaign at one failure in two hours: a roll that crosses 40 degrees, then quiet records by their exposure; at the end its
+//! loading condition, with a second situation that has no record yet. It prints what examples/c/campaign.c prints.
 
-use chimenickel::{list, read_records, write_sheet, Campaign, Items, Record, Refusal, Verdict};
+use chimenickel::{list, read_records, write_report, write_sheet, Campaign, Items, Record, Refusal, Verdict};
 
 fn show(c: &Campaign) -> Result<(), Refusal> {
     print!("M = {}, N = {}, T = {} ms: ", c.records(), c.failures(), c.exposure());
@@ -51,5 +51,6 @@ fn main() -> Result<(), Refusal> {
     let (standard, back) = read_records(sheet.as_bytes()).map_err(|bad| bad.refusal)?;
     let same = if back == records { "the same" } else { "others" };
     println!("sheet: {} bytes, standard {standard} ms, {} records read back, {same}", sheet.len(), back.len());
+    print!("{}", write_report(&[campaign, Campaign::open(7_200_000)?])?);
     Ok(())
 }

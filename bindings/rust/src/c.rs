@@ -67,6 +67,8 @@ extern "C" {
         carried: *mut u64,
     ) -> u64;
     pub fn chim_bench_give_back(table: *mut [u64; 6], table_len: usize, bureau: u64, place: u64, carried: *mut u64) -> u64;
+    pub fn chim_condition_judge(campaigns: *const [u64; 5], situations: usize, carried: *mut u64) -> u64;
+    pub fn chim_condition_report(campaigns: *const [u64; 5], situations: usize, out: *mut u8, room: usize, carried: *mut u64) -> u64;
     pub fn chim_envelope_find(
         step: u64,
         ramp: u64,

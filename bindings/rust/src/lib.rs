@@ -2,8 +2,9 @@
 //!
 //! A [`Record`] is one channel of roll or acceleration, fed whole or in pieces; what it comes to is [`Ended`], seen before it enters
 //! a [`Campaign`], which gives the [`Verdict`]. Samples and
-//! levels are in thousandths of a degree or in mm/s², times in ms, rates in failures a second. What the library cannot take it refuses by a
-//! [`Refusal`], and then nothing has changed.
+//! levels are in thousandths of a degree or in mm/s², times in ms, rates in failures a second. Campaigns, one for each design situation, make
+//! a loading condition ([`judge_condition`], [`write_report`]). What the library cannot take it refuses by a [`Refusal`], and then nothing has
+//! changed.
 //!
 //! ```
 //! use chimenickel::{Campaign, Items, Record, Verdict};
@@ -46,6 +47,8 @@ pub enum Refusal {
     Room(u64),
     /// 8: the numbers are no state, or a result's exposure is not from 1 to 10,000,000 ms.
     BrokenState,
+    /// 8 too: a campaign of a loading condition is no state; its situation's number, the lowest, from 1.
+    BrokenSituation(u64),
     /// 9: a line of a job sheet is malformed; its number.
     Line(u64),
     /// 10: a line of a comma file is malformed or has a wrong time; its number.
@@ -60,6 +63,8 @@ pub enum Refusal {
     Tail,
     /// 17: a peak is 0 or above 1,000,000; its place in the list.
     Peak(u64),
+    /// 18: a loading condition of no campaign, or of more than 64.
+    Condition,
 }
 
 impl Refusal {
@@ -73,7 +78,7 @@ impl Refusal {
             Refusal::CampaignFull => 5,
             Refusal::RowsUsedUp => 6,
             Refusal::Room(_) => 7,
-            Refusal::BrokenState => 8,
+            Refusal::BrokenState | Refusal::BrokenSituation(_) => 8,
             Refusal::Line(_) => 9,
             Refusal::CommaLine(_) => 10,
             Refusal::NoBureau => 13,
@@ -81,6 +86,7 @@ impl Refusal {
             Refusal::NotItsOwn => 15,
             Refusal::Tail => 16,
             Refusal::Peak(_) => 17,
+            Refusal::Condition => 18,
         }
     }
 
@@ -93,6 +99,7 @@ impl Refusal {
             5 => Refusal::CampaignFull,
             6 => Refusal::RowsUsedUp,
             7 => Refusal::Room(carried),
+            8 if carried != 0 => Refusal::BrokenSituation(carried),
             9 => Refusal::Line(carried),
             10 => Refusal::CommaLine(carried),
             13 => Refusal::NoBureau,
@@ -100,6 +107,7 @@ impl Refusal {
             15 => Refusal::NotItsOwn,
             16 => Refusal::Tail,
             17 => Refusal::Peak(carried),
+            18 => Refusal::Condition,
             _ => Refusal::BrokenState,
         }
     }
@@ -116,6 +124,7 @@ impl fmt::Display for Refusal {
             Refusal::RowsUsedUp => write!(f, "the campaign has 64 failures"),
             Refusal::Room(places) => write!(f, "{places} places are needed"),
             Refusal::BrokenState => write!(f, "the numbers are no state"),
+            Refusal::BrokenSituation(situation) => write!(f, "the numbers of situation {situation} are no campaign"),
             Refusal::Line(line) => write!(f, "line {line} of the sheet is malformed"),
             Refusal::CommaLine(line) => write!(f, "line {line} of the comma file is malformed or has a wrong time"),
             Refusal::NoBureau => write!(f, "there is no such bureau"),
@@ -123,6 +132,7 @@ impl fmt::Display for Refusal {
             Refusal::NotItsOwn => write!(f, "the place is not the bureau's own"),
             Refusal::Tail => write!(f, "there are more than 4,096 peaks, or k is outside 2 to their number"),
             Refusal::Peak(place) => write!(f, "the peak at place {place} is 0 or above 1,000,000"),
+            Refusal::Condition => write!(f, "there is no campaign, or there are more than 64"),
         }
     }
 }
@@ -384,6 +394,52 @@ impl Campaign {
     pub fn from_numbers(numbers: [u64; 5]) -> Campaign {
         Campaign { numbers }
     }
+}
+
+/// What a loading condition comes to.
+#[derive(Clone, Copy, Debug, PartialEq, Eq)]
+pub enum Standing {
+    /// Every campaign is accepted.
+    Accepted,
+    /// At least one is rejected.
+    Rejected,
+    /// Neither.
+    Open,
+}
+
+fn rows(campaigns: &[Campaign]) -> Vec<[u64; 5]> {
+    campaigns.iter().map(|campaign| campaign.numbers).collect()
+}
+
+/// What a loading condition of 1 to 64 campaigns, one for each design situation, comes to.
+pub fn judge_condition(campaigns: &[Campaign]) -> Result<Standing, Refusal> {
+    let rows = rows(campaigns);
+    Ok(match answer(|carried| unsafe { c::chim_condition_judge(rows.as_ptr(), rows.len(), carried) })? {
+        1 => Standing::Accepted,
+        2 => Standing::Rejected,
+        _ => Standing::Open,
+    })
+}
+
+/// The report of a loading condition: for each situation its number, N, N*, T, letter and blocks billed; then total, the sums of M, N, T and blocks, and A, R or O.
+///
+/// ```
+/// use chimenickel::{write_report, Campaign};
+///
+/// let mut campaign = Campaign::open(7_200_000)?;
+/// campaign.enter(false, 1_800_000)?;
+/// campaign.enter(true, 933_980)?;
+/// let report = write_report(&[campaign, Campaign::open(7_200_000)?])?;
+/// assert_eq!(report, "1\t1\t1\t2733980\tC\t1\n2\t0\t0\t0\tE\t0\ntotal\t2\t1\t2733980\t1\tO\n");
+/// # Ok::<(), chimenickel::Refusal>(())
+/// ```
+pub fn write_report(campaigns: &[Campaign]) -> Result<String, Refusal> {
+    let rows = rows(campaigns);
+    // room for any report of so many situations, of which no more than 64 are taken
+    let mut text = vec![0; 40 + 28 * rows.len().min(64)];
+    let n = answer(|carried| unsafe { c::chim_condition_report(rows.as_ptr(), rows.len(), text.as_mut_ptr(), text.len(), carried) })?;
+    text.truncate(n as usize);
+    Ok(String::from_utf8(text).expect("a report is letters, digits, tabs and LFs"))
 }
 
 /// One table of 32 places that bureaus 1 and 2 share, at most 16 jobs each. Each bureau is answered as at a table of its own.
@@ -699,6 +755,24 @@ mod tests {
         let mut broken = *bench.numbers();
         broken[31][5] = 1;
         assert_eq!(Bench::from_numbers(broken).take(2, 1), Err(Refusal::BrokenState));
+    }
+
+    #[test]
+    fn conditions_are_judged_and_reported() {
+        let campaign = |m, n, t, failed| Campaign::from_numbers([7_200_000, m, n, t, failed]);
+        let (empty, going) = (campaign(0, 0, 0, 0), campaign(2, 1, 2_733_980, 1));
+        let (accepted, rejected, broken) = (campaign(3, 0, 26_559_937, 0), campaign(1, 1, 182_282, 1), campaign(1, 1, 182_282, 2));
+        let report = write_report(&[accepted.clone(), rejected.clone()]).unwrap();
+        assert_eq!(report, "1\t0\t1\t26559937\tA\t0\n2\t1\t1\t182282\tR\t1\ntotal\t4\t1\t26742219\t1\tR\n");
+        assert_eq!(judge_condition(&vec![accepted.clone(); 64]), Ok(Standing::Accepted));
+        assert_eq!(judge_condition(&[accepted.clone(), rejected, empty.clone()]), Ok(Standing::Rejected));
+        assert_eq!(judge_condition(&[accepted.clone(), going.clone()]), Ok(Standing::Open));
+        assert_eq!(judge_condition(&[accepted, empty]), Ok(Standing::Open));
+        assert_eq!(write_report(&vec![campaign(100_000, 64, 1_000_000_000_000, 1); 64]).map(|report| report.len()), Ok(1_823));
+        assert_eq!((judge_condition(&[]), write_report(&vec![broken.clone(); 65])), (Err(Refusal::Condition), Err(Refusal::Condition)));
+        let two = [going, broken.clone(), broken];
+        assert_eq!((judge_condition(&two), write_report(&two)), (Err(Refusal::BrokenSituation(2)), Err(Refusal::BrokenSituation(2))));
+        assert_eq!((Refusal::BrokenSituation(2).number(), Refusal::Condition.number()), (8, 18));
     }
 
     #[test]

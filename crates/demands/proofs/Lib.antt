@@ -8,4 +8,5 @@ pub mod Request5
 pub mod Stays
 pub mod Request9
 pub mod Request11
+pub mod Request13
 pub mod Tail

@@ -137,17 +137,6 @@ fn begun(text: &[u8], at: usize) -> bool
     true
 }
 
-// Moves `count` bytes of `text` from `from` on to its start.
-fn keep(text: &mut [u8], from: usize, count: usize)
-    requires { ⌜ from + count ≤ length (now text) ⌝ }
-{
-    let mut i = 0;
-    while i < count {
-        text[i] = text[from + i];
-        i += 1;
-    }
-}
-
 // Works through the lines of the first `end` bytes of `text`; a line begun goes to the start of `text`.
 fn work(c: Count, text: &mut [u8], end: usize, more: bool, samples: &mut [i32]) -> After
     requires { ⌜ end ≤ length (now text) ⌝ }
@@ -168,7 +157,7 @@ fn work(c: Count, text: &mut [u8], end: usize, more: bool, samples: &mut [i32]) 
     if !begun(&text[..end], at) {
         return After::Wrong(std::num::wrapping_add_u64(count.lines, 1));
     }
-    keep(text, at, end - at);
+    front::keep(text, at, end - at);
     After::On(count, end - at)
 }
 

@@ -2,7 +2,7 @@
 use Prim.Native.Nat.{_<_}
 use native.Mathlib.Omega.{arith}
 use Rattle.refusal.specs.declared.Refusal.{Refusal}
-use Rattle.refusal.specs.declared.Refusal.the-variants.{Item, Sample, TooLong, TooShort, CampaignFull, RowsUsedUp, Room, BrokenState, Line, CommaLine, NoBureau, BureauFull, NotItsOwn, Tail, Peak}
+use Rattle.refusal.specs.declared.Refusal.the-variants.{Item, Sample, TooLong, TooShort, CampaignFull, RowsUsedUp, Room, BrokenState, Line, CommaLine, NoBureau, BureauFull, NotItsOwn, Tail, Peak, Situations, Situation}
 use Rattle.refusal.specs.Numbers.{numberOf}
 
 pub number-small : (r : Refusal) → numberOf r < 100
@@ -21,3 +21,5 @@ number-small BureauFull = omega arith
 number-small NotItsOwn = omega arith
 number-small Tail = omega arith
 number-small (Peak p) = omega arith
+number-small Situations = omega arith
+number-small (Situation k) = omega arith

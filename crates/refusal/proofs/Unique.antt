@@ -1,11 +1,14 @@
 -- Two refusals with the same number and value are the same refusal, so a promise that settles both settles the refusal.
--- The pairs of cases need no telling apart: `from` makes the refusal out of its number and value. Assumes nothing.
+-- The pairs of cases need no telling apart: `from` makes the refusal out of its number and value. Number 8 has two cases, which the value tells apart, since
+-- situations are counted from 1. Assumes nothing.
 use mathlib.Core.Path.{_≡_, refl, sym, _∙_}
 use mathlib.Core.Bool.{cond}
-use Prim.Native.Nat.{ℕ}
+use Prim.Native.Nat.{ℕ, _≤_}
+use native.Mathlib.Omega.{arith}
 use lib.Dec.{eqb}
+use borrow.Author.Tests.{ne-eqb}
 use Rattle.refusal.specs.declared.Refusal.{Refusal}
-use Rattle.refusal.specs.declared.Refusal.the-variants.{Item, Sample, TooLong, TooShort, CampaignFull, RowsUsedUp, Room, BrokenState, Line, CommaLine, NoBureau, BureauFull, NotItsOwn, Tail, Peak}
+use Rattle.refusal.specs.declared.Refusal.the-variants.{Item, Sample, TooLong, TooShort, CampaignFull, RowsUsedUp, Room, BrokenState, Line, CommaLine, NoBureau, BureauFull, NotItsOwn, Tail, Peak, Situations, Situation}
 use Rattle.refusal.specs.Numbers.{numberOf, valueOf}
 
 -- the refusal of a number and a value, row by row
@@ -18,31 +21,38 @@ from n v =
     (cond (eqb n 5) CampaignFull
     (cond (eqb n 6) RowsUsedUp
     (cond (eqb n 7) (Room v)
-    (cond (eqb n 8) BrokenState
+    (cond (eqb n 8) (cond (eqb v 0) BrokenState (Situation v))
     (cond (eqb n 9) (Line v)
     (cond (eqb n 10) (CommaLine v)
     (cond (eqb n 13) NoBureau
     (cond (eqb n 14) BureauFull
     (cond (eqb n 15) NotItsOwn
     (cond (eqb n 16) Tail
-    (Peak v))))))))))))))
+    (cond (eqb n 17) (Peak v)
+    Situations))))))))))))))
 
-from-own : (r : Refusal) → from (numberOf r) (valueOf r) ≡ r
-from-own (Item i) = refl
-from-own (Sample p) = refl
-from-own TooLong = refl
-from-own TooShort = refl
-from-own CampaignFull = refl
-from-own RowsUsedUp = refl
-from-own (Room k) = refl
-from-own BrokenState = refl
-from-own (Line l) = refl
-from-own (CommaLine l) = refl
-from-own NoBureau = refl
-from-own BureauFull = refl
-from-own NotItsOwn = refl
-from-own Tail = refl
-from-own (Peak p) = refl
+-- a situation's number is counted from 1
+abbrev pub FromOne : Refusal → Type 0
+FromOne r = (k : ℕ) → r ≡ Situation k → 1 ≤ k
+
+from-own : (r : Refusal) → FromOne r → from (numberOf r) (valueOf r) ≡ r
+from-own (Item i) h = refl
+from-own (Sample p) h = refl
+from-own TooLong h = refl
+from-own TooShort h = refl
+from-own CampaignFull h = refl
+from-own RowsUsedUp h = refl
+from-own (Room k) h = refl
+from-own BrokenState h = refl
+from-own (Line l) h = refl
+from-own (CommaLine l) h = refl
+from-own NoBureau h = refl
+from-own BureauFull h = refl
+from-own NotItsOwn h = refl
+from-own Tail h = refl
+from-own (Peak p) h = refl
+from-own Situations h = refl
+from-own (Situation k) h = let low : 1 ≤ k = h k refl in rw (ne-eqb k 0 (omega arith))
 
 -- the two functions' promises settle their answers
 pub number-unique : (r : Refusal) (n m : ℕ) → n ≡ numberOf r → m ≡ numberOf r → n ≡ m
@@ -51,5 +61,5 @@ number-unique r n m p q = cc
 pub carried-unique : (r : Refusal) (v w : ℕ) → v ≡ valueOf r → w ≡ valueOf r → v ≡ w
 carried-unique r v w p q = cc
 
-pub refusal-unique : (r s : Refusal) → numberOf r ≡ numberOf s → valueOf r ≡ valueOf s → r ≡ s
-refusal-unique r s n v = sym (from-own r) ∙ rw (n, v) (from-own s)
+pub refusal-unique : (r s : Refusal) → FromOne r → FromOne s → numberOf r ≡ numberOf s → valueOf r ≡ valueOf s → r ≡ s
+refusal-unique r s f g n v = sym (from-own r f) ∙ rw (n, v) (from-own s g)

@@ -1,7 +1,7 @@
 -- Document 01, "Refusal numbers", and document 02: the number of each refusal, and what is returned with it. Assumes nothing.
 use Prim.Native.Nat.{ℕ}
 use Rattle.refusal.specs.declared.Refusal.{Refusal}
-use Rattle.refusal.specs.declared.Refusal.the-variants.{Item, Sample, TooLong, TooShort, CampaignFull, RowsUsedUp, Room, BrokenState, Line, CommaLine, NoBureau, BureauFull, NotItsOwn, Tail, Peak}
+use Rattle.refusal.specs.declared.Refusal.the-variants.{Item, Sample, TooLong, TooShort, CampaignFull, RowsUsedUp, Room, BrokenState, Line, CommaLine, NoBureau, BureauFull, NotItsOwn, Tail, Peak, Situations, Situation}
 
 -- the column "No."
 abbrev pub numberOf : Refusal → ℕ
@@ -20,6 +20,8 @@ numberOf BureauFull = 14
 numberOf NotItsOwn = 15
 numberOf Tail = 16
 numberOf (Peak p) = 17
+numberOf Situations = 18
+numberOf (Situation k) = 8
 
 -- the column "Returns with it": item number, place, number needed, line number; 0 stands for nothing
 abbrev pub valueOf : Refusal → ℕ
@@ -38,3 +40,5 @@ valueOf BureauFull = 0
 valueOf NotItsOwn = 0
 valueOf Tail = 0
 valueOf (Peak p) = p
+valueOf Situations = 0
+valueOf (Situation k) = k

@@ -34,6 +34,10 @@ pub enum Refusal {
     Tail,
     // 17: a peak is 0 or outside its range; the first such place in the list.
     Peak(u64),
+    // 18: no campaign for a loading condition, or more than it may have.
+    Situations,
+    // 8 again: a design situation's campaign breaks a relation; the lowest such situation's number.
+    Situation(u64),
 }
 
 // The number of a refusal.
@@ -56,6 +60,8 @@ pub fn number(r: Refusal) -> u64
         Refusal::NotItsOwn => 15,
         Refusal::Tail => 16,
         Refusal::Peak(_) => 17,
+        Refusal::Situations => 18,
+        Refusal::Situation(_) => 8,
     }
 }
 
@@ -70,6 +76,7 @@ pub fn carried(r: Refusal) -> u64
         Refusal::Line(line) => line,
         Refusal::CommaLine(line) => line,
         Refusal::Peak(place) => place,
+        Refusal::Situation(number) => number,
         Refusal::TooLong => 0,
         Refusal::TooShort => 0,
         Refusal::CampaignFull => 0,
@@ -79,5 +86,6 @@ pub fn carried(r: Refusal) -> u64
         Refusal::BureauFull => 0,
         Refusal::NotItsOwn => 0,
         Refusal::Tail => 0,
+        Refusal::Situations => 0,
     }
 }

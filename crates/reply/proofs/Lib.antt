@@ -1,4 +1,3 @@
 pub mod Few
-pub mod Given
 pub mod Room
 pub mod Unique

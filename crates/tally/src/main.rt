@@ -2,9 +2,8 @@
 // It reads what there is, works through the lines that are complete, writes what they give, and only then reads again, so that a line typed by hand is
 // answered at once. What the lines give is `sheet::run`'s promise; here bytes are only carried to it and from it. A program of the kit has no exit status, so
 // how it ended goes as a digit to a descriptor of its own, where bin/program waits for it.
-ghost use mathlib.Core.Path.{_≡_};
-ghost use Prim.Native.Nat.{_+_, _≤_, _<_};
-ghost use lib.ListN.{length, take, drop};
+ghost use Prim.Native.Nat.{_≤_, _<_};
+ghost use lib.ListN.{length};
 ghost use Rattle.form.specs.Form.{longestLine};
 ghost use Rattle.tally.specs.Kept.{keptBy};
 use libc::STDIN_FILENO;
@@ -26,18 +25,6 @@ const FAILED: u8 = b'2';
 enum After {
     On(Sheet, usize),
     Over(u8),
-}
-
-// Moves `count` bytes of `text` from `from` on to its start.
-fn keep(text: &mut [u8], from: usize, count: usize)
-    requires { ⌜ from + count ≤ length (now text) ⌝ }
-    ensures { λ _. ⌜ take count (now (text .exit)) ≡ take count (drop from (now (text .entry))) ⌝ }
-{
-    let mut i = 0;
-    while i < count {
-        text[i] = text[from + i];
-        i += 1;
-    }
 }
 
 // How a reading that does not wait ended.
@@ -64,7 +51,7 @@ fn work(s: Sheet, text: &mut [u8], end: usize, more: bool, out: &mut [u8]) -> Af
     let Reading::Waiting(t, left) = reading else {
         return After::Over(ended(reading));
     };
-    keep(text, end - left, left);
+    front::keep(text, end - left, left);
     After::On(t, left)
 }
 

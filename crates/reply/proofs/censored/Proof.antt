@@ -1,5 +1,5 @@
 -- `reply::censored` meets its contract: of a state that keeps its relations the campaign answers the count. Assumes nothing.
-use Rattle.reply.proofs.Given.{has-count, count-not-refused}
+use Rattle.verdict.proofs.Given.{has-count, count-not-refused}
 use borrow.Author.Needs.{needs}
 use Rattle.reply.proofs.censored.Statement.{statement}
 use Rattle.reply.proofs.censored.Tie as tie

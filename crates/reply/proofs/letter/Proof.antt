@@ -2,7 +2,7 @@
 use mathlib.Core.Path.{_≡_}
 use Rattle.verdict.specs.Figures.{verdictOf}
 use Rattle.reply.specs.Written.{letterFor}
-use Rattle.reply.proofs.Given.{has-verdict, not-refused}
+use Rattle.verdict.proofs.Given.{has-verdict, not-refused}
 use borrow.Author.Needs.{needs}
 use Rattle.reply.proofs.letter.Statement.{statement}
 use Rattle.reply.proofs.letter.Tie as tie

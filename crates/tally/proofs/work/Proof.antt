@@ -88,7 +88,7 @@ sub-keep : tie.Need-sub-keep
 sub-keep c = omega (arith, left-few (c .before) .0)
 
 keep-requires : tie.Need-keep-requires
-keep-requires c κs = omega (arith, left-few (c .before) .0, c .before .before .before .before .before .before .before .before .before .before .before .before .before .before .before .before .before .pre)
+keep-requires c κs = search needs
 
 same-length-7 : tie.Need-same-length-7
 same-length-7 c = search needs

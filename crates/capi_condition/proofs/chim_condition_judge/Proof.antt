@@ -1,0 +1,75 @@
+-- `capi_condition::chim_condition_judge` meets its contract: too many rows are refused, and else what `judge` answered of their campaigns is known in each arm.
+-- Assumes nothing.
+use mathlib.Core.Path.{_≡_, ap, _∙_}
+use lib.ListN.{length}
+use denote.Ref.{now}
+use borrow.Author.Needs.{needs}
+use Rattle.condition.specs.Answers.{judging}
+use Rattle.capi_condition.specs.Told.{campaignsOf, judgeTold}
+use Rattle.capi_condition.proofs.Rows.{many-refused}
+use Rattle.capi_condition.proofs.chim_condition_judge.Statement.{statement}
+use Rattle.capi_condition.proofs.chim_condition_judge.Tie as tie
+
+-- the campaigns judged are those of the rows
+judged : (c : tie.After-judge) → let rows = now (c .before .before .before .args .campaigns) in c .judge .result ≡ judging (length rows) (campaignsOf rows)
+judged c = c .judge .ensures ∙ ap (judging (length (now (c .before .before .before .args .campaigns)))) (c .before .campaigns-of .ensures)
+
+refuse-requires : tie.Need-refuse-requires
+refuse-requires c κs = search needs
+
+returns : tie.Need-returns
+unfolding judgeTold
+returns c =
+    let s = c .before .before in
+    let rows = now (s .before .args .campaigns) in
+    rw (many-refused (length rows) (campaignsOf rows) (s .if1 .taken), c .refuse .ensures .0, c .refuse .ensures .1)
+
+campaigns-of-requires : tie.Need-campaigns-of-requires
+campaigns-of-requires c κs = search needs
+
+judge-requires : tie.Need-judge-requires
+judge-requires c κs = search needs
+
+enum-known-s : tie.Need-enum-known-s
+enum-known-s c = search needs
+
+standing-code-requires : tie.Need-standing-code-requires
+standing-code-requires c κs = search needs
+
+give-requires : tie.Need-give-requires
+give-requires c κs = search needs
+
+enum-known-f : tie.Need-enum-known-f
+enum-known-f c = search needs
+
+refuse-requires-2 : tie.Need-refuse-requires-2
+refuse-requires-2 c κs = search needs
+
+returns-2 : tie.Need-returns-2
+unfolding judgeTold
+returns-2 c =
+    let k = c .before .before in
+    let s = k .before .before in
+    rw (← judged (s .before .before), s .s .given .1, c .give .ensures .0, c .give .ensures .1, k .standing-code .ensures)
+
+returns-3 : tie.Need-returns-3
+unfolding judgeTold
+returns-3 c =
+    let f = c .before .before .before in
+    rw (← judged (f .before .before), f .f .given .1, c .refuse2 .ensures .0, c .refuse2 .ensures .1)
+
+pub chim-condition-judge-spec : {M : Type 1} → statement M
+chim-condition-judge-spec =
+    tie.close
+    (tie.spec
+    refuse-requires
+    returns
+    campaigns-of-requires
+    judge-requires
+    enum-known-s
+    standing-code-requires
+    give-requires
+    enum-known-f
+    refuse-requires-2
+    returns-2
+    returns-3)

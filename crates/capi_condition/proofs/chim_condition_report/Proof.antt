@@ -1,0 +1,93 @@
+-- `capi_condition::chim_condition_report` meets its contract: too many rows are refused, and else what `write` answered of their campaigns is known in each arm, and
+-- the bytes are as it left them. Assumes nothing.
+use mathlib.Core.Path.{_≡_, ap, _∙_}
+use mathlib.Core.List.{List}
+use lib.ListN.{length}
+use denote.Ref.{now}
+use borrow.Author.Needs.{needs}
+use Rattle.campaign.specs.declared.Campaign.{Campaign}
+use Rattle.report.specs.Answers.{laidBy, writing}
+use Rattle.report.specs.Report.{reportText}
+use Rattle.capi_condition.specs.Told.{campaignsOf, writeTold}
+use Rattle.capi_condition.proofs.Rows.{many-declined}
+use Rattle.capi_condition.proofs.chim_condition_report.Statement.{statement}
+use Rattle.capi_condition.proofs.chim_condition_report.Tie as tie
+
+-- the campaigns reported on are those of the rows
+module _ (c : tie.After-write) where
+  abbrev start : tie.Start
+  start = c .before .before .before .before .before
+
+  answered : let rows = now (start .args .campaigns) in c .write .result ≡ writing (length rows) (campaignsOf rows) (now (start .args .out))
+  answered =
+      let rows = now (start .args .campaigns) in
+      c .write .ensures .0 ∙ ap (λ (cs : List Campaign). writing (length rows) cs (now (start .args .out))) (c .before .before .campaigns-of .ensures)
+
+  left : c .write .last .1 .1 .0 ≡ laidBy (c .write .result) (reportText (campaignsOf (now (start .args .campaigns)))) (now (start .args .out))
+  left = c .write .ensures .1 ∙ ap (λ (cs : List Campaign). laidBy (c .write .result) (reportText cs) (now (start .args .out))) (c .before .before .campaigns-of .ensures)
+
+refuse-requires : tie.Need-refuse-requires
+refuse-requires c κs = search needs
+
+returns : tie.Need-returns
+unfolding laidBy writeTold
+returns c =
+    let s = c .before .before in
+    let a = s .before .before .args in
+    let rows = now (a .campaigns) in
+    rw (many-declined (length rows) (campaignsOf rows) (s .if1 .taken) (now (a .out)), c .refuse .ensures .0, c .refuse .ensures .1)
+
+campaigns-of-requires : tie.Need-campaigns-of-requires
+campaigns-of-requires c κs = search needs
+
+write-requires : tie.Need-write-requires
+write-requires c κs = search needs
+
+enum-known-n : tie.Need-enum-known-n
+enum-known-n c = search needs
+
+give-requires : tie.Need-give-requires
+give-requires c κs = search needs
+
+enum-known-f : tie.Need-enum-known-f
+enum-known-f c = search needs
+
+refuse-requires-2 : tie.Need-refuse-requires-2
+refuse-requires-2 c κs = search needs
+
+same-length : tie.Need-same-length
+same-length c = search needs
+
+returns-2 : tie.Need-returns-2
+unfolding writeTold
+returns-2 c =
+    let n = c .before .before .before in
+    let w = n .before .before .before .before in
+    rw (← answered w, ← left w, n .n .given .1, c .give .ensures .0, c .give .ensures .1)
+
+same-length-2 : tie.Need-same-length-2
+same-length-2 c = search needs
+
+returns-3 : tie.Need-returns-3
+unfolding writeTold
+returns-3 c =
+    let f = c .before .before .before in
+    let w = f .before .before .before .before in
+    rw (← answered w, ← left w, f .f .given .1, c .refuse2 .ensures .0, c .refuse2 .ensures .1)
+
+pub chim-condition-report-spec : {M : Type 1} → statement M
+chim-condition-report-spec =
+    tie.close
+    (tie.spec
+    refuse-requires
+    returns
+    campaigns-of-requires
+    write-requires
+    enum-known-n
+    give-requires
+    enum-known-f
+    refuse-requires-2
+    same-length
+    returns-2
+    same-length-2
+    returns-3)

@@ -1,0 +1,43 @@
+-- What each C function leaves, from the answers that `condition` and `report` give of the campaigns in the rows. Assumes nothing.
+use Prim.Native.Nat.{ℕ}
+use mathlib.Core.List.{List, [], map}
+use lib.ListN.{length}
+use Rattle.campaign.specs.declared.Campaign.{Campaign}
+use Rattle.condition.specs.Answers.{judging}
+use Rattle.condition.specs.declared.Answer.{Answer}
+use Rattle.condition.specs.declared.Answer.the-variants.{Given, Refused}
+use Rattle.condition.specs.declared.Standing.{Standing}
+use Rattle.condition.specs.declared.Standing.the-variants.{Accepted, Open, Rejected}
+use Rattle.report.specs.Answers.{laidBy, writing}
+use Rattle.report.specs.Report.{reportText}
+use Rattle.report.specs.declared.Writing.{Writing}
+use Rattle.report.specs.declared.Writing.the-variants.{Bytes, Refused as Declined}
+use Rattle.capi.specs.Numbers.{campaignOf}
+use Rattle.capi.specs.Told.{Told, refused, told}
+
+abbrev pub campaignsOf : List (List ℕ) → List Campaign
+campaignsOf rows = map campaignOf rows
+
+-- the standing as a number: 1 accepted, 2 rejected, 3 open
+abbrev pub standingCode : Standing → ℕ
+standingCode Accepted = 1
+standingCode Rejected = 2
+standingCode Open = 3
+
+-- the number and what it carries
+unfoldable pub judgeTold : Answer → Told
+judgeTold (Given s) = told 0 (standingCode s) []
+judgeTold (Refused f) = refused f []
+
+abbrev pub conditionJudged : List (List ℕ) → Told
+conditionJudged rows = judgeTold (judging (length rows) (campaignsOf rows))
+
+-- the number, what it carries and the lent bytes
+unfoldable pub writeTold : Writing → List ℕ → Told
+writeTold (Bytes n) out = told 0 n out
+writeTold (Declined f) out = refused f out
+
+abbrev pub conditionReported : List (List ℕ) → List ℕ → Told
+conditionReported rows out =
+    let w : Writing = writing (length rows) (campaignsOf rows) out in
+    writeTold w (laidBy w (reportText (campaignsOf rows)) out)

@@ -1,0 +1,14 @@
+-- Document 02 [13], the case that it gives whole: antt computes the definition on it. Assumes nothing.
+use mathlib.Core.Path.{_≡_, refl}
+use Rattle.poisson.specs.Tables.{l, lowerRows, u, upperRows}
+use Rattle.campaign.specs.State.{censored, sound}
+use Rattle.verdict.specs.Answers.{judging}
+use Rattle.decimal.specs.Decimal.{digitsOf, digitsWithin}
+use Rattle.decimal.specs.Field.{fieldText}
+use Rattle.condition.specs.Standing.{accepted, allAccepted, oneRejected, rejected, standing}
+use Rattle.report.specs.Report.{fourText, letterFor, lineText, linesFrom, reportText, sumOf, totalText}
+use Rattle.report.specs.WholeCase.{theirReport, twoSituations}
+
+pub whole-case : reportText twoSituations ≡ theirReport
+unfolding twoSituations theirReport reportText linesFrom lineText fourText fieldText letterFor totalText sumOf digitsOf digitsWithin censored sound judging accepted rejected oneRejected allAccepted standing u l upperRows lowerRows
+whole-case = refl

@@ -8,7 +8,7 @@ use native.Mathlib.Omega.{arith}
 use lib.Dec.{eqb}
 use borrow.Author.Tests.{ne-eqb}
 use Rattle.refusal.specs.declared.Refusal.{Refusal}
-use Rattle.refusal.specs.declared.Refusal.the-variants.{Item, Sample, TooLong, TooShort, CampaignFull, RowsUsedUp, Room, BrokenState, Line, CommaLine, NoBureau, BureauFull, NotItsOwn, Tail, Peak, Situations, Situation}
+use Rattle.refusal.specs.declared.Refusal.the-variants.{Item, Sample, TooLong, TooShort, CampaignFull, RowsUsedUp, Room, BrokenState, Line, CommaLine, SumFull, NoBureau, BureauFull, NotItsOwn, Tail, Peak, Situations, Situation}
 use Rattle.refusal.specs.Numbers.{numberOf, valueOf}
 
 -- the refusal of a number and a value, row by row
@@ -24,12 +24,13 @@ from n v =
     (cond (eqb n 8) (cond (eqb v 0) BrokenState (Situation v))
     (cond (eqb n 9) (Line v)
     (cond (eqb n 10) (CommaLine v)
+    (cond (eqb n 11) SumFull
     (cond (eqb n 13) NoBureau
     (cond (eqb n 14) BureauFull
     (cond (eqb n 15) NotItsOwn
     (cond (eqb n 16) Tail
     (cond (eqb n 17) (Peak v)
-    Situations))))))))))))))
+    Situations)))))))))))))))
 
 -- a situation's number is counted from 1
 abbrev pub FromOne : Refusal → Type 0
@@ -46,6 +47,7 @@ from-own (Room k) h = refl
 from-own BrokenState h = refl
 from-own (Line l) h = refl
 from-own (CommaLine l) h = refl
+from-own SumFull h = refl
 from-own NoBureau h = refl
 from-own BureauFull h = refl
 from-own NotItsOwn h = refl

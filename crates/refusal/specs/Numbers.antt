@@ -1,7 +1,7 @@
 -- Document 01, "Refusal numbers", and document 02: the number of each refusal, and what is returned with it. Assumes nothing.
 use Prim.Native.Nat.{ℕ}
 use Rattle.refusal.specs.declared.Refusal.{Refusal}
-use Rattle.refusal.specs.declared.Refusal.the-variants.{Item, Sample, TooLong, TooShort, CampaignFull, RowsUsedUp, Room, BrokenState, Line, CommaLine, NoBureau, BureauFull, NotItsOwn, Tail, Peak, Situations, Situation}
+use Rattle.refusal.specs.declared.Refusal.the-variants.{Item, Sample, TooLong, TooShort, CampaignFull, RowsUsedUp, Room, BrokenState, Line, CommaLine, SumFull, NoBureau, BureauFull, NotItsOwn, Tail, Peak, Situations, Situation}
 
 -- the column "No."
 abbrev pub numberOf : Refusal → ℕ
@@ -15,6 +15,7 @@ numberOf (Room k) = 7
 numberOf BrokenState = 8
 numberOf (Line l) = 9
 numberOf (CommaLine l) = 10
+numberOf SumFull = 11
 numberOf NoBureau = 13
 numberOf BureauFull = 14
 numberOf NotItsOwn = 15
@@ -35,6 +36,7 @@ valueOf (Room k) = k
 valueOf BrokenState = 0
 valueOf (Line l) = l
 valueOf (CommaLine l) = l
+valueOf SumFull = 0
 valueOf NoBureau = 0
 valueOf BureauFull = 0
 valueOf NotItsOwn = 0

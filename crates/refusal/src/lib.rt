@@ -24,6 +24,8 @@ pub enum Refusal {
     Line(u64),
     // 10: a comma file's line is malformed or has a wrong time; its line number.
     CommaLine(u64),
+    // 11: a sum would have more failures or more samples than it may have.
+    SumFull,
     // 13: a bureau other than 1 or 2.
     NoBureau,
     // 14: the bureau has all the jobs that it may have.
@@ -55,6 +57,7 @@ pub fn number(r: Refusal) -> u64
         Refusal::BrokenState => 8,
         Refusal::Line(_) => 9,
         Refusal::CommaLine(_) => 10,
+        Refusal::SumFull => 11,
         Refusal::NoBureau => 13,
         Refusal::BureauFull => 14,
         Refusal::NotItsOwn => 15,
@@ -82,6 +85,7 @@ pub fn carried(r: Refusal) -> u64
         Refusal::CampaignFull => 0,
         Refusal::RowsUsedUp => 0,
         Refusal::BrokenState => 0,
+        Refusal::SumFull => 0,
         Refusal::NoBureau => 0,
         Refusal::BureauFull => 0,
         Refusal::NotItsOwn => 0,

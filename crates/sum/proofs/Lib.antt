@@ -1,0 +1,4 @@
+pub mod Answered
+pub mod Records
+pub mod Relations
+pub mod Unique

@@ -4,11 +4,13 @@
  * returns (0 for nothing), and with 0 the answer where it is one number, else 0. A refusal leaves every state, slice and rate as it stood.
  *
  *   No.  given exactly when                                                     *carried
- *   1    an opening item is outside its range                                   the item's number, the lowest
+ *   1    an opening item is outside its range;                                  the item's number, the lowest
+ *        a record that is to be added to a sum has another step                 1
  *   2    a sample is outside -1,000,000 to 1,000,000                            its place in the piece, the first
  *   3    the timed length of the record would pass 10,000,000 ms, on a sheet an exposure;   0
  *        the last time of a comma file would need more than 12 digits
- *   4    ending, listing or finding peaks with fewer than ramp + 2 samples;     0
+ *   4    ending, adding, listing or finding peaks with fewer than ramp + 2      0
+ *        samples;
  *        on a sheet exposure 0
  *   5    entering into a campaign of 100,000 records                            0
  *   6    entering into a campaign with 64 failures                              0
@@ -18,6 +20,7 @@
  *        a campaign of a loading condition is no state                          the situation's number, the lowest
  *   9    a line of a job sheet is malformed                                     the line's number
  *   10   a line of a comma file is malformed or has a wrong time                the line's number
+ *   11   a sum would have more than 10,000 failures or 100,000,000 samples      0
  *   13   a bureau other than 1 or 2                                             0
  *   14   taking a job for a bureau that has 16 already                          0
  *   15   a place that is not in the table, or not the bureau's own              0
@@ -54,6 +57,9 @@
  * A result, 5 numbers, is what a record comes to when it is ended: crossings, counted failures (the groups), the first failure's place (0 for none), exposure
  * in ms, largest set. A campaign takes of it whether there is a first failure and the exposure, and nothing else.
  *
+ * A sum, 3 numbers, adds up records by the binomial method: the step of them all in ms (0), the counted failures N (1), 0 to 10,000, and the timed samples P (2), 0 to
+ * 100,000,000, N at most P.
+ *
  * Levels and samples are in thousandths of a degree or in mm/s2, times in ms, rates in failures a second. Items 1 to 4 are a record's first four
  * numbers, item 5 is the standard.
  *
@@ -79,13 +85,16 @@
 extern "C" {
 #endif
 
-enum { CHIM_RECORD_NUMBERS = 12, CHIM_RESULT_NUMBERS = 5, CHIM_CAMPAIGN_NUMBERS = 5, CHIM_BENCH_PLACES = 32, CHIM_PLACE_NUMBERS = 6 };
+enum { CHIM_RECORD_NUMBERS = 12, CHIM_RESULT_NUMBERS = 5, CHIM_CAMPAIGN_NUMBERS = 5, CHIM_SUM_NUMBERS = 3, CHIM_BOUNDS_NUMBERS = 4, CHIM_BENCH_PLACES = 32, CHIM_PLACE_NUMBERS = 6 };
 
 /* The most situations of a loading condition, and room for the report of any. */
 enum { CHIM_MOST_SITUATIONS = 64, CHIM_REPORT_BYTES = 1832 };
 
 /* The places of a result. */
 enum { CHIM_CROSSINGS = 0, CHIM_COUNTED = 1, CHIM_FIRST = 2, CHIM_EXPOSURE = 3, CHIM_LARGEST_SET = 4 };
+
+/* The places of a sum's bounds. */
+enum { CHIM_ESTIMATE = 0, CHIM_LOWER = 1, CHIM_UPPER = 2, CHIM_TIME = 3 };
 
 enum {
     CHIM_TAKEN = 0,
@@ -99,6 +108,7 @@ enum {
     CHIM_BROKEN_STATE = 8,
     CHIM_LINE = 9,
     CHIM_COMMA_LINE = 10,
+    CHIM_SUM_FULL = 11,
     CHIM_NO_BUREAU = 13,
     CHIM_BUREAU_FULL = 14,
     CHIM_NOT_ITS_OWN = 15,
@@ -150,6 +160,23 @@ uint64_t chim_campaign_verdict(const uint64_t *state, size_t state_len, double *
 
 /* The estimate of the rate and its 95% bounds; *carried is 1, and 0 while there is no record, when the rates are 0. Refuses 8. */
 uint64_t chim_campaign_rates(const uint64_t *state, size_t state_len, double *estimate, double *lower, double *upper, uint64_t *carried);
+
+/* ---- a sum of records that go on past a failure: the binomial method */
+
+/* Puts the sum of no records into `state`, all of them to be at this step. Refuses 8 (the array's length), 1 with item 1. */
+uint64_t chim_sum_open(uint64_t step, uint64_t *state, size_t state_len, uint64_t *carried);
+
+/* Adds a record, which is read and not changed, to the sum in `state`: N grows by its groups, P by its timed samples, n - ramp. Refuses 8 (the sum, the record), 4, 1 with
+ * item 1 if its step is not the sum's, 11. */
+uint64_t chim_sum_add(uint64_t *state, size_t state_len, const uint64_t *added, size_t added_len, uint64_t *carried);
+
+/* The estimate and its 95% bounds in thousandths of a failure, and the time P * D in ms, into `bounds`: 1,000 N, and 1,000 N less and plus the half-width, the least whole
+ * number whose square times P is at least 1,960^2 * N * (P - N); the lower one is 0 where that falls below. *carried is 1, and 0 while there is no record, when all four
+ * are 0. Refuses 8 (the sum, or the length of `bounds`). */
+uint64_t chim_sum_bounds(const uint64_t *state, size_t state_len, uint64_t *bounds, size_t bounds_len, uint64_t *carried);
+
+/* Each of the three over the time: the estimate of the rate and its 95% bounds; *carried is 1, and 0 while there is no record, when the rates are 0. Refuses 8. */
+uint64_t chim_sum_rates(const uint64_t *state, size_t state_len, double *estimate, double *lower, double *upper, uint64_t *carried);
 
 /* ---- the bench: one table of 32 places that bureaus 1 and 2 share
  *

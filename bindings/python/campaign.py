@@ -1,7 +1,7 @@
 """A campaign at one failure in two hours: a roll that crosses 40 degrees, then quiet records by their exposure; at the end its loading
-condition, with a second situation that has no record yet. It prints what examples/c/campaign.c prints."""
+condition, with a second situation that has no record yet, and the first record by the binomial method. It prints what examples/c/campaign.c prints."""
 
-from chimenickel import Campaign, Case, Record, Refusal, counted_times, read_records, write_report, write_sheet
+from chimenickel import Campaign, Case, Record, Refusal, Sum, counted_times, read_records, write_report, write_sheet
 
 
 def show(campaign):
@@ -42,3 +42,7 @@ standard, back = read_records(sheet)
 same = "the same" if back == records else "others"
 print(f"sheet: {len(sheet)} bytes, standard {standard} ms, {len(back)} records read back, {same}")
 print(write_report([campaign, Campaign(7_200_000)]).decode(), end="")
+total = Sum(items["step"])
+total.add(record)
+bounds = total.bounds()
+print(f"binomial: N = {total.failures}, P = {total.samples}, {bounds.lower} to {bounds.upper} thousandths of a failure in {bounds.time} ms")

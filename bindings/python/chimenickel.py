@@ -3,7 +3,7 @@
 A Record is one channel of roll or acceleration, fed whole or in pieces; a record's Result is seen before it enters a
 Campaign, which gives the verdict. Samples and levels are in
 thousandths of a degree or in mm/s2, times in ms, rates in failures a second. Campaigns, one for each design situation, make a loading
-condition (judge_condition, write_report). What the library cannot take raises Refusal, and then nothing has
+condition (judge_condition, write_report). Records that go on past a failure are added up in a Sum. What the library cannot take raises Refusal, and then nothing has
 changed. A number that is no 64-bit whole number, or a sample that is no 32-bit one, raises OverflowError before the library is asked.
 
 The library is looked for in the folder that CHIMENICKEL_LIB names, or else where bin/build-lib writes it.
@@ -48,6 +48,10 @@ for _name, _result, _parameters in [
     ("chim_bench_verdict", _u64, [_rows, _size, _u64, _u64, _rate, _rate, _numbers]),
     ("chim_bench_rates", _u64, [_rows, _size, _u64, _u64, _rate, _rate, _rate, _numbers]),
     ("chim_bench_give_back", _u64, [_rows, _size, _u64, _u64, _numbers]),
+    ("chim_sum_open", _u64, [_u64, _numbers, _size, _numbers]),
+    ("chim_sum_add", _u64, [_numbers, _size, _numbers, _size, _numbers]),
+    ("chim_sum_bounds", _u64, [_numbers, _size, _numbers, _size, _numbers]),
+    ("chim_sum_rates", _u64, [_numbers, _size, _rate, _rate, _rate, _numbers]),
     ("chim_condition_judge", _u64, [_campaigns, _size, _numbers]),
     ("chim_condition_report", _u64, [_campaigns, _size, ctypes.c_char_p, _size, _numbers]),
     ("chim_envelope_find", _u64, [_u64, _u64, _u64, _samples, _size, _times, _size, _times, _size, _numbers]),
@@ -78,6 +82,7 @@ class Refusal(Exception):
         8: "the numbers are no state, or no result",
         9: "line {} is malformed",
         10: "line {} of the comma file is malformed or has a wrong time",
+        11: "the sum would have more than 10,000 failures or 100,000,000 samples",
         13: "there is no such bureau",
         14: "the bureau has 16 jobs",
         15: "the place is not the bureau's own",
@@ -310,6 +315,48 @@ class Campaign(_State):
     def rates(self):
         """The estimate and its 95% bounds; None while there is no record."""
         return _rated(_lib.chim_campaign_rates, self._state, self.LENGTH)
+
+
+class Bounds(NamedTuple):
+    """Thousandths of a failure in `time` ms: the estimate and its 95% bounds."""
+
+    estimate: int
+    lower: int
+    upper: int
+    time: int
+
+
+class Sum(_State):
+    """Records that go on past a failure, added up by the binomial method, all at one step in ms, 1 to 10,000."""
+
+    LENGTH = 3
+
+    def __init__(self, step):
+        super().__init__([0] * self.LENGTH)
+        _ask(_lib.chim_sum_open, _number(step), self._state, self.LENGTH)
+
+    def add(self, record):
+        """Adds a record's groups and its timed samples. A record of another step is refused by 1 with item 1."""
+        _ask(_lib.chim_sum_add, self._state, self.LENGTH, record._state, record.LENGTH)
+
+    @property
+    def failures(self):
+        """The counted failures, N."""
+        return self._state[1]
+
+    @property
+    def samples(self):
+        """The timed samples, P."""
+        return self._state[2]
+
+    def bounds(self):
+        """The estimate and its 95% bounds in thousandths of a failure, and the time in ms; None while there is no record."""
+        bounds = (_u64 * 4)()
+        return Bounds(*bounds) if _ask(_lib.chim_sum_bounds, self._state, self.LENGTH, bounds, len(bounds)) else None
+
+    def rates(self):
+        """The estimate and its 95% bounds; None while there is no record."""
+        return _rated(_lib.chim_sum_rates, self._state, self.LENGTH)
 
 
 class Standing(enum.IntEnum):

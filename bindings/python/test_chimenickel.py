@@ -16,6 +16,7 @@ from chimenickel import (
     Record,
     Refusal,
     Standing,
+    Sum,
     counted_times,
     envelope_peaks,
     first_crossing,
@@ -197,6 +198,29 @@ class Records(unittest.TestCase):
         self.assertEqual(Bench.from_numbers(bench.numbers).verdict(2, 1), bench.verdict(2, 1))
         self.refused(8, 0, Bench.from_numbers, bench.numbers[:31])
         self.refused(8, 0, Bench.from_numbers([[0, 1, 0, 0, 0, 0]] + bench.numbers[1:]).take, 2, 1)
+
+    def test_sums(self):
+        record, total = Record(500, 2, 40_000, 1_000), Sum(500)
+        self.assertEqual((total.bounds(), total.rates()), (None, None))
+        record.feed([0, 0, 0])
+        self.refused(4, 0, total.add, record)
+        record.feed([41_000, 0, 0, 41_000, 0, 0, 0])
+        total.add(record)
+        total.add(record)
+        self.assertEqual((total.failures, total.samples, total.numbers), (4, 16, [500, 4, 16]))
+        # 1,960² · 4 · 12 / 16 is 3,394.8 squared
+        self.assertEqual(total.bounds(), (4_000, 605, 7_395, 8_000))
+        self.assertEqual(total.rates(), (0.5, 605 / 8_000, 7_395 / 8_000))
+        other = Record(499, 2, 40_000, 1_000)
+        other.feed([0] * 4)
+        self.refused(1, 1, total.add, other)
+        full = Sum.from_numbers([500, 9_999, 20_000])
+        self.refused(11, 0, full.add, record)
+        self.assertEqual(full.numbers, [500, 9_999, 20_000])
+        for broken in ([0, 0, 0], [500, 3, 2], [500, 10_001, 20_000], [500, 1, 100_000_001]):
+            for call in (Sum.from_numbers(broken).rates, Sum.from_numbers(broken).bounds):
+                self.refused(8, 0, call)
+        self.refused(1, 1, Sum, 10_001)
 
     def test_conditions(self):
         def campaign(records, failures, exposure, failed):

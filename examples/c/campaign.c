@@ -1,5 +1,5 @@
 /* A campaign at one failure in 7,200,000 ms (two hours): a roll that crosses 40 degrees, then quiet records by their exposure; at the end its
- * loading condition, with a second situation that has no record yet. */
+ * loading condition, with a second situation that has no record yet, and the first record by the binomial method. */
 #include "chimenickel.h"
 #include <inttypes.h>
 #include <stdio.h>
@@ -68,5 +68,13 @@ int main(void) {
     refusal = chim_condition_report((const uint64_t(*)[CHIM_CAMPAIGN_NUMBERS])situations, 2, report, sizeof report, &bytes);
     if (refusal == CHIM_TAKEN)
         fwrite(report, 1, bytes, stdout);
+
+    uint64_t sum[CHIM_SUM_NUMBERS], bounds[CHIM_BOUNDS_NUMBERS];
+    chim_sum_open(500, sum, CHIM_SUM_NUMBERS, &carried);
+    chim_sum_add(sum, CHIM_SUM_NUMBERS, record, CHIM_RECORD_NUMBERS, &carried);
+    refusal = chim_sum_bounds(sum, CHIM_SUM_NUMBERS, bounds, CHIM_BOUNDS_NUMBERS, &carried);
+    if (refusal == CHIM_TAKEN)
+        printf("binomial: N = %" PRIu64 ", P = %" PRIu64 ", %" PRIu64 " to %" PRIu64 " thousandths of a failure in %" PRIu64 " ms\n", sum[1], sum[2],
+               bounds[CHIM_LOWER], bounds[CHIM_UPPER], bounds[CHIM_TIME]);
     return 0;
 }

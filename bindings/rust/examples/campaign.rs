@@ -1,7 +1,7 @@
 //! A campaign at one failure in two hours: a roll that crosses 40 degrees, then quiet records by their exposure; at the end its
-//! loading condition, with a second situation that has no record yet. It prints what examples/c/campaign.c prints.
+//! loading condition, with a second situation that has no record yet, and the first record by the binomial method. It prints what examples/c/campaign.c prints.
 
-use chimenickel::{list, read_records, write_report, write_sheet, Campaign, Items, Record, Refusal, Verdict};
+use chimenickel::{list, read_records, write_report, write_sheet, Campaign, Items, Record, Refusal, Sum, Verdict};
 
 fn show(c: &Campaign) -> Result<(), Refusal> {
     print!("M = {}, N = {}, T = {} ms: ", c.records(), c.failures(), c.exposure());
@@ -52,5 +52,17 @@ fn main() -> Result<(), Refusal> {
     let same = if back == records { "the same" } else { "others" };
     println!("sheet: {} bytes, standard {standard} ms, {} records read back, {same}", sheet.len(), back.len());
     print!("{}", write_report(&[campaign, Campaign::open(7_200_000)?])?);
+    let mut sum = Sum::open(items.step)?;
+    sum.add(&record)?;
+    if let Some(bounds) = sum.bounds()? {
+        println!(
+            "binomial: N = {}, P = {}, {} to {} thousandths of a failure in {} ms",
+            sum.failures(),
+            sum.samples(),
+            bounds.lower,
+            bounds.upper,
+            bounds.time
+        );
+    }
     Ok(())
 }

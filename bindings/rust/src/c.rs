@@ -67,6 +67,17 @@ extern "C" {
         carried: *mut u64,
     ) -> u64;
     pub fn chim_bench_give_back(table: *mut [u64; 6], table_len: usize, bureau: u64, place: u64, carried: *mut u64) -> u64;
+    pub fn chim_sum_open(step: u64, state: *mut u64, state_len: usize, carried: *mut u64) -> u64;
+    pub fn chim_sum_add(state: *mut u64, state_len: usize, added: *const u64, added_len: usize, carried: *mut u64) -> u64;
+    pub fn chim_sum_bounds(state: *const u64, state_len: usize, bounds: *mut u64, bounds_len: usize, carried: *mut u64) -> u64;
+    pub fn chim_sum_rates(
+        state: *const u64,
+        state_len: usize,
+        estimate: *mut f64,
+        lower: *mut f64,
+        upper: *mut f64,
+        carried: *mut u64,
+    ) -> u64;
     pub fn chim_condition_judge(campaigns: *const [u64; 5], situations: usize, carried: *mut u64) -> u64;
     pub fn chim_condition_report(campaigns: *const [u64; 5], situations: usize, out: *mut u8, room: usize, carried: *mut u64) -> u64;
     pub fn chim_envelope_find(

@@ -3,7 +3,7 @@
 //! A [`Record`] is one channel of roll or acceleration, fed whole or in pieces; what it comes to is [`Ended`], seen before it enters
 //! a [`Campaign`], which gives the [`Verdict`]. Samples and
 //! levels are in thousandths of a degree or in mm/s², times in ms, rates in failures a second. Campaigns, one for each design situation, make
-//! a loading condition ([`judge_condition`], [`write_report`]). What the library cannot take it refuses by a [`Refusal`], and then nothing has
+//! a loading condition ([`judge_condition`], [`write_report`]). Records that go on past a failure are added up in a [`Sum`]. What the library cannot take it refuses by a [`Refusal`], and then nothing has
 //! changed.
 //!
 //! ```
@@ -31,7 +31,7 @@ use std::fmt;
 /// Why nothing was done, by the counter's refusal numbers.
 #[derive(Clone, Copy, Debug, PartialEq, Eq)]
 pub enum Refusal {
-    /// 1: an opening item is outside its range; the lowest such item, from 1 to 5.
+    /// 1: an opening item is outside its range; the lowest such item, from 1 to 5. With item 1 too: a record's step is not the sum's.
     Item(u64),
     /// 2: a sample is outside -1,000,000 to 1,000,000; its place in the piece or file.
     Sample(u64),
@@ -53,6 +53,8 @@ pub enum Refusal {
     Line(u64),
     /// 10: a line of a comma file is malformed or has a wrong time; its number.
     CommaLine(u64),
+    /// 11: the sum would have more than 10,000 failures or 100,000,000 samples.
+    SumFull,
     /// 13: a bureau other than 1 or 2.
     NoBureau,
     /// 14: the bureau has 16 jobs.
@@ -81,6 +83,7 @@ impl Refusal {
             Refusal::BrokenState | Refusal::BrokenSituation(_) => 8,
             Refusal::Line(_) => 9,
             Refusal::CommaLine(_) => 10,
+            Refusal::SumFull => 11,
             Refusal::NoBureau => 13,
             Refusal::BureauFull => 14,
             Refusal::NotItsOwn => 15,
@@ -102,6 +105,7 @@ impl Refusal {
             8 if carried != 0 => Refusal::BrokenSituation(carried),
             9 => Refusal::Line(carried),
             10 => Refusal::CommaLine(carried),
+            11 => Refusal::SumFull,
             13 => Refusal::NoBureau,
             14 => Refusal::BureauFull,
             15 => Refusal::NotItsOwn,
@@ -127,6 +131,7 @@ impl fmt::Display for Refusal {
             Refusal::BrokenSituation(situation) => write!(f, "the numbers of situation {situation} are no campaign"),
             Refusal::Line(line) => write!(f, "line {line} of the sheet is malformed"),
             Refusal::CommaLine(line) => write!(f, "line {line} of the comma file is malformed or has a wrong time"),
+            Refusal::SumFull => write!(f, "the sum would have more than 10,000 failures or 100,000,000 samples"),
             Refusal::NoBureau => write!(f, "there is no such bureau"),
             Refusal::BureauFull => write!(f, "the bureau has 16 jobs"),
             Refusal::NotItsOwn => write!(f, "the place is not the bureau's own"),
@@ -393,6 +398,74 @@ impl Campaign {
     /// A stored state; numbers that are no state are refused at their first use.
     pub fn from_numbers(numbers: [u64; 5]) -> Campaign {
         Campaign { numbers }
+    }
+}
+
+/// Thousandths of a failure in `time` ms: the estimate and its 95% bounds.
+#[derive(Clone, Copy, Debug, PartialEq, Eq)]
+pub struct Bounds {
+    pub estimate: u64,
+    pub lower: u64,
+    pub upper: u64,
+    /// The timed samples times the step, in ms.
+    pub time: u64,
+}
+
+/// Records that go on past a failure, added up by the binomial method.
+#[derive(Clone, Debug, PartialEq, Eq)]
+pub struct Sum {
+    numbers: [u64; 3],
+}
+
+impl Sum {
+    /// The sum of no records, all of them to be at this step in ms: item 1, 1 to 10,000.
+    pub fn open(step: u64) -> Result<Sum, Refusal> {
+        let mut s = [0; 3];
+        answer(|carried| unsafe { c::chim_sum_open(step, s.as_mut_ptr(), s.len(), carried) })?;
+        Ok(Sum { numbers: s })
+    }
+
+    /// Adds a record's groups and its timed samples. A record of another step is refused by 1 with item 1.
+    pub fn add(&mut self, record: &Record) -> Result<(), Refusal> {
+        let (s, added) = (&mut self.numbers, &record.numbers);
+        answer(|carried| unsafe { c::chim_sum_add(s.as_mut_ptr(), s.len(), added.as_ptr(), added.len(), carried) })?;
+        Ok(())
+    }
+
+    /// The counted failures, N.
+    pub fn failures(&self) -> u64 {
+        self.numbers[1]
+    }
+
+    /// The timed samples, P.
+    pub fn samples(&self) -> u64 {
+        self.numbers[2]
+    }
+
+    /// The bounds in thousandths of a failure; `None` while there is no record.
+    pub fn bounds(&self) -> Result<Option<Bounds>, Refusal> {
+        let (s, mut x) = (&self.numbers, [0; 4]);
+        let some = answer(|carried| unsafe { c::chim_sum_bounds(s.as_ptr(), s.len(), x.as_mut_ptr(), x.len(), carried) })?;
+        let [estimate, lower, upper, time] = x;
+        Ok((some == 1).then_some(Bounds { estimate, lower, upper, time }))
+    }
+
+    /// The three rates; `None` while there is no record.
+    pub fn rates(&self) -> Result<Option<Rates>, Refusal> {
+        let s = &self.numbers;
+        let (mut estimate, mut lower, mut upper) = (0.0, 0.0, 0.0);
+        let some = answer(|carried| unsafe { c::chim_sum_rates(s.as_ptr(), s.len(), &mut estimate, &mut lower, &mut upper, carried) })?;
+        Ok((some == 1).then_some(Rates { estimate, lower, upper }))
+    }
+
+    /// The state, to be stored.
+    pub fn numbers(&self) -> &[u64; 3] {
+        &self.numbers
+    }
+
+    /// A stored state; numbers that are no state are refused at their first use.
+    pub fn from_numbers(numbers: [u64; 3]) -> Sum {
+        Sum { numbers }
     }
 }
 
@@ -755,6 +828,33 @@ mod tests {
         let mut broken = *bench.numbers();
         broken[31][5] = 1;
         assert_eq!(Bench::from_numbers(broken).take(2, 1), Err(Refusal::BrokenState));
+    }
+
+    #[test]
+    fn records_are_added_up() {
+        let items = Items { step: 500, ramp: 2, level: 40_000, decorrelation: 1_000 };
+        let mut record = Record::open(items).unwrap();
+        let mut sum = Sum::open(500).unwrap();
+        assert_eq!((sum.bounds(), sum.rates()), (Ok(None), Ok(None)));
+        record.feed(&[0, 0, 0]).unwrap();
+        assert_eq!(sum.add(&record), Err(Refusal::TooShort));
+        record.feed(&[41_000, 0, 0, 41_000, 0, 0, 0]).unwrap();
+        sum.add(&record).unwrap();
+        sum.add(&record).unwrap();
+        assert_eq!((sum.failures(), sum.samples()), (4, 16));
+        // 1,960² · 4 · 12 / 16 is 3,394.8 squared
+        assert_eq!(sum.bounds(), Ok(Some(Bounds { estimate: 4_000, lower: 605, upper: 7_395, time: 8_000 })));
+        assert_eq!(sum.rates(), Ok(Some(Rates { estimate: 0.5, lower: 605.0 / 8_000.0, upper: 7_395.0 / 8_000.0 })));
+        let other = Record::open(Items { step: 499, ..items }).unwrap();
+        assert_eq!(sum.add(&other), Err(Refusal::TooShort));
+        let mut other = other;
+        other.feed(&[0; 4]).unwrap();
+        assert_eq!(sum.add(&other), Err(Refusal::Item(1)));
+        let mut full = Sum::from_numbers([500, 9_999, 20_000]);
+        assert_eq!(full.add(&record), Err(Refusal::SumFull));
+        assert_eq!((full.numbers(), Refusal::SumFull.number()), (&[500, 9_999, 20_000], 11));
+        assert_eq!(Sum::from_numbers([500, 3, 2]).rates(), Err(Refusal::BrokenState));
+        assert_eq!(Sum::open(10_001), Err(Refusal::Item(1)));
     }
 
     #[test]

@@ -5,6 +5,7 @@ pub mod Request1
 pub mod Request2
 pub mod Request4
 pub mod Request5
+pub mod Request7
 pub mod Stays
 pub mod Request9
 pub mod Request11

@@ -1,0 +1,134 @@
+-- Document 02, [7]: the binomial method. Opening a sum, adding a record, bounds and rates are decided by their tests in 02's order (demand 1); a sum goes in by value and a
+-- refusal hands none out, so nothing is added. N is the counted groups and P the timed samples of the records that were added, in whatever order, and a record in
+-- pieces, cut anywhere, adds what the whole one does: the groups of its joined samples, and how many of them stand at the ramp's end or behind it. The half-width is the least
+-- whole number whose square times P is at least 1,960² · N · (P - N), and there is one. "No record" is answered exactly while nothing was added.
+--
+-- D is the step, R the ramp, a the level and τ the decorrelation time. Assumes nothing.
+use mathlib.Core.Path.{_≡_, ap, refl, _∙_}
+use mathlib.Core.Bool.{Bool, cond, false, not, true}
+use mathlib.Core.List.{List, [], _∷_, _++_}
+use Prim.Native.Nat.{ℕ, _-_, _≤_}
+use native.Mathlib.Omega.{arith}
+use borrow.Author.Tests.{ne-eqb}
+use lib.Dec.{eqb}
+use lib.IntN.{ℤ}
+use lib.ListN.{length}
+use Rattle.truth.proofs.Cases.{by-test}
+use Rattle.truth.proofs.Laws.{is-true}
+use Rattle.refusal.specs.declared.Refusal.{Refusal}
+use Rattle.refusal.specs.declared.Refusal.the-variants.{BrokenState, Item, SumFull, TooShort}
+use Rattle.limits.specs.Limits.{stepInRange}
+use Rattle.reading.specs.Reading.{groups}
+use Rattle.record.specs.Answers as records
+use Rattle.record.specs.State as recording
+use Rattle.record.specs.State.{stateOf, tooShort}
+use Rattle.record.specs.declared.Answer.the-variants as read
+use Rattle.record.specs.declared.Record.{Record}
+use Rattle.feeding.specs.Pieces.{AllTaken, joined}
+use Rattle.feeding.proofs.Theorems.{pieces-whole}
+use Rattle.sum.specs.Answers.{adding, opened}
+use Rattle.sum.specs.Records.{AllAdded, sumOf}
+use Rattle.sum.specs.State.{empty, grown, sound, timed, wouldPass}
+use Rattle.sum.specs.declared.Answer.the-variants.{Refused, Taken}
+use Rattle.sum.specs.declared.Sum.{Sum}
+use Rattle.sum.proofs.Answered as answered
+use Rattle.sum.proofs.Records.{any-order, grown-by-adding, none-timed}
+use Rattle.verdict.specs.declared.Rated.the-variants as rated
+use Rattle.spread.specs.Answers.{bounding, rating, recorded}
+use Rattle.spread.specs.Bounds.{boundsOf, ratesOf}
+use Rattle.spread.specs.HalfWidth.{HalfWidth, halfWidth}
+use Rattle.spread.specs.declared.Bounded.the-variants as bounded
+use Rattle.spread.proofs.HalfWidth.{all-failures, half-width, least-unique, no-failure}
+use Rattle.spread.proofs.Order.{ordered}
+use Rattle.demands.proofs.Demand1.{Decides, Test, _gives_, decide, decided, no}
+
+-- ---- the statement
+-- 8 for the sum and for the record, 4, 1 with item 1 for another step, 11
+abbrev addTests : Sum → Record → List Test
+addTests s r =
+    not (sound s) gives BrokenState
+    ∷ (not (recording.sound r) gives BrokenState
+    ∷ (tooShort r gives TooShort
+    ∷ (not (eqb (r .step) (s .step)) gives Item 1
+    ∷ (wouldPass s (r .groups) (timed r) gives SumFull
+    ∷ []))))
+
+abbrev brokenTest : Sum → List Test
+brokenTest s = not (sound s) gives BrokenState ∷ []
+
+pub record Request7 : Type 0 where
+  -- the order of refusals
+  pub opening : (D : ℕ) → Decides Refused (not (stepInRange D) gives Item 1 ∷ []) (Taken (empty D)) (opened D)
+  pub add : (s : Sum) (r : Record) → Decides Refused (addTests s r) (Taken (grown s (r .groups) (timed r))) (adding s r)
+  pub bounds : (s : Sum) → Decides bounded.Refused (brokenTest s) (bounded.Given (recorded s) (boundsOf s)) (bounding s)
+  pub rates : (s : Sum) → Decides rated.Refused (brokenTest s) (rated.Given (recorded s) (ratesOf s)) (rating s)
+  -- a sum that is handed out is never refused as broken
+  pub opened-sound : (D : ℕ) (s : Sum) → opened D ≡ Taken s → sound s ≡ true
+  pub added-sound : (s : Sum) (r : Record) (t : Sum) → adding s r ≡ Taken t → sound t ≡ true
+  -- N and P over the list of the records; neighbours may change places, and by such changes any order comes from any other
+  pub totals : (D : ℕ) (s t : Sum) (rs : List Record) → opened D ≡ Taken s → AllAdded s rs t → t ≡ sumOf D rs
+  pub in-any-order : (before : List Record) (a b : Record) (behind : List Record) (s t : Sum) → AllAdded s (before ++ (a ∷ (b ∷ behind))) t → AllAdded s (before ++ (b ∷ (a ∷ behind))) t
+  -- the pieces rule: what is answered for a record in pieces is answered for the whole one, refusals too; and what that adds
+  pub pieces : (D R a τ : ℕ) (s t : Record) (ps : List (List ℤ)) (x : Sum) → records.opened D R a τ ≡ read.Taken s → AllTaken s ps t → adding x t ≡ adding x (stateOf D R a τ (joined ps))
+  pub adds : (D R a τ : ℕ) (xs : List ℤ) (x y : Sum) → adding x (stateOf D R a τ xs) ≡ Taken y → y ≡ grown x (length (groups D R a τ xs)) (length xs - R)
+  -- the half-width is the least such number, and the only one; it is 0 without a failure and where every sample failed
+  pub least : (N P : ℕ) → HalfWidth N P (halfWidth N P)
+  pub only : (N P m n : ℕ) → HalfWidth N P m → HalfWidth N P n → m ≡ n
+  pub no-failure : (P : ℕ) → halfWidth 0 P ≡ 0
+  pub all-failures : (N : ℕ) → halfWidth N N ≡ 0
+  pub in-order : (s : Sum) → (boundsOf s .lower ≤ boundsOf s .estimate) × (boundsOf s .estimate ≤ boundsOf s .upper)
+  -- "no record" of a sum just opened, and of no sum that a record was added to
+  pub no-record : (D : ℕ) (s : Sum) → opened D ≡ Taken s → recorded s ≡ false
+  pub a-record : (s t : Sum) (r : Record) (rs : List Record) → AllAdded s (r ∷ rs) t → recorded t ≡ true
+
+-- ---- the proof
+module _ (r s : Refusal) where
+  own : Refused r ≡ Refused s → r ≡ s
+  own e = cc
+
+  own-bounds : bounded.Refused r ≡ bounded.Refused s → r ≡ s
+  own-bounds e = cc
+
+  own-rates : rated.Refused r ≡ rated.Refused s → r ≡ s
+  own-rates e = cc
+
+swapped : {A : Type 0} (b : Bool) (x y : A) → cond b x y ≡ cond (not b) y x
+swapped true x y = refl
+swapped false x y = refl
+
+joined-adds : (D R a τ : ℕ) (xs : List ℤ) (x y : Sum) → adding x (stateOf D R a τ xs) ≡ Taken y → y ≡ grown x (length (groups D R a τ xs)) (length xs - R)
+unfolding stateOf
+joined-adds D R a τ xs x y e = answered.added-from x (stateOf D R a τ xs) y e .after
+
+empty-record : (D : ℕ) (s : Sum) → opened D ≡ Taken s → recorded s ≡ false
+empty-record D s e = rw (answered.opened-from D s e .1)
+
+some-record : (s t : Sum) (r : Record) (rs : List Record) → AllAdded s (r ∷ rs) t → recorded t ≡ true
+some-record s t r rs a = rw (ne-eqb (t .samples) 0 (λ z. let e = none-timed a z in let f : _≡_ {A = ℕ} 1 0 = ap kind e in omega arith))
+  where
+    kind : List Record → ℕ
+    kind [] = 0
+    kind (r ∷ rs) = 1
+
+pub request-7 : Request7
+unfolding decide adding bounding rating
+request-7 =
+    record {
+      opening = λ D. decided Refused (Taken (empty D)) own (λ r e. no (cc)) _ (opened D) (swapped (stepInRange D) _ _);
+      add = λ s r. decided Refused (Taken (grown s (r .groups) (timed r))) own (λ f e. no (cc)) (addTests s r) (adding s r) refl;
+      bounds = λ s. decided bounded.Refused (bounded.Given (recorded s) (boundsOf s)) own-bounds (λ r e. no (cc)) (brokenTest s) (bounding s) (swapped (sound s) _ _);
+      rates = λ s. decided rated.Refused (rated.Given (recorded s) (ratesOf s)) own-rates (λ r e. no (cc)) (brokenTest s) (rating s) (swapped (sound s) _ _);
+      opened-sound = λ D s e. is-true (sound s) (answered.opened-sound D s e);
+      added-sound = λ s r t e. is-true (sound t) (answered.adding-sound s r t e);
+      totals = grown-by-adding;
+      in-any-order = λ before a b behind s t. any-order before a b behind;
+      pieces = λ D R a τ s t ps x e f. ap (adding x) (pieces-whole D R a τ s e f);
+      adds = joined-adds;
+      least = half-width;
+      only = λ N P m n. least-unique;
+      no-failure = no-failure;
+      all-failures = all-failures;
+      in-order = ordered;
+      no-record = empty-record;
+      a-record = some-record;
+    }

@@ -2,7 +2,7 @@
  * to hold whatever comes: a refusal leaves every lent array as it stood, what is handed out is never refused as broken, a piece cut anywhere leads to
  * the same record, a sheet's campaign is that of its records, a bureau's call leaves the other's places, a comma file that is read is written
  * and read again, a sheet's records are refused as the sheet is, and written they are the sheet, envelope peaks are samples of the record, apart as they
- * have to be, and a loading condition is what its campaigns are told one by one. */
+ * have to be, a loading condition is what its campaigns are told one by one, and a sum has the groups and the samples of the records that were added. */
 #include <inttypes.h>
 #include <stdint.h>
 #include <stdio.h>
@@ -226,6 +226,49 @@ static void campaign(void) {
     }
 }
 
+/* a sum of any numbers, and records of any samples added to it: bounds and rates are refused alike, the half-width is the least, and a record that is taken adds what its
+ * result counts and its samples behind the ramp */
+static void sum(void) {
+    enum { MOST = 64 };
+    uint64_t state[CHIM_SUM_NUMBERS], before[CHIM_SUM_NUMBERS], carried;
+    for (size_t i = 0; i < CHIM_SUM_NUMBERS; i++)
+        state[i] = number(i + 2);
+    do {
+        uint64_t bounds[CHIM_BOUNDS_NUMBERS] = {7, 7, 7, 7}, some, p = state[2];
+        double e = -1, l = -1, u = -1;
+        uint64_t sound = chim_sum_bounds(state, CHIM_SUM_NUMBERS, bounds, CHIM_BOUNDS_NUMBERS, &some);
+        hold(chim_sum_rates(state, CHIM_SUM_NUMBERS, &e, &l, &u, &carried) == sound && carried == some);
+        if (sound != CHIM_TAKEN) {
+            hold(sound == CHIM_BROKEN_STATE && bounds[0] == 7 && bounds[3] == 7 && e == -1 && l == -1 && u == -1);
+        } else {
+            uint64_t n = 1000 * state[1], m = bounds[CHIM_UPPER] - n, a = 3841600 * state[1] * (p - state[1]);
+            hold(some == (p != 0) && bounds[CHIM_ESTIMATE] == n && bounds[CHIM_LOWER] == (m < n ? n - m : 0) && bounds[CHIM_TIME] == p * state[0]);
+            hold(m * m * p >= a && (m == 0 || (m - 1) * (m - 1) * p < a));
+            hold(l <= e && e <= u && (p == 0 || u == (double)bounds[CHIM_UPPER] / (double)bounds[CHIM_TIME]));
+        }
+        uint64_t record[CHIM_RECORD_NUMBERS], result[CHIM_RESULT_NUMBERS], step = number(1) % 2 ? state[0] : number(2), ramp = number(1) % 4;
+        int32_t samples[MOST];
+        size_t n = 0, most = number(1) % MOST;
+        if (chim_record_open(step, ramp, 40000, number(2), record, CHIM_RECORD_NUMBERS, &carried) != CHIM_TAKEN)
+            return;
+        while (left > 0 && n < most)
+            samples[n++] = number(1) % 2 ? 41000 : 0;
+        hold(chim_record_feed(record, CHIM_RECORD_NUMBERS, samples, n, &carried) == CHIM_TAKEN);
+        memcpy(before, state, sizeof state);
+        uint64_t answer = chim_sum_add(state, CHIM_SUM_NUMBERS, record, CHIM_RECORD_NUMBERS, &carried);
+        uint64_t ended = chim_record_end(record, CHIM_RECORD_NUMBERS, result, CHIM_RESULT_NUMBERS, &some);
+        hold((answer == CHIM_BROKEN_STATE) == (sound != CHIM_TAKEN) && carried == (answer == CHIM_ITEM));
+        if (answer != CHIM_TAKEN) {
+            hold(memcmp(before, state, sizeof state) == 0);
+            hold(answer != CHIM_TOO_SHORT || ended == CHIM_TOO_SHORT);
+            hold(answer != CHIM_ITEM || step != state[0]);
+            hold(answer != CHIM_SUM_FULL || before[1] + result[CHIM_COUNTED] > 10000 || before[2] + n - ramp > 100000000);
+        } else {
+            hold(ended == CHIM_TAKEN && state[0] == step && state[1] == before[1] + result[CHIM_COUNTED] && state[2] == before[2] + n - ramp);
+        }
+    } while (left > 0);
+}
+
 /* a bench: an empty one, or any numbers at all; calls of any bureau about any place */
 static void bench(void) {
     uint64_t table[CHIM_BENCH_PLACES][CHIM_PLACE_NUMBERS] = {{0}}, before[CHIM_BENCH_PLACES][CHIM_PLACE_NUMBERS], carried;
@@ -382,7 +425,7 @@ static void condition(void) {
 
 int LLVMFuzzerTestOneInput(const uint8_t *data, size_t size) {
     in = data, left = size;
-    switch (number(1) % 10) {
+    switch (number(1) % 11) {
     case 0: sheet(); break;
     case 1: record(); break;
     case 2: list(); break;
@@ -393,6 +436,7 @@ int LLVMFuzzerTestOneInput(const uint8_t *data, size_t size) {
     case 7: ledger(); break;
     case 8: envelope(); break;
     case 9: condition(); break;
+    case 10: sum(); break;
     }
     return 0;
 }

@@ -9,8 +9,7 @@
  *   2    a sample is outside -1,000,000 to 1,000,000                            its place in the piece, the first
  *   3    the timed length of the record would pass 10,000,000 ms, on a sheet an exposure;   0
  *        the last time of a comma file would need more than 12 digits
- *   4    ending, adding, listing or finding peaks with fewer than ramp + 2      0
- *        samples;
+ *   4    ending, adding, listing or finding peaks with fewer than ramp + 2 samples;   0
  *        on a sheet exposure 0
  *   5    entering into a campaign of 100,000 records                            0
  *   6    entering into a campaign with 64 failures                              0

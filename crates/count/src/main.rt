@@ -2,7 +2,9 @@
 // failure or a dash, exposure; or refused, the line at fault or 0, and the refusal's number. The four items of the record come as arguments. The file may have any length: it is
 // read through a fixed buffer, each right line is fed as it comes, and what the file as a whole would be refused for is kept until its end, a malformed line
 // alone ending the reading. What a line says is `comma::line_at`'s promise, what feeding and ending make of it is `feeding`'s and `result`'s; here bytes are only
-// carried. How it ended goes as a digit to a descriptor of its own, where bin/program waits for it.
+// carried. Behind the items may stand the lengths in bytes of several files, which then come one behind the other: each is counted and added to a sum (document 02, [7]), and
+// the line has N, P, the estimate and its bounds in thousandths of a failure, and P·D; or refused, the file's number, and the rest as for one file. How it ended goes as a
+// digit to a descriptor of its own, where bin/program waits for it.
 ghost use mathlib.Core.Path.{_≡_};
 ghost use mathlib.Core.Bool.{true};
 ghost use Prim.Native.Nat.{_+_, _≤_, _<_};
@@ -17,6 +19,8 @@ use record::Record;
 use refusal::Refusal;
 use result::Ended;
 use result::Result;
+use spread::Bounded;
+use sum::Sum;
 
 const END_FILENO: i32 = 3;
 
@@ -33,6 +37,9 @@ const LF: u8 = 10;
 // The most bytes of a line: two numbers of 12 digits, comma, minus, point, three digits, LF.
 const LONGEST_LINE: usize = 31;
 
+// The program's own name and the four items; arguments behind them are the lengths of files.
+const ITEMS: usize = 5;
+
 // How many lines make a sign of life.
 const LIVELY: u64 = 1_000_000;
 
@@ -46,6 +53,8 @@ struct Count {
     outside: u64,
     // Whether there are more samples than a record may have.
     long: bool,
+    // How many bytes of the file are still to come; where it has no length of its own, more than any file has.
+    coming: u64,
 }
 
 // What a turn of the loop comes to: the bytes of a line begun are kept, or the file has ended, or a line is wrong, or nothing can be read.
@@ -72,6 +81,7 @@ fn fed(c: Count, x: i32) -> Count {
             time: c.time,
             outside: c.outside,
             long: c.long,
+            coming: c.coming,
         },
         record::Answer::Refused(_) => Count {
             record: r,
@@ -79,6 +89,7 @@ fn fed(c: Count, x: i32) -> Count {
             time: c.time,
             outside: c.outside,
             long: true,
+            coming: c.coming,
         },
     }
 }
@@ -98,6 +109,7 @@ fn stepped(c: Count, minus: bool, size: u64) -> Count {
         time: std::num::wrapping_add_u64(c.time, r.step),
         outside: outside,
         long: c.long,
+        coming: c.coming,
     };
     if outside != 0 {
         return next;
@@ -171,18 +183,42 @@ fn work(c: Count, text: &mut [u8], end: usize, more: bool) -> After
     After::On(count, end - at)
 }
 
+// How many bytes are read at once: no more than are to come, and no more than there is room for.
+fn least(coming: u64, room: usize) -> usize
+    ensures { λ r. ⌜ r ≤ room ⌝ }
+{
+    if coming < room as u64 {
+        return coming as usize;
+    }
+    room
+}
+
+// So many bytes have come.
+fn nearer(c: Count, more: u64) -> Count {
+    let r = c.record;
+    Count {
+        record: r,
+        lines: c.lines,
+        time: c.time,
+        outside: c.outside,
+        long: c.long,
+        coming: std::num::wrapping_sub_u64(c.coming, more),
+    }
+}
+
 // Reads once, behind the `kept` bytes of a line begun.
 fn turn(c: Count, text: &mut [u8], kept: usize) -> After
     requires { ⌜ kept ≤ length (now text) ⌝ }
     ensures { λ r. ⌜ keptBy r < 31 ⌝ }
 {
-    let got = libc::read(STDIN_FILENO, &mut text[kept..]);
+    let end = kept + least(c.coming, text.len() - kept);
+    let got = libc::read(STDIN_FILENO, &mut text[kept..end]);
     if got < 0 {
         os::fail(b"standard input");
         return After::Broken;
     }
-    let more = io::count(got, &text[kept..]);
-    work(c, text, kept + more, more > 0)
+    let more = io::count(got, &text[kept..end]);
+    work(nearer(c, more as u64), text, kept + more, more > 0)
 }
 
 // Writes `v` and the byte `end` into `out` from `at` on.
@@ -259,33 +295,25 @@ fn live(before: u64, lines: u64, shown: bool) {
     }
 }
 
-// A proved loop has to end, and nothing says that the input does; so it counts its turns down, from a number that no run uses up.
-fn serve(start: Count, text: &mut [u8], shown: bool) -> u8
+// A file from its first byte to its end, or to its first wrong line. A proved loop has to end, and nothing says that the input does; so it counts its turns down, from a
+// number that no run uses up.
+fn serve(start: Count, text: &mut [u8], shown: bool) -> After
     requires { ⌜ 31 ≤ length (now text) ⌝ }
 {
     let mut count = start;
     let mut kept = 0;
     let mut turns = u64::MAX;
     while turns > 0 {
-        match turn(count, text, kept) {
-            After::On(c, left) => {
-                live(count.lines, c.lines, shown);
-                count = c;
-                kept = left;
-            }
-            After::Over(c) => {
-                return finish(c);
-            }
-            After::Wrong(line) => {
-                return refused(line, Refusal::CommaLine(line));
-            }
-            After::Broken => {
-                return FAILED;
-            }
-        }
+        let after = turn(count, text, kept);
+        let After::On(c, left) = after else {
+            return after;
+        };
+        live(count.lines, c.lines, shown);
+        count = c;
+        kept = left;
         turns -= 1;
     }
-    FAILED
+    After::Broken
 }
 
 // The number of an argument; where it is none of at most 12 digits, a number that is in no item's range.
@@ -301,22 +329,159 @@ fn item(i: usize) -> u64 {
     v
 }
 
-fn run() -> u8 {
-    let mut text = [0u8; 65536];
-    match record::open(item(1), item(2), item(3), item(4)) {
-        record::Answer::Taken(r) => serve(
-            Count {
-                record: r,
-                lines: 0,
-                time: 0,
-                outside: 0,
-                long: false,
-            },
-            &mut text,
-            libc::isatty(STDERR_FILENO) == 1,
-        ),
+// The start of a file of so many bytes.
+fn fresh(r: Record, bytes: u64) -> Count {
+    Count {
+        record: r,
+        lines: 0,
+        time: 0,
+        outside: 0,
+        long: false,
+        coming: bytes,
+    }
+}
+
+// What one file alone comes to.
+fn alone(a: After) -> u8 {
+    match a {
+        After::Over(c) => finish(c),
+        After::Wrong(line) => refused(line, Refusal::CommaLine(line)),
+        After::On(_, _) => FAILED,
+        After::Broken => FAILED,
+    }
+}
+
+// What a file among several comes to: the sum with its record, or how the program ends.
+enum Next {
+    Added(Sum),
+    Ended(u8),
+}
+
+fn refused_in(file: u64, line: u64, r: Refusal) -> u8 {
+    let mut out = [0u8; 128];
+    let word = text::write_bytes(b"refused\t", &mut out, 0);
+    let first = put(file, TAB, &mut out, word);
+    let second = put(line, TAB, &mut out, first);
+    let n = put(refusal::number(r), LF, &mut out, second);
+    say(&out, n, REFUSED)
+}
+
+// The file's record added to the sum; or 4, 11.
+fn added(file: u64, r: Record, s: Sum) -> Next {
+    match s.add(r) {
+        sum::Answer::Taken(t) => Next::Added(t),
+        sum::Answer::Refused(f) => Next::Ended(refused_in(file, 0, f)),
+    }
+}
+
+// Behind the last line of a file: 2 with the line, 3, 4, 11, or the sum with its record.
+fn closed(file: u64, c: Count, s: Sum) -> Next {
+    if c.coming != 0 {
+        io::write_all(
+            STDERR_FILENO,
+            b"standard input: it ends before the last file does\n",
+        );
+        return Next::Ended(FAILED);
+    }
+    if c.outside != 0 {
+        return Next::Ended(refused_in(file, c.outside, Refusal::Sample(c.outside)));
+    }
+    if c.long {
+        return Next::Ended(refused_in(file, 0, Refusal::TooLong));
+    }
+    let r = c.record;
+    added(file, r, s)
+}
+
+fn among(file: u64, a: After, s: Sum) -> Next {
+    match a {
+        After::Over(c) => closed(file, c, s),
+        After::Wrong(line) => Next::Ended(refused_in(file, line, Refusal::CommaLine(line))),
+        After::On(_, _) => Next::Ended(FAILED),
+        After::Broken => Next::Ended(FAILED),
+    }
+}
+
+// N, P, the estimate, its lower and its upper bound in thousandths of a failure, and P·D in ms.
+fn summed(s: Sum) -> u8 {
+    let mut out = [0u8; 128];
+    let second = put(s.failures, TAB, &mut out, 0);
+    let third = put(s.samples, TAB, &mut out, second);
+    match spread::bound(s) {
+        Bounded::Given(_, b) => {
+            let fourth = put(b.estimate, TAB, &mut out, third);
+            let fifth = put(b.lower, TAB, &mut out, fourth);
+            let sixth = put(b.upper, TAB, &mut out, fifth);
+            let n = put(b.time, LF, &mut out, sixth);
+            say(&out, n, READ)
+        }
+        Bounded::Refused(f) => refused_in(0, 0, f),
+    }
+}
+
+// File after file, up to the first that is refused; behind the last the sum.
+fn several(r: Record, start: Sum, words: usize, text: &mut [u8], shown: bool) -> u8
+    requires { ⌜ 31 ≤ length (now text) ⌝ }
+{
+    let mut s = start;
+    let mut file: u64 = 1;
+    let mut i: usize = ITEMS;
+    while i < words {
+        match among(file, serve(fresh(r, item(i)), text, shown), s) {
+            Next::Added(t) => {
+                s = t;
+            }
+            Next::Ended(end) => {
+                return end;
+            }
+        }
+        file = std::num::wrapping_add_u64(file, 1);
+        i += 1;
+    }
+    summed(s)
+}
+
+// A record of the four items; or refusal 1.
+fn opened() -> record::Answer {
+    record::open(item(1), item(2), item(3), item(4))
+}
+
+fn one(text: &mut [u8], shown: bool) -> u8
+    requires { ⌜ 31 ≤ length (now text) ⌝ }
+{
+    match opened() {
+        record::Answer::Taken(r) => alone(serve(fresh(r, u64::MAX), text, shown)),
         record::Answer::Refused(f) => refused(0, f),
     }
+}
+
+// The sum of no files yet, at the record's step.
+fn started(r: Record, words: usize, text: &mut [u8], shown: bool) -> u8
+    requires { ⌜ 31 ≤ length (now text) ⌝ }
+{
+    match sum::open(r.step) {
+        sum::Answer::Taken(s) => several(r, s, words, text, shown),
+        sum::Answer::Refused(f) => refused_in(0, 0, f),
+    }
+}
+
+fn many(words: usize, text: &mut [u8], shown: bool) -> u8
+    requires { ⌜ 31 ≤ length (now text) ⌝ }
+{
+    match opened() {
+        record::Answer::Taken(r) => started(r, words, text, shown),
+        record::Answer::Refused(f) => refused_in(0, 0, f),
+    }
+}
+
+fn run() -> u8 {
+    let mut text = [0u8; 65536];
+    let shown = libc::isatty(STDERR_FILENO) == 1;
+    let words = os::arg_count();
+    if words <= ITEMS {
+        return one(&mut text, shown);
+    }
+    many(words, &mut text, shown)
 }
 
 fn main() {

@@ -19,44 +19,17 @@ loop-holds c = (refl, omega arith)
 turn-requires : tie.Need-turn-requires Inv-loop μ-loop
 turn-requires c κs = omega arith
 
-enum-known-c : tie.Need-enum-known-c Inv-loop μ-loop
-enum-known-c c = search needs
-
-live-requires : tie.Need-live-requires Inv-loop μ-loop
-live-requires c κs = search needs
-
-enum-known-c-2 : tie.Need-enum-known-c-2 Inv-loop μ-loop
-enum-known-c-2 c = search needs
-
-finish-requires : tie.Need-finish-requires Inv-loop μ-loop
-finish-requires c κs = search needs
+enum-known-after : tie.Need-enum-known-after Inv-loop μ-loop
+enum-known-after c = search needs
 
 same-length : tie.Need-same-length Inv-loop μ-loop
-same-length c = let t = c .before .before .before .before .before .before in t .turn .kept .1 .0 ∙ t .before .before .before .loop .inv .0
+same-length c = c .before .before .before .turn .kept .1 .0 ∙ c .before .before .before .before .before .before .loop .inv .0
 
 returns : tie.Need-returns Inv-loop μ-loop
 returns c = search needs
 
-enum-known-line : tie.Need-enum-known-line Inv-loop μ-loop
-enum-known-line c = search needs
-
-refused-requires : tie.Need-refused-requires Inv-loop μ-loop
-refused-requires c κs = search needs
-
-same-length-2 : tie.Need-same-length-2 Inv-loop μ-loop
-same-length-2 c = let t = c .before .before .before .before .before .before in t .turn .kept .1 .0 ∙ t .before .before .before .loop .inv .0
-
-returns-2 : tie.Need-returns-2 Inv-loop μ-loop
-returns-2 c = search needs
-
-enum-told : tie.Need-enum-told Inv-loop μ-loop
-enum-told c = search needs
-
-same-length-3 : tie.Need-same-length-3 Inv-loop μ-loop
-same-length-3 c = let t = c .before .before .before .before in t .turn .kept .1 .0 ∙ t .before .before .before .loop .inv .0
-
-returns-3 : tie.Need-returns-3 Inv-loop μ-loop
-returns-3 c = search needs
+live-requires : tie.Need-live-requires Inv-loop μ-loop
+live-requires c κs = search needs
 
 sub-turns : tie.Need-sub-turns Inv-loop μ-loop
 sub-turns c = search needs
@@ -65,15 +38,13 @@ loop-less : tie.Need-loop-less Inv-loop μ-loop
 loop-less c = search needs
 
 loop-again : tie.Need-loop-again Inv-loop μ-loop
-loop-again c =
-    let t = c .before .before .before .before .before .before in
-    (t .turn .kept .1 .0 ∙ t .before .before .before .loop .inv .0, rw (c .before .before .c .given .1) at (t .turn .ensures))
+loop-again c = (c .before .before .before .before .before .before .turn .kept .1 .0 ∙ c .before .before .before .before .before .before .before .before .before .loop .inv .0, rw (c .before .before .after .given .1) at (c .before .before .before .before .before .before .turn .ensures))
 
-same-length-4 : tie.Need-same-length-4 Inv-loop μ-loop
-same-length-4 c = c .before .loop .inv .0
+same-length-2 : tie.Need-same-length-2 Inv-loop μ-loop
+same-length-2 c = c .before .loop .inv .0
 
-returns-4 : tie.Need-returns-4 Inv-loop μ-loop
-returns-4 c = search needs
+returns-2 : tie.Need-returns-2 Inv-loop μ-loop
+returns-2 c = search needs
 
 pub serve-spec : {M : Type 1} → statement M
 serve-spec =
@@ -83,21 +54,12 @@ serve-spec =
     μ-loop
     loop-holds
     turn-requires
-    enum-known-c
-    live-requires
-    enum-known-c-2
-    finish-requires
+    enum-known-after
     same-length
     returns
-    enum-known-line
-    refused-requires
-    same-length-2
-    returns-2
-    enum-told
-    same-length-3
-    returns-3
+    live-requires
     sub-turns
     loop-less
     loop-again
-    same-length-4
-    returns-4)
+    same-length-2
+    returns-2)

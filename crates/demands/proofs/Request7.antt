@@ -77,8 +77,8 @@ pub record Request7 : Type 0 where
   pub no-failure : (P : ℕ) → halfWidth 0 P ≡ 0
   pub all-failures : (N : ℕ) → halfWidth N N ≡ 0
   pub in-order : (s : Sum) → (boundsOf s .lower ≤ boundsOf s .estimate) × (boundsOf s .estimate ≤ boundsOf s .upper)
-  -- "no record" of a sum just opened, and of no sum that a record was added to
-  pub no-record : (D : ℕ) (s : Sum) → opened D ≡ Taken s → recorded s ≡ false
+  -- "no record" of a sum just opened, whose bounds are 0, and of no sum that a record was added to
+  pub no-record : (D : ℕ) (s : Sum) → opened D ≡ Taken s → (recorded s ≡ false) × (boundsOf s .upper ≡ 0)
   pub a-record : (s t : Sum) (r : Record) (rs : List Record) → AllAdded s (r ∷ rs) t → recorded t ≡ true
 
 -- ---- the proof
@@ -100,8 +100,8 @@ joined-adds : (D R a τ : ℕ) (xs : List ℤ) (x y : Sum) → adding x (stateOf
 unfolding stateOf
 joined-adds D R a τ xs x y e = answered.added-from x (stateOf D R a τ xs) y e .after
 
-empty-record : (D : ℕ) (s : Sum) → opened D ≡ Taken s → recorded s ≡ false
-empty-record D s e = rw (answered.opened-from D s e .1)
+empty-record : (D : ℕ) (s : Sum) → opened D ≡ Taken s → (recorded s ≡ false) × (boundsOf s .upper ≡ 0)
+empty-record D s e = rw (answered.opened-from D s e .1) (refl, omega (arith, no-failure 0))
 
 some-record : (s t : Sum) (r : Record) (rs : List Record) → AllAdded s (r ∷ rs) t → recorded t ≡ true
 some-record s t r rs a = rw (ne-eqb (t .samples) 0 (λ z. let e = none-timed a z in let f : _≡_ {A = ℕ} 1 0 = ap kind e in omega arith))

@@ -53,9 +53,9 @@ brings r s l =
     record {
       some = omega arith;
       few = omega (arith, k .length, small k);
-      groups = go (k .figures) (k .counts);
+      groups = go (k .figures);
     }
   where
-    go : None r ⊎ Failure r → r .largest ≤ r .crossings → r .groups ≤ timed r
-    go (inl n) c = omega (arith, n .groups)
-    go (inr f) c = omega (arith, f .crossings, f .within)
+    go : None r ⊎ Failure r → r .groups ≤ timed r
+    go (inl n) = omega (arith, n .groups)
+    go (inr f) = omega (arith, f .crossings, f .within, kept.kept-from r s .counts)

@@ -24,11 +24,11 @@ static double rates[2][SUMS][3];
 
 int main(void) {
     /* a record of twenty minutes with 3 failures, and sums of any size */
-    uint64_t record[CHIM_RECORD_NUMBERS], sum[2][CHIM_SUM_NUMBERS], carried, refused = 0, seed = 7;
-    int32_t roll[2400] = {0};
-    roll[100] = roll[900] = roll[2000] = 41000;
-    refused |= chim_record_open(500, 20, 40000, 20000, record, CHIM_RECORD_NUMBERS, &carried);
-    refused |= chim_record_feed(record, CHIM_RECORD_NUMBERS, roll, 2400, &carried);
+    uint64_t record[CHIM_RECORD_NUMBERS], sum[2][CHIM_SUM_NUMBERS], carried, channel, refused = 0, seed = 7;
+    int32_t roll[2400] = {0}, acceleration[2400] = {0};
+    roll[100] = roll[2000] = 41000, acceleration[900] = 9900;
+    refused |= chim_record_open(500, 20, 40000, 20000, 9810, record, CHIM_RECORD_NUMBERS, &carried);
+    refused |= chim_record_feed(record, CHIM_RECORD_NUMBERS, roll, 2400, acceleration, 2400, &carried, &channel);
     for (int i = 0; i < SUMS; i++) {
         seed = seed * 6364136223846793005u + 1442695040888963407u;
         sums[i][0] = 500, sums[i][2] = (1 + (seed >> 33) % 100000000) >> (seed >> 60), sums[i][1] = (seed >> 20) % 10001;

@@ -1,49 +1,54 @@
-/* Feeding samples as one piece, beside plain C and a sum of the same slice: nanoseconds a sample, best of several runs. 11,000,000 are the most that a
-   record takes, 44 MB; 100,000 stay in the processor's cache. */
+/* Feeding roll and acceleration as one piece, beside plain C and a sum of both slices: nanoseconds a sample of each, best of several runs. 11,000,000 are the most that a
+   record takes, 88 MB; 100,000 stay in the processor's cache. */
 #include <stddef.h>
 #include <stdint.h>
 #include <stdio.h>
 #include <stdlib.h>
+#include <string.h>
 #include <time.h>
 
 #include "chimenickel.h"
 
-uint64_t plain_feed(uint64_t step, uint64_t ramp, uint64_t level, uint64_t decorrelation, const int32_t *samples, size_t n,
-                    uint64_t *crossings, uint64_t *largest_set);
+uint64_t plain_feed(uint64_t step, uint64_t ramp, uint64_t level, uint64_t decorrelation, uint64_t acceleration_level, const int32_t *roll,
+                    const int32_t *acceleration, size_t n, uint64_t *crossings, uint64_t *largest_set);
 int64_t plain_sum(const int32_t *samples, size_t n);
-size_t plain_first_bad(const int32_t *samples, size_t n);
+size_t plain_first_bad(const int32_t *roll, const int32_t *acceleration, size_t n, uint64_t *channel);
 
-enum { MOST = 11000000, FEW = 100000, LEVEL = 40000, DECORRELATION = 5000 };
+enum { MOST = 11000000, FEW = 100000, LEVEL = 40000, DECORRELATION = 5000, ACCELERATION_LEVEL = 9810 };
 
 /* what a record is opened by */
 typedef struct {
     uint64_t step, ramp;
 } Job;
 
+static int32_t *roll, *acceleration;
+
 /* the groups and the largest set of a record that is opened and fed as one piece, as one number; one past any such for a refusal */
-static uint64_t counted(Job job, const int32_t *samples, size_t n) {
-    uint64_t record[CHIM_RECORD_NUMBERS], carried;
-    if (chim_record_open(job.step, job.ramp, LEVEL, DECORRELATION, record, CHIM_RECORD_NUMBERS, &carried) != CHIM_TAKEN ||
-        chim_record_feed(record, CHIM_RECORD_NUMBERS, samples, n, &carried) != CHIM_TAKEN)
+static uint64_t counted(Job job, size_t n) {
+    uint64_t record[CHIM_RECORD_NUMBERS], carried, channel;
+    if (chim_record_open(job.step, job.ramp, LEVEL, DECORRELATION, ACCELERATION_LEVEL, record, CHIM_RECORD_NUMBERS, &carried) != CHIM_TAKEN ||
+        chim_record_feed(record, CHIM_RECORD_NUMBERS, roll, n, acceleration, n, &carried, &channel) != CHIM_TAKEN)
         return UINT64_MAX;
     return record[11] << 32 | record[7];
 }
 
-static uint64_t plainly_counted(Job job, const int32_t *samples, size_t n) {
+static uint64_t plainly_counted(Job job, size_t n) {
     uint64_t crossings, largest = 0;
-    return plain_feed(job.step, job.ramp, LEVEL, DECORRELATION, samples, n, &crossings, &largest) << 32 | largest;
+    return plain_feed(job.step, job.ramp, LEVEL, DECORRELATION, ACCELERATION_LEVEL, roll, acceleration, n, &crossings, &largest) << 32 | largest;
 }
 
-/* the place of the first bad sample as a piece's refusal carries it; the number of samples where a piece is refused for its length alone */
-static uint64_t bad(Job job, const int32_t *samples, size_t n) {
-    uint64_t record[CHIM_RECORD_NUMBERS], carried = 0;
-    chim_record_open(job.step, job.ramp, LEVEL, DECORRELATION, record, CHIM_RECORD_NUMBERS, &carried);
-    return chim_record_feed(record, CHIM_RECORD_NUMBERS, samples, n, &carried) == CHIM_SAMPLE ? carried : n;
+/* the place of the first bad sample and its channel as a piece's refusal tells them; the number of samples where a piece is refused for its length alone */
+static uint64_t bad(Job job, size_t n) {
+    uint64_t record[CHIM_RECORD_NUMBERS], carried = 0, channel = 0;
+    chim_record_open(job.step, job.ramp, LEVEL, DECORRELATION, ACCELERATION_LEVEL, record, CHIM_RECORD_NUMBERS, &carried);
+    uint64_t answer = chim_record_feed(record, CHIM_RECORD_NUMBERS, roll, n, acceleration, n, &carried, &channel);
+    return (answer == CHIM_SAMPLE ? carried : n) << 2 | channel;
 }
 
-static uint64_t plainly_bad(Job job, const int32_t *samples, size_t n) {
+static uint64_t plainly_bad(Job job, size_t n) {
     (void)job;
-    return plain_first_bad(samples, n);
+    uint64_t channel, place = plain_first_bad(roll, acceleration, n, &channel);
+    return place << 2 | channel;
 }
 
 static double now(void) {
@@ -52,13 +57,21 @@ static double now(void) {
     return t.tv_sec * 1e9 + t.tv_nsec;
 }
 
-/* a roll within 39 degrees, and above the level at every `every`-th sample (0: never) */
-static void fill(int32_t *samples, size_t n, size_t every) {
+/* a roll within 39 degrees and an acceleration within 9,000 mm/s2; at every `every`-th sample (0: never) one of them is above its level, in turn. With `alone` it is always the
+   roll, and zeros are lent for the acceleration */
+static void fill(size_t n, size_t every, int alone) {
     uint32_t seed = 12345;
     for (size_t i = 0; i < n; i++) {
         seed = seed * 1664525u + 1013904223u;
-        int32_t x = (int32_t)(seed >> 16) % 39000;
-        samples[i] = every != 0 && i % every == every - 1 ? 41000 : (seed & 128 ? -x : x);
+        int32_t x = (int32_t)(seed >> 16) % 39000, y = (int32_t)(seed >> 13 & 0x7fff) % 9000;
+        roll[i] = seed & 128 ? -x : x;
+        acceleration[i] = alone ? 0 : seed & 64 ? -y : y;
+        if (every != 0 && i % every == every - 1) {
+            if (alone || i / every % 2 == 0)
+                roll[i] = 41000;
+            else
+                acceleration[i] = -9900;
+        }
     }
 }
 
@@ -68,17 +81,16 @@ static void least(double *best, double t) {
 }
 
 /* a row: what the library and plain C take, and a sum; 1 if their answers differ */
-static int row(const char *name, Job job, const int32_t *samples, size_t n, uint64_t (*ours)(Job, const int32_t *, size_t),
-               uint64_t (*theirs)(Job, const int32_t *, size_t)) {
+static int row(const char *name, Job job, size_t n, uint64_t (*ours)(Job, size_t), uint64_t (*theirs)(Job, size_t)) {
     double library = 1e18, plain = 1e18, sum = 1e18;
     volatile int64_t sink = 0;
     for (int run = 0; run < (n < MOST ? 400 : 15); run++) {
         double t0 = now();
-        uint64_t a = ours(job, samples, n);
+        uint64_t a = ours(job, n);
         double t1 = now();
-        uint64_t b = theirs(job, samples, n);
+        uint64_t b = theirs(job, n);
         double t2 = now();
-        sink += plain_sum(samples, n);
+        sink += plain_sum(roll, n) + plain_sum(acceleration, n);
         double t3 = now();
         if (a != b) {
             printf("the answers differ: %llu and %llu\n", (unsigned long long)a, (unsigned long long)b);
@@ -88,7 +100,7 @@ static int row(const char *name, Job job, const int32_t *samples, size_t n, uint
         least(&plain, t2 - t1);
         least(&sum, t3 - t2);
     }
-    printf("%-28s %7.3f ns %7.3f ns %7.3f ns %10.2f %10.2f\n", name, library / n, plain / n, sum / n, plain / library, library / sum);
+    printf("%-38s %7.3f ns %7.3f ns %7.3f ns %10.2f %10.2f\n", name, library / n, plain / n, sum / n, plain / library, library / sum);
     return 0;
 }
 
@@ -96,28 +108,40 @@ int main(void) {
     static const struct {
         const char *name;
         size_t n, every;
-    } kinds[] = {{"11,000,000: never above", MOST, 0},      {"11,000,000: every 100,000th", MOST, 100000}, {"11,000,000: every 1,000th", MOST, 1000},
-                 {"11,000,000: every second", MOST, 2},     {"100,000: never above", FEW, 0},              {"100,000: every 10,000th", FEW, 10000},
-                 {"100,000: every 1,000th", FEW, 1000},     {"100,000: every second", FEW, 2}};
+        int alone;
+    } kinds[] = {{"11,000,000: never above", MOST, 0, 0},
+                 {"11,000,000: every 100,000th", MOST, 100000, 0},
+                 {"11,000,000: every 1,000th", MOST, 1000, 0},
+                 {"11,000,000: every second", MOST, 2, 0},
+                 {"11,000,000: every 1,000th, zeros lent", MOST, 1000, 1},
+                 {"100,000: never above", FEW, 0, 0},
+                 {"100,000: every 10,000th", FEW, 10000, 0},
+                 {"100,000: every 1,000th", FEW, 1000, 0},
+                 {"100,000: every second", FEW, 2, 0},
+                 {"100,000: every 1,000th, zeros lent", FEW, 1000, 1}};
     static const Job most = {1, 1000000}, few = {1, 0}, short_of_room = {1000, 0};
-    int32_t *samples = malloc((MOST + 2) * sizeof *samples);
-    int differ = samples == NULL;
-    printf("%-28s %10s %10s %10s %10s %10s\n", "samples: above the level", "feed", "plain C", "sum", "plain/feed", "feed/sum");
+    roll = malloc((MOST + 2) * sizeof *roll);
+    acceleration = malloc((MOST + 2) * sizeof *acceleration);
+    int differ = roll == NULL || acceleration == NULL;
+    printf("%-38s %10s %10s %10s %10s %10s\n", "samples: above a level", "feed", "plain C", "sum", "plain/feed", "feed/sum");
     for (size_t k = 0; k < sizeof kinds / sizeof *kinds && !differ; k++) {
-        fill(samples, kinds[k].n, kinds[k].every);
-        differ = row(kinds[k].name, kinds[k].n < MOST ? few : most, samples, kinds[k].n, counted, plainly_counted);
+        fill(kinds[k].n, kinds[k].every, kinds[k].alone);
+        differ = row(kinds[k].name, kinds[k].n < MOST ? few : most, kinds[k].n, counted, plainly_counted);
     }
-    printf("%-28s %10s %10s %10s %10s %10s\n", "samples: which is bad", "look", "plain C", "sum", "plain/look", "look/sum");
+    printf("%-38s %10s %10s %10s %10s %10s\n", "samples: which is bad", "look", "plain C", "sum", "plain/look", "look/sum");
     if (!differ) {
-        fill(samples, MOST + 2, 0);
-        samples[MOST - 1] = samples[FEW - 1] = 1000001;
-        differ = row("100,000: the last", few, samples, FEW, bad, plainly_bad);
-        samples[FEW - 1] = 0;
-        differ |= row("100,000: none, no room", short_of_room, samples, FEW, bad, plainly_bad);
-        differ |= row("11,000,000: the last", most, samples, MOST, bad, plainly_bad);
-        samples[MOST - 1] = 0;
-        differ |= row("11,000,002: none, no room", most, samples, MOST + 2, bad, plainly_bad);
+        fill(MOST + 2, 0, 0);
+        acceleration[MOST - 1] = acceleration[FEW - 1] = 1000001;
+        differ = row("100,000: the last", few, FEW, bad, plainly_bad);
+        acceleration[FEW - 1] = 0;
+        differ |= row("100,000: none, no room", short_of_room, FEW, bad, plainly_bad);
+        differ |= row("11,000,000: the last", most, MOST, bad, plainly_bad);
+        acceleration[MOST - 1] = 0;
+        differ |= row("11,000,002: none, no room", most, MOST + 2, bad, plainly_bad);
+        memset(acceleration, 0, (MOST + 2) * sizeof *acceleration);
+        differ |= row("100,000: none, no room, zeros lent", short_of_room, FEW, bad, plainly_bad);
     }
-    free(samples);
+    free(roll);
+    free(acceleration);
     return differ;
 }

@@ -1,4 +1,4 @@
-/* Listing a whole record, and searching it for its first crossing, beside plain C doing the same: nanoseconds a sample, best of several runs. */
+/* Listing a whole record, and searching it for its first crossing, beside plain C doing the same: nanoseconds a sample of both channels, best of several runs. */
 #include <stddef.h>
 #include <stdint.h>
 #include <stdio.h>
@@ -8,11 +8,11 @@
 
 #include "chimenickel.h"
 
-uint64_t plain_list(uint64_t step, uint64_t ramp, uint64_t level, uint64_t decorrelation, const int32_t *samples, size_t n, uint32_t *times,
-                    size_t places);
-size_t plain_search(const int32_t *samples, size_t n, uint64_t ramp, uint64_t level);
+uint64_t plain_list(uint64_t step, uint64_t ramp, uint64_t level, uint64_t decorrelation, uint64_t acceleration_level, const int32_t *roll,
+                    const int32_t *acceleration, size_t n, uint32_t *times, size_t places);
+size_t plain_search(const int32_t *roll, const int32_t *acceleration, size_t n, uint64_t ramp, uint64_t level, uint64_t acceleration_level);
 
-enum { MOST = 10000000, STEP = 1, RAMP = 0, LEVEL = 40000 };
+enum { MOST = 10000000, STEP = 1, RAMP = 0, LEVEL = 40000, ACCELERATION_LEVEL = 9810 };
 
 static double now(void) {
     struct timespec t;
@@ -20,13 +20,21 @@ static double now(void) {
     return t.tv_sec * 1e9 + t.tv_nsec;
 }
 
-/* a roll within 39 degrees, and above the level at every `every`-th sample (0: never) */
-static void fill(int32_t *samples, size_t n, size_t every) {
+/* a roll within 39 degrees and an acceleration within 9,000 mm/s2; at every `every`-th sample (0: never) one of them is above its level, in turn. With `alone` it is always the
+   roll, and zeros are lent for the acceleration */
+static void fill(int32_t *roll, int32_t *acceleration, size_t n, size_t every, int alone) {
     uint32_t seed = 12345;
     for (size_t i = 0; i < n; i++) {
         seed = seed * 1664525u + 1013904223u;
-        int32_t x = (int32_t)(seed >> 16) % 39000;
-        samples[i] = every != 0 && i % every == every - 1 ? 41000 : (seed & 128 ? -x : x);
+        int32_t x = (int32_t)(seed >> 16) % 39000, y = (int32_t)(seed >> 13 & 0x7fff) % 9000;
+        roll[i] = seed & 128 ? -x : x;
+        acceleration[i] = alone ? 0 : seed & 64 ? -y : y;
+        if (every != 0 && i % every == every - 1) {
+            if (alone || i / every % 2 == 0)
+                roll[i] = 41000;
+            else
+                acceleration[i] = -9900;
+        }
     }
 }
 
@@ -40,36 +48,39 @@ int main(void) {
         const char *name;
         size_t n, every;
         uint64_t decorrelation;
-    } kinds[] = {{"10,000,000: never above", MOST, 0, 5000},
-                 {"10,000,000: every 100,000th", MOST, 100000, 5000},
-                 {"10,000,000: every 1,000th", MOST, 1000, 5000},
-                 {"10,000,000: every second", MOST, 2, 5000},
-                 {"10,000,000: every second, all counted", MOST, 2, 0},
-                 {"100,000: never above", 100000, 0, 5000},
-                 {"100,000: every 10,000th", 100000, 10000, 5000},
-                 {"100,000: every second", 100000, 2, 5000},
-                 {"100,000: every second, all counted", 100000, 2, 0}};
-    int32_t *samples = malloc(MOST * sizeof *samples);
+        int alone;
+    } kinds[] = {{"10,000,000: never above", MOST, 0, 5000, 0},
+                 {"10,000,000: every 100,000th", MOST, 100000, 5000, 0},
+                 {"10,000,000: every 1,000th", MOST, 1000, 5000, 0},
+                 {"10,000,000: every second", MOST, 2, 5000, 0},
+                 {"10,000,000: every second, all counted", MOST, 2, 0, 0},
+                 {"10,000,000: every 100,000th, zeros lent", MOST, 100000, 5000, 1},
+                 {"100,000: never above", 100000, 0, 5000, 0},
+                 {"100,000: every 10,000th", 100000, 10000, 5000, 0},
+                 {"100,000: every second", 100000, 2, 5000, 0},
+                 {"100,000: every second, all counted", 100000, 2, 0, 0},
+                 {"100,000: every 10,000th, zeros lent", 100000, 10000, 5000, 1}};
+    int32_t *roll = malloc(MOST * sizeof *roll), *acceleration = malloc(MOST * sizeof *acceleration);
     uint32_t *ours = malloc(MOST * sizeof *ours), *theirs = malloc(MOST * sizeof *theirs);
-    if (samples == NULL || ours == NULL || theirs == NULL)
+    if (roll == NULL || acceleration == NULL || ours == NULL || theirs == NULL)
         return 1;
     memset(ours, 0, MOST * sizeof *ours);
     memset(theirs, 0, MOST * sizeof *theirs);
-    printf("%-38s %9s %9s %6s %11s %9s %6s\n", "samples: above the level", "list", "plain C", "ratio", "search", "plain C", "ratio");
+    printf("%-40s %9s %9s %6s %11s %9s %6s\n", "samples: above a level", "list", "plain C", "ratio", "search", "plain C", "ratio");
     for (size_t k = 0; k < sizeof kinds / sizeof *kinds; k++) {
         size_t n = kinds[k].n;
-        fill(samples, n, kinds[k].every);
+        fill(roll, acceleration, n, kinds[k].every, kinds[k].alone);
         double list = 1e18, plain = 1e18, search = 1e18, plainly = 1e18;
         for (int run = 0; run < (n == MOST ? 15 : 400); run++) {
-            uint64_t number = 0;
+            uint64_t number = 0, channel;
             double t0 = now();
-            uint64_t answer = chim_record_list(STEP, RAMP, LEVEL, kinds[k].decorrelation, samples, n, ours, MOST, &number);
+            uint64_t answer = chim_record_list(STEP, RAMP, LEVEL, kinds[k].decorrelation, ACCELERATION_LEVEL, roll, n, acceleration, n, ours, MOST, &number, &channel);
             double t1 = now();
-            uint64_t counted = plain_list(STEP, RAMP, LEVEL, kinds[k].decorrelation, samples, n, theirs, MOST);
+            uint64_t counted = plain_list(STEP, RAMP, LEVEL, kinds[k].decorrelation, ACCELERATION_LEVEL, roll, acceleration, n, theirs, MOST);
             double t2 = now();
-            size_t place = chim_record_first_crossing(samples, n, RAMP, LEVEL);
+            size_t place = chim_record_first_crossing(roll, n, acceleration, n, RAMP, LEVEL, ACCELERATION_LEVEL);
             double t3 = now();
-            size_t at = plain_search(samples, n, RAMP, LEVEL);
+            size_t at = plain_search(roll, acceleration, n, RAMP, LEVEL, ACCELERATION_LEVEL);
             double t4 = now();
             if (answer != CHIM_TAKEN || number != counted || memcmp(ours, theirs, counted * sizeof *ours) != 0 || place != at) {
                 printf("the answers differ\n");
@@ -80,14 +91,15 @@ int main(void) {
             least(&search, t3 - t2);
             least(&plainly, t4 - t3);
         }
-        printf("%-38s %6.3f ns %6.3f ns %6.2f", kinds[k].name, list / n, plain / n, plain / list);
+        printf("%-40s %6.3f ns %6.3f ns %6.2f", kinds[k].name, list / n, plain / n, plain / list);
         /* where a crossing stands at the second sample there is nothing to search */
         if (kinds[k].every == 2)
             printf("\n");
         else
             printf(" %8.3f ns %6.3f ns %6.2f\n", search / n, plainly / n, plainly / search);
     }
-    free(samples);
+    free(roll);
+    free(acceleration);
     free(ours);
     free(theirs);
     return 0;

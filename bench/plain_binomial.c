@@ -5,17 +5,18 @@
 #include <stddef.h>
 #include <stdint.h>
 
-enum { MOST_FAILURES = 10000, MOST_SAMPLES = 100000000, SUM = 3, BOUNDS = 4, RECORD = 12 };
+enum { MOST_FAILURES = 10000, MOST_SAMPLES = 100000000, SUM = 3, BOUNDS = 4, RECORD = 14 };
 
 static bool sum_ok(const uint64_t *s, size_t len) {
     return len == SUM && s[0] >= 1 && s[0] <= 10000 && s[1] <= MOST_FAILURES && s[2] <= MOST_SAMPLES && s[1] <= s[2];
 }
 
 static bool record_ok(const uint64_t *r, size_t len) {
-    if (len != RECORD || r[0] < 1 || r[0] > 10000 || r[1] > 1000000 || r[2] < 1 || r[2] > 1000000 || r[3] > 10000000 || r[5] > 2000000)
+    if (len != RECORD || r[0] < 1 || r[0] > 10000 || r[1] > 1000000 || r[2] < 1 || r[2] > 1000000 || r[3] > 10000000 || r[5] > 2000000 || r[12] < 1 ||
+        r[12] > 1000000 || r[13] > 2000000)
         return false;
     uint64_t n = r[4];
-    if (n > r[1] + 1 + 10000000 / r[0] || (n == 0 && r[5] != 0) || r[7] > r[6])
+    if (n > r[1] + 1 + 10000000 / r[0] || (n == 0 && (r[5] != 0 || r[13] != 0)) || r[7] > r[6])
         return false;
     if (r[8] == 0)
         return r[6] == 0 && r[7] == 0 && r[9] == 0 && r[10] == 0 && r[11] == 0;

@@ -6,7 +6,8 @@
  *   No.  given exactly when                                                     *carried
  *   1    an opening item is outside its range;                                  the item's number, the lowest
  *        a record that is to be added to a sum has another step                 1
- *   2    a sample is outside -1,000,000 to 1,000,000                            its place in the piece, the first
+ *   2    a sample is outside -1,000,000 to 1,000,000                            its place in the piece, the first; of two
+ *                                                                               slices the lower, and *channel says whose
  *   3    the timed length of the record would pass 10,000,000 ms, on a sheet an exposure;   0
  *        the last time of a comma file would need more than 12 digits
  *   4    ending, adding, listing or finding peaks with fewer than ramp + 2 samples;   0
@@ -20,6 +21,7 @@
  *   9    a line of a job sheet is malformed                                     the line's number
  *   10   a line of a comma file is malformed or has a wrong time                the line's number
  *   11   a sum would have more than 10,000 failures or 100,000,000 samples      0
+ *   12   the roll and the acceleration that are lent have unequal lengths       0
  *   13   a bureau other than 1 or 2                                             0
  *   14   taking a job for a bureau that has 16 already                          0
  *   15   a place that is not in the table, or not the bureau's own              0
@@ -36,22 +38,27 @@
  * States. A state is an array of numbers that the caller keeps, copies and stores as it likes. Any change to one is either another sound state or
  * refusal 8 at its next use.
  *
- *   record, 12 numbers                                   campaign, 5 numbers
+ *   record, 14 numbers                                   campaign, 5 numbers
  *   0  step, ms                   1 to 10,000            0  standard: one failure in so many ms   1 to 100,000,000,000
  *   1  ramp, samples              0 to 1,000,000         1  records M                             0 to 100,000
- *   2  level                      1 to 1,000,000         2  failures N                            0 to 64
+ *   2  level of the roll          1 to 1,000,000         2  failures N                            0 to 64
  *   3  decorrelation time, ms     0 to 10,000,000        3  exposure T, ms                        M to M * 10,000,000
  *   4  samples so far, n                                 4  1 if the last record failed, else 0
- *   5  last sample x: 2x, and -2x - 1 for x below 0; 0 to 2,000,000
+ *   5  last roll x: 2x, and -2x - 1 for x below 0; 0 to 2,000,000
  *   6  crossings
  *   7  largest set: the most crossings pairwise at least the decorrelation time apart
  *   8  place of the first crossing, 0 for none
  *   9  place of the last crossing in the largest set, 0 for none
  *   10 place of the last crossing, 0 for none; not before number 9, and below n
  *   11 groups, the counted failures; from 1 to the largest set where there is a crossing
+ *   12 level of the acceleration  1 to 1,000,000
+ *   13 last acceleration, as number 5
+ *
+ * A record watches roll and acceleration together. It is above where the roll is above its level, or the acceleration above its own, by magnitude; a crossing is a
+ * sample above after one that was above in neither. A job of one channel lends zeros for the other, which are above no level, and gives any level for it.
  *
  * A group is a run of successive crossings, each less than the decorrelation time after the crossing just before it. It is counted once, by its first crossing.
- * Before groups were counted, a record had 10 numbers and a result 4; arrays of those lengths are refused by 8.
+ * A record had 10 numbers and a result 4 before groups were counted, and a record 12 while it had one channel; arrays of those lengths are refused by 8.
  *
  * A result, 5 numbers, is what a record comes to when it is ended: crossings, counted failures (the groups), the first failure's place (0 for none), exposure
  * in ms, largest set. A campaign takes of it whether there is a first failure and the exposure, and nothing else.
@@ -59,18 +66,18 @@
  * A sum, 3 numbers, adds up records by the binomial method: the step of them all in ms (0), the counted failures N (1), 0 to 10,000, and the timed samples P (2), 0 to
  * 100,000,000, N at most P.
  *
- * Levels and samples are in thousandths of a degree or in mm/s2, times in ms, rates in failures a second. Items 1 to 4 are a record's first four
- * numbers, item 5 is the standard.
+ * Rolls and their level are in thousandths of a degree, accelerations and theirs in mm/s2, times in ms, rates in failures a second. Items 1 to 4 are a record's
+ * first four numbers, item 5 is the standard, item 6 a record's number 12.
  *
- * Example: the start of examples/c/campaign.c, which CI compiles and runs. A roll that crosses 40 degrees, fed in two pieces, is ended; its
- * result can be looked at before it enters a campaign at one failure in two hours. The verdict then is CHIM_REJECT.
+ * Example: the start of examples/c/campaign.c, which CI compiles and runs. A roll that crosses 40 degrees, fed in two pieces with zeros lent for the acceleration, is
+ * ended; its result can be looked at before it enters a campaign at one failure in two hours. The verdict then is CHIM_REJECT.
  *
- *   uint64_t campaign[CHIM_CAMPAIGN_NUMBERS], record[CHIM_RECORD_NUMBERS], result[CHIM_RESULT_NUMBERS], carried;
+ *   uint64_t campaign[CHIM_CAMPAIGN_NUMBERS], record[CHIM_RECORD_NUMBERS], result[CHIM_RESULT_NUMBERS], carried, channel;
  *   chim_campaign_open(7200000, campaign, CHIM_CAMPAIGN_NUMBERS, &carried);
- *   chim_record_open(500, 0, 40000, 2000, record, CHIM_RECORD_NUMBERS, &carried);
- *   const int32_t roll[] = {0, 41000, 39000, 41000, 39000, 41000, 0};
- *   chim_record_feed(record, CHIM_RECORD_NUMBERS, roll, 3, &carried);
- *   chim_record_feed(record, CHIM_RECORD_NUMBERS, roll + 3, 4, &carried);
+ *   chim_record_open(500, 0, 40000, 2000, 9810, record, CHIM_RECORD_NUMBERS, &carried);
+ *   const int32_t roll[] = {0, 41000, 39000, 41000, 39000, 41000, 0}, zeros[7] = {0};
+ *   chim_record_feed(record, CHIM_RECORD_NUMBERS, roll, 3, zeros, 3, &carried, &channel);
+ *   chim_record_feed(record, CHIM_RECORD_NUMBERS, roll + 3, 4, zeros, 4, &carried, &channel);
  *   chim_record_end(record, CHIM_RECORD_NUMBERS, result, CHIM_RESULT_NUMBERS, &carried);
  *   chim_campaign_enter(campaign, CHIM_CAMPAIGN_NUMBERS, result[CHIM_FIRST] != 0, result[CHIM_EXPOSURE], &carried);
  */
@@ -84,7 +91,7 @@
 extern "C" {
 #endif
 
-enum { CHIM_RECORD_NUMBERS = 12, CHIM_RESULT_NUMBERS = 5, CHIM_CAMPAIGN_NUMBERS = 5, CHIM_SUM_NUMBERS = 3, CHIM_BOUNDS_NUMBERS = 4, CHIM_BENCH_PLACES = 32, CHIM_PLACE_NUMBERS = 6 };
+enum { CHIM_RECORD_NUMBERS = 14, CHIM_RESULT_NUMBERS = 5, CHIM_CAMPAIGN_NUMBERS = 5, CHIM_SUM_NUMBERS = 3, CHIM_BOUNDS_NUMBERS = 4, CHIM_BENCH_PLACES = 32, CHIM_PLACE_NUMBERS = 6 };
 
 /* The most situations of a loading condition, and room for the report of any. */
 enum { CHIM_MOST_SITUATIONS = 64, CHIM_REPORT_BYTES = 1832 };
@@ -108,6 +115,7 @@ enum {
     CHIM_LINE = 9,
     CHIM_COMMA_LINE = 10,
     CHIM_SUM_FULL = 11,
+    CHIM_UNEQUAL = 12,
     CHIM_NO_BUREAU = 13,
     CHIM_BUREAU_FULL = 14,
     CHIM_NOT_ITS_OWN = 15,
@@ -116,31 +124,40 @@ enum {
     CHIM_CONDITION = 18
 };
 
+/* The channels of a record. */
+enum { CHIM_ROLL = 1, CHIM_ACCELERATION = 2 };
+
 enum { CHIM_NO_RECORD = 0, CHIM_ACCEPT = 1, CHIM_REJECT = 2, CHIM_CONTINUE = 3 };
 
 /* What a loading condition comes to. */
 enum { CHIM_ACCEPTED = 1, CHIM_REJECTED = 2, CHIM_OPEN = 3 };
 
-/* ---- a record: one channel of samples at a fixed step */
+/* ---- a record: roll and acceleration at a fixed step
+ *
+ * *channel is written by every call that has it: with 2 CHIM_ROLL or CHIM_ACCELERATION, the roll where both are bad at the lower place, and else 0. */
 
-/* Puts a record without samples into `state`. Refuses 8 (the array's length), 1. */
-uint64_t chim_record_open(uint64_t step, uint64_t ramp, uint64_t level, uint64_t decorrelation, uint64_t *state, size_t state_len,
-                          uint64_t *carried);
+/* Puts a record without samples into `state`. Refuses 8 (the array's length), 1 with the lowest of items 1, 2, 3, 4, 6. */
+uint64_t chim_record_open(uint64_t step, uint64_t ramp, uint64_t level, uint64_t decorrelation, uint64_t acceleration_level, uint64_t *state,
+                          size_t state_len, uint64_t *carried);
 
-/* Feeds the next piece of the record; cut anywhere, the pieces of a record lead to the state of the whole. Refuses 8, 2, 3. */
-uint64_t chim_record_feed(uint64_t *state, size_t state_len, const int32_t *piece, size_t piece_len, uint64_t *carried);
+/* Feeds the next piece of the record, both slices cut at the same place; cut anywhere, the pieces of a record lead to the state of the whole.
+ * Refuses 8, 12, 2, 3. */
+uint64_t chim_record_feed(uint64_t *state, size_t state_len, const int32_t *roll, size_t roll_len, const int32_t *acceleration,
+                          size_t acceleration_len, uint64_t *carried, uint64_t *channel);
 
 /* Ends the record in `state`, which is read and not changed: its result into `result`. Refuses 8 (the record, or the result's length), 4. */
 uint64_t chim_record_end(const uint64_t *state, size_t state_len, uint64_t *result, size_t result_len, uint64_t *carried);
 
-/* The place of the first crossing of a whole record, and samples_len if there is none. It never refuses: samples and numbers of any size are
- * compared as they are. */
-size_t chim_record_first_crossing(const int32_t *samples, size_t samples_len, uint64_t ramp, uint64_t level);
+/* The place of the first crossing of a whole record, and the length if there is none. It never refuses: samples and numbers of any size are compared as they
+ * are, and of unequal slices only the places that both have, the length being that of the shorter. */
+size_t chim_record_first_crossing(const int32_t *roll, size_t roll_len, const int32_t *acceleration, size_t acceleration_len, uint64_t ramp,
+                                  uint64_t level, uint64_t acceleration_level);
 
 /* Writes the counted times of a whole record, each group's by its first crossing, in order, from the start of `times`, whose other places stay; *carried is their number.
- * Refuses 1, 2, 3, 4, 7. */
-uint64_t chim_record_list(uint64_t step, uint64_t ramp, uint64_t level, uint64_t decorrelation, const int32_t *samples, size_t samples_len,
-                          uint32_t *times, size_t times_len, uint64_t *carried);
+ * Refuses 1, 12, 2, 3, 4, 7. */
+uint64_t chim_record_list(uint64_t step, uint64_t ramp, uint64_t level, uint64_t decorrelation, uint64_t acceleration_level, const int32_t *roll,
+                          size_t roll_len, const int32_t *acceleration, size_t acceleration_len, uint32_t *times, size_t times_len,
+                          uint64_t *carried, uint64_t *channel);
 
 /* ---- a campaign: many records */
 
@@ -237,7 +254,7 @@ uint64_t chim_sheet_write(uint64_t standard, const int32_t *records, size_t reco
 uint64_t chim_sheet_records(const uint8_t *text, size_t text_len, int32_t *records, size_t records_len, uint64_t *standard, uint64_t *line, uint64_t *column,
                             uint64_t *carried);
 
-/* ---- the envelope peaks of a whole record */
+/* ---- the envelope peaks of a whole record, one channel at a time */
 
 /* Samples from the ramp on, in runs of one sign (a zero belongs to the run before it, at the start to none), give a peak for each run but the first and the
  * last: its largest magnitude, at the first sample that has it. High are those above the mean of all. Of each stretch of high peaks

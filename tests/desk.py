@@ -6,14 +6,20 @@ import subprocess
 import threading
 
 
-def in_pieces(words, pieces):
+def in_pieces(words, pieces, beside=None):
     """The status, standard output and standard error of a program that gets each piece by a read of its own. A pipe would join those that come before the program
-    reads; a socket that keeps its messages apart does not. No piece is empty or longer than the program's buffer has room for."""
-    ours, theirs = socket.socketpair(socket.AF_UNIX, socket.SOCK_SEQPACKET)
-    with theirs:
-        process = subprocess.Popen(words, stdin=theirs, stdout=subprocess.PIPE, stderr=subprocess.PIPE)
+    reads; a socket that keeps its messages apart does not. No piece is empty or longer than the program's buffer has room for. A second input, in pieces of its own,
+    comes on descriptor 4."""
+    inputs = [pieces] if beside is None else [pieces, beside]
+    pairs = [socket.socketpair(socket.AF_UNIX, socket.SOCK_SEQPACKET) for _ in inputs]
+    theirs = [pair[1].fileno() for pair in pairs]
+    if beside is not None:
+        words = ["bash", "-c", 'exec "$@" 4<&"$0"', str(theirs[1]), *words]
+    process = subprocess.Popen(words, stdin=theirs[0], stdout=subprocess.PIPE, stderr=subprocess.PIPE, pass_fds=theirs[1:])
+    for pair in pairs:
+        pair[1].close()
 
-    def feed():
+    def feed(ours, pieces):
         with ours:
             try:
                 for piece in pieces:
@@ -21,10 +27,12 @@ def in_pieces(words, pieces):
             except (BrokenPipeError, ConnectionResetError):  # it has read enough
                 pass
 
-    thread = threading.Thread(target=feed)
-    thread.start()
+    threads = [threading.Thread(target=feed, args=(pair[0], pieces)) for pair, pieces in zip(pairs, inputs)]
+    for thread in threads:
+        thread.start()
     out, err = process.communicate()
-    thread.join()
+    for thread in threads:
+        thread.join()
     return process.returncode, out, err
 
 

@@ -15,7 +15,7 @@ def show(campaign):
     print(f"M = {campaign.records}, N = {campaign.failures}, T = {campaign.exposure} ms: {says[case]()}")
 
 
-items = dict(step=500, ramp=0, level=40_000, decorrelation=2_000)
+items = dict(step=500, ramp=0, level=40_000, decorrelation=2_000, acceleration_level=9_810)
 roll = [0, 41_000, 39_000, 41_000, 39_000, 41_000, 0]
 campaign = Campaign(7_200_000)
 record = Record(**items)
@@ -35,7 +35,7 @@ try:
     record.feed([0, 2_000_000])
 except Refusal as refusal:
     print(f"refused: {refusal.number} ({refusal.carried})")
-print("counted times:", *counted_times(**items, samples=roll), "ms")
+print("counted times:", *counted_times(**items, roll=roll), "ms")
 records = [-result.exposure] + 25 * [1_800_000]
 sheet = write_sheet(7_200_000, records)
 standard, back = read_records(sheet)

@@ -1,8 +1,8 @@
 """Failures in ship-stability campaigns, counted by a proved library (include/chimenickel.h), by ctypes alone.
 
-A Record is one channel of roll or acceleration, fed whole or in pieces; a record's Result is seen before it enters a
-Campaign, which gives the verdict. Samples and levels are in
-thousandths of a degree or in mm/s2, times in ms, rates in failures a second. Campaigns, one for each design situation, make a loading
+A Record is roll and acceleration watched together, fed whole or in pieces; a record's Result is seen before it enters a
+Campaign, which gives the verdict. A job of one channel gives None for the other. Rolls and their level are in
+thousandths of a degree, accelerations and theirs in mm/s2, times in ms, rates in failures a second. Campaigns, one for each design situation, make a loading
 condition (judge_condition, write_report). Records that go on past a failure are added up in a Sum. What the library cannot take raises Refusal, and then nothing has
 changed. A number that is no 64-bit whole number, or a sample that is no 32-bit one, raises OverflowError before the library is asked.
 
@@ -32,11 +32,11 @@ _campaign = ctypes.c_uint64 * 5
 _campaigns = ctypes.POINTER(_campaign)
 
 for _name, _result, _parameters in [
-    ("chim_record_open", _u64, [_u64, _u64, _u64, _u64, _numbers, _size, _numbers]),
-    ("chim_record_feed", _u64, [_numbers, _size, _samples, _size, _numbers]),
+    ("chim_record_open", _u64, [_u64, _u64, _u64, _u64, _u64, _numbers, _size, _numbers]),
+    ("chim_record_feed", _u64, [_numbers, _size, _samples, _size, _samples, _size, _numbers, _numbers]),
     ("chim_record_end", _u64, [_numbers, _size, _numbers, _size, _numbers]),
-    ("chim_record_first_crossing", _size, [_samples, _size, _u64, _u64]),
-    ("chim_record_list", _u64, [_u64, _u64, _u64, _u64, _samples, _size, _times, _size, _numbers]),
+    ("chim_record_first_crossing", _size, [_samples, _size, _samples, _size, _u64, _u64, _u64]),
+    ("chim_record_list", _u64, [_u64, _u64, _u64, _u64, _u64, _samples, _size, _samples, _size, _times, _size, _numbers, _numbers]),
     ("chim_campaign_open", _u64, [_u64, _numbers, _size, _numbers]),
     ("chim_campaign_enter", _u64, [_numbers, _size, _u64, _u64, _numbers]),
     ("chim_campaign_censored", _u64, [_numbers, _size, _numbers]),
@@ -67,9 +67,17 @@ for _name, _result, _parameters in [
     _function.restype, _function.argtypes = _result, _parameters
 
 
+class Channel(enum.IntEnum):
+    """The channels of a record."""
+
+    ROLL = 1
+    ACCELERATION = 2
+
+
 class Refusal(Exception):
-    """Why nothing was done: the refusal's number and what it carries, which for 8 is the situation's number in a loading condition and else 0; for a job
-    sheet also the line that it stands on, and the column where a malformed line is at fault (0 where the line as a whole is)."""
+    """Why nothing was done: the refusal's number and what it carries, which for 8 is the situation's number in a loading condition and else 0; for 2 the
+    channel of a record whose sample it is; for a job sheet also the line that it stands on, and the column where a malformed line is at fault (0 where the
+    line as a whole is)."""
 
     MEANINGS = {
         1: "opening item {} is outside its range",
@@ -83,6 +91,7 @@ class Refusal(Exception):
         9: "line {} is malformed",
         10: "line {} of the comma file is malformed or has a wrong time",
         11: "the sum would have more than 10,000 failures or 100,000,000 samples",
+        12: "roll and acceleration have unequal lengths",
         13: "there is no such bureau",
         14: "the bureau has 16 jobs",
         15: "the place is not the bureau's own",
@@ -91,10 +100,11 @@ class Refusal(Exception):
         18: "there is no campaign, or there are more than 64",
     }
 
-    def __init__(self, number, carried):
-        super().__init__(f"refusal {number}: " + self.MEANINGS[number].format(carried))
+    def __init__(self, number, carried, channel=None):
+        super().__init__(f"refusal {number}: " + self.MEANINGS[number].format(carried) + (f", {channel.name.lower()}" if channel else ""))
         self.number = number
         self.carried = carried
+        self.channel = channel
         self.line = None
         self.column = None
 
@@ -114,6 +124,15 @@ def _ask(function, *arguments):
     return carried.value
 
 
+def _ask_of_two(function, *arguments):
+    """The same of a call about two channels, of which refusal 2 names one."""
+    carried, channel = _u64(), _u64()
+    number = function(*arguments, ctypes.byref(carried), ctypes.byref(channel))
+    if number:
+        raise Refusal(number, carried.value, Channel(channel.value) if channel.value else None)
+    return carried.value
+
+
 def _slice(samples):
     """A pointer and a length. An array of 32-bit numbers is copied at once, anything else number by number."""
     try:
@@ -126,6 +145,21 @@ def _slice(samples):
     except TypeError:
         whole = array("i", samples)
     return (ctypes.c_int32 * max(len(whole), 1)).from_buffer(whole or array("i", [0])), len(whole)
+
+
+_zeros = (ctypes.c_int32 * 1)()
+
+
+def _slices(roll, acceleration):
+    """Pointer and length of both channels. For one that is None zeros are lent, which are kept for the next call."""
+    global _zeros
+    if roll is None and acceleration is None:
+        raise TypeError("a record has at least one channel")
+    given = [None if samples is None else _slice(samples) for samples in (roll, acceleration)]
+    n = max(length for _, length in filter(None, given))
+    if None in given and len(_zeros) < n:
+        _zeros = (ctypes.c_int32 * n)()
+    return [part for samples in given for part in samples or (_zeros, n)]
 
 
 class _State:
@@ -166,18 +200,20 @@ class Result(NamedTuple):
 
 
 class Record(_State):
-    """One channel of samples, so far. The step is 1 to 10,000 ms, the ramp 0 to 1,000,000 samples, the level 1 to 1,000,000, the decorrelation time 0 to
-    10,000,000 ms."""
+    """Roll and acceleration, so far. It is above where the roll is above its level or the acceleration above its own; a crossing is a sample above after one that
+    was above in neither. The step is 1 to 10,000 ms, the ramp 0 to 1,000,000 samples, each level 1 to 1,000,000, the decorrelation time 0 to 10,000,000 ms."""
 
-    LENGTH = 12  # 10 before groups were counted
+    LENGTH = 14  # 12 while it had one channel
 
-    def __init__(self, step, ramp, level, decorrelation):
+    def __init__(self, step, ramp, level, decorrelation, acceleration_level):
         super().__init__([0] * self.LENGTH)
-        _ask(_lib.chim_record_open, *map(_number, (step, ramp, level, decorrelation)), self._state, self.LENGTH)
+        items = map(_number, (step, ramp, level, decorrelation, acceleration_level))
+        _ask(_lib.chim_record_open, *items, self._state, self.LENGTH)
 
-    def feed(self, piece):
-        """The next piece. Cut anywhere, the pieces of a record lead to the state of the whole."""
-        _ask(_lib.chim_record_feed, self._state, self.LENGTH, *_slice(piece))
+    def feed(self, roll, acceleration=None):
+        """The next piece of both channels, cut at the same place, or of one, with None for the other. Cut anywhere, the pieces of a record lead to the state of
+        the whole."""
+        _ask_of_two(_lib.chim_record_feed, self._state, self.LENGTH, *_slices(roll, acceleration))
 
     def end(self):
         """The record's result, to be seen before it enters a campaign."""
@@ -210,22 +246,22 @@ class Record(_State):
         return self._state[8] or None
 
 
-def first_crossing(samples, ramp, level):
-    """The place of the first crossing of a whole record, or None."""
-    xs, n = _slice(samples)
-    place = _lib.chim_record_first_crossing(xs, n, _number(ramp), _number(level))
-    return place if place < n else None
+def first_crossing(roll, acceleration, ramp, level, acceleration_level):
+    """The place of the first crossing of a whole record, or None; of unequal lengths only the places that both have are looked at. Either channel may be None."""
+    slices = _slices(roll, acceleration)
+    place = _lib.chim_record_first_crossing(*slices, *map(_number, (ramp, level, acceleration_level)))
+    return place if place < min(slices[1], slices[3]) else None
 
 
-def counted_times(step, ramp, level, decorrelation, samples):
-    """The counted times of a whole record: of each group, that of its first crossing."""
-    xs, n = _slice(samples)
-    items = tuple(map(_number, (step, ramp, level, decorrelation)))
+def counted_times(step, ramp, level, decorrelation, acceleration_level, roll, acceleration=None):
+    """The counted times of a whole record: of each group, that of its first crossing. Either channel may be None."""
+    slices = _slices(roll, acceleration)
+    items = tuple(map(_number, (step, ramp, level, decorrelation, acceleration_level)))
     places = 0
     while True:
         times = (ctypes.c_uint32 * max(places, 1))()
         try:
-            return times[: _ask(_lib.chim_record_list, *items, xs, n, times, places)]
+            return times[: _ask_of_two(_lib.chim_record_list, *items, *slices, times, places)]
         except Refusal as refusal:
             if refusal.number != 7:
                 raise

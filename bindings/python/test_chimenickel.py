@@ -13,6 +13,7 @@ from chimenickel import (
     Bench,
     Campaign,
     Case,
+    Channel,
     Record,
     Refusal,
     Standing,
@@ -32,13 +33,15 @@ from chimenickel import (
     write_sheet,
 )
 
-ITEMS = (500, 0, 40_000, 2_000)
+ITEMS = (500, 0, 40_000, 2_000, 9_810)
 ROLL = [0, 41_000, 39_000, 41_000, 39_000, 41_000, 0]
+# above its level where the roll is, and where it has just been
+ACCELERATION = [0, 0, 0, -9_811, 9_811, 0, 9_811]
 
 
-def fed(samples):
+def fed(roll, acceleration=None):
     record = Record(*ITEMS)
-    record.feed(samples)
+    record.feed(roll, acceleration)
     return record
 
 
@@ -47,6 +50,7 @@ class Records(unittest.TestCase):
         with self.assertRaises(Refusal) as caught:
             call(*arguments)
         self.assertEqual((caught.exception.number, caught.exception.carried), (number, carried))
+        return caught.exception
 
     def test_every_cut_leads_to_the_whole(self):
         whole = fed(array("i", ROLL))
@@ -57,23 +61,49 @@ class Records(unittest.TestCase):
             record.feed(ROLL[cut:])
             self.assertEqual(record.numbers, whole.numbers)
 
+    def test_both_channels(self):
+        whole = fed(ROLL, array("i", ACCELERATION))
+        self.assertEqual((whole.samples, whole.crossings, whole.counted, whole.largest_set, whole.first), (7, 2, 1, 1, 1))
+        for cut in range(len(ROLL) + 1):
+            record = fed(ROLL[:cut], ACCELERATION[:cut])
+            record.feed(ROLL[cut:], ACCELERATION[cut:])
+            self.assertEqual(record.numbers, whole.numbers)
+
+    def test_either_channel_alone(self):
+        self.assertEqual(fed(ROLL, [0] * 7).numbers, fed(ROLL).numbers)
+        record = Record(500, 0, 1, 2_000, 40_000)
+        record.feed(None, [-x for x in ROLL[:4]])
+        record.feed(None, [-x for x in ROLL[4:]])
+        self.assertEqual(record.end(), fed(ROLL).end())
+        self.assertRaises(TypeError, record.feed, None)
+
     def test_a_refusal_leaves_the_record(self):
         record = fed(ROLL)
         before = record.numbers
-        self.refused(2, 2, record.feed, [0, 0, 1_000_001])
+        self.assertEqual(self.refused(2, 2, record.feed, [0, 0, 1_000_001]).channel, Channel.ROLL)
+        self.assertEqual(self.refused(2, 1, record.feed, [0, 0, 1_000_001], [0, -1_000_001, 0]).channel, Channel.ACCELERATION)
+        self.assertEqual(self.refused(2, 1, record.feed, [0, -1_000_001], [0, -1_000_001]).channel, Channel.ROLL)
+        self.assertIsNone(self.refused(12, 0, record.feed, [0, 1_000_001], [0]).channel)
         self.assertRaises(OverflowError, record.feed, [1 << 31])
+        self.assertRaises(OverflowError, record.feed, [0], [-(1 << 31) - 1])
         self.assertEqual(record.numbers, before)
 
     def test_items(self):
-        self.refused(1, 3, Record, 500, 0, 0, 1 << 63)
+        self.refused(1, 3, Record, 500, 0, 0, 1 << 63, 0)
+        self.refused(1, 6, Record, 500, 0, 1, 0, 1_000_001)
         self.refused(1, 5, Campaign, 0)
-        self.assertRaises(OverflowError, Record, -1, 0, 1, 0)
+        self.assertRaises(OverflowError, Record, -1, 0, 1, 0, 1)
 
     def test_times(self):
-        self.assertEqual((counted_times(*ITEMS, ROLL), counted_times(500, 0, 40_000, 0, ROLL)), ([500], [500, 1_500, 2_500]))
+        self.assertEqual((counted_times(*ITEMS, ROLL), counted_times(500, 0, 40_000, 0, 9_810, ROLL)), ([500], [500, 1_500, 2_500]))
+        self.assertEqual(counted_times(500, 0, 40_000, 0, 9_810, ROLL, ACCELERATION), [500, 1_500])
         self.assertEqual(counted_times(*ITEMS, [0, 0]), [])
         self.refused(4, 0, counted_times, *ITEMS, ROLL[:1])
-        self.assertEqual((first_crossing(ROLL, 0, 40_000), first_crossing(ROLL, 0, 41_000), first_crossing([], 0, 1)), (1, None, None))
+        self.refused(12, 0, counted_times, *ITEMS, ROLL, ACCELERATION[:6])
+        self.assertEqual(self.refused(2, 0, counted_times, *ITEMS, [0, 1_000_001], [1_000_001, 0]).channel, Channel.ACCELERATION)
+        self.assertEqual([first_crossing(ROLL, None, 0, level, 9_810) for level in (40_000, 41_000)], [1, None])
+        self.assertEqual([first_crossing(ROLL, ACCELERATION[:n], 0, 41_000, 9_810) for n in (7, 4, 3, 0)], [3, 3, None, None])
+        self.assertEqual((first_crossing([], None, 0, 1, 1), first_crossing(None, ACCELERATION, 0, 1, 9_810)), (None, 3))
 
     def test_sheets(self):
         records = [1_800_000, -933_980, 10_000_000, -1, 1]
@@ -100,7 +130,7 @@ class Records(unittest.TestCase):
         self.assertEqual((list(read_comma(b"", 50)), write_comma([], 50)), ([], b""))
         self.refused(1, 1, read_comma, b"0,-0\n", 0)
         self.refused(10, 2, read_comma, b"0,2000\n50,1.", 50)
-        self.refused(2, 1, read_comma, b"0,0\n50,1000.001\n", 50)
+        self.assertIsNone(self.refused(2, 1, read_comma, b"0,0\n50,1000.001\n", 50).channel)
         self.refused(2, 1, write_comma, [0, 1_000_001], 50)
         record = Record(*ITEMS)
         record.feed(read_comma(b"0,0\n500,41\n1000,39\n1500,41\n2000,39\n2500,41\n3000,0\n", 500))
@@ -171,9 +201,13 @@ class Records(unittest.TestCase):
         self.refused(9, 1, Campaign.read_sheet, b"")
 
     def test_numbers_that_are_no_state(self):
-        self.refused(8, 0, Record.from_numbers, fed(ROLL).numbers[:10])
-        self.refused(8, 0, Record.from_numbers([(1 << 64) - 1] * 12).feed, [])
-        self.refused(8, 0, Record.from_numbers(fed(ROLL).numbers[:11] + [3]).end)
+        for length in (10, 12):
+            self.refused(8, 0, Record.from_numbers, fed(ROLL).numbers[:length])
+        self.refused(8, 0, Record.from_numbers([(1 << 64) - 1] * 14).feed, [], [0])
+        for place, number in ((11, 3), (12, 0), (13, 2_000_001)):
+            numbers = fed(ROLL).numbers
+            numbers[place] = number
+            self.refused(8, 0, Record.from_numbers(numbers).end)
         self.refused(8, 0, Campaign.from_numbers([1, 1, 1, 1, 2]).verdict)
         self.assertEqual(Record.from_numbers(fed(ROLL).numbers).numbers, fed(ROLL).numbers)
 
@@ -200,18 +234,18 @@ class Records(unittest.TestCase):
         self.refused(8, 0, Bench.from_numbers([[0, 1, 0, 0, 0, 0]] + bench.numbers[1:]).take, 2, 1)
 
     def test_sums(self):
-        record, total = Record(500, 2, 40_000, 1_000), Sum(500)
+        record, total = Record(500, 2, 40_000, 1_000, 9_810), Sum(500)
         self.assertEqual((total.bounds(), total.rates()), (None, None))
         record.feed([0, 0, 0])
         self.refused(4, 0, total.add, record)
-        record.feed([41_000, 0, 0, 41_000, 0, 0, 0])
+        record.feed([41_000, 0, 0, 0, 0, 0, 0], [0, 0, 0, -9_811, 0, 0, 0])
         total.add(record)
         total.add(record)
         self.assertEqual((total.failures, total.samples, total.numbers), (4, 16, [500, 4, 16]))
         # 1,960² · 4 · 12 / 16 is 3,394.8 squared
         self.assertEqual(total.bounds(), (4_000, 605, 7_395, 8_000))
         self.assertEqual(total.rates(), (0.5, 605 / 8_000, 7_395 / 8_000))
-        other = Record(499, 2, 40_000, 1_000)
+        other = Record(499, 2, 40_000, 1_000, 9_810)
         other.feed([0] * 4)
         self.refused(1, 1, total.add, other)
         full = Sum.from_numbers([500, 9_999, 20_000])

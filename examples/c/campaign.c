@@ -20,12 +20,12 @@ static void verdict(const uint64_t *campaign) {
 }
 
 int main(void) {
-    uint64_t campaign[CHIM_CAMPAIGN_NUMBERS], record[CHIM_RECORD_NUMBERS], result[CHIM_RESULT_NUMBERS], carried;
+    uint64_t campaign[CHIM_CAMPAIGN_NUMBERS], record[CHIM_RECORD_NUMBERS], result[CHIM_RESULT_NUMBERS], carried, channel;
     chim_campaign_open(7200000, campaign, CHIM_CAMPAIGN_NUMBERS, &carried);
-    chim_record_open(500, 0, 40000, 2000, record, CHIM_RECORD_NUMBERS, &carried);
-    const int32_t roll[] = {0, 41000, 39000, 41000, 39000, 41000, 0};
-    chim_record_feed(record, CHIM_RECORD_NUMBERS, roll, 3, &carried);
-    chim_record_feed(record, CHIM_RECORD_NUMBERS, roll + 3, 4, &carried);
+    chim_record_open(500, 0, 40000, 2000, 9810, record, CHIM_RECORD_NUMBERS, &carried);
+    const int32_t roll[] = {0, 41000, 39000, 41000, 39000, 41000, 0}, zeros[7] = {0};
+    chim_record_feed(record, CHIM_RECORD_NUMBERS, roll, 3, zeros, 3, &carried, &channel);
+    chim_record_feed(record, CHIM_RECORD_NUMBERS, roll + 3, 4, zeros, 4, &carried, &channel);
     chim_record_end(record, CHIM_RECORD_NUMBERS, result, CHIM_RESULT_NUMBERS, &carried);
     printf("crossings %" PRIu64 ", counted %" PRIu64 ", largest set %" PRIu64 ", first failure at sample %" PRIu64 ", exposure %" PRIu64 " ms\n",
            result[CHIM_CROSSINGS], result[CHIM_COUNTED], result[CHIM_LARGEST_SET], result[CHIM_FIRST], result[CHIM_EXPOSURE]);
@@ -39,11 +39,11 @@ int main(void) {
     }
 
     const int32_t bad[] = {0, 2000000};
-    uint64_t refusal = chim_record_feed(record, CHIM_RECORD_NUMBERS, bad, 2, &carried);
+    uint64_t refusal = chim_record_feed(record, CHIM_RECORD_NUMBERS, bad, 2, zeros, 2, &carried, &channel);
     printf("refused: %" PRIu64 " (%" PRIu64 ")\n", refusal, carried);
 
     uint32_t times[4];
-    refusal = chim_record_list(500, 0, 40000, 2000, roll, 7, times, 4, &carried);
+    refusal = chim_record_list(500, 0, 40000, 2000, 9810, roll, 7, zeros, 7, times, 4, &carried, &channel);
     printf("counted times:");
     for (uint64_t i = 0; refusal == CHIM_TAKEN && i < carried; i++)
         printf(" %" PRIu32, times[i]);

@@ -1,8 +1,9 @@
 /* A fuzz target over the whole C interface. The first byte of the input picks a part; the rest is a sheet, or numbers and samples to call with. What has
  * to hold whatever comes: a refusal leaves every lent array as it stood, what is handed out is never refused as broken, a piece cut anywhere leads to
- * the same record, a sheet's campaign is that of its records, a bureau's call leaves the other's places, a comma file that is read is written
- * and read again, a sheet's records are refused as the sheet is, and written they are the sheet, envelope peaks are samples of the record, apart as they
- * have to be, a loading condition is what its campaigns are told one by one, and a sum has the groups and the samples of the records that were added. */
+ * the same record, a record's channels changed for each other give the same failures, a sheet's campaign is that of its records, a bureau's call leaves the other's
+ * places, a comma file that is read is written and read again, a sheet's records are refused as the sheet is, and written they are the sheet, envelope peaks are samples
+ * of the record, apart as they have to be, a loading condition is what its campaigns are told one by one, and a sum has the groups and the samples of the records that
+ * were added. */
 #include <inttypes.h>
 #include <stdint.h>
 #include <stdio.h>
@@ -115,35 +116,94 @@ static void comma(void) {
     hold(memcmp(samples, again, n * sizeof *samples) == 0);
 }
 
-/* a record: opened by the input, or any numbers at all; fed whole and in two pieces */
+/* both channels of a record: samples within three bytes, most accelerations 0; `roll` is as long as `acceleration`, or one of the two is cut shorter */
+enum { MOST_SAMPLES = 512 };
+typedef struct {
+    int32_t roll[MOST_SAMPLES], acceleration[MOST_SAMPLES];
+    size_t roll_len, acceleration_len;
+} Channels;
+
+static void channels(Channels *c) {
+    size_t cut = number(1), n = 0;
+    for (; left > 0 && n < MOST_SAMPLES; n++) {
+        uint64_t how = number(1);
+        c->roll[n] = (int32_t)number(3) - (how & 1 ? 8388608 : 0);
+        c->acceleration[n] = how & 4 ? (int32_t)number(3) - (how & 2 ? 8388608 : 0) : 0;
+    }
+    c->roll_len = c->acceleration_len = n;
+    if (cut % 8 == 6)
+        c->roll_len = cut / 8 < n ? cut / 8 : n;
+    if (cut % 8 == 7)
+        c->acceleration_len = cut / 8 < n ? cut / 8 : n;
+}
+
+/* whether a sample is bad, and whether the record is above at a place that both channels have */
+static int bad(int32_t x) { return x < -1000000 || x > 1000000; }
+
+static int above(const Channels *c, size_t i, uint64_t level, uint64_t acceleration_level) {
+    return (uint64_t)llabs(c->roll[i]) > level || (uint64_t)llabs(c->acceleration[i]) > acceleration_level;
+}
+
+/* that refusals 12 and 2 are given as they have to be, by an answer that no earlier refusal came before */
+static void told_of(const Channels *c, uint64_t answer, uint64_t place, uint64_t channel) {
+    hold((answer == CHIM_UNEQUAL) == (c->roll_len != c->acceleration_len));
+    if (answer == CHIM_UNEQUAL) {
+        hold(place == 0 && channel == 0);
+        return;
+    }
+    size_t first = 0;
+    while (first < c->roll_len && !bad(c->roll[first]) && !bad(c->acceleration[first]))
+        first++;
+    hold((answer == CHIM_SAMPLE) == (first < c->roll_len));
+    hold(answer == CHIM_SAMPLE ? place == first && channel == (bad(c->roll[first]) ? CHIM_ROLL : CHIM_ACCELERATION) : channel == 0);
+}
+
+/* a record's numbers with the channels changed for each other */
+static void swap(uint64_t *state) {
+    uint64_t level = state[2], last = state[5];
+    state[2] = state[12], state[12] = level;
+    state[5] = state[13], state[13] = last;
+}
+
+/* a record: opened by the input, or any numbers at all; fed whole, in two pieces, and with the channels changed for each other */
 static void record(void) {
-    uint64_t whole[CHIM_RECORD_NUMBERS], cut[CHIM_RECORD_NUMBERS], before[CHIM_RECORD_NUMBERS], carried;
+    uint64_t whole[CHIM_RECORD_NUMBERS], cut[CHIM_RECORD_NUMBERS], turned[CHIM_RECORD_NUMBERS], before[CHIM_RECORD_NUMBERS], carried, channel;
     if (number(1) % 2 == 0) {
         memset(whole, 0, sizeof whole);
-        if (chim_record_open(number(2), number(1), number(3), number(2), whole, CHIM_RECORD_NUMBERS, &carried) != CHIM_TAKEN)
+        if (chim_record_open(number(2), number(1), number(3), number(2), number(3), whole, CHIM_RECORD_NUMBERS, &carried) != CHIM_TAKEN)
             return;
-        hold(chim_record_feed(whole, CHIM_RECORD_NUMBERS, (const int32_t[]){0}, 0, &carried) == CHIM_TAKEN);
+        const int32_t none[] = {0};
+        hold(chim_record_feed(whole, CHIM_RECORD_NUMBERS, none, 0, none, 0, &carried, &channel) == CHIM_TAKEN);
     } else {
         for (size_t i = 0; i < CHIM_RECORD_NUMBERS; i++)
             whole[i] = number(1 + i % 3);
     }
     memcpy(before, whole, sizeof whole);
     memcpy(cut, whole, sizeof whole);
-    enum { MOST = 512 };
-    int32_t samples[MOST];
-    size_t at = number(1), n = 0;
-    while (left > 0 && n < MOST)
-        samples[n++] = (int32_t)number(3) - (number(1) % 2 ? 8388608 : 0);
-    at = at < n ? at : n;
-    uint64_t answer = chim_record_feed(whole, CHIM_RECORD_NUMBERS, samples, n, &carried);
+    memcpy(turned, whole, sizeof whole);
+    swap(turned);
+    static Channels c;
+    size_t at = number(1);
+    channels(&c);
+    at = at < c.roll_len ? at : c.roll_len;
+    uint64_t answer = chim_record_feed(whole, CHIM_RECORD_NUMBERS, c.roll, c.roll_len, c.acceleration, c.acceleration_len, &carried, &channel);
+    if (answer == CHIM_BROKEN_STATE)
+        hold(carried == 0 && channel == 0);
+    else
+        told_of(&c, answer, carried, channel);
+    uint64_t place, other;
+    hold(chim_record_feed(turned, CHIM_RECORD_NUMBERS, c.acceleration, c.acceleration_len, c.roll, c.roll_len, &place, &other) == answer);
+    hold(place == carried && (other == 0) == (channel == 0));
+    swap(turned);
+    hold(memcmp(turned, whole, sizeof whole) == 0);
     if (answer != CHIM_TAKEN) {
-        hold(answer == CHIM_BROKEN_STATE || answer == CHIM_SAMPLE || answer == CHIM_TOO_LONG);
-        hold(answer != CHIM_SAMPLE || carried < n);
+        hold(answer == CHIM_BROKEN_STATE || answer == CHIM_UNEQUAL || answer == CHIM_SAMPLE || answer == CHIM_TOO_LONG);
         hold(memcmp(before, whole, sizeof whole) == 0);
         return;
     }
-    hold(chim_record_feed(cut, CHIM_RECORD_NUMBERS, samples, at, &carried) == CHIM_TAKEN);
-    hold(chim_record_feed(cut, CHIM_RECORD_NUMBERS, samples + at, n - at, &carried) == CHIM_TAKEN);
+    size_t n = c.roll_len;
+    hold(chim_record_feed(cut, CHIM_RECORD_NUMBERS, c.roll, at, c.acceleration, at, &carried, &channel) == CHIM_TAKEN);
+    hold(chim_record_feed(cut, CHIM_RECORD_NUMBERS, c.roll + at, n - at, c.acceleration + at, n - at, &carried, &channel) == CHIM_TAKEN);
     hold(memcmp(cut, whole, sizeof whole) == 0);
     uint64_t campaign[CHIM_CAMPAIGN_NUMBERS], result[CHIM_RESULT_NUMBERS];
     answer = chim_record_end(whole, CHIM_RECORD_NUMBERS, result, CHIM_RESULT_NUMBERS, &carried);
@@ -157,12 +217,13 @@ static void record(void) {
 }
 
 /* the groups of a whole record, by their first crossings' times: a run of crossings, each less than `decorrelation` after the one just before it */
-static size_t groups(uint64_t step, uint64_t ramp, uint64_t level, uint64_t decorrelation, const int32_t *samples, size_t n, uint32_t *firsts) {
+static size_t groups(uint64_t step, uint64_t ramp, uint64_t level, uint64_t decorrelation, uint64_t acceleration_level, const Channels *c,
+                     uint32_t *firsts) {
     size_t number = 0;
     uint64_t before = 0;
-    for (size_t i = 1; i < n; i++) {
+    for (size_t i = 1; i < c->roll_len; i++) {
         uint64_t time = (i - ramp) * step;
-        if (i <= ramp || (uint64_t)llabs(samples[i - 1]) > level || (uint64_t)llabs(samples[i]) <= level)
+        if (i <= ramp || above(c, i - 1, level, acceleration_level) || !above(c, i, level, acceleration_level))
             continue;
         if (number == 0 || time - before >= decorrelation)
             firsts[number++] = (uint32_t)time;
@@ -171,36 +232,48 @@ static size_t groups(uint64_t step, uint64_t ramp, uint64_t level, uint64_t deco
     return number;
 }
 
+/* the search for the first crossing, among the places that both channels have */
+static void search(const Channels *c, uint64_t ramp, uint64_t level, uint64_t acceleration_level) {
+    size_t n = c->roll_len < c->acceleration_len ? c->roll_len : c->acceleration_len, place = ramp + 1;
+    while (place < n && (above(c, place - 1, level, acceleration_level) || !above(c, place, level, acceleration_level)))
+        place++;
+    hold(chim_record_first_crossing(c->roll, c->roll_len, c->acceleration, c->acceleration_len, ramp, level, acceleration_level) == (place < n ? place : n));
+}
+
 /* listing into a slice of any length: beyond its places nothing is written, and a refusal writes nothing; the times are those of the groups, as many as the
  * record has when it is fed and ended */
 static void list(void) {
-    enum { MOST = 256, PLACES = 16 };
-    uint64_t step = number(2), ramp = number(1), level = number(3), decorrelation = number(2), places = number(1) % (PLACES + 1), carried = 0;
-    int32_t samples[MOST];
+    enum { PLACES = 16 };
+    uint64_t step = number(2), ramp = number(1), level = number(3), decorrelation = number(2), acceleration_level = number(3);
+    uint64_t places = number(1) % (PLACES + 1), carried = 0, channel = 7;
+    static Channels c;
     uint32_t times[PLACES + 1];
-    size_t n = 0;
-    while (left > 0 && n < MOST)
-        samples[n++] = (int32_t)number(3) - (number(1) % 2 ? 8388608 : 0);
+    channels(&c);
     memset(times, 0xa5, sizeof times);
-    uint64_t answer = chim_record_list(step, ramp, level, decorrelation, samples, n, times, places, &carried);
+    uint64_t answer = chim_record_list(step, ramp, level, decorrelation, acceleration_level, c.roll, c.roll_len, c.acceleration, c.acceleration_len, times, places,
+                                       &carried, &channel);
+    if (answer == CHIM_ITEM)
+        hold(channel == 0);
+    else
+        told_of(&c, answer, carried, channel);
     size_t written = answer == CHIM_TAKEN ? carried : 0;
     hold(written <= places);
     for (size_t i = written; i <= PLACES; i++)
         hold(times[i] == 0xa5a5a5a5);
     for (size_t i = 0; i < written; i++)
         hold(times[i] <= 10000000 && (i == 0 || times[i] >= times[i - 1] + decorrelation));
-    hold(chim_record_first_crossing(samples, n, ramp, level) <= n);
+    search(&c, ramp, level, acceleration_level);
     if (answer != CHIM_TAKEN && answer != CHIM_ROOM)
         return;
-    uint32_t firsts[MOST];
-    size_t number = groups(step, ramp, level, decorrelation, samples, n, firsts);
+    uint32_t firsts[MOST_SAMPLES];
+    size_t number = groups(step, ramp, level, decorrelation, acceleration_level, &c, firsts);
     hold(carried == number && memcmp(times, firsts, written * sizeof *times) == 0);
     uint64_t state[CHIM_RECORD_NUMBERS], result[CHIM_RESULT_NUMBERS];
-    hold(chim_record_open(step, ramp, level, decorrelation, state, CHIM_RECORD_NUMBERS, &carried) == CHIM_TAKEN);
-    hold(chim_record_feed(state, CHIM_RECORD_NUMBERS, samples, n, &carried) == CHIM_TAKEN);
+    hold(chim_record_open(step, ramp, level, decorrelation, acceleration_level, state, CHIM_RECORD_NUMBERS, &carried) == CHIM_TAKEN);
+    hold(chim_record_feed(state, CHIM_RECORD_NUMBERS, c.roll, c.roll_len, c.acceleration, c.roll_len, &carried, &channel) == CHIM_TAKEN);
     hold(chim_record_end(state, CHIM_RECORD_NUMBERS, result, CHIM_RESULT_NUMBERS, &carried) == CHIM_TAKEN);
     hold(result[CHIM_COUNTED] == number);
-    hold(chim_record_feed(state, 10, samples, n, &carried) == CHIM_BROKEN_STATE);
+    hold(chim_record_feed(state, 12, c.roll, c.roll_len, c.acceleration, c.roll_len, &carried, &channel) == CHIM_BROKEN_STATE);
 }
 
 /* a campaign of any numbers, and records entered into it */
@@ -230,7 +303,7 @@ static void campaign(void) {
  * result counts and its samples behind the ramp */
 static void sum(void) {
     enum { MOST = 64 };
-    uint64_t state[CHIM_SUM_NUMBERS], before[CHIM_SUM_NUMBERS], carried;
+    uint64_t state[CHIM_SUM_NUMBERS], before[CHIM_SUM_NUMBERS], carried, channel;
     for (size_t i = 0; i < CHIM_SUM_NUMBERS; i++)
         state[i] = number(i + 2);
     do {
@@ -247,13 +320,16 @@ static void sum(void) {
             hold(l <= e && e <= u && (p == 0 || u == (double)bounds[CHIM_UPPER] / (double)bounds[CHIM_TIME]));
         }
         uint64_t record[CHIM_RECORD_NUMBERS], result[CHIM_RESULT_NUMBERS], step = number(1) % 2 ? state[0] : number(2), ramp = number(1) % 4;
-        int32_t samples[MOST];
+        int32_t roll[MOST], acceleration[MOST];
         size_t n = 0, most = number(1) % MOST;
-        if (chim_record_open(step, ramp, 40000, number(2), record, CHIM_RECORD_NUMBERS, &carried) != CHIM_TAKEN)
+        if (chim_record_open(step, ramp, 40000, number(2), 9810, record, CHIM_RECORD_NUMBERS, &carried) != CHIM_TAKEN)
             return;
-        while (left > 0 && n < most)
-            samples[n++] = number(1) % 2 ? 41000 : 0;
-        hold(chim_record_feed(record, CHIM_RECORD_NUMBERS, samples, n, &carried) == CHIM_TAKEN);
+        for (; left > 0 && n < most; n++) {
+            uint64_t loud = number(1);
+            roll[n] = loud & 1 ? 41000 : 0;
+            acceleration[n] = loud & 2 ? 9811 : 0;
+        }
+        hold(chim_record_feed(record, CHIM_RECORD_NUMBERS, roll, n, acceleration, n, &carried, &channel) == CHIM_TAKEN);
         memcpy(before, state, sizeof state);
         uint64_t answer = chim_sum_add(state, CHIM_SUM_NUMBERS, record, CHIM_RECORD_NUMBERS, &carried);
         uint64_t ended = chim_record_end(record, CHIM_RECORD_NUMBERS, result, CHIM_RESULT_NUMBERS, &some);

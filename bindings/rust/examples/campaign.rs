@@ -1,7 +1,7 @@
 //! A campaign at one failure in two hours: a roll that crosses 40 degrees, then quiet records by their exposure; at the end its
 //! loading condition, with a second situation that has no record yet, and the first record by the binomial method. It prints what examples/c/campaign.c prints.
 
-use chimenickel::{list, read_records, write_report, write_sheet, Campaign, Items, Record, Refusal, Sum, Verdict};
+use chimenickel::{list, read_records, with_zeros, write_report, write_sheet, Campaign, Items, Record, Refusal, Sum, Verdict};
 
 fn show(c: &Campaign) -> Result<(), Refusal> {
     print!("M = {}, N = {}, T = {} ms: ", c.records(), c.failures(), c.exposure());
@@ -15,12 +15,12 @@ fn show(c: &Campaign) -> Result<(), Refusal> {
 }
 
 fn main() -> Result<(), Refusal> {
-    let items = Items { step: 500, ramp: 0, level: 40_000, decorrelation: 2_000 };
+    let items = Items { step: 500, ramp: 0, level: 40_000, decorrelation: 2_000, acceleration_level: 9_810 };
     let roll = [0, 41_000, 39_000, 41_000, 39_000, 41_000, 0];
     let mut campaign = Campaign::open(7_200_000)?;
     let mut record = Record::open(items)?;
     for piece in roll.chunks(3) {
-        record.feed(piece)?;
+        record.feed_roll(piece)?;
     }
     let ended = record.end()?;
     println!(
@@ -39,11 +39,11 @@ fn main() -> Result<(), Refusal> {
             show(&campaign)?;
         }
     }
-    if let Err(refusal) = record.feed(&[0, 2_000_000]) {
+    if let Err(refusal) = record.feed_roll(&[0, 2_000_000]) {
         let Refusal::Sample(place) = refusal else { return Err(refusal) };
         println!("refused: {} ({place})", refusal.number());
     }
-    let times: Vec<String> = list(items, &roll)?.iter().map(u32::to_string).collect();
+    let times: Vec<String> = with_zeros(roll.len(), |zeros| list(items, &roll, zeros))?.iter().map(u32::to_string).collect();
     println!("counted times: {} ms", times.join(" "));
     let mut records = vec![-(ended.exposure as i32)];
     records.resize(26, 1_800_000);

@@ -1,20 +1,50 @@
 //! include/chimenickel.h.
 
 extern "C" {
-    pub fn chim_record_open(step: u64, ramp: u64, level: u64, decorrelation: u64, state: *mut u64, state_len: usize, carried: *mut u64) -> u64;
-    pub fn chim_record_feed(state: *mut u64, state_len: usize, piece: *const i32, piece_len: usize, carried: *mut u64) -> u64;
+    pub fn chim_record_open(
+        step: u64,
+        ramp: u64,
+        level: u64,
+        decorrelation: u64,
+        acceleration_level: u64,
+        state: *mut u64,
+        state_len: usize,
+        carried: *mut u64,
+    ) -> u64;
+    pub fn chim_record_feed(
+        state: *mut u64,
+        state_len: usize,
+        roll: *const i32,
+        roll_len: usize,
+        acceleration: *const i32,
+        acceleration_len: usize,
+        carried: *mut u64,
+        channel: *mut u64,
+    ) -> u64;
     pub fn chim_record_end(state: *const u64, state_len: usize, result: *mut u64, result_len: usize, carried: *mut u64) -> u64;
-    pub fn chim_record_first_crossing(samples: *const i32, samples_len: usize, ramp: u64, level: u64) -> usize;
+    pub fn chim_record_first_crossing(
+        roll: *const i32,
+        roll_len: usize,
+        acceleration: *const i32,
+        acceleration_len: usize,
+        ramp: u64,
+        level: u64,
+        acceleration_level: u64,
+    ) -> usize;
     pub fn chim_record_list(
         step: u64,
         ramp: u64,
         level: u64,
         decorrelation: u64,
-        samples: *const i32,
-        samples_len: usize,
+        acceleration_level: u64,
+        roll: *const i32,
+        roll_len: usize,
+        acceleration: *const i32,
+        acceleration_len: usize,
         times: *mut u32,
         times_len: usize,
         carried: *mut u64,
+        channel: *mut u64,
     ) -> u64;
     pub fn chim_campaign_open(standard: u64, state: *mut u64, state_len: usize, carried: *mut u64) -> u64;
     pub fn chim_campaign_enter(state: *mut u64, state_len: usize, failed: u64, exposure: u64, carried: *mut u64) -> u64;

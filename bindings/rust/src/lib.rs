@@ -1,8 +1,8 @@
 //! Failures in ship-stability campaigns, counted by a proved library.
 //!
-//! A [`Record`] is one channel of roll or acceleration, fed whole or in pieces; what it comes to is [`Ended`], seen before it enters
-//! a [`Campaign`], which gives the [`Verdict`]. Samples and
-//! levels are in thousandths of a degree or in mm/s², times in ms, rates in failures a second. Campaigns, one for each design situation, make
+//! A [`Record`] is roll and acceleration watched together, fed whole or in pieces; what it comes to is [`Ended`], seen before it enters
+//! a [`Campaign`], which gives the [`Verdict`]. A job of one channel lends zeros for the other. Rolls and
+//! their level are in thousandths of a degree, accelerations and theirs in mm/s², times in ms, rates in failures a second. Campaigns, one for each design situation, make
 //! a loading condition ([`judge_condition`], [`write_report`]). Records that go on past a failure are added up in a [`Sum`]. What the library cannot take it refuses by a [`Refusal`], and then nothing has
 //! changed.
 //!
@@ -10,9 +10,9 @@
 //! use chimenickel::{Campaign, Items, Record, Verdict};
 //!
 //! # fn main() -> Result<(), chimenickel::Refusal> {
-//! let mut record = Record::open(Items { step: 500, ramp: 0, level: 40_000, decorrelation: 2_000 })?;
-//! record.feed(&[0, 41_000, 39_000])?;
-//! record.feed(&[41_000, 39_000, 41_000, 0])?;
+//! let mut record = Record::open(Items { step: 500, ramp: 0, level: 40_000, decorrelation: 2_000, acceleration_level: 9_810 })?;
+//! record.feed(&[0, 41_000, 39_000], &[0, 0, 0])?;
+//! record.feed(&[41_000, 39_000, 0, 0], &[0, 0, -9_811, 0])?;
 //! assert_eq!((record.crossings(), record.counted(), record.largest_set(), record.first()), (3, 1, 2, Some(1)));
 //!
 //! let mut campaign = Campaign::open(7_200_000)?;
@@ -26,15 +26,18 @@
 
 mod c;
 
+use std::cell::Cell;
 use std::fmt;
 
 /// Why nothing was done, by the counter's refusal numbers.
 #[derive(Clone, Copy, Debug, PartialEq, Eq)]
 pub enum Refusal {
-    /// 1: an opening item is outside its range; the lowest such item, from 1 to 5. With item 1 too: a record's step is not the sum's.
+    /// 1: an opening item is outside its range; the lowest such item, from 1 to 6. With item 1 too: a record's step is not the sum's.
     Item(u64),
-    /// 2: a sample is outside -1,000,000 to 1,000,000; its place in the piece or file.
+    /// 2: a sample is outside -1,000,000 to 1,000,000; its place in the piece or file. Of a record it is the roll.
     Sample(u64),
+    /// 2 too: an acceleration is; a roll at its place or at a lower one goes before it.
+    Acceleration(u64),
     /// 3: the timed length of the record, or a sheet's exposure, would pass 10,000,000 ms; a comma file's last time would need more than 12 digits.
     TooLong,
     /// 4: fewer than two timed samples, or a sheet's exposure of 0.
@@ -55,6 +58,8 @@ pub enum Refusal {
     CommaLine(u64),
     /// 11: the sum would have more than 10,000 failures or 100,000,000 samples.
     SumFull,
+    /// 12: roll and acceleration have unequal lengths.
+    Unequal,
     /// 13: a bureau other than 1 or 2.
     NoBureau,
     /// 14: the bureau has 16 jobs.
@@ -74,7 +79,7 @@ impl Refusal {
     pub fn number(self) -> u64 {
         match self {
             Refusal::Item(_) => 1,
-            Refusal::Sample(_) => 2,
+            Refusal::Sample(_) | Refusal::Acceleration(_) => 2,
             Refusal::TooLong => 3,
             Refusal::TooShort => 4,
             Refusal::CampaignFull => 5,
@@ -84,6 +89,7 @@ impl Refusal {
             Refusal::Line(_) => 9,
             Refusal::CommaLine(_) => 10,
             Refusal::SumFull => 11,
+            Refusal::Unequal => 12,
             Refusal::NoBureau => 13,
             Refusal::BureauFull => 14,
             Refusal::NotItsOwn => 15,
@@ -106,6 +112,7 @@ impl Refusal {
             9 => Refusal::Line(carried),
             10 => Refusal::CommaLine(carried),
             11 => Refusal::SumFull,
+            12 => Refusal::Unequal,
             13 => Refusal::NoBureau,
             14 => Refusal::BureauFull,
             15 => Refusal::NotItsOwn,
@@ -122,6 +129,7 @@ impl fmt::Display for Refusal {
         match self {
             Refusal::Item(item) => write!(f, "opening item {item} is outside its range"),
             Refusal::Sample(place) => write!(f, "the sample at place {place} is outside its range"),
+            Refusal::Acceleration(place) => write!(f, "the acceleration at place {place} is outside its range"),
             Refusal::TooLong => write!(f, "the timed length would pass 10,000,000 ms"),
             Refusal::TooShort => write!(f, "there are fewer than two timed samples"),
             Refusal::CampaignFull => write!(f, "the campaign has 100,000 records"),
@@ -132,6 +140,7 @@ impl fmt::Display for Refusal {
             Refusal::Line(line) => write!(f, "line {line} of the sheet is malformed"),
             Refusal::CommaLine(line) => write!(f, "line {line} of the comma file is malformed or has a wrong time"),
             Refusal::SumFull => write!(f, "the sum would have more than 10,000 failures or 100,000,000 samples"),
+            Refusal::Unequal => write!(f, "roll and acceleration have unequal lengths"),
             Refusal::NoBureau => write!(f, "there is no such bureau"),
             Refusal::BureauFull => write!(f, "the bureau has 16 jobs"),
             Refusal::NotItsOwn => write!(f, "the place is not the bureau's own"),
@@ -153,6 +162,40 @@ fn answer(call: impl FnOnce(*mut u64) -> u64) -> Result<u64, Refusal> {
     }
 }
 
+/// The same of a call about two channels, of which refusal 2 names one.
+fn answer_of_two(call: impl FnOnce(*mut u64, *mut u64) -> u64) -> Result<u64, Refusal> {
+    let mut channel = 0;
+    answer(|carried| call(carried, &mut channel)).map_err(|refusal| match refusal {
+        Refusal::Sample(place) if channel == 2 => Refusal::Acceleration(place),
+        other => other,
+    })
+}
+
+thread_local! {
+    static ZEROS: Cell<Vec<i32>> = const { Cell::new(Vec::new()) };
+}
+
+/// What `call` gives for `n` zeros, which a job of one channel lends for the other. They are kept for the next call.
+///
+/// ```
+/// use chimenickel::{list, with_zeros, Items};
+///
+/// let items = Items { step: 500, ramp: 0, level: 40_000, decorrelation: 0, acceleration_level: 9_810 };
+/// let roll = [0, 41_000, 39_000, -41_000];
+/// assert_eq!(with_zeros(roll.len(), |zeros| list(items, &roll, zeros)), Ok(vec![500, 1_500]));
+/// ```
+pub fn with_zeros<T>(n: usize, call: impl FnOnce(&[i32]) -> T) -> T {
+    ZEROS.with(|kept| {
+        let mut zeros = kept.take();
+        if zeros.len() < n {
+            zeros = vec![0; n];
+        }
+        let given = call(&zeros[..n]);
+        kept.set(zeros);
+        given
+    })
+}
+
 /// What a record is opened with.
 #[derive(Clone, Copy, Debug, PartialEq, Eq)]
 pub struct Items {
@@ -160,33 +203,66 @@ pub struct Items {
     pub step: u64,
     /// Item 2, the samples before time starts: 0 to 1,000,000.
     pub ramp: u64,
-    /// Item 3: 1 to 1,000,000.
+    /// Item 3, the roll's level: 1 to 1,000,000.
     pub level: u64,
     /// Item 4, in ms: 0 to 10,000,000.
     pub decorrelation: u64,
+    /// Item 6, the acceleration's level: 1 to 1,000,000.
+    pub acceleration_level: u64,
 }
 
-/// One channel of samples, so far.
+/// Roll and acceleration, so far. It is above where the roll is above its level or the acceleration above its own; a crossing is a sample above after one that was
+/// above in neither.
 #[derive(Clone, Debug, PartialEq, Eq)]
 pub struct Record {
-    numbers: [u64; 12],
+    numbers: [u64; 14],
 }
 
 impl Record {
     /// A record without samples.
     pub fn open(items: Items) -> Result<Record, Refusal> {
-        let mut s = [0; 12];
+        let mut s = [0; 14];
         answer(|carried| unsafe {
-            c::chim_record_open(items.step, items.ramp, items.level, items.decorrelation, s.as_mut_ptr(), s.len(), carried)
+            c::chim_record_open(
+                items.step,
+                items.ramp,
+                items.level,
+                items.decorrelation,
+                items.acceleration_level,
+                s.as_mut_ptr(),
+                s.len(),
+                carried,
+            )
         })?;
         Ok(Record { numbers: s })
     }
 
-    /// The next piece. Cut anywhere, the pieces of a record lead to the state of the whole.
-    pub fn feed(&mut self, piece: &[i32]) -> Result<(), Refusal> {
+    /// The next piece of both channels, cut at the same place. Cut anywhere, the pieces of a record lead to the state of the whole.
+    pub fn feed(&mut self, roll: &[i32], acceleration: &[i32]) -> Result<(), Refusal> {
         let s = &mut self.numbers;
-        answer(|carried| unsafe { c::chim_record_feed(s.as_mut_ptr(), s.len(), piece.as_ptr(), piece.len(), carried) })?;
+        answer_of_two(|carried, channel| unsafe {
+            c::chim_record_feed(
+                s.as_mut_ptr(),
+                s.len(),
+                roll.as_ptr(),
+                roll.len(),
+                acceleration.as_ptr(),
+                acceleration.len(),
+                carried,
+                channel,
+            )
+        })?;
         Ok(())
+    }
+
+    /// The next piece of a job that has only the roll.
+    pub fn feed_roll(&mut self, roll: &[i32]) -> Result<(), Refusal> {
+        with_zeros(roll.len(), |zeros| self.feed(roll, zeros))
+    }
+
+    /// The next piece of a job that has only the acceleration.
+    pub fn feed_acceleration(&mut self, acceleration: &[i32]) -> Result<(), Refusal> {
+        with_zeros(acceleration.len(), |zeros| self.feed(zeros, acceleration))
     }
 
     /// The record's result, to be seen before it enters a campaign.
@@ -220,13 +296,13 @@ impl Record {
         Some(self.numbers[8]).filter(|&place| place != 0)
     }
 
-    /// The state, to be stored: twelve numbers, ten before groups were counted.
-    pub fn numbers(&self) -> &[u64; 12] {
+    /// The state, to be stored: fourteen numbers, twelve while a record had one channel.
+    pub fn numbers(&self) -> &[u64; 14] {
         &self.numbers
     }
 
     /// A stored state; numbers that are no state are refused at their first use.
-    pub fn from_numbers(numbers: [u64; 12]) -> Record {
+    pub fn from_numbers(numbers: [u64; 14]) -> Record {
         Record { numbers }
     }
 }
@@ -252,37 +328,51 @@ impl Ended {
     }
 }
 
-/// The place of the first crossing of a whole record.
-pub fn first_crossing(samples: &[i32], ramp: u64, level: u64) -> Option<usize> {
-    let place = unsafe { c::chim_record_first_crossing(samples.as_ptr(), samples.len(), ramp, level) };
-    Some(place).filter(|&place| place < samples.len())
+/// The place of the first crossing of a whole record; of slices of unequal lengths only the places that both have are looked at.
+pub fn first_crossing(roll: &[i32], acceleration: &[i32], ramp: u64, level: u64, acceleration_level: u64) -> Option<usize> {
+    let place = unsafe {
+        c::chim_record_first_crossing(
+            roll.as_ptr(),
+            roll.len(),
+            acceleration.as_ptr(),
+            acceleration.len(),
+            ramp,
+            level,
+            acceleration_level,
+        )
+    };
+    Some(place).filter(|&place| place < roll.len().min(acceleration.len()))
 }
 
 /// Writes the counted times of a whole record, each group's by its first crossing, in order, from the start of `times`, whose other places stay, and answers their number.
-pub fn list_into(items: Items, samples: &[i32], times: &mut [u32]) -> Result<usize, Refusal> {
-    let k = answer(|carried| unsafe {
+pub fn list_into(items: Items, roll: &[i32], acceleration: &[i32], times: &mut [u32]) -> Result<usize, Refusal> {
+    let k = answer_of_two(|carried, channel| unsafe {
         c::chim_record_list(
             items.step,
             items.ramp,
             items.level,
             items.decorrelation,
-            samples.as_ptr(),
-            samples.len(),
+            items.acceleration_level,
+            roll.as_ptr(),
+            roll.len(),
+            acceleration.as_ptr(),
+            acceleration.len(),
             times.as_mut_ptr(),
             times.len(),
             carried,
+            channel,
         )
     })?;
     Ok(k as usize)
 }
 
 /// The counted times of a whole record.
-pub fn list(items: Items, samples: &[i32]) -> Result<Vec<u32>, Refusal> {
+pub fn list(items: Items, roll: &[i32], acceleration: &[i32]) -> Result<Vec<u32>, Refusal> {
     let mut times = Vec::new();
-    if let Err(Refusal::Room(places)) = list_into(items, samples, &mut times) {
+    if let Err(Refusal::Room(places)) = list_into(items, roll, acceleration, &mut times) {
         times.resize(places as usize, 0);
     }
-    let k = list_into(items, samples, &mut times)?;
+    let k = list_into(items, roll, acceleration, &mut times)?;
     times.truncate(k);
     Ok(times)
 }
@@ -717,12 +807,20 @@ pub fn read_records(text: &[u8]) -> Result<(u64, Vec<i32>), BadLine> {
 mod tests {
     use super::*;
 
-    const ITEMS: Items = Items { step: 500, ramp: 0, level: 40_000, decorrelation: 2_000 };
+    const ITEMS: Items = Items { step: 500, ramp: 0, level: 40_000, decorrelation: 2_000, acceleration_level: 9_810 };
     const ROLL: [i32; 7] = [0, 41_000, 39_000, 41_000, 39_000, 41_000, 0];
+    /// Above its level where the roll is, and where it has just been.
+    const ACCELERATION: [i32; 7] = [0, 0, 0, -9_811, 9_811, 0, 9_811];
 
-    fn fed(samples: &[i32]) -> Record {
+    fn fed(roll: &[i32]) -> Record {
         let mut record = Record::open(ITEMS).unwrap();
-        record.feed(samples).unwrap();
+        record.feed_roll(roll).unwrap();
+        record
+    }
+
+    fn fed_both(roll: &[i32], acceleration: &[i32]) -> Record {
+        let mut record = Record::open(ITEMS).unwrap();
+        record.feed(roll, acceleration).unwrap();
         record
     }
 
@@ -730,19 +828,41 @@ mod tests {
     fn every_cut_leads_to_the_whole() {
         let whole = fed(&ROLL);
         assert_eq!((whole.samples(), whole.crossings(), whole.counted(), whole.largest_set(), whole.first()), (7, 3, 1, 2, Some(1)));
+        let both = fed_both(&ROLL, &ACCELERATION);
+        assert_eq!((both.samples(), both.crossings(), both.counted(), both.largest_set(), both.first()), (7, 2, 1, 1, Some(1)));
         for cut in 0..=ROLL.len() {
             let mut record = fed(&ROLL[..cut]);
-            record.feed(&ROLL[cut..]).unwrap();
+            record.feed_roll(&ROLL[cut..]).unwrap();
             assert_eq!(record, whole);
+            let mut record = fed_both(&ROLL[..cut], &ACCELERATION[..cut]);
+            record.feed(&ROLL[cut..], &ACCELERATION[cut..]).unwrap();
+            assert_eq!(record, both);
         }
+    }
+
+    #[test]
+    fn either_channel_alone_is_a_job() {
+        let acceleration = ROLL.map(|x| -x);
+        let mut record = Record::open(Items { level: 1, acceleration_level: 40_000, ..ITEMS }).unwrap();
+        record.feed_acceleration(&acceleration[..4]).unwrap();
+        record.feed_acceleration(&acceleration[4..]).unwrap();
+        assert_eq!(record.end(), fed(&ROLL).end());
+        let mut with = fed(&ROLL[..4]);
+        with.feed(&ROLL[4..], &[0; 3]).unwrap();
+        assert_eq!(with, fed(&ROLL));
+        assert!(with_zeros(3, |long| with_zeros(2, |short| long == [0; 3] && short == [0; 2])));
     }
 
     #[test]
     fn a_refused_piece_leaves_the_record() {
         let mut record = fed(&ROLL);
         let before = record.clone();
-        assert_eq!(record.feed(&[0, 0, 1_000_001]), Err(Refusal::Sample(2)));
+        assert_eq!(record.feed_roll(&[0, 0, 1_000_001]), Err(Refusal::Sample(2)));
+        assert_eq!(record.feed(&[0, 0, 1_000_001], &[0, -1_000_001, 0]), Err(Refusal::Acceleration(1)));
+        assert_eq!(record.feed(&[0, i32::MIN, 0], &[0, i32::MAX, 0]), Err(Refusal::Sample(1)));
+        assert_eq!(record.feed(&[0, i32::MIN], &[0]), Err(Refusal::Unequal));
         assert_eq!(record, before);
+        assert_eq!((Refusal::Sample(1).number(), Refusal::Acceleration(1).number(), Refusal::Unequal.number()), (2, 2, 12));
     }
 
     #[test]
@@ -758,20 +878,27 @@ mod tests {
 
     #[test]
     fn items_are_refused_lowest_first() {
-        assert_eq!(Record::open(Items { level: 0, decorrelation: u64::MAX, ..ITEMS }), Err(Refusal::Item(3)));
+        assert_eq!(Record::open(Items { level: 0, decorrelation: u64::MAX, acceleration_level: 0, ..ITEMS }), Err(Refusal::Item(3)));
+        assert_eq!(Record::open(Items { acceleration_level: 1_000_001, ..ITEMS }), Err(Refusal::Item(6)));
         assert_eq!(Campaign::open(0), Err(Refusal::Item(5)));
     }
 
     #[test]
     fn times_fit_or_tell_the_room() {
         let apart = Items { decorrelation: 0, ..ITEMS };
-        assert_eq!((list(ITEMS, &ROLL), list(apart, &ROLL)), (Ok(vec![500]), Ok(vec![500, 1_500, 2_500])));
+        let zeros = [0; 7];
+        assert_eq!((list(ITEMS, &ROLL, &zeros), list(apart, &ROLL, &zeros)), (Ok(vec![500]), Ok(vec![500, 1_500, 2_500])));
+        assert_eq!(list(apart, &ROLL, &ACCELERATION), Ok(vec![500, 1_500]));
         let mut one = [7];
-        assert_eq!(list_into(apart, &ROLL, &mut one), Err(Refusal::Room(3)));
+        assert_eq!(list_into(apart, &ROLL, &zeros, &mut one), Err(Refusal::Room(3)));
         assert_eq!(one, [7]);
-        assert_eq!(list(ITEMS, &ROLL[..1]), Err(Refusal::TooShort));
-        assert_eq!(first_crossing(&ROLL, 0, 40_000), Some(1));
-        assert_eq!(first_crossing(&ROLL, 0, 41_000), None);
+        assert_eq!(list(ITEMS, &ROLL[..1], &zeros[..1]), Err(Refusal::TooShort));
+        assert_eq!(list(ITEMS, &ROLL, &zeros[..6]), Err(Refusal::Unequal));
+        assert_eq!(list(ITEMS, &[0, 1_000_001], &[1_000_001, 0]), Err(Refusal::Acceleration(0)));
+        assert_eq!(first_crossing(&ROLL, &zeros, 0, 40_000, 9_810), Some(1));
+        assert_eq!(first_crossing(&ROLL, &zeros, 0, 41_000, 9_810), None);
+        assert_eq!(first_crossing(&ROLL, &ACCELERATION, 0, 41_000, 9_810), Some(3));
+        assert_eq!(first_crossing(&ROLL, &ACCELERATION[..3], 0, 41_000, 9_810), None);
     }
 
     #[test]
@@ -793,17 +920,24 @@ mod tests {
 
     #[test]
     fn numbers_that_are_no_state() {
-        let mut record = Record::from_numbers([u64::MAX; 12]);
-        assert_eq!(record.feed(&[]), Err(Refusal::BrokenState));
+        let mut record = Record::from_numbers([u64::MAX; 14]);
+        assert_eq!(record.feed(&[], &[0]), Err(Refusal::BrokenState));
         assert_eq!(Campaign::from_numbers([1, 1, 1, 1, 2]).verdict(), Err(Refusal::BrokenState));
         let stored = *fed(&ROLL).numbers();
         assert_eq!(Record::from_numbers(stored), fed(&ROLL));
         let mut no_group = stored;
         no_group[11] = 0;
         assert_eq!(Record::from_numbers(no_group).end(), Err(Refusal::BrokenState));
-        let (mut old, mut carried) = ([0; 10], 7);
-        old.copy_from_slice(&stored[..10]);
-        assert_eq!(unsafe { c::chim_record_feed(old.as_mut_ptr(), old.len(), ROLL.as_ptr(), 0, &mut carried) }, 8);
+        let mut no_last = stored;
+        no_last[13] = 2_000_001;
+        assert_eq!(Record::from_numbers(no_last).feed_roll(&[]), Err(Refusal::BrokenState));
+        for length in [10, 12] {
+            let (mut old, mut carried, mut channel) = (stored[..length].to_vec(), 7, 7);
+            let number = unsafe {
+                c::chim_record_feed(old.as_mut_ptr(), length, ROLL.as_ptr(), 0, ROLL.as_ptr(), 0, &mut carried, &mut channel)
+            };
+            assert_eq!((number, carried, channel), (8, 0, 0));
+        }
     }
 
     #[test]
@@ -832,13 +966,13 @@ mod tests {
 
     #[test]
     fn records_are_added_up() {
-        let items = Items { step: 500, ramp: 2, level: 40_000, decorrelation: 1_000 };
+        let items = Items { ramp: 2, decorrelation: 1_000, ..ITEMS };
         let mut record = Record::open(items).unwrap();
         let mut sum = Sum::open(500).unwrap();
         assert_eq!((sum.bounds(), sum.rates()), (Ok(None), Ok(None)));
-        record.feed(&[0, 0, 0]).unwrap();
+        record.feed_roll(&[0, 0, 0]).unwrap();
         assert_eq!(sum.add(&record), Err(Refusal::TooShort));
-        record.feed(&[41_000, 0, 0, 41_000, 0, 0, 0]).unwrap();
+        record.feed(&[41_000, 0, 0, 0, 0, 0, 0], &[0, 0, 0, -9_811, 0, 0, 0]).unwrap();
         sum.add(&record).unwrap();
         sum.add(&record).unwrap();
         assert_eq!((sum.failures(), sum.samples()), (4, 16));
@@ -848,7 +982,7 @@ mod tests {
         let other = Record::open(Items { step: 499, ..items }).unwrap();
         assert_eq!(sum.add(&other), Err(Refusal::TooShort));
         let mut other = other;
-        other.feed(&[0; 4]).unwrap();
+        other.feed_roll(&[0; 4]).unwrap();
         assert_eq!(sum.add(&other), Err(Refusal::Item(1)));
         let mut full = Sum::from_numbers([500, 9_999, 20_000]);
         assert_eq!(full.add(&record), Err(Refusal::SumFull));

@@ -8,7 +8,6 @@ use native.Mathlib.Omega.{arith}
 use lib.ListN.{length, take, drop, take-append-drop, length-drop}
 use lib.Seq.{drop-drop, length-take-le}
 use lib.Dec.{leb}
-use lib.IntN.{ℤ}
 use borrow.Author.Tests.{leb-true}
 use Rattle.block.specs.Block.{blockEnd}
 
@@ -20,11 +19,11 @@ end-within i n {e} d h = rw d (go (leb (i + 64) n) refl)
     go true e = (omega arith, leb-true (i + 64) n e)
     go false e = (h, omega arith)
 
-module _ (xs : List ℤ) (i e : ℕ) (h : i ≤ e) (l : e ≤ length xs) where
+module _ {A : Type 0} (xs : List A) (i e : ℕ) (h : i ≤ e) (l : e ≤ length xs) where
   pub block-length : length (take (e - i) (drop i xs)) ≡ e - i
   block-length = length-take-le (e - i) (drop i xs) (omega (arith, length-drop i xs))
 
   pub block-cut : drop i xs ≡ take (e - i) (drop i xs) ++ drop e xs
   block-cut =
       let k : i + (e - i) ≡ e = omega arith in
-      sym (take-append-drop (e - i) (drop i xs)) ∙ ap (λ (l : List ℤ). take (e - i) (drop i xs) ++ l) (drop-drop (e - i) i xs ∙ ap (λ (n : ℕ). drop n xs) k)
+      sym (take-append-drop (e - i) (drop i xs)) ∙ ap (λ (l : List A). take (e - i) (drop i xs) ++ l) (drop-drop (e - i) i xs ∙ ap (λ (n : ℕ). drop n xs) k)

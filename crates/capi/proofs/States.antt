@@ -6,6 +6,8 @@ use mathlib.Core.List.{List}
 use borrow.Author.Tests.{eq-eqb, le-leb, leb-true}
 use lib.Dec.{leb}
 use lib.ListN.{length}
+use Rattle.truth.proofs.Laws.{and-true}
+use Rattle.range.specs.Range.{sampleInRange}
 use Rattle.record.proofs.Relations.{kept-from}
 use Rattle.limits.specs.Limits.{itemOutside}
 use Rattle.record.specs.State as state
@@ -34,7 +36,8 @@ other-campaign s e = rw e
 pub record-back : (r : Record) → state.sound r ≡ true → recordOf (ofRecord r) ≡ r
 unfolding recordOf
 record-back r h =
-    rw (le-leb (codeOf (r .last)) highestCode (code-high (r .last) (leb-true _ _ (kept-from r h .range))), read-back (r .last))
+    let g = and-true (sampleInRange (r .last .roll)) (sampleInRange (r .last .acceleration)) (kept-from r h .range) in
+    rw (le-leb (codeOf (r .last .roll)) highestCode (code-high (r .last .roll) (leb-true _ _ (g .0))), le-leb (codeOf (r .last .acceleration)) highestCode (code-high (r .last .acceleration) (leb-true _ _ (g .1))), read-back (r .last .roll), read-back (r .last .acceleration))
 
 -- and that of any campaign the campaign
 pub campaign-back : (c : Campaign) → campaignOf (ofCampaign c) ≡ c

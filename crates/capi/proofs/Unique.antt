@@ -13,7 +13,7 @@ use Rattle.result.specs.declared.Ended.{Ended}
 use Rattle.campaign.specs.declared.Answer.{Answer}
 use Rattle.campaign.specs.declared.Campaign.{Campaign}
 use Rattle.capi.specs.Numbers.{campaignOf, flag, recordOf}
-use Rattle.capi.specs.Told.{Told, campaignKept, placed, recordKept, resultKept, told}
+use Rattle.capi.specs.Told.{Told, campaignKept, channelIn, placed, recordKept, resultKept, told}
 
 pub record-of-unique : (s : List ℕ) (x y : Record) → x ≡ recordOf s → y ≡ recordOf s → x ≡ y
 record-of-unique s x y = settled
@@ -32,6 +32,9 @@ give-unique k n m c d p q = (settled (p .0) (q .0), settled (p .1) (q .1))
 
 pub refuse-unique : (f : Refusal) (n m c d : ℕ) → (n ≡ numberOf f) × (c ≡ valueOf f) → (m ≡ numberOf f) × (d ≡ valueOf f) → (n ≡ m) × (c ≡ d)
 refuse-unique f n m c d p q = (settled (p .0) (q .0), settled (p .1) (q .1))
+
+pub channel-in-unique : (a : Reading) (x y : ℕ) → x ≡ channelIn a → y ≡ channelIn a → x ≡ y
+channel-in-unique a x y = settled
 
 pub keep-record-unique : (a : Reading) (s : List ℕ) (x y : Told) → x ≡ recordKept a s → y ≡ recordKept a s → x ≡ y
 keep-record-unique a s x y = settled

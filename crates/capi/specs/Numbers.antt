@@ -1,4 +1,4 @@
--- A state as the numbers of a lent array, in both directions: twelve for a record, five for a campaign; and a result as five. An array that holds no state stands for one whose
+-- A state as the numbers of a lent array, in both directions: fourteen for a record, five for a campaign; and a result as five. An array that holds no state stands for one whose
 -- first number is 0, which no state has, so that every entry refuses it by 8. Assumes nothing.
 use Prim.Native.Nat.{ℕ, _+_, _/_, _%_}
 use mathlib.Core.Bool.{Bool, cond, false, _&&_}
@@ -7,6 +7,7 @@ use lib.Dec.{eqb, leb}
 use lib.IntN.{ℤ, pos, negsuc}
 use lib.ListN.{length, getD}
 use Rattle.campaign.specs.declared.Campaign.{Campaign}
+use Rattle.channels.specs.Channels.{moment, still}
 use Rattle.record.specs.declared.Record.{Record}
 use Rattle.result.specs.declared.Result.{Result}
 
@@ -25,23 +26,24 @@ sampleOf k = cond (eqb (k % 2) 0) (pos (k / 2)) (negsuc (k / 2))
 abbrev pub highestCode : ℕ
 highestCode = 2000000
 
--- ---- a record: twelve numbers, of which number 5 codes the last sample
+-- ---- a record: fourteen numbers, of which number 5 codes the last roll and number 13 the last acceleration
 abbrev pub recordNumbers : ℕ
-recordNumbers = 12
+recordNumbers = 14
 
 abbrev pub ofRecord : Record → List ℕ
 ofRecord r =
-    r .step ∷ r .ramp ∷ r .level ∷ r .decorrelation ∷ r .n ∷ codeOf (r .last) ∷ r .crossings ∷ r .largest ∷ r .first ∷ r .latest ∷ r .recent ∷ r .groups ∷ []
+    r .step ∷ r .ramp ∷ r .levels .roll ∷ r .decorrelation ∷ r .n ∷ codeOf (r .last .roll) ∷ r .crossings ∷ r .largest ∷ r .first ∷ r .latest ∷ r .recent ∷ r .groups
+    ∷ r .levels .acceleration ∷ codeOf (r .last .acceleration) ∷ []
 
 abbrev pub noRecord : Record
 noRecord =
     record {
       step = 0;
       ramp = 0;
-      level = 0;
+      levels = record { roll = 0; acceleration = 0 };
       decorrelation = 0;
       n = 0;
-      last = pos 0;
+      last = still;
       crossings = 0;
       largest = 0;
       first = 0;
@@ -55,10 +57,10 @@ recordAt s =
     record {
       step = numberAt s 0;
       ramp = numberAt s 1;
-      level = numberAt s 2;
+      levels = record { roll = numberAt s 2; acceleration = numberAt s 12 };
       decorrelation = numberAt s 3;
       n = numberAt s 4;
-      last = sampleOf (numberAt s 5);
+      last = moment (sampleOf (numberAt s 5)) (sampleOf (numberAt s 13));
       crossings = numberAt s 6;
       largest = numberAt s 7;
       first = numberAt s 8;
@@ -68,7 +70,7 @@ recordAt s =
     }
 
 abbrev pub isRecord : List ℕ → Bool
-isRecord s = eqb (length s) recordNumbers && leb (numberAt s 5) highestCode
+isRecord s = eqb (length s) recordNumbers && (leb (numberAt s 5) highestCode && leb (numberAt s 13) highestCode)
 
 unfoldable pub recordOf : List ℕ → Record
 recordOf s = cond (isRecord s) (recordAt s) noRecord

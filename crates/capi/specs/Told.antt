@@ -5,7 +5,7 @@ use mathlib.Core.Bool.{cond}
 use mathlib.Core.List.{List}
 use lib.Dec.{eqb}
 use lib.ListN.{length}
-use Rattle.refusal.specs.Numbers.{numberOf, valueOf}
+use Rattle.refusal.specs.Numbers.{numberOf, valueOf, channelOf}
 use Rattle.refusal.specs.declared.Refusal.{Refusal}
 use Rattle.refusal.specs.declared.Refusal.the-variants.{BrokenState}
 use Rattle.record.specs.declared.Answer.{Answer as Reading}
@@ -44,6 +44,11 @@ resultTold (ended.Refused f) s = refused f s
 unfoldable pub campaignTold : Answer → List ℕ → Told
 campaignTold (Taken c) s = told 0 0 (ofCampaign c)
 campaignTold (Refused f) s = refused f s
+
+-- the channel that refusal 2 names, 0 where there is none
+unfoldable pub channelIn : Reading → ℕ
+channelIn (read.Taken r) = 0
+channelIn (read.Refused f) = channelOf f
 
 -- an array of another length is 8, before any other refusal
 unfoldable pub recordKept : Reading → List ℕ → Told

@@ -1,19 +1,21 @@
-// States as numbers, for C and whatever calls C: a record's state is an array of twelve numbers, a campaign's of five, a result of five. Here is what a lent array holds, what it
+// States as numbers, for C and whatever calls C: a record's state is an array of fourteen numbers, a campaign's of five, a result of five. Here is what a lent array holds, what it
 // is left with after an answer, and how a refusal is told: its number is answered, and what goes with it is written to `carried`. Any numbers are taken: those
 // that are no state are read as one that every entry refuses by 8.
 ghost use mathlib.Core.Path.{_≡_};
 ghost use Prim.Native.Nat.{_≤_};
 ghost use Rattle.refusal.specs.Numbers.{numberOf, valueOf};
 ghost use Rattle.capi.specs.Numbers.{codeOf, sampleOf, highestCode, noRecord, recordOf, ofRecord, ofResult, noCampaign, campaignOf, ofCampaign, flag};
-ghost use Rattle.capi.specs.Told.{told, placed, recordKept, resultKept, campaignKept};
+ghost use Rattle.capi.specs.Told.{told, placed, channelIn, recordKept, resultKept, campaignKept};
 use campaign::Campaign;
+use channels::Levels;
+use channels::Moment;
 use record::Record;
 use refusal::Refusal;
 use result::Ended;
 use result::Result;
 
 // How many numbers a state has.
-pub const RECORD_NUMBERS: usize = 12;
+pub const RECORD_NUMBERS: usize = 14;
 
 pub const RESULT_NUMBERS: usize = 5;
 
@@ -47,10 +49,16 @@ fn no_record() -> Record
     Record {
         step: 0,
         ramp: 0,
-        level: 0,
+        levels: Levels {
+            roll: 0,
+            acceleration: 0,
+        },
         decorrelation: 0,
         n: 0,
-        last: 0,
+        last: Moment {
+            roll: 0,
+            acceleration: 0,
+        },
         crossings: 0,
         largest: 0,
         first: 0,
@@ -70,13 +78,24 @@ pub fn record_of(s: &[u64]) -> Record
     if s[5] > HIGHEST_CODE {
         return no_record();
     }
+    if s[13] > HIGHEST_CODE {
+        return no_record();
+    }
+    let levels = Levels {
+        roll: s[2],
+        acceleration: s[12],
+    };
+    let last = Moment {
+        roll: sample_of(s[5]),
+        acceleration: sample_of(s[13]),
+    };
     Record {
         step: s[0],
         ramp: s[1],
-        level: s[2],
+        levels,
         decorrelation: s[3],
         n: s[4],
-        last: sample_of(s[5]),
+        last,
         crossings: s[6],
         largest: s[7],
         first: s[8],
@@ -86,23 +105,26 @@ pub fn record_of(s: &[u64]) -> Record
     }
 }
 
-fn of_record(r: Record) -> [u64; 12]
+fn of_record(r: Record) -> [u64; 14]
     ensures { λ s. ⌜ s ≡ ofRecord r ⌝ }
 {
+    let levels = r.levels;
     let last = r.last;
     [
         r.step,
         r.ramp,
-        r.level,
+        levels.roll,
         r.decorrelation,
         r.n,
-        code_of(last),
+        code_of(last.roll),
         r.crossings,
         r.largest,
         r.first,
         r.latest,
         r.recent,
         r.groups,
+        levels.acceleration,
+        code_of(last.acceleration),
     ]
 }
 
@@ -207,6 +229,16 @@ pub fn keep_record(a: record::Answer, state: &mut [u64], carried: &mut u64) -> u
             give(0, carried)
         }
         record::Answer::Refused(f) => refuse(f, carried),
+    }
+}
+
+// The channel that an answer names.
+pub fn channel_in(a: record::Answer) -> u64
+    ensures { λ k. ⌜ k ≡ channelIn a ⌝ }
+{
+    match a {
+        record::Answer::Taken(_) => 0,
+        record::Answer::Refused(f) => refusal::channel(f),
     }
 }
 

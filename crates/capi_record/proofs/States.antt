@@ -17,14 +17,15 @@ use Rattle.record.specs.State.{sound}
 use Rattle.record.specs.declared.Answer.the-variants.{Refused, Taken}
 use Rattle.record.specs.declared.Record.{Record}
 use Rattle.refusal.specs.declared.Refusal.the-variants.{BrokenState}
+use Rattle.channels.specs.declared.Levels.{Levels}
 use Rattle.capi.proofs.States.{other-record, record-left}
 use Rattle.capi.specs.Numbers.{isRecord, recordNumbers, recordOf}
 use Rattle.capi.specs.Told.{recordKept, recordTold, refused}
 use Rattle.capi_record.specs.Told.{recordFed, recordOpened}
 
-pub other-fed : (s : List ℕ) (p : List ℤ) → isRecord s ≡ false → recordFed s p ≡ refused BrokenState s
+pub other-fed : (s : List ℕ) (xs ys : List ℤ) → isRecord s ≡ false → recordFed s xs ys ≡ refused BrokenState s
 unfolding recordKept recordTold
-other-fed s p e = rw (fed-broken (recordOf s) p (other-record s e)) (go (eqb (length s) recordNumbers))
+other-fed s xs ys e = rw (fed-broken (recordOf s) xs ys (other-record s e)) (go (eqb (length s) recordNumbers))
   where
     go : (b : Bool) → cond b (recordTold (Refused BrokenState) s) (refused BrokenState s) ≡ refused BrokenState s
     go true = refl
@@ -34,11 +35,11 @@ is-record : (s : List ℕ) (b : Bool) → isRecord s ≡ b → sound (recordOf s
 is-record s true e h = refl
 is-record s false e h = absurd (true≢false (cc (other-record s e)))
 
-fed-length : (s : List ℕ) (p : List ℤ) (r : Record) → fed (recordOf s) p ≡ Taken r → length s ≡ recordNumbers
-fed-length s p r e = eqb-true _ _ (and-true _ _ (is-record s (isRecord s) refl (taken (recordOf s) p r e .state)) .0)
+fed-length : (s : List ℕ) (xs ys : List ℤ) (r : Record) → fed (recordOf s) xs ys ≡ Taken r → length s ≡ recordNumbers
+fed-length s xs ys r e = eqb-true _ _ (and-true _ _ (is-record s (isRecord s) refl (taken (recordOf s) xs ys r e .state)) .0)
 
-pub opened-left : (D R a τ : ℕ) (s : List ℕ) (r : Record) → length s ≡ recordNumbers → opened D R a τ ≡ Taken r → recordOf (recordOpened D R a τ s .lent) ≡ r
+pub opened-left : (D R : ℕ) (a : Levels) (τ : ℕ) (s : List ℕ) (r : Record) → length s ≡ recordNumbers → opened D R a τ ≡ Taken r → recordOf (recordOpened D R a τ s .lent) ≡ r
 opened-left D R a τ s r l e = record-left (opened D R a τ) s r l e (opened-sound D R a τ r e)
 
-pub fed-left : (s : List ℕ) (p : List ℤ) (r : Record) → fed (recordOf s) p ≡ Taken r → recordOf (recordFed s p .lent) ≡ r
-fed-left s p r e = record-left (fed (recordOf s) p) s r (fed-length s p r e) e (fed-sound (recordOf s) p r e)
+pub fed-left : (s : List ℕ) (xs ys : List ℤ) (r : Record) → fed (recordOf s) xs ys ≡ Taken r → recordOf (recordFed s xs ys .lent) ≡ r
+fed-left s xs ys r e = record-left (fed (recordOf s) xs ys) s r (fed-length s xs ys r e) e (fed-sound (recordOf s) xs ys r e)

@@ -3,6 +3,9 @@ use Prim.Native.Nat.{ℕ}
 use mathlib.Core.List.{List}
 use lib.IntN.{ℤ}
 use lib.ListN.{length}
+use Rattle.refusal.specs.Numbers.{channelOf}
+use Rattle.channels.specs.declared.Levels.{Levels}
+use Rattle.channels.specs.Channels.{moments}
 use Rattle.listing.specs.Answers.{listed, written}
 use Rattle.record.specs.Answers.{opened}
 use Rattle.feeding.specs.Answers.{fed}
@@ -11,13 +14,21 @@ use Rattle.listing.specs.declared.Listed.{Listed}
 use Rattle.listing.specs.declared.Listed.the-variants.{Refused, Times}
 use Rattle.result.specs.Result.{ending}
 use Rattle.capi.specs.Numbers.{recordOf}
-use Rattle.capi.specs.Told.{Told, recordKept, refused, resultKept, told}
+use Rattle.capi.specs.Told.{Told, channelIn, recordKept, refused, resultKept, told}
 
-abbrev pub recordOpened : ℕ → ℕ → ℕ → ℕ → List ℕ → Told
+-- items 3 and 6
+abbrev pub levelsOf : ℕ → ℕ → Levels
+levelsOf a b = record { roll = a; acceleration = b }
+
+abbrev pub recordOpened : ℕ → ℕ → Levels → ℕ → List ℕ → Told
 recordOpened D R a τ s = recordKept (opened D R a τ) s
 
-abbrev pub recordFed : List ℕ → List ℤ → Told
-recordFed s p = recordKept (fed (recordOf s) p) s
+abbrev pub recordFed : List ℕ → List ℤ → List ℤ → Told
+recordFed s xs ys = recordKept (fed (recordOf s) xs ys) s
+
+-- the channel that it names
+abbrev pub channelFed : List ℕ → List ℤ → List ℤ → ℕ
+channelFed s xs ys = channelIn (fed (recordOf s) xs ys)
 
 -- the lent array is that of the result
 abbrev pub recordEnded : List ℕ → List ℕ → Told
@@ -28,5 +39,12 @@ unfoldable pub listTold : Listed → List ℕ → Told
 listTold (Times k) s = told 0 k s
 listTold (Refused f) s = refused f s
 
-abbrev pub recordListed : ℕ → ℕ → ℕ → ℕ → List ℤ → List ℕ → Told
-recordListed D R a τ xs s = listTold (listed D R a τ xs (length s)) (written (listed D R a τ xs (length s)) (countedTimes D R a τ xs) s)
+abbrev pub recordListed : ℕ → ℕ → Levels → ℕ → List ℤ → List ℤ → List ℕ → Told
+recordListed D R a τ xs ys s = listTold (listed D R a τ xs ys (length s)) (written (listed D R a τ xs ys (length s)) (countedTimes D R a τ (moments xs ys)) s)
+
+unfoldable pub listChannel : Listed → ℕ
+listChannel (Times k) = 0
+listChannel (Refused f) = channelOf f
+
+abbrev pub channelListed : ℕ → ℕ → Levels → ℕ → List ℤ → List ℤ → List ℕ → ℕ
+channelListed D R a τ xs ys s = listChannel (listed D R a τ xs ys (length s))

@@ -3,6 +3,8 @@
 // records, show their results and enter them, until a refusal. D = 500, a = 40,000. slate_cases has J and K of the definitions.
 use campaign::Answer;
 use campaign::Campaign;
+use channels::Levels;
+use channels::Moment;
 use record::Record;
 use refusal::Refusal;
 use result::Ended;
@@ -117,10 +119,16 @@ fn broken() -> Record {
     Record {
         step: 0,
         ramp: 0,
-        level: 0,
+        levels: Levels {
+            roll: 0,
+            acceleration: 0,
+        },
         decorrelation: 0,
         n: 0,
-        last: 0,
+        last: Moment {
+            roll: 0,
+            acceleration: 0,
+        },
         crossings: 0,
         largest: 0,
         first: 0,
@@ -131,11 +139,15 @@ fn broken() -> Record {
 }
 
 // A record fed as one piece; one that was refused is left broken, so that ending refuses it too.
-fn fed(samples: &[i32]) -> Record {
-    let record::Answer::Taken(r) = record::open(500, 0, 40_000, 2000) else {
+fn fed(roll: &[i32], acceleration: &[i32]) -> Record {
+    let levels = Levels {
+        roll: 40_000,
+        acceleration: 9810,
+    };
+    let record::Answer::Taken(r) = record::open(500, 0, levels, 2000) else {
         return broken();
     };
-    let record::Answer::Taken(s) = feeding::feed(r, samples) else {
+    let record::Answer::Taken(s) = feeding::feed(r, roll, acceleration) else {
         return broken();
     };
     s
@@ -143,10 +155,10 @@ fn fed(samples: &[i32]) -> Record {
 
 fn numbered(i: u64) -> Record {
     match i {
-        0 => fed(&[0i32]),
-        1 => fed(&[0i32, 0]),
-        2 => fed(&[0i32, 41000, 0]),
-        _ => fed(&[2_000_000i32]),
+        0 => fed(&[0i32], &[0i32]),
+        1 => fed(&[0i32, 0], &[0i32, 0]),
+        2 => fed(&[0i32, 41000, 0], &[0i32, 0, 0]),
+        _ => fed(&[2_000_000i32], &[0i32]),
     }
 }
 

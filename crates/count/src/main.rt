@@ -10,6 +10,7 @@ ghost use mathlib.Core.Bool.{true};
 ghost use Prim.Native.Nat.{_+_, _≤_, _<_};
 ghost use lib.ListN.{length};
 ghost use Rattle.count.specs.Kept.{keptBy};
+use channels::Levels;
 use comma::Line;
 use decimal::Lead;
 use libc::STDERR_FILENO;
@@ -70,11 +71,12 @@ struct Reached {
     at: usize,
 }
 
-// One sample more.
+// One sample more: a file has one channel, so zeros are lent for the other.
 fn fed(c: Count, x: i32) -> Count {
     let r = c.record;
     let one = [x; 1];
-    match feeding::feed(r, &one) {
+    let zero = [0i32; 1];
+    match feeding::feed(r, &one, &zero) {
         record::Answer::Taken(s) => Count {
             record: s,
             lines: c.lines,
@@ -441,9 +443,13 @@ fn several(r: Record, start: Sum, words: usize, text: &mut [u8], shown: bool) ->
     summed(s)
 }
 
-// A record of the four items; or refusal 1.
+// A record of the four items; or refusal 1. A file has one channel, so that any level in range will do for the other.
 fn opened() -> record::Answer {
-    record::open(item(1), item(2), item(3), item(4))
+    let levels = Levels {
+        roll: item(3),
+        acceleration: limits::HIGHEST_LEVEL,
+    };
+    record::open(item(1), item(2), levels, item(4))
 }
 
 fn one(text: &mut [u8], shown: bool) -> u8

@@ -15,12 +15,14 @@ use lib.Dec.{eqb, ltb}
 use lib.IntN.{ℤ}
 use lib.ListN.{length}
 use Rattle.refusal.specs.declared.Refusal.{Refusal}
-use Rattle.refusal.specs.declared.Refusal.the-variants.{BrokenState, CampaignFull, Item, Room, RowsUsedUp, Sample, TooLong, TooShort}
+use Rattle.refusal.specs.declared.Refusal.the-variants.{BrokenState, CampaignFull, Item, Room, RowsUsedUp, TooLong, TooShort, Unequal}
 use Rattle.poisson.specs.Rows.{rows}
 use Rattle.record.specs.declared.Answer.the-variants.{Refused, Taken}
 use Rattle.record.specs.declared.Record.{Record}
 use Rattle.record.specs.Answers.{opened}
 use Rattle.feeding.specs.Answers.{fed}
+use Rattle.channels.specs.declared.Levels.{Levels}
+use Rattle.channels.specs.Channels.{anyBad, badSample, moments}
 use Rattle.limits.specs.Limits.{decorrelationInRange, itemOutside, levelInRange, longestTime, mostSamples, rampInRange, stepInRange}
 use Rattle.range.specs.Range.{firstBad}
 use Rattle.reading.specs.Reading.{counted, tooFew}
@@ -79,23 +81,25 @@ pub record Decides {A : Type 0} (refused : Refusal → A) (ts : List Test) (prop
   pub only-then : (r : Refusal) → x ≡ refused r → First ts r
   pub answers : None ts → x ≡ proper
 
--- items 1 to 4
-abbrev pub itemTests : ℕ → ℕ → ℕ → ℕ → List Test → List Test
+-- items 1 to 4, and 6, which document 02's [8] adds
+abbrev pub itemTests : ℕ → ℕ → Levels → ℕ → List Test → List Test
 itemTests D R a τ ts =
     not (stepInRange D) gives Item 1
     ∷ (not (rampInRange R) gives Item 2
-    ∷ (not (levelInRange a) gives Item 3
+    ∷ (not (levelInRange (a .roll)) gives Item 3
     ∷ (not (decorrelationInRange τ) gives Item 4
-    ∷ ts)))
+    ∷ (not (levelInRange (a .acceleration)) gives Item 6
+    ∷ ts))))
 
--- the samples, the timed length, too few samples, and the room for the counted times
-abbrev pub listTests : ℕ → ℕ → ℕ → ℕ → List ℤ → ℕ → List Test
-listTests D R a τ xs places =
-    ltb (firstBad xs) (length xs) gives Sample (firstBad xs)
+-- the lengths of both slices, the samples, the timed length, too few samples, and the room for the counted times
+abbrev pub listTests : ℕ → ℕ → Levels → ℕ → List ℤ → List ℤ → ℕ → List Test
+listTests D R a τ xs ys places =
+    not (eqb (length xs) (length ys)) gives Unequal
+    ∷ (anyBad xs ys gives badSample (firstBad xs) (firstBad ys)
     ∷ (ltb (mostSamples D R) (length xs) gives TooLong
     ∷ (tooFew R (length xs) gives TooShort
-    ∷ (ltb places (length (counted D R a τ xs)) gives Room (length (counted D R a τ xs))
-    ∷ [])))
+    ∷ (ltb places (length (counted D R a τ (moments xs ys))) gives Room (length (counted D R a τ (moments xs ys)))
+    ∷ []))))
 
 -- room in a campaign: 5, then 6
 abbrev pub roomTests : Campaign → List Test
@@ -108,29 +112,30 @@ resultTests c o = not (outcomeKept o) gives BrokenState ∷ roomTests c
 -- "Order", entry by entry
 pub record Demand1 : Type 0 where
   -- opening 1
-  pub open-record : (D R a τ : ℕ) → Decides Refused (itemTests D R a τ []) (Taken (stateOf D R a τ [])) (opened D R a τ)
+  pub open-record : (D R : ℕ) (a : Levels) (τ : ℕ) → Decides Refused (itemTests D R a τ []) (Taken (stateOf D R a τ [])) (opened D R a τ)
   pub open-campaign : (q : ℕ) → Decides campaigned.Refused (not (standardInRange q) gives Item 5 ∷ []) (campaigned.Taken (empty q)) (campaigns.opened q)
-  -- a piece 8, 2, 3
+  -- a piece 8, 12, 2, 3
   pub feed :
-      (r : Record) (p : List ℤ)
+      (r : Record) (xs ys : List ℤ)
       → Decides Refused
       (not (sound r) gives BrokenState
-      ∷ (ltb (firstBad p) (length p) gives Sample (firstBad p)
-      ∷ (ltb (mostSamples (r .step) (r .ramp)) (r .n + length p) gives TooLong
-      ∷ [])))
-      (Taken (foldl stepped r p))
-      (fed r p)
+      ∷ (not (eqb (length xs) (length ys)) gives Unequal
+      ∷ (anyBad xs ys gives badSample (firstBad xs) (firstBad ys)
+      ∷ (ltb (mostSamples (r .step) (r .ramp)) (r .n + length xs) gives TooLong
+      ∷ []))))
+      (Taken (foldl stepped r (moments xs ys)))
+      (fed r xs ys)
   -- ending 8, 4
   pub end : (r : Record) → Decides ended.Refused (not (sound r) gives BrokenState ∷ (tooShort r gives TooShort ∷ [])) (ended.Given (resultOf r)) (ending r)
   -- entering 8, for the campaign and for the result, then 5, 6
   pub enter :
       (c : Campaign) (o : Outcome)
       → Decides campaigned.Refused (not (campaigning.sound c) gives BrokenState ∷ resultTests c o) (campaigned.Taken (entered c (o .failed) (o .exposure))) (entering c o)
-  -- listing 1, 2, 3, 4, 7; and a refusal leaves the slice as it stood
+  -- listing 1, 12, 2, 3, 4, 7; and a refusal leaves the slice as it stood
   pub list :
-      (D R a τ : ℕ) (xs : List ℤ) (places : ℕ)
-      → Decides listing.Refused (itemTests D R a τ (listTests D R a τ xs places)) (listing.Times (length (counted D R a τ xs))) (listed D R a τ xs places)
-  pub kept : (D R a τ : ℕ) (xs : List ℤ) (before after : List ℕ) (r : Refusal) → ListsTo D R a τ xs before (listing.Refused r) after → after ≡ before
+      (D R : ℕ) (a : Levels) (τ : ℕ) (xs ys : List ℤ) (places : ℕ)
+      → Decides listing.Refused (itemTests D R a τ (listTests D R a τ xs ys places)) (listing.Times (length (counted D R a τ (moments xs ys)))) (listed D R a τ xs ys places)
+  pub kept : (D R : ℕ) (a : Levels) (τ : ℕ) (xs ys : List ℤ) (before after : List ℕ) (r : Refusal) → ListsTo D R a τ xs ys before (listing.Refused r) after → after ≡ before
   -- verdict, rates and the censored count 8
   pub verdict : (c : Campaign) → Decides judging.Refused (not (campaigning.sound c) gives BrokenState ∷ []) (judging.Given (verdictOf c)) (verdicts.judging c)
   pub rates :
@@ -187,16 +192,17 @@ module _ {A : Type 0} (refused : Refusal → A) (proper : A) (own : (r s : Refus
         answers = λ n. e ∙ answers ts n;
       }
 
--- an item's number and the tests of the four items
-first-item : {A : Type 0} (refused : Refusal → A) (ts : List Test) (x : A) (a b c d : Bool) → (n : ℕ) → n ≡ cond (not a) 1 (cond (not b) 2 (cond (not c) 3 (cond (not d) 4 0)))
+-- an item's number and the tests of the five items
+first-item : {A : Type 0} (refused : Refusal → A) (ts : List Test) (x : A) (a b c d f : Bool) → (n : ℕ) → n ≡ cond (not a) 1 (cond (not b) 2 (cond (not c) 3 (cond (not d) 4 (cond (not f) 6 0))))
     → cond (not (eqb n 0)) (refused (Item n)) (decide refused ts x)
-    ≡ decide refused (not a gives Item 1 ∷ (not b gives Item 2 ∷ (not c gives Item 3 ∷ (not d gives Item 4 ∷ ts)))) x
+    ≡ decide refused (not a gives Item 1 ∷ (not b gives Item 2 ∷ (not c gives Item 3 ∷ (not d gives Item 4 ∷ (not f gives Item 6 ∷ ts))))) x
 unfolding decide
-first-item refused ts x false b c d n e = rw e
-first-item refused ts x true false c d n e = rw e
-first-item refused ts x true true false d n e = rw e
-first-item refused ts x true true true false n e = rw e
-first-item refused ts x true true true true n e = rw e
+first-item refused ts x false b c d f n e = rw e
+first-item refused ts x true false c d f n e = rw e
+first-item refused ts x true true false d f n e = rw e
+first-item refused ts x true true true false f n e = rw e
+first-item refused ts x true true true true false n e = rw e
+first-item refused ts x true true true true true n e = rw e
 
 swapped : {A : Type 0} (b : Bool) (x y : A) → cond b x y ≡ cond (not b) y x
 swapped true x y = refl
@@ -250,16 +256,16 @@ demand-1 =
       open-record =
           λ D R a τ.
           decided Refused (Taken (stateOf D R a τ [])) own-record (λ r e. no (cc)) (itemTests D R a τ []) (opened D R a τ)
-          (swapped (eqb (itemOutside D R a τ) 0) _ _ ∙ first-item Refused [] (Taken (stateOf D R a τ [])) (stepInRange D) (rampInRange R) (levelInRange a) (decorrelationInRange τ) (itemOutside D R a τ) refl);
+          (swapped (eqb (itemOutside D R a τ) 0) _ _ ∙ first-item Refused [] (Taken (stateOf D R a τ [])) (stepInRange D) (rampInRange R) (levelInRange (a .roll)) (decorrelationInRange τ) (levelInRange (a .acceleration)) (itemOutside D R a τ) refl);
       open-campaign = λ q. decided campaigned.Refused (campaigned.Taken (empty q)) own-campaign (λ r e. no (cc)) _ (campaigns.opened q) (swapped (standardInRange q) _ _);
-      feed = λ r p. decided Refused (Taken (foldl stepped r p)) own-record (λ f e. no (cc)) _ (fed r p) refl;
+      feed = λ r xs ys. decided Refused (Taken (foldl stepped r (moments xs ys))) own-record (λ f e. no (cc)) _ (fed r xs ys) refl;
       end = λ r. decided ended.Refused (ended.Given (resultOf r)) own-result (λ f e. no (cc)) _ (ending r) refl;
       enter = λ c o. decided campaigned.Refused (campaigned.Taken (entered c (o .failed) (o .exposure))) own-campaign (λ r e. no (cc)) _ (entering c o) refl;
       list =
-          λ D R a τ xs places.
-          decided listing.Refused (listing.Times (length (counted D R a τ xs))) own-list (λ r e. no (cc)) _ (listed D R a τ xs places)
-          (first-item listing.Refused (listTests D R a τ xs places) (listing.Times (length (counted D R a τ xs))) (stepInRange D) (rampInRange R) (levelInRange a) (decorrelationInRange τ) (itemOutside D R a τ) refl);
-      kept = λ D R a τ xs before after r p. p .leaves;
+          λ D R a τ xs ys places.
+          decided listing.Refused (listing.Times (length (counted D R a τ (moments xs ys)))) own-list (λ r e. no (cc)) _ (listed D R a τ xs ys places)
+          (first-item listing.Refused (listTests D R a τ xs ys places) (listing.Times (length (counted D R a τ (moments xs ys)))) (stepInRange D) (rampInRange R) (levelInRange (a .roll)) (decorrelationInRange τ) (levelInRange (a .acceleration)) (itemOutside D R a τ) refl);
+      kept = λ D R a τ xs ys before after r p. p .leaves;
       verdict = λ c. decided judging.Refused (judging.Given (verdictOf c)) own-verdict (λ r e. no (cc)) _ (verdicts.judging c) (swapped (campaigning.sound c) _ _);
       rates = λ c. decided rating.Refused (rating.Given (not (eqb (c .records) 0)) (ratesOf c)) own-rates (λ r e. no (cc)) _ (verdicts.rating c) (swapped (campaigning.sound c) _ _);
       sheet = cut-anywhere;

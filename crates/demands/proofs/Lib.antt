@@ -7,6 +7,7 @@ pub mod Request4
 pub mod Request5
 pub mod Request7
 pub mod Stays
+pub mod Request8
 pub mod Request9
 pub mod Request11
 pub mod Request13

@@ -1,4 +1,4 @@
--- Document 02 [11], what a customer who looks for envelope peaks may rely on: 1, 2, 3, 4, 7 are judged in this order, item 3 is never named, and a refusal leaves
+-- Document 02 [11], what a customer who looks for envelope peaks may rely on: 1, 2, 3, 4, 7 are judged in this order, items 3 and 6 are never named, and a refusal leaves
 -- both slices as they stood; where none is given, both start with the peaks handed out and the rest stays. And of the definitions: there is one way to part a list
 -- into groups of neighbours that join; a peak is kept exactly if it is the first largest of a high stretch with a peak that is not high on both sides; what is
 -- handed out is more than the decorrelation time apart. The proof only puts together what `chains`, `stretch` and `envelope` have. Assumes nothing.
@@ -47,7 +47,7 @@ Highest l p = (g : List Peak) × Stands (high (length l) (sum l)) l g × Top p g
 
 pub record Request11 : Type 0 where
   pub order : (D R τ : ℕ) (xs : List ℤ) (sizes times : ℕ) → Decides Refused (envelopeTests D R τ xs sizes times) (Peaks (length (handed D R τ xs))) (found D R τ xs sizes times)
-  pub no-level : (D R τ : ℕ) → ¬ (itemAsked D R τ ≡ 3)
+  pub no-level : (D R τ : ℕ) → ¬ (itemAsked D R τ ≡ 3) × ¬ (itemAsked D R τ ≡ 6)
   pub stays : (D R τ : ℕ) (xs : List ℤ) (sizes times s t : List ℕ) (f : Refusal) → FindsTo D R τ xs sizes times (Refused f) s t → (s ≡ sizes) × (t ≡ times)
   pub given : (D R τ : ℕ) (xs : List ℤ) (sizes times s t : List ℕ) (k : ℕ) → FindsTo D R τ xs sizes times (Peaks k) s t
       → (s ≡ map sizeOf (handed D R τ xs) ++ drop k sizes) × (t ≡ map momentOf (handed D R τ xs) ++ drop k times)
@@ -58,15 +58,18 @@ pub record Request11 : Type 0 where
   pub settled : (D R τ : ℕ) (xs : List ℤ) (sizes times : List ℕ) (x y : Found) (s t u v : List ℕ) → FindsTo D R τ xs sizes times x s u → FindsTo D R τ xs sizes times y t v → (x ≡ y) × (s ≡ t) × (u ≡ v)
 
 -- ---- the proof
-level-in-range : (D R τ : ℕ) → ¬ (itemAsked D R τ ≡ 3)
+level-in-range : (D R τ : ℕ) → ¬ (itemAsked D R τ ≡ 3) × ¬ (itemAsked D R τ ≡ 6)
 unfolding itemOutside
-level-in-range D R τ = go (stepInRange D) (rampInRange R) (decorrelationInRange τ)
+level-in-range D R τ = (other 3 (omega arith) (λ e. omega (arith, e)), other 6 (omega arith) (λ e. omega (arith, e)))
   where
-    go : (a b d : Bool) → ¬ (_≡_ {A = ℕ} (cond (not a) 1 (cond (not b) 2 (cond (not d) 4 0))) 3)
-    go false b d e = absurd (omega (arith, e))
-    go true false d e = absurd (omega (arith, e))
-    go true true false e = absurd (omega (arith, e))
-    go true true true e = absurd (omega (arith, e))
+    go : (k : ℕ) → 3 ≤ k → ¬ (k ≡ 4) → (a b d : Bool) → ¬ (cond (not a) 1 (cond (not b) 2 (cond (not d) 4 0)) ≡ k)
+    go k l n false b d e = absurd (omega (arith, e))
+    go k l n true false d e = absurd (omega (arith, e))
+    go k l n true true false e = n (omega (arith, e))
+    go k l n true true true e = absurd (omega (arith, e))
+
+    other : (k : ℕ) → 3 ≤ k → ¬ (k ≡ 4) → ¬ (itemAsked D R τ ≡ k)
+    other k l n = go k l n (stepInRange D) (rampInRange R) (decorrelationInRange τ)
 
 pub request-11 : Request11
 unfolding decide found placed written

@@ -9,6 +9,7 @@ use native.Mathlib.Omega.{arith}
 use lib.IntN.{ℤ}
 use Rattle.refusal.specs.declared.Refusal.the-variants.{BrokenState}
 use Rattle.record.specs.Answers.{opened}
+use Rattle.channels.specs.declared.Levels.{Levels}
 use Rattle.feeding.specs.Answers.{fed}
 use Rattle.record.specs.State.{countsKept, failed, failureKept, groupsKept, itemsKept, lastKept, lengthKept, noGroups, noneKept, sound}
 use Rattle.record.specs.declared.Answer.the-variants.{Refused, Taken}
@@ -37,10 +38,10 @@ pub record Request5 : Type 0 where
   pub crossed : (r : Record) → sound r ≡ true → ¬ (r .crossings ≡ 0) → Grouped r
   pub none : (r : Record) → sound r ≡ true → r .crossings ≡ 0 → (r .recent ≡ 0) × (r .groups ≡ 0)
   -- a state without them is refused by 8, whatever piece comes with it
-  pub refused : (r : Record) (p : List ℤ) → sound r ≡ false → fed r p ≡ Refused BrokenState
+  pub refused : (r : Record) (xs ys : List ℤ) → sound r ≡ false → fed r xs ys ≡ Refused BrokenState
   -- what is handed out keeps them
-  pub fresh : (D R a τ : ℕ) (s : Record) → opened D R a τ ≡ Taken s → sound s ≡ true
-  pub handed : (r : Record) (p : List ℤ) (t : Record) → fed r p ≡ Taken t → sound t ≡ true
+  pub fresh : (D R : ℕ) (a : Levels) (τ : ℕ) (s : Record) → opened D R a τ ≡ Taken s → sound s ≡ true
+  pub handed : (r : Record) (xs ys : List ℤ) (t : Record) → fed r xs ys ≡ Taken t → sound t ≡ true
 
 -- ---- the proof
 parted : (a b c d f x y g h : Bool) → (a && (b && (c && (d && cond f (x && g) (y && h))))) ≡ ((a && (b && (c && (d && cond f x y)))) && cond f g h)

@@ -3,7 +3,7 @@
 -- pieces, cut anywhere, adds what the whole one does: the groups of its joined samples, and how many of them stand at the ramp's end or behind it. The half-width is the least
 -- whole number whose square times P is at least 1,960² · N · (P - N), and there is one. "No record" is answered exactly while nothing was added.
 --
--- D is the step, R the ramp, a the level and τ the decorrelation time. Assumes nothing.
+-- D is the step, R the ramp, a the levels and τ the decorrelation time. Assumes nothing.
 use mathlib.Core.Path.{_≡_, ap, refl, _∙_}
 use mathlib.Core.Bool.{Bool, cond, false, not, true}
 use mathlib.Core.List.{List, [], _∷_, _++_}
@@ -11,12 +11,13 @@ use Prim.Native.Nat.{ℕ, _-_, _≤_}
 use native.Mathlib.Omega.{arith}
 use borrow.Author.Tests.{ne-eqb}
 use lib.Dec.{eqb}
-use lib.IntN.{ℤ}
 use lib.ListN.{length}
 use Rattle.truth.proofs.Cases.{by-test}
 use Rattle.truth.proofs.Laws.{is-true}
 use Rattle.refusal.specs.declared.Refusal.{Refusal}
 use Rattle.refusal.specs.declared.Refusal.the-variants.{BrokenState, Item, SumFull, TooShort}
+use Rattle.channels.specs.declared.Levels.{Levels}
+use Rattle.channels.specs.declared.Moment.{Moment}
 use Rattle.limits.specs.Limits.{stepInRange}
 use Rattle.reading.specs.Reading.{groups}
 use Rattle.record.specs.Answers as records
@@ -24,7 +25,7 @@ use Rattle.record.specs.State as recording
 use Rattle.record.specs.State.{stateOf, tooShort}
 use Rattle.record.specs.declared.Answer.the-variants as read
 use Rattle.record.specs.declared.Record.{Record}
-use Rattle.feeding.specs.Pieces.{AllTaken, joined}
+use Rattle.feeding.specs.Pieces.{AllTaken, Piece, joined, samplesOf}
 use Rattle.feeding.proofs.Theorems.{pieces-whole}
 use Rattle.sum.specs.Answers.{adding, opened}
 use Rattle.sum.specs.Records.{AllAdded, sumOf}
@@ -69,8 +70,8 @@ pub record Request7 : Type 0 where
   pub totals : (D : ℕ) (s t : Sum) (rs : List Record) → opened D ≡ Taken s → AllAdded s rs t → t ≡ sumOf D rs
   pub in-any-order : (before : List Record) (a b : Record) (behind : List Record) (s t : Sum) → AllAdded s (before ++ (a ∷ (b ∷ behind))) t → AllAdded s (before ++ (b ∷ (a ∷ behind))) t
   -- the pieces rule: what is answered for a record in pieces is answered for the whole one, refusals too; and what that adds
-  pub pieces : (D R a τ : ℕ) (s t : Record) (ps : List (List ℤ)) (x : Sum) → records.opened D R a τ ≡ read.Taken s → AllTaken s ps t → adding x t ≡ adding x (stateOf D R a τ (joined ps))
-  pub adds : (D R a τ : ℕ) (xs : List ℤ) (x y : Sum) → adding x (stateOf D R a τ xs) ≡ Taken y → y ≡ grown x (length (groups D R a τ xs)) (length xs - R)
+  pub pieces : (D R : ℕ) (a : Levels) (τ : ℕ) (s t : Record) (ps : List Piece) (x : Sum) → records.opened D R a τ ≡ read.Taken s → AllTaken s ps t → adding x t ≡ adding x (stateOf D R a τ (samplesOf (joined ps)))
+  pub adds : (D R : ℕ) (a : Levels) (τ : ℕ) (xs : List Moment) (x y : Sum) → adding x (stateOf D R a τ xs) ≡ Taken y → y ≡ grown x (length (groups D R a τ xs)) (length xs - R)
   -- the half-width is the least such number, and the only one; it is 0 without a failure and where every sample failed
   pub least : (N P : ℕ) → HalfWidth N P (halfWidth N P)
   pub only : (N P m n : ℕ) → HalfWidth N P m → HalfWidth N P n → m ≡ n
@@ -96,7 +97,7 @@ swapped : {A : Type 0} (b : Bool) (x y : A) → cond b x y ≡ cond (not b) y x
 swapped true x y = refl
 swapped false x y = refl
 
-joined-adds : (D R a τ : ℕ) (xs : List ℤ) (x y : Sum) → adding x (stateOf D R a τ xs) ≡ Taken y → y ≡ grown x (length (groups D R a τ xs)) (length xs - R)
+joined-adds : (D R : ℕ) (a : Levels) (τ : ℕ) (xs : List Moment) (x y : Sum) → adding x (stateOf D R a τ xs) ≡ Taken y → y ≡ grown x (length (groups D R a τ xs)) (length xs - R)
 unfolding stateOf
 joined-adds D R a τ xs x y e = answered.added-from x (stateOf D R a τ xs) y e .after
 

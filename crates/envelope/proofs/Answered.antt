@@ -9,7 +9,7 @@ use lib.ListN.{length, length-map}
 use lib.Seq.{sets, sets-eq}
 use lib.Dec.{eqb, ltb}
 use lib.IntN.{ℤ}
-use borrow.Author.Tests.{eq-eqb, lt-ltb, le-ltb, ltb-false}
+use borrow.Author.Tests.{eq-eqb, le-leb, lt-ltb, le-ltb, ltb-false}
 use Rattle.refusal.specs.declared.Refusal.{Refusal}
 use Rattle.refusal.specs.declared.Refusal.the-variants.{Item, Sample, TooLong, TooShort, Room}
 use Rattle.limits.specs.Limits.{mostSamples}
@@ -25,7 +25,7 @@ use Rattle.stretch.specs.Peaks.{sum, kept, close, handed, short}
 use Rattle.envelope.specs.declared.Found.{Found}
 use Rattle.envelope.specs.declared.Found.the-variants.{Peaks, Refused}
 use Rattle.envelope.specs.Step.{chosen}
-use Rattle.envelope.specs.Answers.{sizeOf, momentOf, itemAsked, placed, found, written, HandsOut, FindsTo}
+use Rattle.envelope.specs.Answers.{sizeOf, momentOf, anyLevels, itemAsked, placed, found, written, HandsOut, FindsTo}
 
 -- what a pass hands out with the peaks' own number and sum
 pub chosen-kept : (n s D τ : ℕ) (xs : List ℤ) → n ≡ length (peaks D xs) → s ≡ sum (peaks D xs) → chosen n s D τ xs ≡ tops (close τ) (kept (peaks D xs))
@@ -53,12 +53,17 @@ module _ (l : List Peak) (sizes times : List ℕ) where
       let o = neither (ltb (length sizes) (length l)) (ltb (length times) (length l)) e in
       record { answers = rw e; sizes-left = put sizeOf sizes (ltb-false _ _ (o .0)); times-left = put momentOf times (ltb-false _ _ (o .1)) }
 
+-- one channel looked at as both
+twice : (b : Bool) → (b || b) ≡ b
+twice true = refl
+twice false = refl
+
 -- ---- the whole call
 module _ (D R τ : ℕ) (xs : List ℤ) (sizes times : List ℕ) where
   -- a refusal of the tests that listing has
-  pub finds-refused : (f : Refusal) → tested D R 1 τ xs ≡ size.Refused f → FindsTo D R τ xs sizes times (Refused f) sizes times
+  pub finds-refused : (f : Refusal) → tested D R anyLevels τ xs xs ≡ size.Refused f → FindsTo D R τ xs sizes times (Refused f) sizes times
   unfolding tested found written
-  finds-refused f e = record { answers = go (eqb (itemAsked D R τ) 0) (ltb (firstBad xs) (length xs)) (ltb (mostSamples D R) (length xs)) (tooFew R (length xs)) e; sizes-left = refl; times-left = refl }
+  finds-refused f e = record { answers = go (eqb (itemAsked D R τ) 0) (ltb (firstBad xs) (length xs)) (ltb (mostSamples D R) (length xs)) (tooFew R (length xs)) (rw (eq-eqb (length xs) (length xs) refl, twice (ltb (firstBad xs) (length xs)), le-leb (firstBad xs) (firstBad xs) (omega arith)) at e); sizes-left = refl; times-left = refl }
     where
       go : (i b l s : Bool)
           → cond (not i) (size.Refused (Item (itemAsked D R τ))) (cond b (size.Refused (Sample (firstBad xs))) (cond l (size.Refused TooLong) (cond s (size.Refused TooShort) size.Fits))) ≡ size.Refused f
@@ -69,7 +74,7 @@ module _ (D R τ : ℕ) (xs : List ℤ) (sizes times : List ℕ) where
       go true false false true e = cc
       go true false false false e = let z : _≡_ {A = ℕ} 0 1 = cc in absurd (omega arith)
 
-  module _ (f : Fitting D R 1 τ (length xs)) where
+  module _ (f : Fitting D R anyLevels τ (length xs) (length xs)) where
     pub finds-bad : firstBad xs < length xs → FindsTo D R τ xs sizes times (Refused (Sample (firstBad xs))) sizes times
     unfolding found written
     finds-bad b = record { answers = rw (eq-eqb _ _ (f .items), lt-ltb _ _ b); sizes-left = refl; times-left = refl }

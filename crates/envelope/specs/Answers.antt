@@ -7,6 +7,7 @@ use lib.ListN.{length, drop}
 use lib.Dec.{ltb, eqb}
 use lib.IntN.{ℤ}
 use Rattle.refusal.specs.declared.Refusal.the-variants.{Item, Sample, TooLong, TooShort, Room}
+use Rattle.channels.specs.declared.Levels.{Levels}
 use Rattle.limits.specs.Limits.{itemOutside, mostSamples}
 use Rattle.range.specs.Range.{firstBad}
 use Rattle.reading.specs.Reading.{tooFew}
@@ -22,9 +23,12 @@ sizeOf p = p .size
 abbrev pub momentOf : Peak → ℕ
 momentOf p = p .time
 
--- the lowest of the items 1, 2 and 4 outside its range, 0 if there is none: item 3, the level, is not asked for, and 1 is a level in range
+-- the lowest of the items 1, 2 and 4 outside its range, 0 if there is none: items 3 and 6, the levels, are not asked for, and 1 is a level in range
+abbrev pub anyLevels : Levels
+anyLevels = record { roll = 1; acceleration = 1 }
+
 abbrev pub itemAsked : ℕ → ℕ → ℕ → ℕ
-itemAsked D R τ = itemOutside D R 1 τ
+itemAsked D R τ = itemOutside D R anyLevels τ
 
 -- k peaks into slices of so many places: 7 if either is too short, with the number needed
 unfoldable pub placed : ℕ → ℕ → ℕ → Found

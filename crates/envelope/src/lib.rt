@@ -14,6 +14,7 @@ ghost use Rattle.envelope.specs.Step.{met, chainsAfter, stepped, fresh, 
 ghost use Rattle.envelope.specs.Answers.{sizeOf, momentOf, HandsOut, FindsTo};
 use chains::Group;
 use chains::Peak;
+use channels::Levels;
 use refusal::Refusal;
 use runs::Run;
 use whole::Size;
@@ -258,7 +259,7 @@ fn hand_out(
 }
 
 // The envelope peaks of a whole record: their magnitudes and times, in order, from the start of the two slices, whose rest stays, and their number; or
-// refusal 1 (items 1, 2 and 4: 1 stands for a level, which is not asked for), 2, 3, 4, or 7 with the places needed, and the slices as they stood.
+// refusal 1 (items 1, 2 and 4: 1 stands for the levels, which are not asked for), 2, 3, 4, or 7 with the places needed, and the slices as they stood.
 pub fn find(
     step: u64,
     ramp: u64,
@@ -269,7 +270,11 @@ pub fn find(
 ) -> Found
     ensures { λ r. ⌜ FindsTo step ramp decorrelation (now (samples .entry)) (now (sizes .entry)) (now (times .entry)) r (now (sizes .exit)) (now (times .exit)) ⌝ }
 {
-    let size = whole::judge(step, ramp, 1, decorrelation, samples);
+    let levels = Levels {
+        roll: 1,
+        acceleration: 1,
+    };
+    let size = whole::judge(step, ramp, levels, decorrelation, samples, samples);
     if let Size::Refused(f) = size {
         return Found::Refused(f);
     }

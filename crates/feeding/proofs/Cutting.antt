@@ -8,6 +8,10 @@ use native.Mathlib.Nat.{add-zero}
 use native.Mathlib.Omega.{arith}
 use lib.ListN.{length, length-append}
 use lib.IntN.{ℤ}
+use Rattle.channels.specs.declared.Moment.{Moment}
+use Rattle.channels.specs.Channels.{moments, AllInRange}
+use Rattle.channels.proofs.Moments.{moments-length, moments-append}
+use Rattle.channels.proofs.Range.{all-in}
 use Rattle.record.specs.declared.Record.{Record}
 use Rattle.record.specs.declared.Answer.the-variants.{Taken}
 use Rattle.limits.specs.Limits.{mostSamples}
@@ -16,40 +20,49 @@ use Rattle.steps.specs.Step.{stepped}
 use Rattle.range.specs.Range.{firstBad}
 use Rattle.feeding.specs.Answers.{fed}
 use Rattle.steps.proofs.Steps.{stepped-sound, stepped-n, stepped-most}
-use Rattle.range.proofs.Bad.{good-head, good-left, bad-append}
+use Rattle.range.proofs.Bad.{good-left, bad-append}
 use Rattle.feeding.proofs.Fed.{taken, fed-taken}
 
-pub run-n : (r : Record) (p : List ℤ) → foldl stepped r p .n ≡ r .n + length p
+pub run-n : (r : Record) (p : List Moment) → foldl stepped r p .n ≡ r .n + length p
 run-n r [] = sym (add-zero (r .n))
 run-n r (x ∷ p) = omega (arith, run-n (stepped r x) p, stepped-n r x)
 
-pub run-most : (r : Record) (p : List ℤ) → mostSamples (foldl stepped r p .step) (foldl stepped r p .ramp) ≡ mostSamples (r .step) (r .ramp)
+pub run-most : (r : Record) (p : List Moment) → mostSamples (foldl stepped r p .step) (foldl stepped r p .ramp) ≡ mostSamples (r .step) (r .ramp)
 run-most r [] = refl
 run-most r (x ∷ p) = run-most (stepped r x) p ∙ stepped-most r x
 
-pub run-sound : (r : Record) (p : List ℤ) → sound r ≡ true → firstBad p ≡ length p → r .n + length p ≤ mostSamples (r .step) (r .ramp) → sound (foldl stepped r p) ≡ true
+pub run-sound : (r : Record) (p : List Moment) → sound r ≡ true → AllInRange p → r .n + length p ≤ mostSamples (r .step) (r .ramp) → sound (foldl stepped r p) ≡ true
+unfolding AllInRange
 run-sound r [] s g m = s
 run-sound r (x ∷ p) s g m =
-    let h = good-head x p g in
-    run-sound (stepped r x) p (stepped-sound r x s (h .0) (omega arith)) (h .1) (omega (arith, stepped-n r x, stepped-most r x))
+    run-sound (stepped r x) p (stepped-sound r x s (g .0) (omega arith)) (g .1) (omega (arith, stepped-n r x, stepped-most r x))
 
-module _ (r : Record) (p q : List ℤ) where
-  pub joins : {s t : Record} → fed r p ≡ Taken s → fed s q ≡ Taken t → fed r (p ++ q) ≡ Taken t
+-- xs and ys are the slices of a piece, us and vs those of the next
+module _ (r : Record) (xs ys us vs : List ℤ) where
+  pub joins : {s t : Record} → fed r xs ys ≡ Taken s → fed s us vs ≡ Taken t → fed r (xs ++ us) (ys ++ vs) ≡ Taken t
   joins {s} {t} e f =
-      let a = taken r p s e in
-      let b = taken s q t f in
-      let m = ap (λ (u : Record). mostSamples (u .step) (u .ramp)) (sym (a .end)) ∙ run-most r p in
-      let n = ap (λ (u : Record). u .n) (sym (a .end)) ∙ run-n r p in
-      fed-taken r (p ++ q) (a .state) (omega (arith, length-append p q, bad-append p q (a .good), b .good)) (omega (arith, length-append p q, b .room))
-      ∙ ap Taken (foldl-append stepped r p q ∙ ap (λ (u : Record). foldl stepped u q) (a .end) ∙ b .end)
+      let a = taken r xs ys s e in
+      let b = taken s us vs t f in
+      let m = ap (λ (u : Record). mostSamples (u .step) (u .ramp)) (sym (a .end)) ∙ run-most r (moments xs ys) in
+      let n = ap (λ (u : Record). u .n) (sym (a .end)) ∙ run-n r (moments xs ys) in
+      let k = moments-length xs ys (a .equal) in
+      fed-taken r (xs ++ us) (ys ++ vs) (a .state) (omega (arith, length-append xs us, length-append ys vs, a .equal, b .equal))
+      (omega (arith, length-append xs us, bad-append xs us (a .roll), b .roll)) (omega (arith, length-append ys vs, bad-append ys vs (a .acceleration), b .acceleration)) (omega (arith, length-append xs us, b .room))
+      ∙ ap Taken (ap (foldl stepped r) (moments-append xs ys us vs (a .equal)) ∙ foldl-append stepped r (moments xs ys) (moments us vs) ∙ ap (λ (u : Record). foldl stepped u (moments us vs)) (a .end) ∙ b .end)
 
-  pub splits : {t : Record} → fed r (p ++ q) ≡ Taken t → (fed r p ≡ Taken (foldl stepped r p)) × (fed (foldl stepped r p) q ≡ Taken t)
-  splits {t} e =
-      let a = taken r (p ++ q) t e in
-      let l = length-append p q in
-      let g : firstBad p ≡ length p = good-left p q (a .good) in
-      let h : firstBad q ≡ length q = omega (arith, bad-append p q g, a .good) in
-      let s = run-sound r p (a .state) g (omega (arith, a .room)) in (
-        fed-taken r p (a .state) (omega (arith, g)) (omega (arith, a .room)),
-        fed-taken (foldl stepped r p) q s (omega (arith, h)) (omega (arith, a .room, run-n r p, run-most r p)) ∙ ap Taken (sym (foldl-append stepped r p q) ∙ a .end),
+  -- both slices cut at the same place
+  pub splits : {t : Record} → length xs ≡ length ys → fed r (xs ++ us) (ys ++ vs) ≡ Taken t → (fed r xs ys ≡ Taken (foldl stepped r (moments xs ys))) × (fed (foldl stepped r (moments xs ys)) us vs ≡ Taken t)
+  splits {t} i e =
+      let a = taken r (xs ++ us) (ys ++ vs) t e in
+      let l = length-append xs us in
+      let m = length-append ys vs in
+      let k = moments-length xs ys i in
+      let g : firstBad xs ≡ length xs = good-left xs us (a .roll) in
+      let h : firstBad ys ≡ length ys = good-left ys vs (a .acceleration) in
+      let g₂ : firstBad us ≡ length us = omega (arith, bad-append xs us g, a .roll) in
+      let h₂ : firstBad vs ≡ length vs = omega (arith, bad-append ys vs h, a .acceleration) in
+      let s = run-sound r (moments xs ys) (a .state) (all-in xs ys g h) (omega (arith, a .room)) in (
+        fed-taken r xs ys (a .state) i g h (omega (arith, a .room)),
+        fed-taken (foldl stepped r (moments xs ys)) us vs s (omega (arith, a .equal)) g₂ h₂ (omega (arith, a .room, run-n r (moments xs ys), run-most r (moments xs ys)))
+            ∙ ap Taken (sym (foldl-append stepped r (moments xs ys) (moments us vs)) ∙ sym (ap (foldl stepped r) (moments-append xs ys us vs i)) ∙ a .end),
       )

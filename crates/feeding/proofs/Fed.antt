@@ -5,10 +5,13 @@ use mathlib.Core.Bool.{Bool, true, false, cond, not}
 use mathlib.Core.List.{List, foldl}
 use native.Mathlib.Omega.{arith}
 use lib.ListN.{length}
-use lib.Dec.{ltb}
+use lib.Dec.{eqb, leb, ltb}
 use lib.IntN.{ℤ}
-use borrow.Author.Tests.{ltb-false, lt-ltb, le-ltb}
-use Rattle.refusal.specs.declared.Refusal.the-variants.{Sample, TooLong, BrokenState}
+use borrow.Author.Tests.{eqb-true, eq-eqb, ne-eqb, ltb-false, lt-ltb, le-ltb}
+use Rattle.refusal.specs.declared.Refusal.{Refusal}
+use Rattle.refusal.specs.declared.Refusal.the-variants.{Sample, TooLong, BrokenState, Unequal, Acceleration}
+use Rattle.channels.specs.Channels.{moments, anyBad, badSample}
+use Rattle.channels.proofs.Range.{none-bad, all-good}
 use Rattle.record.specs.declared.Record.{Record}
 use Rattle.record.specs.declared.Answer.the-variants.{Taken, Refused}
 use Rattle.limits.specs.Limits.{mostSamples}
@@ -16,57 +19,74 @@ use Rattle.record.specs.State.{sound}
 use Rattle.steps.specs.Step.{stepped}
 use Rattle.range.specs.Range.{firstBad}
 use Rattle.feeding.specs.Answers.{fed}
-use Rattle.range.proofs.Bad.{bad-within}
 
-module _ (r : Record) (p : List ℤ) where
-  pub fed-broken : sound r ≡ false → fed r p ≡ Refused BrokenState
+module _ (r : Record) (xs ys : List ℤ) where
+  pub fed-broken : sound r ≡ false → fed r xs ys ≡ Refused BrokenState
   unfolding fed
   fed-broken s = rw s
 
-  pub fed-bad : sound r ≡ true → firstBad p < length p → fed r p ≡ Refused (Sample (firstBad p))
-  unfolding fed
-  fed-bad s h = rw (s, lt-ltb _ _ h)
+  module _ (s : sound r ≡ true) where
+    pub fed-unequal : (length xs ≡ length ys → ⊥) → fed r xs ys ≡ Refused Unequal
+    unfolding fed
+    fed-unequal h = rw (s, ne-eqb (length xs) (length ys) h)
 
-  -- without room it is its length, unless a sample is bad
-  pub fed-full : sound r ≡ true → mostSamples (r .step) (r .ramp) < r .n + length p → fed r p ≡ cond (ltb (firstBad p) (length p)) (Refused (Sample (firstBad p))) (Refused TooLong)
-  unfolding fed
-  fed-full s l = rw (s, lt-ltb _ _ l)
+    module _ (e : length xs ≡ length ys) where
+      pub fed-bad : anyBad xs ys ≡ true → fed r xs ys ≡ Refused (badSample (firstBad xs) (firstBad ys))
+      unfolding fed
+      fed-bad h = rw (s, eq-eqb (length xs) (length ys) e, h)
 
-  pub fed-taken : sound r ≡ true → length p ≤ firstBad p → r .n + length p ≤ mostSamples (r .step) (r .ramp) → fed r p ≡ Taken (foldl stepped r p)
-  unfolding fed
-  fed-taken s h l = rw (s, le-ltb _ _ h, le-ltb _ _ l)
+      -- without room it is its length, unless a sample is bad
+      pub fed-full : mostSamples (r .step) (r .ramp) < r .n + length xs → fed r xs ys ≡ cond (anyBad xs ys) (Refused (badSample (firstBad xs) (firstBad ys))) (Refused TooLong)
+      unfolding fed
+      fed-full l = rw (s, eq-eqb (length xs) (length ys) e, lt-ltb _ _ l)
+
+      pub fed-taken : firstBad xs ≡ length xs → firstBad ys ≡ length ys → r .n + length xs ≤ mostSamples (r .step) (r .ramp) → fed r xs ys ≡ Taken (foldl stepped r (moments xs ys))
+      unfolding fed
+      fed-taken g h l = rw (s, eq-eqb (length xs) (length ys) e, all-good xs ys g h, le-ltb _ _ l)
 
 -- what a piece that is taken meets, and where it ends
-pub record Meets (r : Record) (p : List ℤ) (t : Record) : Type 0 where
+pub record Meets (r : Record) (xs ys : List ℤ) (t : Record) : Type 0 where
   pub state : sound r ≡ true
-  pub good : firstBad p ≡ length p
-  pub room : r .n + length p ≤ mostSamples (r .step) (r .ramp)
-  pub end : foldl stepped r p ≡ t
+  pub equal : length xs ≡ length ys
+  pub roll : firstBad xs ≡ length xs
+  pub acceleration : firstBad ys ≡ length ys
+  pub room : r .n + length xs ≤ mostSamples (r .step) (r .ramp)
+  pub end : foldl stepped r (moments xs ys) ≡ t
 
-only-taken : (a b c : Bool) (k : ℕ) (s t : Record) → cond (not a) (Refused BrokenState) (cond b (Refused (Sample k)) (cond c (Refused TooLong) (Taken s))) ≡ Taken t
-    → (a ≡ true) × (b ≡ false) × (c ≡ false) × (s ≡ t)
-only-taken true false false k s t e = (refl, refl, refl, cc)
-only-taken true false true k s t e = let z : _≡_ {A = ℕ} 0 1 = cc in absurd (omega arith)
-only-taken true true c k s t e = let z : _≡_ {A = ℕ} 0 1 = cc in absurd (omega arith)
-only-taken false b c k s t e = let z : _≡_ {A = ℕ} 0 1 = cc in absurd (omega arith)
+only-taken : (a d b c : Bool) (f : Refusal) (s t : Record) → cond (not a) (Refused BrokenState) (cond (not d) (Refused Unequal) (cond b (Refused f) (cond c (Refused TooLong) (Taken s)))) ≡ Taken t
+    → (a ≡ true) × (d ≡ true) × (b ≡ false) × (c ≡ false) × (s ≡ t)
+only-taken true true false false f s t e = (refl, refl, refl, refl, cc)
+only-taken true true false true f s t e = let z : _≡_ {A = ℕ} 0 1 = cc in absurd (omega arith)
+only-taken true true true c f s t e = let z : _≡_ {A = ℕ} 0 1 = cc in absurd (omega arith)
+only-taken true false b c f s t e = let z : _≡_ {A = ℕ} 0 1 = cc in absurd (omega arith)
+only-taken false d b c f s t e = let z : _≡_ {A = ℕ} 0 1 = cc in absurd (omega arith)
 
-pub taken : (r : Record) (p : List ℤ) (t : Record) → fed r p ≡ Taken t → Meets r p t
+pub taken : (r : Record) (xs ys : List ℤ) (t : Record) → fed r xs ys ≡ Taken t → Meets r xs ys t
 unfolding fed
-taken r p t e =
-    let o = only-taken (sound r) (ltb (firstBad p) (length p)) (ltb (mostSamples (r .step) (r .ramp)) (r .n + length p)) (firstBad p) (foldl stepped r p) t e in
+taken r xs ys t e =
+    let o = only-taken (sound r) (eqb (length xs) (length ys)) (anyBad xs ys) (ltb (mostSamples (r .step) (r .ramp)) (r .n + length xs)) (badSample (firstBad xs) (firstBad ys)) (foldl stepped r (moments xs ys)) t e in
+    let g = none-bad xs ys (o .2) in
     record {
       state = o .0;
-      good = omega (arith, bad-within p, ltb-false (firstBad p) (length p) (o .1));
-      room = ltb-false (mostSamples (r .step) (r .ramp)) (r .n + length p) (o .2);
-      end = o .3;
+      equal = eqb-true (length xs) (length ys) (o .1);
+      roll = g .0;
+      acceleration = g .1;
+      room = ltb-false (mostSamples (r .step) (r .ramp)) (r .n + length xs) (o .3);
+      end = o .4;
     }
 
--- a sound state is never answered by refusal 8
-never : (b c : Bool) (k : ℕ) (s : Record) → cond b (Refused (Sample k)) (cond c (Refused TooLong) (Taken s)) ≡ Refused BrokenState → ⊥
-never true c k s e = let z : _≡_ {A = ℕ} 0 1 = cc in omega arith
-never false true k s e = let z : _≡_ {A = ℕ} 0 1 = cc in omega arith
-never false false k s e = let z : _≡_ {A = ℕ} 0 1 = cc in omega arith
+-- a sound state is never answered by refusal 8: the bad sample that is named is no broken state
+named : (b : Bool) (p q : ℕ) → Refused (cond b (Sample p) (Acceleration q)) ≡ Refused BrokenState → ⊥
+named true p q e = let z : _≡_ {A = ℕ} 0 1 = cc in omega arith
+named false p q e = let z : _≡_ {A = ℕ} 0 1 = cc in omega arith
 
-pub not-broken : (r : Record) (p : List ℤ) → sound r ≡ true → fed r p ≡ Refused BrokenState → ⊥
+never : (d b c k : Bool) (p q : ℕ) (s : Record) → cond (not d) (Refused Unequal) (cond b (Refused (cond k (Sample p) (Acceleration q))) (cond c (Refused TooLong) (Taken s))) ≡ Refused BrokenState → ⊥
+never false b c k p q s e = let z : _≡_ {A = ℕ} 0 1 = cc in omega arith
+never true true c k p q s e = named k p q e
+never true false true k p q s e = let z : _≡_ {A = ℕ} 0 1 = cc in omega arith
+never true false false k p q s e = let z : _≡_ {A = ℕ} 0 1 = cc in omega arith
+
+pub not-broken : (r : Record) (xs ys : List ℤ) → sound r ≡ true → fed r xs ys ≡ Refused BrokenState → ⊥
 unfolding fed
-not-broken r p s e = never (ltb (firstBad p) (length p)) (ltb (mostSamples (r .step) (r .ramp)) (r .n + length p)) (firstBad p) (foldl stepped r p) (rw s at e)
+not-broken r xs ys s e =
+    never (eqb (length xs) (length ys)) (anyBad xs ys) (ltb (mostSamples (r .step) (r .ramp)) (r .n + length xs)) (leb (firstBad xs) (firstBad ys)) (firstBad xs) (firstBad ys) (foldl stepped r (moments xs ys)) (rw s at e)

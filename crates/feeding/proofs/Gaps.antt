@@ -7,8 +7,8 @@ use native.Mathlib.Nat.{div-mul-le-self, lt-div-mul-add, mul-le-mul-right}
 use native.Mathlib.Decide.{decLe}
 use native.Mathlib.Omega.{arith}
 use lib.Dec.{leb}
-use lib.IntN.{ℤ}
 use borrow.Author.Tests.{leb-true, leb-false, le-leb, lt-leb}
+use Rattle.channels.specs.declared.Moment.{Moment}
 use Rattle.record.specs.declared.Record.{Record}
 use Rattle.feeding.specs.Gap.{Gap}
 use Rattle.steps.specs.Step.{crosses, crossed, moved, stepped}
@@ -37,7 +37,7 @@ in-samples {D} {τ} {g} s k = go (leb g k) refl
         shorter (no l) = omega arith
 
 -- the items stay
-pub gap-stays : (r : Record) (x : ℤ) {g : ℕ} → Gap (r .step) (r .decorrelation) g → Gap (stepped r x .step) (stepped r x .decorrelation) g
+pub gap-stays : (r : Record) (x : Moment) {g : ℕ} → Gap (r .step) (r .decorrelation) g → Gap (stepped r x .step) (stepped r x .decorrelation) g
 unfolding stepped
 gap-stays r x {g} s = go (crosses r x)
   where

@@ -5,12 +5,12 @@ use mathlib.Core.Path.{_≡_, sym, ap, _∙_}
 use mathlib.Core.Bool.{true}
 use mathlib.Core.List.{List, _++_, foldl, foldl-append}
 use native.Mathlib.Omega.{arith}
-use lib.ListN.{length, take, drop, take-append-drop, length-drop}
+use lib.ListN.{length, take, drop, take-append-drop}
 use lib.Seq.{getD-take, length-take-le}
-use lib.IntN.{ℤ, pos}
+use Rattle.channels.specs.declared.Moment.{Moment}
+use Rattle.channels.specs.Channels.{still, AllInRange}
+use Rattle.channels.proofs.Range.{all-left, all-right}
 use Rattle.limits.specs.Limits.{mostSamples}
-use Rattle.range.specs.Range.{firstBad}
-use Rattle.range.proofs.Bad.{bad-append, good-left}
 use Rattle.reading.specs.Reading.{sampleAt}
 use Rattle.record.specs.declared.Record.{Record}
 use Rattle.record.specs.State.{sound}
@@ -18,24 +18,24 @@ use Rattle.steps.specs.Step.{moved, stepped}
 use Rattle.feeding.proofs.Cutting.{run-sound}
 use Rattle.feeding.proofs.Quiet.{ramp-still, still-run}
 
-module _ (r : Record) (p : List ℤ) (j : ℕ) (some : 1 ≤ j) (within : j ≤ length p) (ramp : r .n + j ≤ r .ramp + 1) where
+module _ (r : Record) (p : List Moment) (j : ℕ) (some : 1 ≤ j) (within : j ≤ length p) (ramp : r .n + j ≤ r .ramp + 1) where
   long : length (take j p) ≡ j
   long = length-take-le j p within
 
   pub led : foldl stepped r (take j p) ≡ moved r j (sampleAt p (j - 1))
   led =
       rw long at (still-run r (take j p) (ramp-still r (take j p) (omega (arith, long))) (omega (arith, long)))
-      ∙ ap (moved r j) (getD-take j p (j - 1) (pos 0) (omega arith))
+      ∙ ap (moved r j) (getD-take j p (j - 1) still (omega arith))
 
   pub led-on : foldl stepped (moved r j (sampleAt p (j - 1))) (drop j p) ≡ foldl stepped r p
   led-on = ap (λ (s : Record). foldl stepped s (drop j p)) (sym led) ∙ sym (foldl-append stepped r (take j p) (drop j p)) ∙ ap (foldl stepped r) (take-append-drop j p)
 
-  module _ (good : firstBad p ≡ length p) where
-    front-good : firstBad (take j p) ≡ length (take j p)
-    front-good = good-left (take j p) (drop j p) (rw (take-append-drop j p) good)
+  module _ (good : AllInRange p) where
+    cut : AllInRange (take j p ++ drop j p)
+    cut = rw (take-append-drop j p) good
 
-    pub led-good : firstBad (drop j p) ≡ length (drop j p)
-    led-good = omega (arith, long, length-drop j p, rw (take-append-drop j p, good) at (bad-append (take j p) (drop j p) front-good))
+    pub led-good : AllInRange (drop j p)
+    led-good = all-right (take j p) (drop j p) cut
 
     pub led-sound : sound r ≡ true → r .n + length p ≤ mostSamples (r .step) (r .ramp) → sound (moved r j (sampleAt p (j - 1))) ≡ true
-    led-sound s room = rw led at (run-sound r (take j p) s front-good (omega (arith, long)))
+    led-sound s room = rw led at (run-sound r (take j p) s (all-left (take j p) (drop j p) cut) (omega (arith, long)))

@@ -6,5 +6,5 @@ use Rattle.record.specs.declared.Record.{Record}
 use Rattle.record.specs.declared.Answer.{Answer}
 use Rattle.feeding.specs.Answers.{fed}
 
-pub feed-unique : (r : Record) (p : List ℤ) (x y : Answer) → x ≡ fed r p → y ≡ fed r p → x ≡ y
-feed-unique r p x y e f = e ∙ sym f
+pub feed-unique : (r : Record) (xs ys : List ℤ) (x y : Answer) → x ≡ fed r xs ys → y ≡ fed r xs ys → x ≡ y
+feed-unique r xs ys x y e f = e ∙ sym f

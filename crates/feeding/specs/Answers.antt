@@ -1,11 +1,12 @@
--- What feeding answers: document 01, "Refusal numbers", in its order of refusals. Assumes nothing.
+-- What feeding answers: document 01, "Refusal numbers", with document 02's [8], in the order of refusals. Assumes nothing.
 use Prim.Native.Nat.{_+_}
 use mathlib.Core.Bool.{cond, not}
 use mathlib.Core.List.{List, foldl}
 use lib.ListN.{length}
-use lib.Dec.{ltb}
+use lib.Dec.{eqb, ltb}
 use lib.IntN.{ℤ}
-use Rattle.refusal.specs.declared.Refusal.the-variants.{Sample, TooLong, BrokenState}
+use Rattle.refusal.specs.declared.Refusal.the-variants.{TooLong, BrokenState, Unequal}
+use Rattle.channels.specs.Channels.{moments, anyBad, badSample}
 use Rattle.limits.specs.Limits.{mostSamples}
 use Rattle.range.specs.Range.{firstBad}
 use Rattle.record.specs.declared.Record.{Record}
@@ -14,10 +15,11 @@ use Rattle.record.specs.declared.Answer.the-variants.{Taken, Refused}
 use Rattle.record.specs.State.{sound}
 use Rattle.steps.specs.Step.{stepped}
 
--- A piece 8, 2, 3: the state after its samples one by one
-unfoldable pub fed : Record → List ℤ → Answer
-fed r p =
+-- A piece 8, 12, 2, 3: the state after its samples one by one, xs of the roll and ys of the acceleration
+unfoldable pub fed : Record → List ℤ → List ℤ → Answer
+fed r xs ys =
     cond (not (sound r)) (Refused BrokenState)
-    (cond (ltb (firstBad p) (length p)) (Refused (Sample (firstBad p)))
-    (cond (ltb (mostSamples (r .step) (r .ramp)) (r .n + length p)) (Refused TooLong)
-    (Taken (foldl stepped r p))))
+    (cond (not (eqb (length xs) (length ys))) (Refused Unequal)
+    (cond (anyBad xs ys) (Refused (badSample (firstBad xs) (firstBad ys)))
+    (cond (ltb (mostSamples (r .step) (r .ramp)) (r .n + length xs)) (Refused TooLong)
+    (Taken (foldl stepped r (moments xs ys))))))

@@ -1,3 +1,4 @@
 pub mod Gap
+pub mod Fits
 pub mod Answers
 pub mod Pieces

@@ -1,19 +1,21 @@
-// Feeding a record: its samples, handed over in pieces. The state goes in by value and comes back in the answer, so a refusal leaves the caller's as it stood.
+// Feeding a record: the samples of its two channels, handed over in pieces. The state goes in by value and comes back in the answer, so a refusal leaves the caller's as it stood.
 ghost use mathlib.Core.Path.{_≡_};
 ghost use mathlib.Core.Bool.{true, false, cond};
 ghost use mathlib.Core.List.{foldl};
 ghost use Prim.Native.Nat.{_+_, _-_, _≤_, _<_, min};
-ghost use lib.Dec.{ltb};
-ghost use lib.ListN.{length};
-ghost use Rattle.refusal.specs.declared.Refusal.the-variants.{Sample, TooLong};
-ghost use Rattle.block.specs.Block.{anyAbove};
+ghost use lib.ListN.{getD, length};
+ghost use Rattle.refusal.specs.declared.Refusal.the-variants.{TooLong};
+ghost use Rattle.channels.specs.Channels.{still, moments, anyAbove, anyBad, badSample};
 ghost use Rattle.limits.specs.Limits.{mostSamples};
 ghost use Rattle.range.specs.Range.{firstBad};
 ghost use Rattle.record.specs.declared.Answer.the-variants.{Refused};
 ghost use Rattle.record.specs.State.{sound};
 ghost use Rattle.feeding.specs.Gap.{Gap};
+ghost use Rattle.feeding.specs.Fits.{Fits};
 ghost use Rattle.steps.specs.Step.{moved, far, counts, crossed, below, crosses, stepped};
 ghost use Rattle.feeding.specs.Answers.{fed};
+use channels::Look;
+use channels::Moment;
 use record::Answer;
 use record::Record;
 use refusal::Refusal;
@@ -38,14 +40,15 @@ fn far(r: Record, gap: u64, place: u64) -> bool
 }
 
 // The state after a crossing at sample n, which is x, that is near the largest set's last, and so near the crossing just before it: it joins the last group.
-fn joining(r: Record, x: i32) -> Record
+fn joining(r: Record, x: Moment) -> Record
     requires { ⌜ (sound r ≡ true) × (r .ramp < r .n) × (counts r ≡ false) ⌝ }
     ensures { λ s. ⌜ s ≡ crossed r x ⌝ }
 {
+    let levels = r.levels;
     Record {
         step: r.step,
         ramp: r.ramp,
-        level: r.level,
+        levels,
         decorrelation: r.decorrelation,
         n: r.n + 1,
         last: x,
@@ -59,15 +62,16 @@ fn joining(r: Record, x: i32) -> Record
 }
 
 // The state after one that is far from it and joins the largest set; it starts a group if it is far from the crossing just before it.
-fn counted(r: Record, gap: u64, x: i32) -> Record
+fn counted(r: Record, gap: u64, x: Moment) -> Record
     requires { ⌜ (sound r ≡ true) × (r .ramp < r .n) × (counts r ≡ true) × Gap (r .step) (r .decorrelation) gap ⌝ }
     ensures { λ s. ⌜ s ≡ crossed r x ⌝ }
 {
+    let levels = r.levels;
     let g = far(r, gap, r.recent);
     Record {
         step: r.step,
         ramp: r.ramp,
-        level: r.level,
+        levels,
         decorrelation: r.decorrelation,
         n: r.n + 1,
         last: x,
@@ -81,7 +85,7 @@ fn counted(r: Record, gap: u64, x: i32) -> Record
 }
 
 // The state after a crossing at sample n, which is x.
-fn crossed(r: Record, gap: u64, x: i32) -> Record
+fn crossed(r: Record, gap: u64, x: Moment) -> Record
     requires { ⌜ (sound r ≡ true) × (r .ramp < r .n) × Gap (r .step) (r .decorrelation) gap ⌝ }
     ensures { λ s. ⌜ s ≡ crossed r x ⌝ }
 {
@@ -93,14 +97,15 @@ fn crossed(r: Record, gap: u64, x: i32) -> Record
 }
 
 // The state after k more samples without a crossing, of which the last is given.
-fn moved(r: Record, k: u64, last: i32) -> Record
+fn moved(r: Record, k: u64, last: Moment) -> Record
     requires { ⌜ r .n + k ≤ 20000000 ⌝ }
     ensures { λ s. ⌜ s ≡ moved r k last ⌝ }
 {
+    let levels = r.levels;
     Record {
         step: r.step,
         ramp: r.ramp,
-        level: r.level,
+        levels,
         decorrelation: r.decorrelation,
         n: r.n + k,
         last,
@@ -113,16 +118,15 @@ fn moved(r: Record, k: u64, last: i32) -> Record
     }
 }
 
-// Whether sample n - 1 is timed and at most the level.
+// Whether sample n - 1 is timed and above in neither channel.
 fn below(r: Record) -> bool
     ensures { λ k. ⌜ k ≡ below r ⌝ }
 {
-    let last = r.last;
-    truth::both(r.ramp < r.n, !magnitude::above(r.level, last))
+    truth::both(r.ramp < r.n, !channels::above(r.levels, r.last))
 }
 
-// The state after sample n, which is x, of which it is known whether it crosses the level.
-fn step(r: Record, gap: u64, crossing: bool, x: i32) -> Record
+// The state after sample n, which is x, of which it is known whether it crosses a level.
+fn step(r: Record, gap: u64, crossing: bool, x: Moment) -> Record
     requires { ⌜ (sound r ≡ true) × (r .n < mostSamples (r .step) (r .ramp)) × (crossing ≡ crosses r x) × Gap (r .step) (r .decorrelation) gap ⌝ }
     ensures { λ s. ⌜ s ≡ stepped r x ⌝ }
 {
@@ -133,18 +137,29 @@ fn step(r: Record, gap: u64, crossing: bool, x: i32) -> Record
     }
 }
 
+// What both channels show at a place that they have.
+fn moment(roll: &[i32], acceleration: &[i32], i: usize) -> Moment
+    requires { ⌜ (i < length (now roll)) × (i < length (now acceleration)) ⌝ }
+    ensures { λ x. ⌜ x ≡ getD (moments (now (roll .entry)) (now (acceleration .entry))) i still ⌝ }
+{
+    Moment {
+        roll: roll[i],
+        acceleration: acceleration[i],
+    }
+}
+
 // The state after timed samples that are in range and not too many.
-fn run(r: Record, timed: &[i32]) -> Record
-    requires { ⌜ (sound r ≡ true) × (r .ramp < r .n) × (firstBad (now timed) ≡ length (now timed)) × (r .n + length (now timed) ≤ mostSamples (r .step) (r .ramp)) ⌝ }
-    ensures { λ s. ⌜ s ≡ foldl stepped r (now (timed .entry)) ⌝ }
+fn run(r: Record, roll: &[i32], acceleration: &[i32]) -> Record
+    requires { ⌜ Fits r (now roll) (now acceleration) × (r .ramp < r .n) ⌝ }
+    ensures { λ s. ⌜ s ≡ foldl stepped r (moments (now (roll .entry)) (now (acceleration .entry))) ⌝ }
 {
     let gap = gap_of(r);
     let mut s = r;
     let mut low = below(r);
     let mut i = 0;
-    while i < timed.len() {
-        let x = timed[i];
-        let up = magnitude::above(s.level, x);
+    while i < roll.len() {
+        let x = moment(roll, acceleration, i);
+        let up = channels::above(s.levels, x);
         s = step(s, gap, truth::both(low, up), x);
         low = !up;
         i += 1;
@@ -165,77 +180,82 @@ fn leading(r: Record, k: usize) -> usize
 }
 
 // The state after a block whose samples are in range and not too many: those of the ramp at once, the others one by one.
-fn step_all(r: Record, block: &[i32]) -> Record
-    requires { ⌜ (sound r ≡ true) × (firstBad (now block) ≡ length (now block)) × (0 < length (now block)) × (r .n + length (now block) ≤ mostSamples (r .step) (r .ramp)) ⌝ }
-    ensures { λ s. ⌜ s ≡ foldl stepped r (now (block .entry)) ⌝ }
+fn step_all(r: Record, roll: &[i32], acceleration: &[i32]) -> Record
+    requires { ⌜ Fits r (now roll) (now acceleration) × (0 < length (now roll)) ⌝ }
+    ensures { λ s. ⌜ s ≡ foldl stepped r (moments (now (roll .entry)) (now (acceleration .entry))) ⌝ }
 {
-    let lead = leading(r, block.len());
+    let lead = leading(r, roll.len());
     if lead == 0 {
-        return run(r, block);
+        return run(r, roll, acceleration);
     }
-    let s = moved(r, lead as u64, block[lead - 1]);
-    if lead == block.len() {
+    let x = channels::moment_at(roll, acceleration, lead - 1);
+    let s = moved(r, lead as u64, x);
+    if lead == roll.len() {
         return s;
     }
-    run(s, &block[lead..])
+    run(s, &roll[lead..], &acceleration[lead..])
 }
 
-// The same for a block of which it is known whether a sample is above the level. Where none is, no sample of it crosses, and only n and the last sample
+// The same for a block of which it is known whether a sample is above its level. Where none is, no sample of it crosses, and only n and the last sample
 // move.
-fn advance(r: Record, loud: bool, block: &[i32]) -> Record
-    requires { ⌜ (sound r ≡ true) × (loud ≡ anyAbove (r .level) (now block)) × (firstBad (now block) ≡ length (now block)) × (0 < length (now block)) × (r .n + length (now block) ≤ mostSamples (r .step) (r .ramp)) ⌝ }
-    ensures { λ s. ⌜ s ≡ foldl stepped r (now (block .entry)) ⌝ }
+fn advance(r: Record, loud: bool, roll: &[i32], acceleration: &[i32]) -> Record
+    requires { ⌜ Fits r (now roll) (now acceleration) × (loud ≡ anyAbove (r .levels) (now roll) (now acceleration)) × (0 < length (now roll)) ⌝ }
+    ensures { λ s. ⌜ s ≡ foldl stepped r (moments (now (roll .entry)) (now (acceleration .entry))) ⌝ }
 {
     if loud {
-        return step_all(r, block);
+        return step_all(r, roll, acceleration);
     }
-    let k = block.len();
-    moved(r, k as u64, block[k - 1])
+    let k = roll.len();
+    moved(r, k as u64, channels::moment_at(roll, acceleration, k - 1))
 }
 
-// The answer to a piece that there is room for, block by block. A block's two ends say whether a sample of it is out of range, and whether one is above the level:
+// The answer to a piece that is not taken: a bad sample of it goes before its length.
+fn fault(roll: &[i32], acceleration: &[i32]) -> Answer
+    ensures { λ a. ⌜ a ≡ cond (anyBad (now (roll .entry)) (now (acceleration .entry))) (Refused (badSample (firstBad (now (roll .entry))) (firstBad (now (acceleration .entry))))) (Refused TooLong) ⌝ }
+{
+    let look = channels::look_over(roll, acceleration);
+    if let Look::Bad(f) = look {
+        return Answer::Refused(f);
+    }
+    Answer::Refused(Refusal::TooLong)
+}
+
+// The answer to a piece that there is room for, block by block. The ends of a block say whether a sample of it is out of range, and whether one is above its level:
 // a quiet block is passed over at the speed of `ends_of`.
-fn pass(r: Record, piece: &[i32]) -> Answer
-    requires { ⌜ (sound r ≡ true) × (r .n + length (now piece) ≤ mostSamples (r .step) (r .ramp)) ⌝ }
-    ensures { λ a. ⌜ a ≡ fed r (now (piece .entry)) ⌝ }
+fn pass(r: Record, roll: &[i32], acceleration: &[i32]) -> Answer
+    requires { ⌜ (sound r ≡ true) × (length (now roll) ≡ length (now acceleration)) × (r .n + length (now roll) ≤ mostSamples (r .step) (r .ramp)) ⌝ }
+    ensures { λ a. ⌜ a ≡ fed r (now (roll .entry)) (now (acceleration .entry)) ⌝ }
 {
     let mut s = r;
     let mut i = 0;
-    while i < piece.len() {
-        let end = block::end(i, piece.len());
-        let part = &piece[i..end];
-        let ends = block::ends_of(part);
-        let bad = range::first_bad_if(range::outside(ends), part);
-        if bad < part.len() {
-            return Answer::Refused(Refusal::Sample((i + bad) as u64));
+    while i < roll.len() {
+        let end = block::end(i, roll.len());
+        let rolls = &roll[i..end];
+        let accelerations = &acceleration[i..end];
+        let e = block::ends_of(rolls);
+        let f = block::ends_of(accelerations);
+        if channels::outside(e, f) {
+            return fault(roll, acceleration);
         }
-        s = advance(s, block::past(s.level, ends), part);
+        s = advance(s, channels::past(s.levels, e, f), rolls, accelerations);
         i = end;
     }
     Answer::Taken(s)
 }
 
-// The answer to a piece that there is no room for: a bad sample of it goes before its length.
-fn too_long(piece: &[i32]) -> Answer
-    ensures { λ a. ⌜ a ≡ cond (ltb (firstBad (now (piece .entry))) (length (now (piece .entry)))) (Refused (Sample (firstBad (now (piece .entry))))) (Refused TooLong) ⌝ }
-{
-    let bad = range::first_bad(piece);
-    if bad < piece.len() {
-        return Answer::Refused(Refusal::Sample(bad as u64));
-    }
-    Answer::Refused(Refusal::TooLong)
-}
-
-// The record after the piece; or refusal 8, then 2 with the first bad place in the piece, then 3.
-pub fn feed(r: Record, piece: &[i32]) -> Answer
-    ensures { λ a. ⌜ a ≡ fed r (now (piece .entry)) ⌝ }
+// The record after the piece; or refusal 8, then 12, then 2 with the lower bad place in the piece and its channel, then 3.
+pub fn feed(r: Record, roll: &[i32], acceleration: &[i32]) -> Answer
+    ensures { λ a. ⌜ a ≡ fed r (now (roll .entry)) (now (acceleration .entry)) ⌝ }
 {
     if !record::sound(r) {
         return Answer::Refused(Refusal::BrokenState);
     }
-    let room = limits::most_samples(r.step, r.ramp) - r.n;
-    if piece.len() as u64 <= room {
-        return pass(r, piece);
+    if roll.len() != acceleration.len() {
+        return Answer::Refused(Refusal::Unequal);
     }
-    too_long(piece)
+    let room = limits::most_samples(r.step, r.ramp) - r.n;
+    if roll.len() as u64 <= room {
+        return pass(r, roll, acceleration);
+    }
+    fault(roll, acceleration)
 }

@@ -6,23 +6,23 @@ use native.Mathlib.Omega.{arith}
 use native.Mathlib.Nat.{mul-le-mul, div-le-self, div-mul-le-self}
 use lib.Dec.{leb}
 use borrow.Author.Tests.{leb-true}
+use Rattle.channels.specs.declared.Levels.{Levels}
 use Rattle.truth.proofs.Laws.{and-true, both-true}
 use Rattle.limits.specs.Limits.{itemOutside, within, stepInRange, rampInRange, levelInRange, decorrelationInRange, longestTime, mostSamples, mostInRange}
 
-pub record Items (D R a τ : ℕ) : Type 0 where
+pub record Items (D R : ℕ) (a : Levels) (τ : ℕ) : Type 0 where
   pub step-low : 1 ≤ D
   pub step-high : D ≤ 10000
   pub ramp : R ≤ 1000000
-  pub level-low : 1 ≤ a
-  pub level-high : a ≤ 1000000
   pub decorrelation : τ ≤ 10000000
 
-none-outside : (a b c d : Bool) → _≡_ {A = ℕ} (cond (not a) 1 (cond (not b) 2 (cond (not c) 3 (cond (not d) 4 0)))) 0 → (a ≡ true) × (b ≡ true) × (c ≡ true) × (d ≡ true)
-none-outside true true true true e = (refl, refl, refl, refl)
-none-outside false b c d e = absurd (omega (arith, e))
-none-outside true false c d e = absurd (omega (arith, e))
-none-outside true true false d e = absurd (omega (arith, e))
-none-outside true true true false e = absurd (omega (arith, e))
+none-outside : (a b c d e : Bool) → _≡_ {A = ℕ} (cond (not a) 1 (cond (not b) 2 (cond (not c) 3 (cond (not d) 4 (cond (not e) 6 0))))) 0 → (a ≡ true) × (b ≡ true) × (d ≡ true)
+none-outside true true true true true z = (refl, refl, refl)
+none-outside false b c d e z = absurd (omega (arith, z))
+none-outside true false c d e z = absurd (omega (arith, z))
+none-outside true true false d e z = absurd (omega (arith, z))
+none-outside true true true false e z = absurd (omega (arith, z))
+none-outside true true true true false z = absurd (omega (arith, z))
 
 pub low : (l h x : ℕ) → within l h x ≡ true → l ≤ x
 low l h x e = leb-true l x (and-true (leb l x) (leb x h) e .0)
@@ -30,28 +30,26 @@ low l h x e = leb-true l x (and-true (leb l x) (leb x h) e .0)
 pub high : (l h x : ℕ) → within l h x ≡ true → x ≤ h
 high l h x e = leb-true x h (and-true (leb l x) (leb x h) e .1)
 
-pub items : (D R a τ : ℕ) → itemOutside D R a τ ≡ 0 → Items D R a τ
+pub items : (D R : ℕ) (a : Levels) (τ : ℕ) → itemOutside D R a τ ≡ 0 → Items D R a τ
 unfolding itemOutside
 items D R a τ e =
-    let i = none-outside (stepInRange D) (rampInRange R) (levelInRange a) (decorrelationInRange τ) e in
+    let i = none-outside (stepInRange D) (rampInRange R) (levelInRange (a .roll)) (decorrelationInRange τ) (levelInRange (a .acceleration)) e in
     record {
       step-low = low 1 10000 D (i .0);
       step-high = high 1 10000 D (i .0);
       ramp = high 0 1000000 R (i .1);
-      level-low = low 1 1000000 a (i .2);
-      level-high = high 1 1000000 a (i .2);
-      decorrelation = high 0 10000000 τ (i .3);
+      decorrelation = high 0 10000000 τ (i .2);
     }
 
 -- items in range let a record have so many samples
-pub most-in-range : (D R a τ : ℕ) → itemOutside D R a τ ≡ 0 → mostInRange D R ≡ mostSamples D R
+pub most-in-range : (D R : ℕ) (a : Levels) (τ : ℕ) → itemOutside D R a τ ≡ 0 → mostInRange D R ≡ mostSamples D R
 unfolding itemOutside mostInRange
 most-in-range D R a τ e =
-    let i = none-outside (stepInRange D) (rampInRange R) (levelInRange a) (decorrelationInRange τ) e in
+    let i = none-outside (stepInRange D) (rampInRange R) (levelInRange (a .roll)) (decorrelationInRange τ) (levelInRange (a .acceleration)) e in
     rw (both-true (i .0) (i .1))
 
 -- the longest record, in samples
-pub most-small : {D R a τ : ℕ} → Items D R a τ → mostSamples D R ≤ 11000001
+pub most-small : {D R : ℕ} {a : Levels} {τ : ℕ} → Items D R a τ → mostSamples D R ≤ 11000001
 most-small {D} i = omega (arith, div-le-self 10000000 D, i .ramp)
 
 -- so many samples past R stand within the longest timed length

@@ -1,7 +1,8 @@
--- Document 01, "Numbers a job may carry": items 1 to 4 and the timed length. Assumes nothing.
+-- Document 01, "Numbers a job may carry", with document 02's [8]: items 1 to 4 and 6, and the timed length. Assumes nothing.
 use Prim.Native.Nat.{ℕ, _+_, _/_}
 use mathlib.Core.Bool.{Bool, cond, not, _&&_}
 use lib.Dec.{leb}
+use Rattle.channels.specs.declared.Levels.{Levels}
 
 -- x is from low to high
 abbrev pub within : ℕ → ℕ → ℕ → Bool
@@ -15,7 +16,7 @@ stepInRange = within 1 10000
 abbrev pub rampInRange : ℕ → Bool
 rampInRange = within 0 1000000
 
--- item 3, the level a
+-- item 3, the roll's level, and item 6, the acceleration's
 abbrev pub levelInRange : ℕ → Bool
 levelInRange = within 1 1000000
 
@@ -24,12 +25,13 @@ abbrev pub decorrelationInRange : ℕ → Bool
 decorrelationInRange = within 0 10000000
 
 -- the number of the lowest item outside its range, 0 if there is none
-unfoldable pub itemOutside : ℕ → ℕ → ℕ → ℕ → ℕ
+unfoldable pub itemOutside : ℕ → ℕ → Levels → ℕ → ℕ
 itemOutside D R a τ =
     cond (not (stepInRange D)) 1
     (cond (not (rampInRange R)) 2
-    (cond (not (levelInRange a)) 3
-    (cond (not (decorrelationInRange τ)) 4 0)))
+    (cond (not (levelInRange (a .roll))) 3
+    (cond (not (decorrelationInRange τ)) 4
+    (cond (not (levelInRange (a .acceleration))) 6 0))))
 
 -- the longest timed length of a record, in ms
 abbrev pub longestTime : ℕ

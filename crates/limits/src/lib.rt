@@ -1,6 +1,7 @@
-// Document 01, "Numbers a job may carry": the four items that open a record, and how many samples it may have.
+// Document 01, "Numbers a job may carry", with document 02's [8]: the five items that open a record, and how many samples it may have.
 ghost use mathlib.Core.Path.{_≡_};
 ghost use Rattle.limits.specs.Limits.{within, itemOutside, mostInRange};
+use channels::Levels;
 
 pub const LONGEST_STEP: u64 = 10_000;
 
@@ -19,11 +20,12 @@ fn between(low: u64, high: u64, x: u64) -> bool
 }
 
 // The number of the lowest item outside its range, 0 if there is none.
-pub fn item_outside(step: u64, ramp: u64, level: u64, decorrelation: u64) -> u64
-    ensures { λ r. ⌜ r ≡ itemOutside step ramp level decorrelation ⌝ }
+pub fn item_outside(step: u64, ramp: u64, levels: Levels, decorrelation: u64) -> u64
+    ensures { λ r. ⌜ r ≡ itemOutside step ramp levels decorrelation ⌝ }
 {
-    let fourth = truth::pick(!between(0, LONGEST_DECORRELATION, decorrelation), 4, 0);
-    let third = truth::pick(!between(1, HIGHEST_LEVEL, level), 3, fourth);
+    let sixth = truth::pick(!between(1, HIGHEST_LEVEL, levels.acceleration), 6, 0);
+    let fourth = truth::pick(!between(0, LONGEST_DECORRELATION, decorrelation), 4, sixth);
+    let third = truth::pick(!between(1, HIGHEST_LEVEL, levels.roll), 3, fourth);
     let second = truth::pick(!between(0, LONGEST_RAMP, ramp), 2, third);
     truth::pick(!between(1, LONGEST_STEP, step), 1, second)
 }

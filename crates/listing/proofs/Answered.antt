@@ -9,7 +9,10 @@ use lib.Dec.{eqb, ltb}
 use lib.IntN.{ℤ}
 use borrow.Author.Tests.{eq-eqb, lt-ltb, le-ltb}
 use Rattle.refusal.specs.declared.Refusal.{Refusal}
-use Rattle.refusal.specs.declared.Refusal.the-variants.{Item, Sample, TooLong, TooShort, Room}
+use Rattle.refusal.specs.declared.Refusal.the-variants.{Item, TooLong, TooShort, Room, Unequal}
+use Rattle.channels.specs.declared.Levels.{Levels}
+use Rattle.channels.specs.Channels.{moments, anyBad, badSample}
+use Rattle.channels.proofs.Moments.{moments-length, moments-drop}
 use Rattle.limits.specs.Limits.{itemOutside, mostSamples}
 use Rattle.range.specs.Range.{firstBad}
 use Rattle.reading.specs.Reading.{timeAt, counted, countedTimes, tooFew}
@@ -32,46 +35,56 @@ module _ (ts before : List ℕ) where
   writes-times l = record { answers = rw (le-ltb _ _ l); leaves = refl }
 
 -- ---- the whole listing
-module _ (D R a τ : ℕ) (xs : List ℤ) (slice : List ℕ) where
+module _ (D R : ℕ) (a : Levels) (τ : ℕ) (xs ys : List ℤ) (slice : List ℕ) where
   -- a refusal of the tests before the count
-  pub lists-refused : (f : Refusal) → tested D R a τ xs ≡ size.Refused f → ListsTo D R a τ xs slice (Refused f) slice
+  pub lists-refused : (f : Refusal) → tested D R a τ xs ys ≡ size.Refused f → ListsTo D R a τ xs ys slice (Refused f) slice
   unfolding tested listed written
-  lists-refused f e = record { answers = go (eqb (itemOutside D R a τ) 0) (ltb (firstBad xs) (length xs)) (ltb (mostSamples D R) (length xs)) (tooFew R (length xs)) e; leaves = refl }
+  lists-refused f e = record { answers = go (eqb (itemOutside D R a τ) 0) (eqb (length xs) (length ys)) (anyBad xs ys) (ltb (mostSamples D R) (length xs)) (tooFew R (length xs)) e; leaves = refl }
     where
-      go : (i b l s : Bool)
-          → cond (not i) (size.Refused (Item (itemOutside D R a τ))) (cond b (size.Refused (Sample (firstBad xs))) (cond l (size.Refused TooLong) (cond s (size.Refused TooShort) size.Fits))) ≡ size.Refused f
-          → Refused f ≡ cond (not i) (Refused (Item (itemOutside D R a τ))) (cond b (Refused (Sample (firstBad xs))) (cond l (Refused TooLong) (cond s (Refused TooShort) (cond (ltb (length slice) (length (counted D R a τ xs))) (Refused (Room (length (counted D R a τ xs)))) (Times (length (counted D R a τ xs)))))))
-      go false b l s e = cc
-      go true true l s e = cc
-      go true false true s e = cc
-      go true false false true e = cc
-      go true false false false e = let z : _≡_ {A = ℕ} 0 1 = cc in absurd (omega arith)
+      n : ℕ
+      n = length (counted D R a τ (moments xs ys))
+
+      g : Refusal
+      g = badSample (firstBad xs) (firstBad ys)
+
+      go : (i m b l s : Bool)
+          → cond (not i) (size.Refused (Item (itemOutside D R a τ))) (cond (not m) (size.Refused Unequal) (cond b (size.Refused g) (cond l (size.Refused TooLong) (cond s (size.Refused TooShort) size.Fits)))) ≡ size.Refused f
+          → Refused f ≡ cond (not i) (Refused (Item (itemOutside D R a τ))) (cond (not m) (Refused Unequal) (cond b (Refused g) (cond l (Refused TooLong) (cond s (Refused TooShort) (cond (ltb (length slice) n) (Refused (Room n)) (Times n))))))
+      go false m b l s e = cc
+      go true false b l s e = cc
+      go true true true l s e = cc
+      go true true false true s e = cc
+      go true true false false true e = cc
+      go true true false false false e = let z : _≡_ {A = ℕ} 0 1 = cc in absurd (omega arith)
 
   -- the number of times that is answered
-  pub times-number : {k : ℕ} → Times k ≡ listed D R a τ xs (length slice) → k ≡ length (counted D R a τ xs)
+  pub times-number : {k : ℕ} → Times k ≡ listed D R a τ xs ys (length slice) → k ≡ length (counted D R a τ (moments xs ys))
   unfolding listed
-  times-number {k} e = go (eqb (itemOutside D R a τ) 0) (ltb (firstBad xs) (length xs)) (ltb (mostSamples D R) (length xs)) (tooFew R (length xs)) (ltb (length slice) (length (counted D R a τ xs))) e
+  times-number {k} e =
+      go (eqb (itemOutside D R a τ) 0) (eqb (length xs) (length ys)) (anyBad xs ys) (ltb (mostSamples D R) (length xs)) (tooFew R (length xs)) (ltb (length slice) (length (counted D R a τ (moments xs ys)))) (badSample (firstBad xs) (firstBad ys)) (length (counted D R a τ (moments xs ys))) e
     where
-      go : (i b l s r : Bool)
-          → Times k ≡ cond (not i) (Refused (Item (itemOutside D R a τ))) (cond b (Refused (Sample (firstBad xs))) (cond l (Refused TooLong) (cond s (Refused TooShort) (cond r (Refused (Room (length (counted D R a τ xs)))) (Times (length (counted D R a τ xs)))))))
-          → k ≡ length (counted D R a τ xs)
-      go false b l s r e = let z : _≡_ {A = ℕ} 0 1 = cc in absurd (omega arith)
-      go true true l s r e = let z : _≡_ {A = ℕ} 0 1 = cc in absurd (omega arith)
-      go true false true s r e = let z : _≡_ {A = ℕ} 0 1 = cc in absurd (omega arith)
-      go true false false true r e = let z : _≡_ {A = ℕ} 0 1 = cc in absurd (omega arith)
-      go true false false false true e = let z : _≡_ {A = ℕ} 0 1 = cc in absurd (omega arith)
-      go true false false false false e = cc
+      go : (i m b l s r : Bool) (g : Refusal) (n : ℕ)
+          → Times k ≡ cond (not i) (Refused (Item (itemOutside D R a τ))) (cond (not m) (Refused Unequal) (cond b (Refused g) (cond l (Refused TooLong) (cond s (Refused TooShort) (cond r (Refused (Room n)) (Times n))))))
+          → k ≡ n
+      go false m b l s r g n e = let z : _≡_ {A = ℕ} 0 1 = cc in absurd (omega arith)
+      go true false b l s r g n e = let z : _≡_ {A = ℕ} 0 1 = cc in absurd (omega arith)
+      go true true true l s r g n e = let z : _≡_ {A = ℕ} 0 1 = cc in absurd (omega arith)
+      go true true false true s r g n e = let z : _≡_ {A = ℕ} 0 1 = cc in absurd (omega arith)
+      go true true false false true r g n e = let z : _≡_ {A = ℕ} 0 1 = cc in absurd (omega arith)
+      go true true false false false true g n e = let z : _≡_ {A = ℕ} 0 1 = cc in absurd (omega arith)
+      go true true false false false false g n e = cc
 
-  module _ (f : Fitting D R a τ (length xs)) where
-    pub lists-bad : firstBad xs < length xs → ListsTo D R a τ xs slice (Refused (Sample (firstBad xs))) slice
+  module _ (f : Fitting D R a τ (length xs) (length ys)) where
+    pub lists-bad : anyBad xs ys ≡ true → ListsTo D R a τ xs ys slice (Refused (badSample (firstBad xs) (firstBad ys))) slice
     unfolding listed written
-    lists-bad b = record { answers = rw (eq-eqb _ _ (f .items), lt-ltb _ _ b); leaves = refl }
+    lists-bad b = record { answers = rw (eq-eqb _ _ (f .items), eq-eqb (length xs) (length ys) (f .equal), b); leaves = refl }
 
     -- the times of the timed samples are the record's
-    pub lists-good : length xs ≤ firstBad xs → {answer : Listed} {after : List ℕ} → WritesTo (countedTimes D 0 a τ (drop R xs)) slice answer after → ListsTo D R a τ xs slice answer after
+    pub lists-good : anyBad xs ys ≡ false → {answer : Listed} {after : List ℕ} → WritesTo (countedTimes D 0 a τ (moments (drop R xs) (drop R ys))) slice answer after → ListsTo D R a τ xs ys slice answer after
     unfolding listed
     lists-good g {answer} {after} w =
-        let t = timed-only D R a τ xs (omega (arith, f .few)) in
-        let n : length (countedTimes D R a τ xs) ≡ length (counted D R a τ xs) = length-map (counted D R a τ xs) (timeAt D R) in
-        let v : WritesTo (countedTimes D R a τ xs) slice answer after = rw t w in
-        record { answers = rw (eq-eqb _ _ (f .items), le-ltb _ _ g, le-ltb _ _ (f .most), le-ltb _ _ (f .few)) (rw n at (v .answers)); leaves = v .leaves }
+        let p = moments xs ys in
+        let t = timed-only D R a τ p (omega (arith, f .few, moments-length xs ys (f .equal))) in
+        let n : length (countedTimes D R a τ p) ≡ length (counted D R a τ p) = length-map (counted D R a τ p) (timeAt D R) in
+        let v : WritesTo (countedTimes D R a τ p) slice answer after = rw t (rw (moments-drop R xs ys) at w) in
+        record { answers = rw (eq-eqb _ _ (f .items), eq-eqb (length xs) (length ys) (f .equal), g, le-ltb _ _ (f .most), le-ltb _ _ (f .few)) (rw n at (v .answers)); leaves = v .leaves }

@@ -5,11 +5,12 @@ use mathlib.Core.List.{List}
 use native.Mathlib.Omega.{arith}
 use lib.ListN.{length, drop, length-drop}
 use lib.IntN.{ℤ}
+use Rattle.channels.specs.declared.Levels.{Levels}
 use Rattle.limits.proofs.Items.{items, in-time}
 use Rattle.whole.proofs.Judged.{Fitting}
 use Rattle.walk.specs.Walk.{start, Ready}
 
-pub ready : (D R a τ : ℕ) (xs : List ℤ) → Fitting D R a τ (length xs) → Ready D τ start (length (drop R xs))
+pub ready : (D R : ℕ) (a : Levels) (τ : ℕ) (xs : List ℤ) {m : ℕ} → Fitting D R a τ (length xs) m → Ready D τ start (length (drop R xs))
 ready D R a τ xs f =
     let i = items D R a τ (f .items) in
     let k = length xs - 1 - R in

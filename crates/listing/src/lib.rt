@@ -1,18 +1,22 @@
 // The counted times of a whole record, each group's by its first crossing, listed into lent memory. The timed samples are read once, block by block, and a quiet block is passed over. The times
-// found on the way are kept aside, since refusal 7 must know their number before anything is written; only if they are too many is the record read again. Where that is to be expected, and
-// the lent slice has room for half as many times as there are samples, which are the most, they are not counted first.
+// found on the way are kept aside, since refusal 7 must know their number before anything is written; only if they are too many is the record read again. Where that is to be
+// expected, and the lent slice has room for half as many times as there are samples, which are the most, they are not counted first.
 ghost use mathlib.Core.Path.{_≡_};
-ghost use mathlib.Core.Bool.{true};
+ghost use mathlib.Core.Bool.{true, false};
 ghost use mathlib.Core.List.{foldl};
-ghost use Prim.Native.Nat.{_+_, _*_, _≤_};
-ghost use lib.ListN.{length, set, take};
+ghost use Prim.Native.Nat.{_+_, _*_, _≤_, _<_};
+ghost use lib.ListN.{getD, length, set, take};
 ghost use lib.Seq.{paste};
-ghost use Rattle.block.specs.Block.{anyAbove};
-ghost use Rattle.range.specs.Range.{firstBad};
+ghost use Rattle.channels.specs.Channels.{still, moments, anyAbove, anyBad, badSample};
 ghost use Rattle.reading.specs.Reading.{countedTimes};
 ghost use Rattle.walk.specs.Walk.{passed, start, noting, marked, noted, Ready};
+ghost use Rattle.range.specs.Range.{firstBad};
+ghost use Rattle.listing.specs.declared.Listed.the-variants.{Refused};
 ghost use Rattle.listing.specs.Pass.{Passes, Heard};
-ghost use Rattle.listing.specs.Answers.{WritesTo, ListsTimed, ListsTo};
+ghost use Rattle.listing.specs.Answers.{WritesTo, SettlesTo, ListsTo};
+use channels::Levels;
+use channels::Look;
+use channels::Moment;
 use refusal::Refusal;
 use walk::Walk;
 use whole::Size;
@@ -30,10 +34,16 @@ const LOOK: usize = 1_024;
 
 const CROWD: u64 = 256;
 
-// How many groups are counted, or the place of the first bad sample.
+// How many groups are counted; or that a sample is bad.
 enum Found {
     Count(u64),
-    Bad(u64),
+    Bad,
+}
+
+// What the timed samples come to; or that one is bad, and nothing is written.
+enum Settled {
+    Done(Listed),
+    Spoilt,
 }
 
 fn start() -> Walk
@@ -47,7 +57,7 @@ fn start() -> Walk
     }
 }
 
-// The walk after k samples at most the level.
+// The walk after k samples above in neither channel.
 fn passed(step: u64, decorrelation: u64, w: Walk, k: usize) -> Walk
     requires { ⌜ Ready step decorrelation w k ⌝ }
     ensures { λ v. ⌜ v ≡ passed step w k ⌝ }
@@ -71,7 +81,7 @@ fn put(time: u64, place: u64, times: &mut [u32])
     }
 }
 
-// The walk after a sample at which the level is crossed; the time of a group that starts there is put into the next place.
+// The walk after a sample at which a level is crossed; the time of a group that starts there is put into the next place.
 fn crossed(step: u64, decorrelation: u64, w: Walk, times: &mut [u32]) -> Walk
     requires { ⌜ Ready step decorrelation w 1 × (w .below ≡ true) ⌝ }
     ensures { λ v. ⌜ noting v (now (times .exit)) ≡ marked step decorrelation (noting w (now (times .entry))) true ⌝ }
@@ -93,7 +103,7 @@ fn crossed(step: u64, decorrelation: u64, w: Walk, times: &mut [u32]) -> Walk
     }
 }
 
-// The walk after a sample that is above the level or not.
+// The walk after a sample that is above or not.
 fn stepped(step: u64, decorrelation: u64, w: Walk, up: bool, times: &mut [u32]) -> Walk
     requires { ⌜ Ready step decorrelation w 1 ⌝ }
     ensures { λ v. ⌜ noting v (now (times .exit)) ≡ marked step decorrelation (noting w (now (times .entry))) up ⌝ }
@@ -109,64 +119,94 @@ fn stepped(step: u64, decorrelation: u64, w: Walk, up: bool, times: &mut [u32]) 
     }
 }
 
+// What both channels show at a place that they have.
+fn moment(roll: &[i32], acceleration: &[i32], i: usize) -> Moment
+    requires { ⌜ (i < length (now roll)) × (i < length (now acceleration)) ⌝ }
+    ensures { λ x. ⌜ x ≡ getD (moments (now (roll .entry)) (now (acceleration .entry))) i still ⌝ }
+{
+    Moment {
+        roll: roll[i],
+        acceleration: acceleration[i],
+    }
+}
+
 // The walk over a block sample by sample.
 fn along(
     step: u64,
-    level: u64,
+    levels: Levels,
     decorrelation: u64,
     w: Walk,
-    block: &[i32],
+    roll: &[i32],
+    acceleration: &[i32],
     times: &mut [u32],
 ) -> Walk
-    requires { ⌜ Ready step decorrelation w (length (now block)) ⌝ }
-    ensures { λ v. ⌜ noting v (now (times .exit)) ≡ foldl (noted step level decorrelation) (noting w (now (times .entry))) (now (block .entry)) ⌝ }
+    requires { ⌜ Ready step decorrelation w (length (now roll)) × (length (now roll) ≡ length (now acceleration)) ⌝ }
+    ensures { λ v. ⌜ noting v (now (times .exit)) ≡ foldl (noted step levels decorrelation) (noting w (now (times .entry))) (moments (now (roll .entry)) (now (acceleration .entry))) ⌝ }
 {
     let mut v = w;
     let mut i = 0;
-    while i < block.len() {
-        let up = magnitude::above(level, block[i]);
+    while i < roll.len() {
+        let up = channels::above(levels, moment(roll, acceleration, i));
         v = stepped(step, decorrelation, v, up, times);
         i += 1;
     }
     v
 }
 
-// The same, where it is known whether a sample of the block is above the level.
+// The same, where it is known whether a sample of the block is above its level.
 fn advance(
     step: u64,
-    level: u64,
+    levels: Levels,
     decorrelation: u64,
     w: Walk,
     loud: bool,
-    block: &[i32],
+    roll: &[i32],
+    acceleration: &[i32],
     times: &mut [u32],
 ) -> Walk
-    requires { ⌜ Ready step decorrelation w (length (now block)) × (loud ≡ anyAbove level (now block)) × (1 ≤ length (now block)) ⌝ }
-    ensures { λ v. ⌜ noting v (now (times .exit)) ≡ foldl (noted step level decorrelation) (noting w (now (times .entry))) (now (block .entry)) ⌝ }
+    requires { ⌜ Ready step decorrelation w (length (now roll)) × (length (now roll) ≡ length (now acceleration)) × (loud ≡ anyAbove levels (now roll) (now acceleration)) × (1 ≤ length (now roll)) ⌝ }
+    ensures { λ v. ⌜ noting v (now (times .exit)) ≡ foldl (noted step levels decorrelation) (noting w (now (times .entry))) (moments (now (roll .entry)) (now (acceleration .entry))) ⌝ }
 {
     if loud {
-        return along(step, level, decorrelation, w, block, times);
+        return along(step, levels, decorrelation, w, roll, acceleration, times);
     }
-    passed(step, decorrelation, w, block.len())
+    passed(step, decorrelation, w, roll.len())
 }
 
-// The walk over all timed samples, up to the first bad one.
-fn pass(step: u64, level: u64, decorrelation: u64, timed: &[i32], times: &mut [u32]) -> Found
-    requires { ⌜ Ready step decorrelation start (length (now timed)) ⌝ }
-    ensures { λ r. ⌜ Passes step level decorrelation (now (timed .entry)) (now (times .entry)) r (now (times .exit)) ⌝ }
+// The walk over timed samples, block by block, up to one with a bad sample. The ends of a block say whether it has one, and whether a sample is above its level.
+fn pass(
+    step: u64,
+    levels: Levels,
+    decorrelation: u64,
+    roll: &[i32],
+    acceleration: &[i32],
+    times: &mut [u32],
+) -> Found
+    requires { ⌜ Ready step decorrelation start (length (now roll)) × (length (now roll) ≡ length (now acceleration)) ⌝ }
+    ensures { λ r. ⌜ Passes step levels decorrelation (now (roll .entry)) (now (acceleration .entry)) (now (times .entry)) r (now (times .exit)) ⌝ }
 {
     let mut w = start();
     let mut i = 0;
-    while i < timed.len() {
-        let end = block::end(i, timed.len());
-        let part = &timed[i..end];
-        let ends = block::ends_of(part);
-        let bad = range::first_bad_if(range::outside(ends), part);
-        if bad < part.len() {
-            return Found::Bad((i + bad) as u64);
+    while i < roll.len() {
+        let end = block::end(i, roll.len());
+        let rolls = &roll[i..end];
+        let accelerations = &acceleration[i..end];
+        let e = block::ends_of(rolls);
+        let f = block::ends_of(accelerations);
+        if channels::outside(e, f) {
+            return Found::Bad;
         }
-        let loud = block::past(level, ends);
-        w = advance(step, level, decorrelation, w, loud, part, times);
+        let loud = channels::past(levels, e, f);
+        w = advance(
+            step,
+            levels,
+            decorrelation,
+            w,
+            loud,
+            rolls,
+            accelerations,
+            times,
+        );
         i = end;
     }
     Found::Count(w.count)
@@ -187,15 +227,16 @@ fn copy(kept: &[u32], k: usize, times: &mut [u32])
 // Writes the counted times, if there are places for them: those kept aside, if they are all there, else by a second pass.
 fn write(
     step: u64,
-    level: u64,
+    levels: Levels,
     decorrelation: u64,
-    timed: &[i32],
+    roll: &[i32],
+    acceleration: &[i32],
     count: u64,
     kept: &[u32],
     times: &mut [u32],
 ) -> Listed
-    requires { ⌜ Ready step decorrelation start (length (now timed)) × (firstBad (now timed) ≡ length (now timed)) × (count ≡ length (countedTimes step 0 level decorrelation (now timed))) × (count ≤ length (now kept) → take count (now kept) ≡ countedTimes step 0 level decorrelation (now timed)) ⌝ }
-    ensures { λ r. ⌜ WritesTo (countedTimes step 0 level decorrelation (now (timed .entry))) (now (times .entry)) r (now (times .exit)) ⌝ }
+    requires { ⌜ Ready step decorrelation start (length (now roll)) × (length (now roll) ≡ length (now acceleration)) × (anyBad (now roll) (now acceleration) ≡ false) × (count ≡ length (countedTimes step 0 levels decorrelation (moments (now roll) (now acceleration)))) × (count ≤ length (now kept) → take count (now kept) ≡ countedTimes step 0 levels decorrelation (moments (now roll) (now acceleration))) ⌝ }
+    ensures { λ r. ⌜ WritesTo (countedTimes step 0 levels decorrelation (moments (now (roll .entry)) (now (acceleration .entry)))) (now (times .entry)) r (now (times .exit)) ⌝ }
 {
     if (times.len() as u64) < count {
         return Listed::Refused(Refusal::Room(count));
@@ -204,36 +245,23 @@ fn write(
         copy(kept, count as usize, times);
         return Listed::Times(count);
     }
-    pass(step, level, decorrelation, timed, times);
+    pass(step, levels, decorrelation, roll, acceleration, times);
     Listed::Times(count)
 }
 
-// What the first pass, which noted into `kept`, comes to.
-fn settle(
-    step: u64,
-    ramp: u64,
-    level: u64,
-    decorrelation: u64,
-    timed: &[i32],
-    found: Found,
-    kept: &[u32],
-    times: &mut [u32],
-) -> Listed
-    requires { ⌜ Ready step decorrelation start (length (now timed)) × (ramp ≤ 1000000) × Heard step level decorrelation (now timed) found (now kept) ⌝ }
-    ensures { λ r. ⌜ ListsTimed step ramp level decorrelation (now (timed .entry)) (now (times .entry)) r (now (times .exit)) ⌝ }
-{
-    match found {
-        Found::Bad(k) => Listed::Refused(Refusal::Sample(ramp + k)),
-        Found::Count(n) => write(step, level, decorrelation, timed, n, kept, times),
-    }
-}
-
 // Whether the times are written straight into a slice of so many places. Room for half as many as samples it must have; the rest is a guess, on which only the time that it takes depends.
-fn straightway(step: u64, level: u64, decorrelation: u64, timed: &[i32], places: usize) -> bool
-    requires { ⌜ Ready step decorrelation start (length (now timed)) ⌝ }
-    ensures { λ r. ⌜ (r ≡ true → length (now (timed .entry)) ≤ 2 * places + 1) ⌝ }
+fn straightway(
+    step: u64,
+    levels: Levels,
+    decorrelation: u64,
+    roll: &[i32],
+    acceleration: &[i32],
+    places: usize,
+) -> bool
+    requires { ⌜ Ready step decorrelation start (length (now roll)) × (length (now roll) ≡ length (now acceleration)) ⌝ }
+    ensures { λ r. ⌜ (r ≡ true → length (now (roll .entry)) ≤ 2 * places + 1) ⌝ }
 {
-    let half = timed.len() / 2;
+    let half = roll.len() / 2;
     if half <= KEPT {
         return false;
     }
@@ -243,9 +271,10 @@ fn straightway(step: u64, level: u64, decorrelation: u64, timed: &[i32], places:
     let mut first = [0u32; 1];
     let found = pass(
         step,
-        level,
+        levels,
         decorrelation,
-        &timed[half..half + LOOK],
+        &roll[half..half + LOOK],
+        &acceleration[half..half + LOOK],
         &mut first,
     );
     if let Found::Count(n) = found {
@@ -254,66 +283,135 @@ fn straightway(step: u64, level: u64, decorrelation: u64, timed: &[i32], places:
     false
 }
 
-// The timed samples, listed into a slice with room for all times there can be: only refusal 2 can come.
+// What the first pass, which noted into `kept`, comes to.
+fn settle(
+    step: u64,
+    levels: Levels,
+    decorrelation: u64,
+    roll: &[i32],
+    acceleration: &[i32],
+    found: Found,
+    kept: &[u32],
+    times: &mut [u32],
+) -> Settled
+    requires { ⌜ Ready step decorrelation start (length (now roll)) × (length (now roll) ≡ length (now acceleration)) × Heard step levels decorrelation (now roll) (now acceleration) found (now kept) ⌝ }
+    ensures { λ r. ⌜ SettlesTo step levels decorrelation (now (roll .entry)) (now (acceleration .entry)) (now (times .entry)) r (now (times .exit)) ⌝ }
+{
+    match found {
+        Found::Bad => Settled::Spoilt,
+        Found::Count(n) => Settled::Done(write(
+            step,
+            levels,
+            decorrelation,
+            roll,
+            acceleration,
+            n,
+            kept,
+            times,
+        )),
+    }
+}
+
+// The timed samples, listed into a slice with room for all times there can be.
 fn straight(
     step: u64,
-    ramp: u64,
-    level: u64,
+    levels: Levels,
     decorrelation: u64,
-    timed: &[i32],
+    roll: &[i32],
+    acceleration: &[i32],
     times: &mut [u32],
-) -> Listed
-    requires { ⌜ Ready step decorrelation start (length (now timed)) × (ramp ≤ 1000000) × (length (now timed) ≤ 2 * length (now times) + 1) ⌝ }
-    ensures { λ r. ⌜ ListsTimed step ramp level decorrelation (now (timed .entry)) (now (times .entry)) r (now (times .exit)) ⌝ }
+) -> Settled
+    requires { ⌜ Ready step decorrelation start (length (now roll)) × (length (now roll) ≡ length (now acceleration)) × (length (now roll) ≤ 2 * length (now times) + 1) ⌝ }
+    ensures { λ r. ⌜ SettlesTo step levels decorrelation (now (roll .entry)) (now (acceleration .entry)) (now (times .entry)) r (now (times .exit)) ⌝ }
 {
-    let bad = range::first_bad(timed);
-    if bad < timed.len() {
-        return Listed::Refused(Refusal::Sample(ramp + bad as u64));
+    let look = channels::look_over(roll, acceleration);
+    if let Look::Bad(_) = look {
+        return Settled::Spoilt;
     }
-    let w = along(step, level, decorrelation, start(), timed, times);
-    Listed::Times(w.count)
+    let w = along(
+        step,
+        levels,
+        decorrelation,
+        start(),
+        roll,
+        acceleration,
+        times,
+    );
+    Settled::Done(Listed::Times(w.count))
 }
 
 // The timed samples, listed.
 fn list_timed(
     step: u64,
-    ramp: u64,
-    level: u64,
+    levels: Levels,
     decorrelation: u64,
-    timed: &[i32],
+    roll: &[i32],
+    acceleration: &[i32],
     times: &mut [u32],
-) -> Listed
-    requires { ⌜ Ready step decorrelation start (length (now timed)) × (ramp ≤ 1000000) ⌝ }
-    ensures { λ r. ⌜ ListsTimed step ramp level decorrelation (now (timed .entry)) (now (times .entry)) r (now (times .exit)) ⌝ }
+) -> Settled
+    requires { ⌜ Ready step decorrelation start (length (now roll)) × (length (now roll) ≡ length (now acceleration)) ⌝ }
+    ensures { λ r. ⌜ SettlesTo step levels decorrelation (now (roll .entry)) (now (acceleration .entry)) (now (times .entry)) r (now (times .exit)) ⌝ }
 {
-    if straightway(step, level, decorrelation, timed, times.len()) {
-        return straight(step, ramp, level, decorrelation, timed, times);
+    if straightway(step, levels, decorrelation, roll, acceleration, times.len()) {
+        return straight(step, levels, decorrelation, roll, acceleration, times);
     }
     let mut kept = [0u32; KEPT];
-    let found = pass(step, level, decorrelation, timed, &mut kept);
-    settle(step, ramp, level, decorrelation, timed, found, &kept, times)
+    let found = pass(step, levels, decorrelation, roll, acceleration, &mut kept);
+    settle(
+        step,
+        levels,
+        decorrelation,
+        roll,
+        acceleration,
+        found,
+        &kept,
+        times,
+    )
 }
 
-// A whole record at once: the counted times, in order, from the start of `times`, whose rest stays, and their number; or refusal 1, 2, 3, 4
+// Refusal 2 of a record that has a bad sample, which is looked for from its start.
+fn fault(roll: &[i32], acceleration: &[i32]) -> Listed
+    ensures { λ r. ⌜ (anyBad (now (roll .entry)) (now (acceleration .entry)) ≡ true → r ≡ Refused (badSample (firstBad (now (roll .entry))) (firstBad (now (acceleration .entry))))) ⌝ }
+{
+    let look = channels::look_over(roll, acceleration);
+    if let Look::Bad(f) = look {
+        return Listed::Refused(f);
+    }
+    Listed::Refused(Refusal::TooShort)
+}
+
+// A whole record at once: the counted times, in order, from the start of `times`, whose rest stays, and their number; or refusal 1, 12, 2, 3, 4
 // or 7 with the places needed, and `times` as it stood.
 pub fn list(
     step: u64,
     ramp: u64,
-    level: u64,
+    levels: Levels,
     decorrelation: u64,
-    samples: &[i32],
+    roll: &[i32],
+    acceleration: &[i32],
     times: &mut [u32],
 ) -> Listed
-    ensures { λ r. ⌜ ListsTo step ramp level decorrelation (now (samples .entry)) (now (times .entry)) r (now (times .exit)) ⌝ }
+    ensures { λ r. ⌜ ListsTo step ramp levels decorrelation (now (roll .entry)) (now (acceleration .entry)) (now (times .entry)) r (now (times .exit)) ⌝ }
 {
-    let size = whole::judge(step, ramp, level, decorrelation, samples);
+    let size = whole::judge(step, ramp, levels, decorrelation, roll, acceleration);
     if let Size::Refused(f) = size {
         return Listed::Refused(f);
     }
     let from = ramp as usize;
-    let bad = range::first_bad(&samples[..from]);
-    if bad < from {
-        return Listed::Refused(Refusal::Sample(bad as u64));
+    let look = channels::look_over(&roll[..from], &acceleration[..from]);
+    if let Look::Bad(_) = look {
+        return fault(roll, acceleration);
     }
-    list_timed(step, ramp, level, decorrelation, &samples[from..], times)
+    let settled = list_timed(
+        step,
+        levels,
+        decorrelation,
+        &roll[from..],
+        &acceleration[from..],
+        times,
+    );
+    match settled {
+        Settled::Done(l) => l,
+        Settled::Spoilt => fault(roll, acceleration),
+    }
 }

@@ -8,6 +8,7 @@ ghost use mathlib.Core.Bool.{true};
 ghost use Prim.Native.Nat.{_+_, _≤_, _<_};
 ghost use lib.ListN.{length};
 ghost use Rattle.peaks.specs.Kept.{keptBy};
+use channels::Levels;
 use comma::Line;
 use decimal::Lead;
 use envelope::Found;
@@ -343,7 +344,11 @@ fn run() -> u8 {
         ramp: item(2),
         decorrelation: item(3),
     };
-    let outside = limits::item_outside(items.step, items.ramp, 1, items.decorrelation);
+    let levels = Levels {
+        roll: 1,
+        acceleration: 1,
+    };
+    let outside = limits::item_outside(items.step, items.ramp, levels, items.decorrelation);
     if outside != 0 {
         return refused(0, Refusal::Item(outside));
     }

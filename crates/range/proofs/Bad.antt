@@ -92,11 +92,3 @@ neither false c = refl
 
 pub ends-bad : (p : List ℤ) → not (sampleInRange (lowest p) && sampleInRange (highest p)) ≡ anyAbove sampleLimit p
 ends-bad p = neither (sampleInRange (lowest p)) (sampleInRange (highest p)) ∙ rw (turned (natAbs (lowest p)), turned (natAbs (highest p))) (ends-say sampleLimit p)
-
--- where they are in range, no sample need be looked at
-pub if-outside : (p : List ℤ) {outside : Bool} → outside ≡ anyAbove sampleLimit p → cond outside (firstBad p) (length p) ≡ firstBad p
-if-outside p {outside} e = go outside e
-  where
-    go : (b : Bool) → b ≡ anyAbove sampleLimit p → cond b (firstBad p) (length p) ≡ firstBad p
-    go true q = refl
-    go false q = sym (quiet-good p (sym q))

@@ -1,9 +1,8 @@
 -- Two answers that a promise allows are the same answer: each promise is an equation. Assumes nothing.
 use Prim.Native.Nat.{ℕ}
 use mathlib.Core.Path.{_≡_, sym, _∙_}
-use mathlib.Core.Bool.{Bool, cond, not, _&&_}
+use mathlib.Core.Bool.{Bool, not, _&&_}
 use mathlib.Core.List.{List}
-use lib.ListN.{length}
 use lib.IntN.{ℤ}
 use Rattle.block.specs.declared.Ends.{Ends}
 use Rattle.range.specs.Range.{sampleInRange, firstBad}
@@ -16,6 +15,3 @@ outside-unique z x y e f = e ∙ sym f
 
 pub first-bad-unique : (xs : List ℤ) (x y : ℕ) → x ≡ firstBad xs → y ≡ firstBad xs → x ≡ y
 first-bad-unique xs x y e f = e ∙ sym f
-
-pub first-bad-if-unique : (b : Bool) (xs : List ℤ) (x y : ℕ) → x ≡ cond b (firstBad xs) (length xs) → y ≡ cond b (firstBad xs) (length xs) → x ≡ y
-first-bad-if-unique b xs x y e f = e ∙ sym f

@@ -1,7 +1,6 @@
 // The range of a sample, and the first of several that is outside it.
 ghost use mathlib.Core.Path.{_≡_};
-ghost use mathlib.Core.Bool.{cond, not, _&&_};
-ghost use lib.ListN.{length};
+ghost use mathlib.Core.Bool.{not, _&&_};
 ghost use Rattle.range.specs.Range.{sampleInRange, firstBad};
 use block::Ends;
 
@@ -52,15 +51,4 @@ pub fn first_bad(samples: &[i32]) -> usize
         i = end;
     }
     i
-}
-
-// The same where a sample may be bad; the length, with no sample looked at, where it is known that none is.
-pub fn first_bad_if(doubtful: bool, samples: &[i32]) -> usize
-    ensures { λ r. ⌜ r ≡ cond doubtful (firstBad (now (samples .entry))) (length (now (samples .entry))) ⌝ }
-{
-    if doubtful {
-        first_bad(samples)
-    } else {
-        samples.len()
-    }
 }

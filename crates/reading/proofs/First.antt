@@ -6,13 +6,14 @@ use mathlib.Core.List.{List, [], _∷_}
 use native.Mathlib.Omega.{arith}
 use lib.ListN.{length}
 use lib.Dec.{ltb, eqb}
-use lib.IntN.{ℤ}
 use borrow.Author.Tests.{ltb-true, ltb-false, le-ltb, eqb-true, not-false}
+use Rattle.channels.specs.declared.Levels.{Levels}
+use Rattle.channels.specs.declared.Moment.{Moment}
 use Rattle.reading.specs.Reading.{sampleAt, rises, crossesAt, passing, crossings, firstOf}
 use Rattle.truth.proofs.Laws.{true≢false, and-true}
 
 -- no crossing stands in the ramp, nor at its first timed sample
-pub ramp-none : (R a : ℕ) (xs : List ℤ) (k : ℕ) → k ≤ R → crossesAt R a xs k ≡ false
+pub ramp-none : (R : ℕ) (a : Levels) (xs : List Moment) (k : ℕ) → k ≤ R → crossesAt R a xs k ≡ false
 ramp-none R a xs k h = rw (le-ltb R k h)
 
 after : (k i : ℕ) → k ≤ i → (k ≡ i → ⊥) → k + 1 ≤ i
@@ -63,7 +64,7 @@ module _ (f : ℕ → Bool) where
       go false t e i = let j = i e in (j .0, omega (arith, j .1))
 
 -- where there is a crossing, the default does not matter, and 0, which is no place of a crossing, says that there is none
-module _ (R a : ℕ) (xs : List ℤ) where
+module _ (R : ℕ) (a : Levels) (xs : List Moment) where
   abbrev Searched : List ℕ → Type 0
   Searched cs = (not (eqb (firstOf 0 cs) 0) ≡ true → (firstOf (length xs) cs ≡ firstOf 0 cs) × (firstOf 0 cs < length xs)) × (not (eqb (firstOf 0 cs) 0) ≡ false → firstOf (length xs) cs ≡ length xs)
 

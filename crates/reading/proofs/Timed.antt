@@ -8,8 +8,10 @@ use native.Mathlib.Nat.{zero-add, add-zero}
 use native.Mathlib.Omega.{arith}
 use lib.ListN.{length, drop, length-drop}
 use lib.Dec.{ltb, leb}
-use lib.IntN.{ℤ, pos}
 use borrow.Author.Tests.{ltb-true, ltb-false, lt-ltb, le-ltb, le-leb}
+use Rattle.channels.specs.declared.Levels.{Levels}
+use Rattle.channels.specs.declared.Moment.{Moment}
+use Rattle.channels.specs.Channels.{still}
 use Rattle.largest.specs.Walk.{since}
 use Rattle.groups.specs.Groups.{near, groups, firsts}
 use Rattle.groups.proofs.Starts.{starts, begin, firsts-begin}
@@ -53,7 +55,7 @@ skip f (suc m) k n {all} e h =
     let i : k + 1 + m ≡ k + suc m = omega arith in
     rw d (pass-by f k (m + n) (h k (omega arith)) ∙ skip f m (k + 1) n refl (λ j l. h j (omega arith)) ∙ ap (λ (i : ℕ). passing f i n) i)
 
-module _ (D R a : ℕ) where
+module _ (D R : ℕ) (a : Levels) where
   after-ramp : (j : ℕ) → ltb R (R + j) ≡ ltb 0 j
   after-ramp j = go (ltb 0 j) refl
     where
@@ -62,7 +64,7 @@ module _ (D R a : ℕ) where
       go false e = le-ltb R (R + j) (omega (arith, ltb-false 0 j e))
 
   -- a crossing j samples after the ramp stands at the moment of sample j
-  shifted : (j : ℕ) (before : ℤ) (ys : List ℤ) {i : ℕ} → i ≡ R + j → map (timeAt D R) (placesFrom R a i before ys) ≡ map (timeAt D 0) (placesFrom 0 a j before ys)
+  shifted : (j : ℕ) (before : Moment) (ys : List Moment) {i : ℕ} → i ≡ R + j → map (timeAt D R) (placesFrom R a i before ys) ≡ map (timeAt D 0) (placesFrom 0 a j before ys)
   unfolding placesFrom
   shifted j before [] e = refl
   shifted j before (y ∷ ys) {i} e =
@@ -75,13 +77,13 @@ module _ (D R a : ℕ) where
       go true t r = rw (t, r)
       go false t r = r
 
-  crossing-times : (xs : List ℤ) → R ≤ length xs → map (timeAt D R) (crossings R a xs) ≡ map (timeAt D 0) (crossings 0 a (drop R xs))
+  crossing-times : (xs : List Moment) → R ≤ length xs → map (timeAt D R) (crossings R a xs) ≡ map (timeAt D 0) (crossings 0 a (drop R xs))
   crossing-times xs l =
       let n : length xs ≡ R + length (drop R xs) = omega (arith, length-drop R xs) in
       let s : passing (crossesAt R a xs) (0 + R) (length (drop R xs)) ≡ passing (crossesAt R a xs) R (length (drop R xs)) = ap (λ (i : ℕ). passing (crossesAt R a xs) i (length (drop R xs))) (zero-add R) in
-      ap (map (timeAt D R)) (skip (crossesAt R a xs) R 0 (length (drop R xs)) n (λ j h. ramp-none R a xs j (omega arith)) ∙ s ∙ sym (scan R a xs R (pos 0) (drop R xs) refl (λ t. absurd (omega (arith, ltb-true R R t)))))
-      ∙ shifted 0 (pos 0) (drop R xs) (omega arith)
+      ap (map (timeAt D R)) (skip (crossesAt R a xs) R 0 (length (drop R xs)) n (λ j h. ramp-none R a xs j (omega arith)) ∙ s ∙ sym (scan R a xs R still (drop R xs) refl (λ t. absurd (omega (arith, ltb-true R R t)))))
+      ∙ shifted 0 still (drop R xs) (omega arith)
       ∙ ap (map (timeAt D 0)) (places-whole 0 a (drop R xs))
 
-  pub timed-only : (τ : ℕ) (xs : List ℤ) → R ≤ length xs → countedTimes D R a τ xs ≡ countedTimes D 0 a τ (drop R xs)
+  pub timed-only : (τ : ℕ) (xs : List Moment) → R ≤ length xs → countedTimes D R a τ xs ≡ countedTimes D 0 a τ (drop R xs)
   timed-only τ xs l = counted-from (timeAt D R) τ (crossings R a xs) ∙ ap (from τ 0) (crossing-times xs l) ∙ sym (counted-from (timeAt D 0) τ (crossings 0 a (drop R xs)))

@@ -2,10 +2,12 @@
 // passes over samples share.
 ghost use mathlib.Core.Path.{_≡_};
 ghost use Rattle.reading.specs.Reading.{rises};
+use channels::Levels;
+use channels::Moment;
 
-// Whether the level is crossed from x to y.
-pub fn rises(level: u64, x: i32, y: i32) -> bool
-    ensures { λ k. ⌜ k ≡ rises level x y ⌝ }
+// Whether a level is crossed from x to y.
+pub fn rises(levels: Levels, x: Moment, y: Moment) -> bool
+    ensures { λ k. ⌜ k ≡ rises levels x y ⌝ }
 {
-    truth::both(!magnitude::above(level, x), magnitude::above(level, y))
+    truth::both(!channels::above(levels, x), channels::above(levels, y))
 }

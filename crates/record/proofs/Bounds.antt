@@ -9,15 +9,15 @@ use Rattle.limits.specs.Limits.{mostSamples, mostInRange}
 use Rattle.limits.proofs.Items.{Items, items, most-in-range, most-small}
 use Rattle.record.proofs.Relations.{None, Failure, Kept}
 
-pub items-of : {r : Record} → Kept r → Items (r .step) (r .ramp) (r .level) (r .decorrelation)
-items-of {r} k = items (r .step) (r .ramp) (r .level) (r .decorrelation) (k .outside)
+pub items-of : {r : Record} → Kept r → Items (r .step) (r .ramp) (r .levels) (r .decorrelation)
+items-of {r} k = items (r .step) (r .ramp) (r .levels) (r .decorrelation) (k .outside)
 
 -- the longest record, in samples
 pub small : {r : Record} → Kept r → mostSamples (r .step) (r .ramp) ≤ 11000001
 small k = most-small (items-of k)
 
 pub most-of : {r : Record} → Kept r → mostInRange (r .step) (r .ramp) ≡ mostSamples (r .step) (r .ramp)
-most-of {r} k = most-in-range (r .step) (r .ramp) (r .level) (r .decorrelation) (k .outside)
+most-of {r} k = most-in-range (r .step) (r .ramp) (r .levels) (r .decorrelation) (k .outside)
 
 -- a state with a crossing has a first failure
 pub failure : {r : Record} → Kept r → (r .crossings ≡ 0 → ⊥) → Failure r

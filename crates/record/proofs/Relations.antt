@@ -5,12 +5,11 @@ use mathlib.Core.Bool.{Bool, true, false, cond, not, _&&_, _||_}
 use mathlib.Core.Logic.{_⊎_, inl, inr}
 use native.Mathlib.Omega.{arith}
 use lib.Dec.{eqb, leb, ltb}
-use lib.IntN.{natAbs}
 use borrow.Author.Tests.{leb-true, ltb-true, eqb-true, le-leb, lt-ltb, eq-eqb, ne-eqb}
 use Rattle.record.specs.declared.Record.{Record}
+use Rattle.channels.specs.Channels.{inRange}
 use Rattle.limits.specs.Limits.{itemOutside, mostSamples}
-use Rattle.range.specs.Range.{sampleInRange}
-use Rattle.record.specs.State.{sound, itemsKept, lastKept, lengthKept, countsKept, figuresKept, failureKept, groupsKept, noneKept, noGroups}
+use Rattle.record.specs.State.{sound, isStill, itemsKept, lastKept, lengthKept, countsKept, figuresKept, failureKept, groupsKept, noneKept, noGroups}
 use Rattle.truth.proofs.Laws.{and-true, both-true}
 
 pub record None (r : Record) : Type 0 where
@@ -34,19 +33,19 @@ pub record Failure (r : Record) : Type 0 where
 
 -- the relations, as facts
 pub record Kept (r : Record) : Type 0 where
-  pub outside : itemOutside (r .step) (r .ramp) (r .level) (r .decorrelation) ≡ 0
-  pub range : sampleInRange (r .last) ≡ true
-  pub fresh : r .n ≡ 0 → natAbs (r .last) ≡ 0
+  pub outside : itemOutside (r .step) (r .ramp) (r .levels) (r .decorrelation) ≡ 0
+  pub range : inRange (r .last) ≡ true
+  pub fresh : r .n ≡ 0 → isStill (r .last) ≡ true
   pub length : r .n ≤ mostSamples (r .step) (r .ramp)
   pub counts : r .largest ≤ r .crossings
   pub figures : None r ⊎ Failure r
 
-implied : (n m : ℕ) → (not (eqb n 0) || eqb m 0) ≡ true → n ≡ 0 → m ≡ 0
-implied n m e z = eqb-true m 0 (rw (eq-eqb n 0 z) at e)
+implied : (n : ℕ) (s : Bool) → (not (eqb n 0) || s) ≡ true → n ≡ 0 → s ≡ true
+implied n s e z = rw (eq-eqb n 0 z) at e
 
-imply : (n m : ℕ) (b : Bool) → eqb n 0 ≡ b → (n ≡ 0 → m ≡ 0) → (not b || eqb m 0) ≡ true
-imply n m true e f = eq-eqb m 0 (f (eqb-true n 0 e))
-imply n m false e f = refl
+imply : (n : ℕ) (s b : Bool) → eqb n 0 ≡ b → (n ≡ 0 → s ≡ true) → (not b || s) ≡ true
+imply n s true e f = f (eqb-true n 0 e)
+imply n s false e f = refl
 
 module _ (r : Record) where
   none-from : eqb (r .first) 0 ≡ true → noneKept r ≡ true → noGroups r ≡ true → None r
@@ -101,11 +100,11 @@ module _ (r : Record) where
       let e₂ = and-true (lastKept r) (lengthKept r && (countsKept r && figuresKept r)) (e₁ .1) in
       let e₃ = and-true (lengthKept r) (countsKept r && figuresKept r) (e₂ .1) in
       let e₄ = and-true (countsKept r) (figuresKept r) (e₃ .1) in
-      let l = and-true (sampleInRange (r .last)) (not (eqb (r .n) 0) || eqb (natAbs (r .last)) 0) (e₂ .0) in
+      let l = and-true (inRange (r .last)) (not (eqb (r .n) 0) || isStill (r .last)) (e₂ .0) in
       record {
         outside = eqb-true _ 0 (e₁ .0);
         range = l .0;
-        fresh = implied (r .n) (natAbs (r .last)) (l .1);
+        fresh = implied (r .n) (isStill (r .last)) (l .1);
         length = leb-true _ _ (e₃ .0);
         counts = leb-true _ _ (e₄ .0);
         figures = figures-from (eqb (r .first) 0) refl (e₄ .1);
@@ -131,5 +130,5 @@ module _ (r : Record) where
   unfolding sound
   kept-sound k =
       both-true (eq-eqb _ 0 (k .outside))
-      (both-true (both-true (k .range) (imply (r .n) (natAbs (r .last)) (eqb (r .n) 0) refl (k .fresh)))
+      (both-true (both-true (k .range) (imply (r .n) (isStill (r .last)) (eqb (r .n) 0) refl (k .fresh)))
       (both-true (le-leb (r .n) (mostSamples (r .step) (r .ramp)) (k .length)) (both-true (le-leb (r .largest) (r .crossings) (k .counts)) (figures-kept (k .figures)))))

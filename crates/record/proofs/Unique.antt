@@ -3,12 +3,13 @@
 use Prim.Native.Nat.{ℕ}
 use mathlib.Core.Path.{_≡_, sym, _∙_}
 use mathlib.Core.Bool.{Bool}
+use Rattle.channels.specs.declared.Levels.{Levels}
 use Rattle.record.specs.declared.Record.{Record}
 use Rattle.record.specs.declared.Answer.{Answer}
 use Rattle.record.specs.State.{sound}
 use Rattle.record.specs.Answers.{opened}
 
-pub open-unique : (D R a τ : ℕ) (x y : Answer) → x ≡ opened D R a τ → y ≡ opened D R a τ → x ≡ y
+pub open-unique : (D R : ℕ) (a : Levels) (τ : ℕ) (x y : Answer) → x ≡ opened D R a τ → y ≡ opened D R a τ → x ≡ y
 open-unique D R a τ x y e f = e ∙ sym f
 
 pub sound-unique : (r : Record) (x y : Bool) → x ≡ sound r → y ≡ sound r → x ≡ y

@@ -4,13 +4,14 @@ use mathlib.Core.Bool.{cond}
 use mathlib.Core.List.{[]}
 use lib.Dec.{eqb}
 use Rattle.refusal.specs.declared.Refusal.the-variants.{Item}
+use Rattle.channels.specs.declared.Levels.{Levels}
 use Rattle.limits.specs.Limits.{itemOutside}
 use Rattle.record.specs.declared.Answer.{Answer}
 use Rattle.record.specs.declared.Answer.the-variants.{Taken, Refused}
 use Rattle.record.specs.State.{stateOf}
 
 -- Opening 1: the lowest item outside its range, or the state of no samples
-unfoldable pub opened : ℕ → ℕ → ℕ → ℕ → Answer
+unfoldable pub opened : ℕ → ℕ → Levels → ℕ → Answer
 opened D R a τ =
     cond (eqb (itemOutside D R a τ) 0)
     (Taken (stateOf D R a τ []))

@@ -1,26 +1,28 @@
 -- What is kept of a record between two pieces: the state of a list of samples, document 01's "Relations for 8" sentence by sentence, those that document 02's
--- [5] adds, and what closing reads off a state. Assumes nothing.
+-- [5] and [8] add, and what closing reads off a state. Assumes nothing.
 use Prim.Native.Nat.{ℕ, _-_}
 use mathlib.Core.Bool.{Bool, cond, not, _&&_, _||_}
 use mathlib.Core.List.{List}
 use lib.ListN.{length}
 use lib.Dec.{ltb, leb, eqb}
-use lib.IntN.{ℤ, pos, natAbs}
+use lib.IntN.{natAbs}
+use Rattle.channels.specs.declared.Levels.{Levels}
+use Rattle.channels.specs.declared.Moment.{Moment}
+use Rattle.channels.specs.Channels.{still, inRange}
 use Rattle.limits.specs.Limits.{itemOutside, mostSamples}
-use Rattle.range.specs.Range.{sampleInRange}
 use Rattle.reading.specs.Reading.{timeAt, crossings, lastOf, firstCrossing, groups, largestSet, fullTime, tooFew}
 use Rattle.record.specs.declared.Record.{Record}
 
 -- the state of the samples xs: "Reading a record", figure by figure
-unfoldable pub stateOf : ℕ → ℕ → ℕ → ℕ → List ℤ → Record
+unfoldable pub stateOf : ℕ → ℕ → Levels → ℕ → List Moment → Record
 stateOf D R a τ xs =
     record {
       step = D;
       ramp = R;
-      level = a;
+      levels = a;
       decorrelation = τ;
       n = length xs;
-      last = lastOf (pos 0) xs;
+      last = lastOf still xs;
       crossings = length (crossings R a xs);
       largest = length (largestSet D R a τ xs);
       first = firstCrossing 0 R a xs;
@@ -36,11 +38,15 @@ failed r = not (eqb (r .first) 0)
 
 -- items in range
 abbrev pub itemsKept : Record → Bool
-itemsKept r = eqb (itemOutside (r .step) (r .ramp) (r .level) (r .decorrelation)) 0
+itemsKept r = eqb (itemOutside (r .step) (r .ramp) (r .levels) (r .decorrelation)) 0
+
+-- a sample is 0 in both channels
+abbrev pub isStill : Moment → Bool
+isStill x = eqb (natAbs (x .roll)) 0 && eqb (natAbs (x .acceleration)) 0
 
 -- the sample kept for the next piece is one that may be handed in; before the first it is 0
 abbrev pub lastKept : Record → Bool
-lastKept r = sampleInRange (r .last) && (not (eqb (r .n) 0) || eqb (natAbs (r .last)) 0)
+lastKept r = inRange (r .last) && (not (eqb (r .n) 0) || isStill (r .last))
 
 -- no more samples than refusal 3 lets through
 abbrev pub lengthKept : Record → Bool

@@ -1,21 +1,24 @@
-// A record: one channel of samples at a fixed step, with a level, a ramp and a decorrelation time; what is kept of it between two pieces, and its opening.
+// A record: two channels of samples at a fixed step, roll and acceleration, with a level each, a ramp and a decorrelation time; what is kept of it between two pieces, and its opening.
 // A state goes in by value and comes back in an answer, so a refusal leaves the caller's as it stood.
 ghost use mathlib.Core.Path.{_≡_};
 ghost use mathlib.Core.List.{[]};
 ghost use Prim.Native.Nat.{_-_};
-ghost use Rattle.record.specs.State.{stateOf, lastKept, noneKept, noGroups, failureKept, groupsKept, figuresKept, sound};
+ghost use Rattle.channels.specs.Channels.{inRange};
+ghost use Rattle.record.specs.State.{stateOf, isStill, lastKept, noneKept, noGroups, failureKept, groupsKept, figuresKept, sound};
 ghost use Rattle.record.specs.Answers.{opened};
+use channels::Levels;
+use channels::Moment;
 use refusal::Refusal;
 
-// The four items, how many samples came and the last of them, and the figures so far: the crossings, the largest set of them, the groups. `first`, `latest` and
+// The items, how many samples came and the last of both channels, and the figures so far: the crossings, the largest set of them, the groups. `first`, `latest` and
 // `recent` are places of samples, those of the first crossing, of the largest set's last and of the last crossing; places without a meaning yet hold 0.
 pub struct Record {
     pub step: u64,
     pub ramp: u64,
-    pub level: u64,
+    pub levels: Levels,
     pub decorrelation: u64,
     pub n: u64,
-    pub last: i32,
+    pub last: Moment,
     pub crossings: u64,
     pub largest: u64,
     pub first: u64,
@@ -30,16 +33,19 @@ pub enum Answer {
 }
 
 // The state of no samples.
-fn fresh(step: u64, ramp: u64, level: u64, decorrelation: u64) -> Record
-    ensures { λ r. ⌜ r ≡ stateOf step ramp level decorrelation [] ⌝ }
+fn fresh(step: u64, ramp: u64, levels: Levels, decorrelation: u64) -> Record
+    ensures { λ r. ⌜ r ≡ stateOf step ramp levels decorrelation [] ⌝ }
 {
     Record {
         step,
         ramp,
-        level,
+        levels,
         decorrelation,
         n: 0,
-        last: 0,
+        last: Moment {
+            roll: 0,
+            acceleration: 0,
+        },
         crossings: 0,
         largest: 0,
         first: 0,
@@ -50,12 +56,12 @@ fn fresh(step: u64, ramp: u64, level: u64, decorrelation: u64) -> Record
 }
 
 // The fresh record, or refusal 1 with the lowest item outside its range.
-pub fn open(step: u64, ramp: u64, level: u64, decorrelation: u64) -> Answer
-    ensures { λ r. ⌜ r ≡ opened step ramp level decorrelation ⌝ }
+pub fn open(step: u64, ramp: u64, levels: Levels, decorrelation: u64) -> Answer
+    ensures { λ r. ⌜ r ≡ opened step ramp levels decorrelation ⌝ }
 {
-    let item = limits::item_outside(step, ramp, level, decorrelation);
+    let item = limits::item_outside(step, ramp, levels, decorrelation);
     if item == 0 {
-        Answer::Taken(fresh(step, ramp, level, decorrelation))
+        Answer::Taken(fresh(step, ramp, levels, decorrelation))
     } else {
         Answer::Refused(Refusal::Item(item))
     }
@@ -68,13 +74,29 @@ fn spans(ramp: u64, n: u64) -> u64
     if ramp < n { n - 1 - ramp } else { 0 }
 }
 
+// Whether a sample is in range in both channels.
+fn both_in_range(x: Moment) -> bool
+    ensures { λ k. ⌜ k ≡ inRange x ⌝ }
+{
+    truth::both(range::in_range(x.roll), range::in_range(x.acceleration))
+}
+
+// Whether it is 0 in both.
+fn both_zero(x: Moment) -> bool
+    ensures { λ k. ⌜ k ≡ isStill x ⌝ }
+{
+    truth::both(
+        magnitude::magnitude(x.roll) == 0,
+        magnitude::magnitude(x.acceleration) == 0,
+    )
+}
+
 fn last_kept(r: Record) -> bool
     ensures { λ k. ⌜ k ≡ lastKept r ⌝ }
 {
-    let last = r.last;
     truth::both(
-        range::in_range(last),
-        truth::either(r.n != 0, magnitude::magnitude(last) == 0),
+        both_in_range(r.last),
+        truth::either(r.n != 0, both_zero(r.last)),
     )
 }
 
@@ -131,7 +153,7 @@ fn figures_kept(r: Record) -> bool
 pub fn sound(r: Record) -> bool
     ensures { λ k. ⌜ k ≡ sound r ⌝ }
 {
-    if limits::item_outside(r.step, r.ramp, r.level, r.decorrelation) != 0 {
+    if limits::item_outside(r.step, r.ramp, r.levels, r.decorrelation) != 0 {
         return false;
     }
     truth::both(

@@ -2,7 +2,7 @@
 use Prim.Native.Nat.{_<_}
 use native.Mathlib.Omega.{arith}
 use Rattle.refusal.specs.declared.Refusal.{Refusal}
-use Rattle.refusal.specs.declared.Refusal.the-variants.{Item, Sample, TooLong, TooShort, CampaignFull, RowsUsedUp, Room, BrokenState, Line, CommaLine, SumFull, NoBureau, BureauFull, NotItsOwn, Tail, Peak, Situations, Situation}
+use Rattle.refusal.specs.declared.Refusal.the-variants.{Item, Sample, TooLong, TooShort, CampaignFull, RowsUsedUp, Room, BrokenState, Line, CommaLine, SumFull, Unequal, NoBureau, BureauFull, NotItsOwn, Tail, Peak, Situations, Situation, Acceleration}
 use Rattle.refusal.specs.Numbers.{numberOf}
 
 pub number-small : (r : Refusal) → numberOf r < 100
@@ -17,6 +17,7 @@ number-small BrokenState = omega arith
 number-small (Line l) = omega arith
 number-small (CommaLine l) = omega arith
 number-small SumFull = omega arith
+number-small Unequal = omega arith
 number-small NoBureau = omega arith
 number-small BureauFull = omega arith
 number-small NotItsOwn = omega arith
@@ -24,3 +25,4 @@ number-small Tail = omega arith
 number-small (Peak p) = omega arith
 number-small Situations = omega arith
 number-small (Situation k) = omega arith
+number-small (Acceleration p) = omega arith

@@ -1,7 +1,7 @@
 -- Document 01, "Refusal numbers", and document 02: the number of each refusal, and what is returned with it. Assumes nothing.
 use Prim.Native.Nat.{ℕ}
 use Rattle.refusal.specs.declared.Refusal.{Refusal}
-use Rattle.refusal.specs.declared.Refusal.the-variants.{Item, Sample, TooLong, TooShort, CampaignFull, RowsUsedUp, Room, BrokenState, Line, CommaLine, SumFull, NoBureau, BureauFull, NotItsOwn, Tail, Peak, Situations, Situation}
+use Rattle.refusal.specs.declared.Refusal.the-variants.{Item, Sample, TooLong, TooShort, CampaignFull, RowsUsedUp, Room, BrokenState, Line, CommaLine, SumFull, Unequal, NoBureau, BureauFull, NotItsOwn, Tail, Peak, Situations, Situation, Acceleration}
 
 -- the column "No."
 abbrev pub numberOf : Refusal → ℕ
@@ -16,6 +16,7 @@ numberOf BrokenState = 8
 numberOf (Line l) = 9
 numberOf (CommaLine l) = 10
 numberOf SumFull = 11
+numberOf Unequal = 12
 numberOf NoBureau = 13
 numberOf BureauFull = 14
 numberOf NotItsOwn = 15
@@ -23,6 +24,7 @@ numberOf Tail = 16
 numberOf (Peak p) = 17
 numberOf Situations = 18
 numberOf (Situation k) = 8
+numberOf (Acceleration p) = 2
 
 -- the column "Returns with it": item number, place, number needed, line number; 0 stands for nothing
 abbrev pub valueOf : Refusal → ℕ
@@ -37,6 +39,7 @@ valueOf BrokenState = 0
 valueOf (Line l) = l
 valueOf (CommaLine l) = l
 valueOf SumFull = 0
+valueOf Unequal = 0
 valueOf NoBureau = 0
 valueOf BureauFull = 0
 valueOf NotItsOwn = 0
@@ -44,3 +47,27 @@ valueOf Tail = 0
 valueOf (Peak p) = p
 valueOf Situations = 0
 valueOf (Situation k) = k
+valueOf (Acceleration p) = p
+
+-- the channel that document 02, [8], names with 2: 1 for the roll, or the only one, 2 for the acceleration; 0 stands for nothing
+abbrev pub channelOf : Refusal → ℕ
+channelOf (Item i) = 0
+channelOf (Sample p) = 1
+channelOf TooLong = 0
+channelOf TooShort = 0
+channelOf CampaignFull = 0
+channelOf RowsUsedUp = 0
+channelOf (Room k) = 0
+channelOf BrokenState = 0
+channelOf (Line l) = 0
+channelOf (CommaLine l) = 0
+channelOf SumFull = 0
+channelOf Unequal = 0
+channelOf NoBureau = 0
+channelOf BureauFull = 0
+channelOf NotItsOwn = 0
+channelOf Tail = 0
+channelOf (Peak p) = 0
+channelOf Situations = 0
+channelOf (Situation k) = 0
+channelOf (Acceleration p) = 2

@@ -1,12 +1,12 @@
 // The refusals of documents 01 and 02: a case for each of their refusal numbers, with what is returned beside the number.
 // An enum and no bare number, so that a refusal cannot be made without the value that belongs to it.
 ghost use mathlib.Core.Path.{_≡_};
-ghost use Rattle.refusal.specs.Numbers.{numberOf, valueOf};
+ghost use Rattle.refusal.specs.Numbers.{numberOf, valueOf, channelOf};
 
 pub enum Refusal {
     // 1: an opening item is outside its range; the lowest such item's number.
     Item(u64),
-    // 2: a sample is outside its range; the first such place in the piece.
+    // 2: a sample is outside its range; the first such place in the piece. Of two channels it is the roll's.
     Sample(u64),
     // 3: the timed length, or a sheet's exposure, would pass the longest record.
     TooLong,
@@ -26,6 +26,8 @@ pub enum Refusal {
     CommaLine(u64),
     // 11: a sum would have more failures or more samples than it may have.
     SumFull,
+    // 12: the slices of the two channels have unequal lengths.
+    Unequal,
     // 13: a bureau other than 1 or 2.
     NoBureau,
     // 14: the bureau has all the jobs that it may have.
@@ -40,6 +42,8 @@ pub enum Refusal {
     Situations,
     // 8 again: a design situation's campaign breaks a relation; the lowest such situation's number.
     Situation(u64),
+    // 2 again: a sample of the acceleration is outside its range; the first such place in the piece.
+    Acceleration(u64),
 }
 
 // The number of a refusal.
@@ -58,6 +62,7 @@ pub fn number(r: Refusal) -> u64
         Refusal::Line(_) => 9,
         Refusal::CommaLine(_) => 10,
         Refusal::SumFull => 11,
+        Refusal::Unequal => 12,
         Refusal::NoBureau => 13,
         Refusal::BureauFull => 14,
         Refusal::NotItsOwn => 15,
@@ -65,6 +70,7 @@ pub fn number(r: Refusal) -> u64
         Refusal::Peak(_) => 17,
         Refusal::Situations => 18,
         Refusal::Situation(_) => 8,
+        Refusal::Acceleration(_) => 2,
     }
 }
 
@@ -80,16 +86,46 @@ pub fn carried(r: Refusal) -> u64
         Refusal::CommaLine(line) => line,
         Refusal::Peak(place) => place,
         Refusal::Situation(number) => number,
+        Refusal::Acceleration(place) => place,
         Refusal::TooLong => 0,
         Refusal::TooShort => 0,
         Refusal::CampaignFull => 0,
         Refusal::RowsUsedUp => 0,
         Refusal::BrokenState => 0,
         Refusal::SumFull => 0,
+        Refusal::Unequal => 0,
         Refusal::NoBureau => 0,
         Refusal::BureauFull => 0,
         Refusal::NotItsOwn => 0,
         Refusal::Tail => 0,
         Refusal::Situations => 0,
+    }
+}
+
+// The channel in which a sample is outside its range: 1 for the roll, or the only one, 2 for the acceleration; 0 for any other refusal.
+pub fn channel(r: Refusal) -> u64
+    ensures { λ k. ⌜ k ≡ channelOf r ⌝ }
+{
+    match r {
+        Refusal::Sample(_) => 1,
+        Refusal::Acceleration(_) => 2,
+        Refusal::Item(_) => 0,
+        Refusal::TooLong => 0,
+        Refusal::TooShort => 0,
+        Refusal::CampaignFull => 0,
+        Refusal::RowsUsedUp => 0,
+        Refusal::Room(_) => 0,
+        Refusal::BrokenState => 0,
+        Refusal::Line(_) => 0,
+        Refusal::CommaLine(_) => 0,
+        Refusal::SumFull => 0,
+        Refusal::Unequal => 0,
+        Refusal::NoBureau => 0,
+        Refusal::BureauFull => 0,
+        Refusal::NotItsOwn => 0,
+        Refusal::Tail => 0,
+        Refusal::Peak(_) => 0,
+        Refusal::Situations => 0,
+        Refusal::Situation(_) => 0,
     }
 }

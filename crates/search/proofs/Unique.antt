@@ -4,7 +4,9 @@ use mathlib.Core.Path.{_≡_, sym, _∙_}
 use mathlib.Core.List.{List}
 use lib.ListN.{length}
 use lib.IntN.{ℤ}
+use Rattle.channels.specs.declared.Levels.{Levels}
+use Rattle.channels.specs.Channels.{moments}
 use Rattle.reading.specs.Reading.{firstCrossing}
 
-pub first-crossing-unique : (R a : ℕ) (xs : List ℤ) (x y : ℕ) → x ≡ firstCrossing (length xs) R a xs → y ≡ firstCrossing (length xs) R a xs → x ≡ y
-first-crossing-unique R a xs x y e f = e ∙ sym f
+pub first-crossing-unique : (R : ℕ) (a : Levels) (xs ys : List ℤ) (x y : ℕ) → x ≡ firstCrossing (length (moments xs ys)) R a (moments xs ys) → y ≡ firstCrossing (length (moments xs ys)) R a (moments xs ys) → x ≡ y
+first-crossing-unique R a xs ys x y e f = e ∙ sym f

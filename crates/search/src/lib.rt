@@ -1,21 +1,25 @@
-// The search for the place of the first crossing of a whole record: the record's first failure.
+// The search for the place of the first crossing of a whole record: the record's first failure. Only the places that both channels have are looked at.
 ghost use mathlib.Core.Path.{_≡_};
-ghost use Prim.Native.Nat.{_≤_};
+ghost use Prim.Native.Nat.{_≤_, min};
 ghost use lib.ListN.{length};
+ghost use Rattle.channels.specs.Channels.{moments};
 ghost use Rattle.reading.specs.Reading.{firstCrossing};
 ghost use Rattle.search.specs.Rise.{FirstRise};
+use channels::Levels;
 
 // The place of the first crossing from `from` on and before `end`; `end` if there is none. A quiet block is passed over.
-fn rise_in(samples: &[i32], level: u64, from: usize, end: usize) -> usize
-    requires { ⌜ (1 ≤ from) × (from ≤ end) × (end ≤ length (now samples)) ⌝ }
-    ensures { λ r. ⌜ FirstRise level (now (samples .entry)) from end r ⌝ }
+fn rise_in(roll: &[i32], acceleration: &[i32], levels: Levels, from: usize, end: usize) -> usize
+    requires { ⌜ (1 ≤ from) × (from ≤ end) × (end ≤ length (now roll)) × (end ≤ length (now acceleration)) ⌝ }
+    ensures { λ r. ⌜ FirstRise levels (moments (now (roll .entry)) (now (acceleration .entry))) from end r ⌝ }
 {
-    if !block::loud(level, &samples[from..end]) {
+    if !channels::loud(levels, &roll[from..end], &acceleration[from..end]) {
         return end;
     }
     let mut i = from;
     while i < end {
-        if reading::rises(level, samples[i - 1], samples[i]) {
+        let x = channels::moment_at(roll, acceleration, i - 1);
+        let y = channels::moment_at(roll, acceleration, i);
+        if reading::rises(levels, x, y) {
             return i;
         }
         i += 1;
@@ -23,20 +27,27 @@ fn rise_in(samples: &[i32], level: u64, from: usize, end: usize) -> usize
     i
 }
 
-// The place of the first crossing of a whole record; its length, which is no place in it, if there is none.
-pub fn first_crossing(samples: &[i32], ramp: u64, level: u64) -> usize
-    ensures { λ r. ⌜ r ≡ firstCrossing (length (now (samples .entry))) ramp level (now (samples .entry)) ⌝ }
+fn shorter(m: usize, n: usize) -> usize
+    ensures { λ r. ⌜ r ≡ min m n ⌝ }
 {
-    if samples.len() as u64 <= ramp {
-        return samples.len();
+    if m < n { m } else { n }
+}
+
+// The place of the first crossing of a whole record; its length, which is no place in it, if there is none.
+pub fn first_crossing(roll: &[i32], acceleration: &[i32], ramp: u64, levels: Levels) -> usize
+    ensures { λ r. ⌜ r ≡ firstCrossing (length (moments (now (roll .entry)) (now (acceleration .entry)))) ramp levels (moments (now (roll .entry)) (now (acceleration .entry))) ⌝ }
+{
+    let n = shorter(roll.len(), acceleration.len());
+    if n as u64 <= ramp {
+        return n;
     }
     let mut i = ramp as usize + 1;
     let place = loop {
-        if i >= samples.len() {
-            break samples.len();
+        if i >= n {
+            break n;
         }
-        let end = block::end(i, samples.len());
-        let at = rise_in(samples, level, i, end);
+        let end = block::end(i, n);
+        let at = rise_in(roll, acceleration, levels, i, end);
         if at < end {
             break at;
         }

@@ -1,4 +1,4 @@
--- Document 01, "Sums on the slate", and document 02, [5] and [6]: the marked cases as one table, and what makes a row right. Assumes nothing.
+-- Document 01, "Sums on the slate", and document 02, [5], [6] and [8]: the marked cases as one table, and what makes a row right. Assumes nothing.
 use Prim.Native.Nat.{ℕ}
 use mathlib.Core.Bool.{Bool, true, false, _&&_}
 use mathlib.Core.List.{List, [], _∷_, map}
@@ -13,13 +13,18 @@ use Rattle.campaign.specs.Answers.{entering}
 use Rattle.verdict.specs.declared.Verdict.{Verdict}
 use Rattle.verdict.specs.declared.Verdict.the-variants.{Accept, Continue, NoRecord, Reject}
 use Rattle.verdict.specs.Figures.{verdictOf}
+use Rattle.channels.specs.declared.Levels.{Levels}
+use Rattle.channels.specs.declared.Moment.{Moment}
+use Rattle.channels.specs.Channels.{moments}
 use Rattle.reading.specs.Reading.{timeAt, crossings, groups, countedTimes, largestSet, fullTime}
 
 -- a marked case
 pub data Row : Type 0 where
-  -- samples read by a step D, a ramp R, a level a and a decorrelation time τ: the times of the crossings; the number of groups, the times of their first
+  -- samples of a one-channel job, read by a step D, a ramp R, a level a and a decorrelation time τ: the times of the crossings; the number of groups, the times of their first
   -- crossings; the number in the largest set, its times; and the full time
   reading : (D R a τ : ℕ) → List ℤ → List ℕ → ℕ → List ℕ → ℕ → List ℕ → ℕ → Row
+  -- samples of the roll and of the acceleration, read by a step D, a ramp R, the levels a and b and a decorrelation time τ: the times of the crossings, and the number of groups
+  watching : (D R a b τ : ℕ) → List ℤ → List ℤ → List ℕ → ℕ → Row
   -- the upper and the lower row of a count
   bounds : (n upper lower : ℕ) → Row
   -- the verdict of a campaign, by its letter
@@ -45,14 +50,30 @@ abbrev pub letterAfter : Answer → ℕ
 letterAfter (Taken c) = letterOf (verdictOf c)
 letterAfter (Refused r) = 0
 
+-- a one-channel job lends zeros for the other
+abbrev pub zeros : List ℤ → List ℤ
+zeros xs = map (λ (x : ℤ). pos 0) xs
+
+abbrev pub alone : List ℤ → List Moment
+alone xs = moments xs (zeros xs)
+
+abbrev pub levels : ℕ → ℕ → Levels
+levels a b = record { roll = a; acceleration = b }
+
+-- the usual levels of document 000
+abbrev pub usual : ℕ → Levels
+usual a = levels a 9810
+
 -- what a row says is so by the definitions
 unfoldable pub right : Row → Bool
 right (reading D R a τ xs crossed count counted largest set full) =
-    same (map (timeAt D R) (crossings R a xs)) crossed
-    && (eqb (length (groups D R a τ xs)) count
-    && (same (countedTimes D R a τ xs) counted
-    && (eqb (length (largestSet D R a τ xs)) largest
-    && (same (map (timeAt D R) (largestSet D R a τ xs)) set && eqb (fullTime D R (length xs)) full))))
+    same (map (timeAt D R) (crossings R (usual a) (alone xs))) crossed
+    && (eqb (length (groups D R (usual a) τ (alone xs))) count
+    && (same (countedTimes D R (usual a) τ (alone xs)) counted
+    && (eqb (length (largestSet D R (usual a) τ (alone xs))) largest
+    && (same (map (timeAt D R) (largestSet D R (usual a) τ (alone xs))) set && eqb (fullTime D R (length xs)) full))))
+right (watching D R a b τ xs ys crossed count) =
+    same (map (timeAt D R) (crossings R (levels a b) (moments xs ys))) crossed && eqb (length (groups D R (levels a b) τ (moments xs ys))) count
 right (bounds n upper lower) = eqb (u n) upper && eqb (l n) lower
 right (weighing c letter) = eqb (letterOf (verdictOf c)) letter
 right (weighingLater c t letter) = eqb (letterAfter (entering c (record { failed = false; exposure = t }))) letter
@@ -73,7 +94,7 @@ twice =
 abbrev pub at : ℕ → ℕ → Bool → ℕ → Campaign
 at M N f T = record { standard = 7200000; records = M; failures = N; exposure = T; failed = f }
 
--- A to H, seven crossings in two groups, I to K, then document 02's case of [6]
+-- A to H, seven crossings in two groups; either channel alone, at its level, and one after the other; I to K, then document 02's case of [6]
 unfoldable pub slate : List Row
 slate =
     reading 500 0 40000 2000 bobbing (500 ∷ 1500 ∷ 2500 ∷ []) 1 (500 ∷ []) 2 (500 ∷ 2500 ∷ []) 3000
@@ -85,6 +106,11 @@ slate =
     ∷ reading 500 0 40000 2000 (pos 0 ∷ pos 41000 ∷ negsuc 40999 ∷ []) (500 ∷ []) 1 (500 ∷ []) 1 (500 ∷ []) 1000
     ∷ reading 500 2 40000 2000 (pos 0 ∷ pos 41000 ∷ pos 41000 ∷ pos 0 ∷ pos 41000 ∷ []) (1000 ∷ []) 1 (1000 ∷ []) 1 (1000 ∷ []) 1000
     ∷ reading 500 0 40000 2000 twice (500 ∷ 1500 ∷ 2500 ∷ 3500 ∷ 6000 ∷ 7000 ∷ 8000 ∷ []) 2 (500 ∷ 6000 ∷ []) 4 (500 ∷ 2500 ∷ 6000 ∷ 8000 ∷ []) 8000
+    ∷ watching 500 0 40000 9810 0 (pos 0 ∷ pos 0 ∷ []) (pos 0 ∷ pos 9811 ∷ []) (500 ∷ []) 1
+    ∷ watching 500 0 40000 9810 0 (pos 0 ∷ pos 40000 ∷ []) (pos 0 ∷ negsuc 9809 ∷ []) [] 0
+    ∷ watching 500 0 40000 9810 0 (pos 41000 ∷ pos 0 ∷ []) (pos 0 ∷ pos 9811 ∷ []) [] 0
+    ∷ watching 500 0 40000 9810 0 (pos 0 ∷ pos 41000 ∷ pos 0 ∷ pos 0 ∷ []) (pos 0 ∷ pos 0 ∷ negsuc 9810 ∷ pos 0 ∷ []) (500 ∷ []) 1
+    ∷ watching 500 0 40000 9810 1500 (pos 0 ∷ pos 41000 ∷ pos 0 ∷ pos 0 ∷ pos 0 ∷ []) (pos 0 ∷ pos 0 ∷ pos 0 ∷ pos 9811 ∷ pos 0 ∷ []) (500 ∷ 1500 ∷ []) 1
     ∷ bounds 1 3688880 25317
     ∷ weighing (at 3 0 false 26559936) 67
     ∷ weighing (at 3 0 false 26559937) 65

@@ -6,13 +6,12 @@ use mathlib.Core.Logic.{_⊎_, inl, inr}
 use native.Mathlib.Nat.{mul-le-mul-right}
 use native.Mathlib.Omega.{arith}
 use lib.Dec.{eqb, ltb}
-use lib.IntN.{ℤ}
 use borrow.Author.Tests.{eqb-true, eqb-false, lt-ltb, ltb-true, leb-true, le-leb}
-use Rattle.magnitude.specs.Above.{above}
+use Rattle.channels.specs.declared.Moment.{Moment}
+use Rattle.channels.specs.Channels.{inRange, above}
 use Rattle.largest.specs.Walk.{since}
 use Rattle.record.specs.declared.Record.{Record}
 use Rattle.limits.specs.Limits.{mostSamples}
-use Rattle.range.specs.Range.{sampleInRange}
 use Rattle.reading.specs.Reading.{timeAt, rises}
 use Rattle.record.specs.State.{sound}
 use Rattle.steps.specs.Step.{moved, counts, crossed, below, crosses, stepped}
@@ -21,11 +20,11 @@ use Rattle.record.proofs.Relations.{None, Failure, Kept, kept-from, kept-sound}
 use Rattle.record.proofs.Bounds.{failure, recent-after, groups-within}
 
 -- states are equal figure by figure
-pub ext : (s t : Record) → s .step ≡ t .step → s .ramp ≡ t .ramp → s .level ≡ t .level → s .decorrelation ≡ t .decorrelation → s .n ≡ t .n → s .last ≡ t .last → s .crossings ≡ t .crossings → s .largest ≡ t .largest → s .first ≡ t .first → s .latest ≡ t .latest → s .recent ≡ t .recent → s .groups ≡ t .groups → s ≡ t
+pub ext : (s t : Record) → s .step ≡ t .step → s .ramp ≡ t .ramp → s .levels ≡ t .levels → s .decorrelation ≡ t .decorrelation → s .n ≡ t .n → s .last ≡ t .last → s .crossings ≡ t .crossings → s .largest ≡ t .largest → s .first ≡ t .first → s .latest ≡ t .latest → s .recent ≡ t .recent → s .groups ≡ t .groups → s ≡ t
 ext s t a b c d e f g h j k l m =
-    λ i. record { step = a i; ramp = b i; level = c i; decorrelation = d i; n = e i; last = f i; crossings = g i; largest = h i; first = j i; latest = k i; recent = l i; groups = m i }
+    λ i. record { step = a i; ramp = b i; levels = c i; decorrelation = d i; n = e i; last = f i; crossings = g i; largest = h i; first = j i; latest = k i; recent = l i; groups = m i }
 
-pub moved-kept : (r : Record) (k : ℕ) (x : ℤ) → Kept r → sampleInRange x ≡ true → 1 ≤ k → r .n + k ≤ mostSamples (r .step) (r .ramp) → Kept (moved r k x)
+pub moved-kept : (r : Record) (k : ℕ) (x : Moment) → Kept r → inRange x ≡ true → 1 ≤ k → r .n + k ≤ mostSamples (r .step) (r .ramp) → Kept (moved r k x)
 moved-kept r k x s i h l =
     record {
       outside = s .outside;
@@ -54,12 +53,12 @@ moved-kept r k x s i h l =
         })
 
 -- `crossed`, over its three tests
-abbrev pub marked : Record → ℤ → Bool → Bool → Bool → Record
+abbrev pub marked : Record → Moment → Bool → Bool → Bool → Record
 marked r x first counts starts =
     record {
       step = r .step;
       ramp = r .ramp;
-      level = r .level;
+      levels = r .levels;
       decorrelation = r .decorrelation;
       n = r .n + 1;
       last = x;
@@ -71,7 +70,7 @@ marked r x first counts starts =
       groups = cond starts (r .groups + 1) (r .groups);
     }
 
-module _ (r : Record) (x : ℤ) (s : Kept r) (h : r .ramp < r .n) where
+module _ (r : Record) (x : Moment) (s : Kept r) (h : r .ramp < r .n) where
   -- a crossing far from the last one is far from the largest set's last, which is not after it
   wider : since (timeAt (r .step) (r .ramp)) (r .decorrelation) (r .recent) (r .n) ≡ true → since (timeAt (r .step) (r .ramp)) (r .decorrelation) (r .latest) (r .n) ≡ true
   wider e =
@@ -143,7 +142,7 @@ module _ (r : Record) (x : ℤ) (s : Kept r) (h : r .ramp < r .n) where
   counts-more true = omega (arith, s .counts)
   counts-more false = omega (arith, s .counts)
 
-  pub crossed-kept : sampleInRange x ≡ true → r .n < mostSamples (r .step) (r .ramp) → Kept (crossed r x)
+  pub crossed-kept : inRange x ≡ true → r .n < mostSamples (r .step) (r .ramp) → Kept (crossed r x)
   crossed-kept i l =
       record {
         outside = s .outside;
@@ -162,10 +161,10 @@ module _ (r : Record) (x : ℤ) (s : Kept r) (h : r .ramp < r .n) where
       }
 
 -- a crossing is after the ramp
-pub crosses-after : (r : Record) (x : ℤ) → crosses r x ≡ true → r .ramp < r .n
-crosses-after r x e = ltb-true (r .ramp) (r .n) (and-true (ltb (r .ramp) (r .n)) (rises (r .level) (r .last) x) e .0)
+pub crosses-after : (r : Record) (x : Moment) → crosses r x ≡ true → r .ramp < r .n
+crosses-after r x e = ltb-true (r .ramp) (r .n) (and-true (ltb (r .ramp) (r .n)) (rises (r .levels) (r .last) x) e .0)
 
-pub stepped-sound : (r : Record) (x : ℤ) → sound r ≡ true → sampleInRange x ≡ true → r .n < mostSamples (r .step) (r .ramp) → sound (stepped r x) ≡ true
+pub stepped-sound : (r : Record) (x : Moment) → sound r ≡ true → inRange x ≡ true → r .n < mostSamples (r .step) (r .ramp) → sound (stepped r x) ≡ true
 unfolding stepped
 stepped-sound r x e i l = kept-sound (stepped r x) (go (crosses r x) refl)
   where
@@ -176,7 +175,7 @@ stepped-sound r x e i l = kept-sound (stepped r x) (go (crosses r x) refl)
     go true c = crossed-kept r x k (crosses-after r x c) i l
     go false c = moved-kept r 1 x k i (omega arith) (omega arith)
 
-pub stepped-n : (r : Record) (x : ℤ) → stepped r x .n ≡ r .n + 1
+pub stepped-n : (r : Record) (x : Moment) → stepped r x .n ≡ r .n + 1
 unfolding stepped
 stepped-n r x = go (crosses r x)
   where
@@ -185,7 +184,7 @@ stepped-n r x = go (crosses r x)
     go false = refl
 
 -- the items, and so the bound on n, stay
-pub stepped-most : (r : Record) (x : ℤ) → mostSamples (stepped r x .step) (stepped r x .ramp) ≡ mostSamples (r .step) (r .ramp)
+pub stepped-most : (r : Record) (x : Moment) → mostSamples (stepped r x .step) (stepped r x .ramp) ≡ mostSamples (r .step) (r .ramp)
 unfolding stepped
 stepped-most r x = go (crosses r x)
   where
@@ -194,7 +193,7 @@ stepped-most r x = go (crosses r x)
     go false = refl
 
 -- after a timed sample the next one is timed
-pub stepped-timed : (r : Record) (x : ℤ) → r .ramp < r .n → stepped r x .ramp < stepped r x .n
+pub stepped-timed : (r : Record) (x : Moment) → r .ramp < r .n → stepped r x .ramp < stepped r x .n
 unfolding stepped
 stepped-timed r x h = go (crosses r x)
   where
@@ -203,10 +202,10 @@ stepped-timed r x h = go (crosses r x)
     go false = omega arith
 
 -- and a crossing may follow it where it is at most the level
-pub stepped-low : (r : Record) (x : ℤ) → stepped r x .ramp < stepped r x .n → below (stepped r x) ≡ not (above (r .level) x)
+pub stepped-low : (r : Record) (x : Moment) → stepped r x .ramp < stepped r x .n → below (stepped r x) ≡ not (above (r .levels) x)
 unfolding stepped
 stepped-low r x = go (crosses r x)
   where
-    go : (b : Bool) → cond b (crossed r x) (moved r 1 x) .ramp < cond b (crossed r x) (moved r 1 x) .n → below (cond b (crossed r x) (moved r 1 x)) ≡ not (above (r .level) x)
+    go : (b : Bool) → cond b (crossed r x) (moved r 1 x) .ramp < cond b (crossed r x) (moved r 1 x) .n → below (cond b (crossed r x) (moved r 1 x)) ≡ not (above (r .levels) x)
     go true h = rw (lt-ltb _ _ h)
     go false h = rw (lt-ltb _ _ h)

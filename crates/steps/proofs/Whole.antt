@@ -8,9 +8,10 @@ use native.Mathlib.Nat.{zero-add, add-zero}
 use native.Mathlib.Omega.{arith}
 use lib.ListN.{length, drop}
 use lib.Seq.{getD-drop, drop-drop}
-use lib.IntN.{ℤ, pos}
 use lib.Dec.{ltb, eqb}
 use borrow.Author.Tests.{ne-eqb, ltb-true}
+use Rattle.channels.specs.declared.Levels.{Levels}
+use Rattle.channels.specs.declared.Moment.{Moment}
 use Rattle.largest.specs.Walk.{since, later, walk}
 use Rattle.groups.specs.Groups as grouping
 use Rattle.groups.proofs.Parting.{as-many}
@@ -38,12 +39,12 @@ begun r cs =
     (start.starts (timeAt (r .step) (r .ramp)) (r .decorrelation) (r .recent) cs)
 
 -- the state r and then the samples ys with the crossings cs among them
-finish : Record → List ℤ → List ℕ → Record
+finish : Record → List Moment → List ℕ → Record
 finish r ys cs =
     record {
       step = r .step;
       ramp = r .ramp;
-      level = r .level;
+      levels = r .levels;
       decorrelation = r .decorrelation;
       n = r .n + length ys;
       last = lastOf (r .last) ys;
@@ -102,7 +103,7 @@ unfolding lastOf
 newest true x d l = refl
 newest false x d l = refl
 
-module _ (r : Record) (y : ℤ) (cs : List ℕ) where
+module _ (r : Record) (y : Moment) (cs : List ℕ) where
   abbrev next : Bool → Bool → Record
   next b g = marked r y (eqb (r .crossings) 0) b g
 
@@ -122,7 +123,7 @@ module _ (r : Record) (y : ℤ) (cs : List ℕ) where
   begun-turn b false e =
       rw not-zero (sym (near (eqb (r .crossings) 0) (since (timeAt (r .step) (r .ramp)) (r .decorrelation) (r .recent) (r .n)) _ _ _ e ∙ same (eqb (r .crossings) 0) _))
 
-  turn-marked : (ys : List ℤ) (b g : Bool) → counts r ≡ b → starts r ≡ g → finish (next b g) ys cs ≡ finish r (y ∷ ys) (r .n ∷ cs)
+  turn-marked : (ys : List Moment) (b g : Bool) → counts r ≡ b → starts r ≡ g → finish (next b g) ys cs ≡ finish r (y ∷ ys) (r .n ∷ cs)
   unfolding finish lastOf firstOf
   turn-marked ys b g e f =
       ext (finish (next b g) ys cs) (finish r (y ∷ ys) (r .n ∷ cs)) refl refl refl refl (omega arith) refl (omega arith)
@@ -132,7 +133,7 @@ module _ (r : Record) (y : ℤ) (cs : List ℕ) where
       refl
       (number g (r .groups) (r .n) (begun (next b g) cs) ∙ ap (λ (l : List ℕ). r .groups + length l) (begun-turn b g f))
 
-turn : (r : Record) (y : ℤ) (ys : List ℤ) (cs : List ℕ) → finish (stepped r y) ys cs ≡ finish r (y ∷ ys) (cond (crosses r y) (r .n ∷ cs) cs)
+turn : (r : Record) (y : Moment) (ys : List Moment) (cs : List ℕ) → finish (stepped r y) ys cs ≡ finish r (y ∷ ys) (cond (crosses r y) (r .n ∷ cs) cs)
 unfolding stepped finish rest begun lastOf
 turn r y ys cs = go (crosses r y)
   where
@@ -141,22 +142,22 @@ turn r y ys cs = go (crosses r y)
     go false = ext _ _ refl refl refl refl (omega arith) refl refl refl refl refl refl refl
 
 -- a step leaves the ramp and the level, and the next sample is compared with this one
-next-places : (r : Record) (y : ℤ) (ys : List ℤ) → placesFrom (stepped r y .ramp) (stepped r y .level) (stepped r y .n) (stepped r y .last) ys ≡ placesFrom (r .ramp) (r .level) (r .n + 1) y ys
+next-places : (r : Record) (y : Moment) (ys : List Moment) → placesFrom (stepped r y .ramp) (stepped r y .levels) (stepped r y .n) (stepped r y .last) ys ≡ placesFrom (r .ramp) (r .levels) (r .n + 1) y ys
 unfolding stepped
 next-places r y ys = go (crosses r y)
   where
-    go : (b : Bool) → (let s = cond b (crossed r y) (moved r 1 y) in placesFrom (s .ramp) (s .level) (s .n) (s .last) ys) ≡ placesFrom (r .ramp) (r .level) (r .n + 1) y ys
+    go : (b : Bool) → (let s = cond b (crossed r y) (moved r 1 y) in placesFrom (s .ramp) (s .levels) (s .n) (s .last) ys) ≡ placesFrom (r .ramp) (r .levels) (r .n + 1) y ys
     go true = refl
     go false = refl
 
-whole : (r : Record) (ys : List ℤ) → foldl stepped r ys ≡ finish r ys (placesFrom (r .ramp) (r .level) (r .n) (r .last) ys)
+whole : (r : Record) (ys : List Moment) → foldl stepped r ys ≡ finish r ys (placesFrom (r .ramp) (r .levels) (r .n) (r .last) ys)
 unfolding placesFrom
 whole r [] = finish-nil r
 whole r (y ∷ ys) =
-    whole (stepped r y) ys ∙ ap (finish (stepped r y) ys) (next-places r y ys) ∙ turn r y ys (placesFrom (r .ramp) (r .level) (r .n + 1) y ys)
+    whole (stepped r y) ys ∙ ap (finish (stepped r y) ys) (next-places r y ys) ∙ turn r y ys (placesFrom (r .ramp) (r .levels) (r .n + 1) y ys)
 
 -- the samples one by one from a fresh record lead to the state of the list
-pub state : (D R a τ : ℕ) (xs : List ℤ) → foldl stepped (stateOf D R a τ []) xs ≡ stateOf D R a τ xs
+pub state : (D R : ℕ) (a : Levels) (τ : ℕ) (xs : List Moment) → foldl stepped (stateOf D R a τ []) xs ≡ stateOf D R a τ xs
 unfolding stateOf finish rest begun passing firstOf lastOf walk grouping.groups
 state D R a τ xs =
     whole (stateOf D R a τ []) xs

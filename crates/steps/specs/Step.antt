@@ -2,19 +2,19 @@
 use Prim.Native.Nat.{ℕ, _+_}
 use mathlib.Core.Bool.{Bool, cond, not, _&&_, _||_}
 use lib.Dec.{ltb, eqb}
-use lib.IntN.{ℤ}
-use Rattle.magnitude.specs.Above.{above}
+use Rattle.channels.specs.declared.Moment.{Moment}
+use Rattle.channels.specs.Channels.{above}
 use Rattle.largest.specs.Walk.{since}
 use Rattle.reading.specs.Reading.{timeAt, rises}
 use Rattle.record.specs.declared.Record.{Record}
 
 -- k more samples without a crossing, the last of them x
-abbrev pub moved : Record → ℕ → ℤ → Record
+abbrev pub moved : Record → ℕ → Moment → Record
 moved r k x =
     record {
       step = r .step;
       ramp = r .ramp;
-      level = r .level;
+      levels = r .levels;
       decorrelation = r .decorrelation;
       n = r .n + k;
       last = x;
@@ -39,12 +39,12 @@ abbrev pub starts : Record → Bool
 starts r = far r (r .recent)
 
 -- a crossing at sample n
-abbrev pub crossed : Record → ℤ → Record
+abbrev pub crossed : Record → Moment → Record
 crossed r x =
     record {
       step = r .step;
       ramp = r .ramp;
-      level = r .level;
+      levels = r .levels;
       decorrelation = r .decorrelation;
       n = r .n + 1;
       last = x;
@@ -56,13 +56,13 @@ crossed r x =
       groups = cond (starts r) (r .groups + 1) (r .groups);
     }
 
--- sample n crosses the level
-abbrev pub crosses : Record → ℤ → Bool
-crosses r x = ltb (r .ramp) (r .n) && rises (r .level) (r .last) x
+-- sample n crosses a level
+abbrev pub crosses : Record → Moment → Bool
+crosses r x = ltb (r .ramp) (r .n) && rises (r .levels) (r .last) x
 
--- sample n - 1, from which it would, is timed and at most the level
+-- sample n - 1, from which it would, is timed and above in neither channel
 abbrev pub below : Record → Bool
-below r = ltb (r .ramp) (r .n) && not (above (r .level) (r .last))
+below r = ltb (r .ramp) (r .n) && not (above (r .levels) (r .last))
 
-unfoldable pub stepped : Record → ℤ → Record
+unfoldable pub stepped : Record → Moment → Record
 stepped r x = cond (crosses r x) (crossed r x) (moved r 1 x)

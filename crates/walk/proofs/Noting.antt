@@ -10,9 +10,10 @@ use native.Mathlib.Omega.{arith}
 use lib.ListN.{length, set}
 use lib.Seq.{sets}
 use lib.Dec.{ltb, leb}
-use lib.IntN.{ℤ, pos}
 use borrow.Author.Tests.{lt-ltb}
-use Rattle.magnitude.specs.Above.{above}
+use Rattle.channels.specs.declared.Levels.{Levels}
+use Rattle.channels.specs.declared.Moment.{Moment}
+use Rattle.channels.specs.Channels.{still, above}
 use Rattle.reading.specs.Reading.{timeAt, rises, crossings, countedTimes}
 use Rattle.reading.proofs.Scan.{placesFrom, places-whole}
 use Rattle.reading.proofs.Timed.{from, counted-from}
@@ -28,9 +29,9 @@ and-assoc : (a b c : Bool) → ((a && b) && c) ≡ (a && (b && c))
 and-assoc true b c = refl
 and-assoc false b c = refl
 
-module _ (D a τ : ℕ) where
+module _ (D : ℕ) (a : Levels) (τ : ℕ) where
   -- a turn: whether the sample crosses the level, and whether a crossing is due
-  turn : (w : Walk) (ts : List ℕ) (x : ℤ) (s : Noting) (cs : List ℕ) (k : Bool) → (w .below && above a x) ≡ k
+  turn : (w : Walk) (ts : List ℕ) (x : Moment) (s : Noting) (cs : List ℕ) (k : Bool) → (w .below && above a x) ≡ k
       → Adds s (stepped D τ w (above a x)) (noted D a τ (noting w ts) x .times) (from τ (stepped D τ w (above a x) .due) cs)
       → Adds s w ts (from τ (w .due) (cond k (w .time ∷ cs) cs))
   unfolding noted stepped from
@@ -52,7 +53,7 @@ module _ (D a τ : ℕ) where
   placed s w ts ps j false d i = i
 
   -- sample j, which follows `before`, is the next
-  walks : (j : ℕ) (before : ℤ) (w : Walk) (ts : List ℕ) (xs : List ℤ) → w .time ≡ j * D → w .below ≡ (ltb 0 j && not (above a before))
+  walks : (j : ℕ) (before : Moment) (w : Walk) (ts : List ℕ) (xs : List Moment) → w .time ≡ j * D → w .below ≡ (ltb 0 j && not (above a before))
       → Adds (foldl (noted D a τ) (noting w ts) xs) w ts (from τ (w .due) (map (timeAt D 0) (placesFrom 0 a j before xs)))
   unfolding placesFrom from noted stepped
   walks j before w ts [] t b = record { slice = refl; counted = sym (add-zero (w .count)) }
@@ -66,6 +67,6 @@ module _ (D a τ : ℕ) where
       rw k (placed s w ts ps j (w .below && above a x) d (turn w ts x s (map (timeAt D 0) ps) (w .below && above a x) refl i))
 
   -- the samples noted from the start on
-  pub heard : (xs : List ℤ) (ts : List ℕ) → Adds (foldl (noted D a τ) (noting start ts) xs) start ts (countedTimes D 0 a τ xs)
+  pub heard : (xs : List Moment) (ts : List ℕ) → Adds (foldl (noted D a τ) (noting start ts) xs) start ts (countedTimes D 0 a τ xs)
   heard xs ts =
-      rw (counted-from (timeAt D 0) τ (crossings 0 a xs), ← places-whole 0 a xs) (walks 0 (pos 0) start ts xs (omega arith) refl)
+      rw (counted-from (timeAt D 0) τ (crossings 0 a xs), ← places-whole 0 a xs) (walks 0 still start ts xs (omega arith) refl)

@@ -7,9 +7,10 @@ use native.Mathlib.Nat.{mul-le-mul-left, mul-le-mul-right, zero-add}
 use native.Mathlib.Omega.{arith}
 use lib.ListN.{length, set, length-set}
 use lib.IntN.{ℤ}
-use Rattle.magnitude.specs.Above.{above}
-use Rattle.block.specs.Block.{anyAbove}
-use Rattle.block.proofs.Quiet.{first-quiet}
+use Rattle.channels.specs.declared.Levels.{Levels}
+use Rattle.channels.specs.declared.Moment.{Moment}
+use Rattle.channels.specs.Channels.{above, moment, moments, anyAbove}
+use Rattle.channels.proofs.Quiet.{first-quiet}
 use Rattle.walk.specs.declared.Walk.{Walk}
 use Rattle.walk.specs.Walk.{counts, stepped, passed, Noting, noting, noted, Ready}
 
@@ -34,7 +35,7 @@ ready-next {D} {τ} {w} up {n} r =
       room = omega (arith, r .room);
     }
 
-pub ready-after : {D τ : ℕ} (a : ℕ) {w : Walk} (ts : List ℕ) (xs : List ℤ) (n : ℕ) {m : ℕ} → m ≡ length xs + n → Ready D τ w m → Ready D τ (foldl (noted D a τ) (noting w ts) xs .walk) n
+pub ready-after : {D τ : ℕ} (a : Levels) {w : Walk} (ts : List ℕ) (xs : List Moment) (n : ℕ) {m : ℕ} → m ≡ length xs + n → Ready D τ w m → Ready D τ (foldl (noted D a τ) (noting w ts) xs .walk) n
 unfolding noted
 ready-after a ts [] n e r = rw (e ∙ zero-add n) at r
 ready-after a {w} ts (x ∷ xs) n {m} e r =
@@ -42,7 +43,7 @@ ready-after a {w} ts (x ∷ xs) n {m} e r =
     ready-after a (cond (counts w (above a x)) (set ts (w .count) (w .time)) ts) xs n refl (ready-next (above a x) (rw f at r))
 
 -- noting leaves the slice's length
-pub noted-length : (D a τ : ℕ) (s : Noting) (x : ℤ) → length (noted D a τ s x .times) ≡ length (s .times)
+pub noted-length : (D : ℕ) (a : Levels) (τ : ℕ) (s : Noting) (x : Moment) → length (noted D a τ s x .times) ≡ length (s .times)
 unfolding noted
 noted-length D a τ s x = go (counts (s .walk) (above a x))
   where
@@ -50,7 +51,7 @@ noted-length D a τ s x = go (counts (s .walk) (above a x))
     go true = length-set (s .times) (s .walk .count) (s .walk .time)
     go false = refl
 
-pub walked-length : (D a τ : ℕ) (s : Noting) (xs : List ℤ) → length (foldl (noted D a τ) s xs .times) ≡ length (s .times)
+pub walked-length : (D : ℕ) (a : Levels) (τ : ℕ) (s : Noting) (xs : List Moment) → length (foldl (noted D a τ) s xs .times) ≡ length (s .times)
 walked-length D a τ s [] = refl
 walked-length D a τ s (x ∷ xs) = walked-length D a τ (noted D a τ s x) xs ∙ noted-length D a τ s x
 
@@ -59,21 +60,25 @@ and-quiet : (b : Bool) → (b && false) ≡ false
 and-quiet true = refl
 and-quiet false = refl
 
-module _ (D a τ : ℕ) (ts : List ℕ) where
-  noted-quiet : (w : Walk) (x : ℤ) → above a x ≡ false → noted D a τ (noting w ts) x ≡ noting (passed D w 1) ts
+module _ (D : ℕ) (a : Levels) (τ : ℕ) (ts : List ℕ) where
+  noted-quiet : (w : Walk) (x : Moment) → above a x ≡ false → noted D a τ (noting w ts) x ≡ noting (passed D w 1) ts
   unfolding noted stepped
   noted-quiet w x e = rw (e, and-quiet (w .below)) (ap (λ (t : ℕ). noting (record { below = true; time = t; count = w .count; due = w .due }) ts) (omega arith))
 
-  quiet-from : (w : Walk) (xs : List ℤ) (k : ℕ) → anyAbove a xs ≡ false → foldl (noted D a τ) (noting (passed D w k) ts) xs ≡ noting (passed D w (k + length xs)) ts
-  quiet-from w [] k e = ap (λ (n : ℕ). noting (passed D w n) ts) (omega arith)
-  quiet-from w (x ∷ xs) k e =
-      let q = first-quiet a x xs e in
-      ap (λ (s : Noting). foldl (noted D a τ) s xs) (noted-quiet (passed D w k) x (q .0) ∙ ap (λ (t : ℕ). noting (record { below = true; time = t; count = w .count; due = w .due }) ts) (omega arith))
-      ∙ quiet-from w xs (k + 1) (q .1) ∙ ap (λ (n : ℕ). noting (passed D w n) ts) (omega arith)
+  quiet-from : (w : Walk) (xs ys : List ℤ) (k : ℕ) → anyAbove a xs ys ≡ false → foldl (noted D a τ) (noting (passed D w k) ts) (moments xs ys) ≡ noting (passed D w (k + length (moments xs ys))) ts
+  unfolding moments
+  quiet-from w [] ys k e = ap (λ (n : ℕ). noting (passed D w n) ts) (omega arith)
+  quiet-from w (x ∷ xs) [] k e = ap (λ (n : ℕ). noting (passed D w n) ts) (omega arith)
+  quiet-from w (x ∷ xs) (y ∷ ys) k e =
+      let q = first-quiet a x y xs ys e in
+      ap (λ (s : Noting). foldl (noted D a τ) s (moments xs ys)) (noted-quiet (passed D w k) (moment x y) (q .0) ∙ ap (λ (t : ℕ). noting (record { below = true; time = t; count = w .count; due = w .due }) ts) (omega arith))
+      ∙ quiet-from w xs ys (k + 1) (q .1) ∙ ap (λ (n : ℕ). noting (passed D w n) ts) (omega arith)
 
   -- only the time moves
-  pub quiet-block : (w : Walk) (xs : List ℤ) → anyAbove a xs ≡ false → 1 ≤ length xs → foldl (noted D a τ) (noting w ts) xs ≡ noting (passed D w (length xs)) ts
-  quiet-block w [] e l = absurd (omega arith)
-  quiet-block w (x ∷ xs) e l =
-      let q = first-quiet a x xs e in
-      ap (λ (s : Noting). foldl (noted D a τ) s xs) (noted-quiet w x (q .0)) ∙ quiet-from w xs 1 (q .1) ∙ ap (λ (n : ℕ). noting (passed D w n) ts) (omega arith)
+  pub quiet-block : (w : Walk) (xs ys : List ℤ) → anyAbove a xs ys ≡ false → 1 ≤ length (moments xs ys) → foldl (noted D a τ) (noting w ts) (moments xs ys) ≡ noting (passed D w (length (moments xs ys))) ts
+  unfolding moments
+  quiet-block w [] ys e l = absurd (omega arith)
+  quiet-block w (x ∷ xs) [] e l = absurd (omega arith)
+  quiet-block w (x ∷ xs) (y ∷ ys) e l =
+      let q = first-quiet a x y xs ys e in
+      ap (λ (s : Noting). foldl (noted D a τ) s (moments xs ys)) (noted-quiet w (moment x y) (q .0)) ∙ quiet-from w xs ys 1 (q .1) ∙ ap (λ (n : ℕ). noting (passed D w n) ts) (omega arith)

@@ -7,8 +7,9 @@ use native.Mathlib.Nat.{zero-add}
 use native.Mathlib.Omega.{arith}
 use lib.ListN.{length, drop}
 use lib.Seq.{sets, sets-eq}
-use lib.IntN.{ℤ}
-use Rattle.magnitude.specs.Above.{above}
+use Rattle.channels.specs.declared.Levels.{Levels}
+use Rattle.channels.specs.declared.Moment.{Moment}
+use Rattle.channels.specs.Channels.{above}
 use Rattle.reading.specs.Reading.{countedTimes}
 use Rattle.walk.specs.Walk.{start, starts, stepped, Noting, noting, noted}
 use Rattle.walk.proofs.Noting.{heard}
@@ -17,7 +18,7 @@ use Rattle.walk.proofs.Noting.{heard}
 sets-front : (ts before : List ℕ) → length ts ≤ length before → sets before 0 ts ≡ ts ++ drop (length ts) before
 sets-front ts before l = sets-eq ts before 0 (omega arith) ∙ rw zero-add
 
-module _ (D a τ : ℕ) (xs : List ℤ) (ts : List ℕ) where
+module _ (D : ℕ) (a : Levels) (τ : ℕ) (xs : List Moment) (ts : List ℕ) where
   pub walked-count : foldl (noted D a τ) (noting start ts) xs .walk .count ≡ length (countedTimes D 0 a τ xs)
   walked-count = heard D a τ xs ts .counted ∙ zero-add _
 
@@ -33,13 +34,13 @@ half-step true false d c n l = omega arith
 half-step false true d c n l = omega arith
 half-step false false d c n l = omega arith
 
-module _ (D a τ : ℕ) where
-  half-walked : (s : Noting) (xs : List ℤ) (n : ℕ) → 2 * s .walk .count + cond (s .walk .below) 1 0 ≤ n → 2 * foldl (noted D a τ) s xs .walk .count ≤ n + length xs
+module _ (D : ℕ) (a : Levels) (τ : ℕ) where
+  half-walked : (s : Noting) (xs : List Moment) (n : ℕ) → 2 * s .walk .count + cond (s .walk .below) 1 0 ≤ n → 2 * foldl (noted D a τ) s xs .walk .count ≤ n + length xs
   unfolding noted stepped
   half-walked s [] n l = omega arith
   half-walked s (x ∷ xs) n l =
       let i = half-walked (noted D a τ s x) xs (suc n) (half-step (s .walk .below) (above a x) (starts (s .walk)) (s .walk .count) n l) in
       omega (arith, i)
 
-  pub half-counted : (xs : List ℤ) → 2 * length (countedTimes D 0 a τ xs) ≤ length xs
+  pub half-counted : (xs : List Moment) → 2 * length (countedTimes D 0 a τ xs) ≤ length xs
   half-counted xs = omega (arith, half-walked (noting start []) xs 0 (omega arith), walked-count D a τ xs [])

@@ -1,18 +1,19 @@
--- One timed sample more: D is the step, a the level, τ the decorrelation time. Assumes nothing.
+-- One timed sample more: D is the step, a the levels, τ the decorrelation time. Assumes nothing.
 use Prim.Native.Nat.{ℕ, _+_, _*_, _≤_}
 use mathlib.Core.Bool.{Bool, true, false, cond, not, _&&_}
 use mathlib.Core.List.{List}
 use lib.ListN.{set}
 use lib.Dec.{leb}
-use lib.IntN.{ℤ}
-use Rattle.magnitude.specs.Above.{above}
+use Rattle.channels.specs.declared.Levels.{Levels}
+use Rattle.channels.specs.declared.Moment.{Moment}
+use Rattle.channels.specs.Channels.{above}
 use Rattle.walk.specs.declared.Walk.{Walk}
 
 -- before the first timed sample; any crossing starts a group
 abbrev pub start : Walk
 start = record { below = false; time = 0; count = 0; due = 0 }
 
--- the level is crossed at a sample that is above it or not
+-- a level is crossed at a sample that is above or not
 abbrev pub crosses : Walk → Bool → Bool
 crosses w up = w .below && up
 
@@ -34,7 +35,7 @@ stepped D τ w up =
       due = cond (crosses w up) (w .time + τ) (w .due);
     }
 
--- the walk after k samples at most the level
+-- the walk after k samples above in neither channel
 abbrev pub passed : ℕ → Walk → ℕ → Walk
 passed D w k = record { below = true; time = w .time + k * D; count = w .count; due = w .due }
 
@@ -52,7 +53,7 @@ marked D τ s up =
     noting (stepped D τ (s .walk) up) (cond (counts (s .walk) up) (set (s .times) (s .walk .count) (s .walk .time)) (s .times))
 
 -- after the sample x
-unfoldable pub noted : ℕ → ℕ → ℕ → Noting → ℤ → Noting
+unfoldable pub noted : ℕ → Levels → ℕ → Noting → Moment → Noting
 noted D a τ s x = marked D τ s (above a x)
 
 -- n more samples stay within the longest record

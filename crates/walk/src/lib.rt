@@ -3,7 +3,7 @@
 ghost use mathlib.Core.Path.{_≡_};
 ghost use Rattle.walk.specs.Walk.{starts};
 
-// The walk before a timed sample: its time, whether a timed sample at most the level stands before it, how many groups were counted, and from what time
+// The walk before a timed sample: its time, whether a timed sample that is above in neither channel stands before it, how many groups were counted, and from what time
 // on a crossing starts a group.
 pub struct Walk {
     pub below: bool,

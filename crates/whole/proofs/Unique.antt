@@ -3,8 +3,9 @@ use Prim.Native.Nat.{ℕ}
 use mathlib.Core.Path.{_≡_, sym, _∙_}
 use mathlib.Core.List.{List}
 use lib.IntN.{ℤ}
+use Rattle.channels.specs.declared.Levels.{Levels}
 use Rattle.whole.specs.declared.Size.{Size}
 use Rattle.whole.specs.Tests.{sized}
 
-pub judge-unique : (D R a τ : ℕ) (xs : List ℤ) (x y : Size) → x ≡ sized D R a τ xs → y ≡ sized D R a τ xs → x ≡ y
-judge-unique D R a τ xs x y e f = e ∙ sym f
+pub judge-unique : (D R : ℕ) (a : Levels) (τ : ℕ) (xs ys : List ℤ) (x y : Size) → x ≡ sized D R a τ xs ys → y ≡ sized D R a τ xs ys → x ≡ y
+judge-unique D R a τ xs ys x y e f = e ∙ sym f

@@ -1,11 +1,13 @@
--- Document 01, "Refusal numbers": a whole record at once is tested for 1, 2, 3, 4, in that order. Assumes nothing.
+-- Document 01, "Refusal numbers", with document 02's [8]: a whole record at once, xs of the roll and ys of the acceleration, is tested for 1, 12, 2, 3, 4, in that order. Assumes nothing.
 use Prim.Native.Nat.{ℕ, _+_}
 use mathlib.Core.Bool.{Bool, cond, not, _&&_}
 use mathlib.Core.List.{List}
 use lib.ListN.{length}
 use lib.Dec.{ltb, leb, eqb}
 use lib.IntN.{ℤ}
-use Rattle.refusal.specs.declared.Refusal.the-variants.{Item, Sample, TooLong, TooShort}
+use Rattle.refusal.specs.declared.Refusal.the-variants.{Item, TooLong, TooShort, Unequal}
+use Rattle.channels.specs.declared.Levels.{Levels}
+use Rattle.channels.specs.Channels.{anyBad, badSample}
 use Rattle.limits.specs.Limits.{itemOutside, mostSamples}
 use Rattle.range.specs.Range.{firstBad}
 use Rattle.reading.specs.Reading.{tooFew}
@@ -13,18 +15,19 @@ use Rattle.whole.specs.declared.Size.{Size}
 use Rattle.whole.specs.declared.Size.the-variants.{Fits, Refused}
 
 -- the refusal of the first test that holds
-unfoldable pub tested : ℕ → ℕ → ℕ → ℕ → List ℤ → Size
-tested D R a τ xs =
+unfoldable pub tested : ℕ → ℕ → Levels → ℕ → List ℤ → List ℤ → Size
+tested D R a τ xs ys =
     cond (not (eqb (itemOutside D R a τ) 0)) (Refused (Item (itemOutside D R a τ)))
-    (cond (ltb (firstBad xs) (length xs)) (Refused (Sample (firstBad xs)))
+    (cond (not (eqb (length xs) (length ys))) (Refused Unequal)
+    (cond (anyBad xs ys) (Refused (badSample (firstBad xs) (firstBad ys)))
     (cond (ltb (mostSamples D R) (length xs)) (Refused TooLong)
     (cond (tooFew R (length xs)) (Refused TooShort)
-    Fits)))
+    Fits))))
 
--- the items are in range, and n samples are neither too many nor too few
-abbrev pub inSize : ℕ → ℕ → ℕ → ℕ → ℕ → Bool
-inSize D R a τ n = eqb (itemOutside D R a τ) 0 && (leb n (mostSamples D R) && leb (R + 2) n)
+-- the items are in range, the slices are equally long, and n samples are neither too many nor too few
+abbrev pub inSize : ℕ → ℕ → Levels → ℕ → ℕ → ℕ → Bool
+inSize D R a τ n m = eqb (itemOutside D R a τ) 0 && (eqb n m && (leb n (mostSamples D R) && leb (R + 2) n))
 
 -- what is said before the samples are read: that the record fits, or its refusal
-unfoldable pub sized : ℕ → ℕ → ℕ → ℕ → List ℤ → Size
-sized D R a τ xs = cond (inSize D R a τ (length xs)) Fits (tested D R a τ xs)
+unfoldable pub sized : ℕ → ℕ → Levels → ℕ → List ℤ → List ℤ → Size
+sized D R a τ xs ys = cond (inSize D R a τ (length xs) (length ys)) Fits (tested D R a τ xs ys)

@@ -1,6 +1,13 @@
-// A whole record at once: the tests 1 to 4 that stand before anything is counted in it.
+// A whole record at once: the tests 1, 12, 2, 3 and 4 that stand before anything is counted in it.
 ghost use mathlib.Core.Path.{_≡_};
+ghost use mathlib.Core.Bool.{cond};
+ghost use Rattle.refusal.specs.declared.Refusal.the-variants.{TooLong, TooShort};
+ghost use Rattle.range.specs.Range.{firstBad};
+ghost use Rattle.channels.specs.Channels.{anyBad, badSample};
+ghost use Rattle.whole.specs.declared.Size.the-variants.{Refused};
 ghost use Rattle.whole.specs.Tests.{sized};
+use channels::Levels;
+use channels::Look;
 use refusal::Refusal;
 
 pub enum Size {
@@ -8,27 +15,44 @@ pub enum Size {
     Refused(Refusal),
 }
 
-// Refusal 1; for a record that is too long or too short 2, which goes before them, then 3 or 4; else that it fits, with no sample looked at yet, so that
-// who reads the samples next looks for a bad one on the way.
-pub fn judge(step: u64, ramp: u64, level: u64, decorrelation: u64, samples: &[i32]) -> Size
-    ensures { λ r. ⌜ r ≡ sized step ramp level decorrelation (now (samples .entry)) ⌝ }
+// 2 for a record with a bad sample; else what its length is refused by.
+fn fault(roll: &[i32], acceleration: &[i32], long: bool) -> Size
+    ensures { λ r. ⌜ r ≡ cond (anyBad (now (roll .entry)) (now (acceleration .entry))) (Refused (badSample (firstBad (now (roll .entry))) (firstBad (now (acceleration .entry))))) (cond long (Refused TooLong) (Refused TooShort)) ⌝ }
 {
-    let item = limits::item_outside(step, ramp, level, decorrelation);
-    if item != 0 {
-        return Size::Refused(Refusal::Item(item));
+    let look = channels::look_over(roll, acceleration);
+    if let Look::Bad(f) = look {
+        return Size::Refused(f);
     }
-    let n = samples.len() as u64;
-    let most = limits::most_samples(step, ramp);
-    if truth::both(n <= most, ramp + 2 <= n) {
-        return Size::Fits;
-    }
-    let bad = range::first_bad(samples);
-    if bad < samples.len() {
-        return Size::Refused(Refusal::Sample(bad as u64));
-    }
-    if most < n {
+    if long {
         Size::Refused(Refusal::TooLong)
     } else {
         Size::Refused(Refusal::TooShort)
     }
+}
+
+// Refusal 1, then 12; for a record that is too long or too short 2, which goes before them, then 3 or 4; else that it fits, with no sample looked at yet, so that
+// who reads the samples next looks for a bad one on the way.
+pub fn judge(
+    step: u64,
+    ramp: u64,
+    levels: Levels,
+    decorrelation: u64,
+    roll: &[i32],
+    acceleration: &[i32],
+) -> Size
+    ensures { λ r. ⌜ r ≡ sized step ramp levels decorrelation (now (roll .entry)) (now (acceleration .entry)) ⌝ }
+{
+    let item = limits::item_outside(step, ramp, levels, decorrelation);
+    if item != 0 {
+        return Size::Refused(Refusal::Item(item));
+    }
+    if roll.len() != acceleration.len() {
+        return Size::Refused(Refusal::Unequal);
+    }
+    let n = roll.len() as u64;
+    let most = limits::most_samples(step, ramp);
+    if truth::both(n <= most, ramp + 2 <= n) {
+        return Size::Fits;
+    }
+    fault(roll, acceleration, most < n)
 }

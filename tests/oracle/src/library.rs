@@ -2,11 +2,14 @@
 
 mod c {
     extern "C" {
-        pub fn chim_record_open(step: u64, ramp: u64, level: u64, decorrelation: u64, state: *mut u64, state_len: usize, carried: *mut u64) -> u64;
-        pub fn chim_record_feed(state: *mut u64, state_len: usize, piece: *const i32, piece_len: usize, carried: *mut u64) -> u64;
-        pub fn chim_record_first_crossing(samples: *const i32, samples_len: usize, ramp: u64, level: u64) -> usize;
         #[rustfmt::skip]
-        pub fn chim_record_list(step: u64, ramp: u64, level: u64, decorrelation: u64, samples: *const i32, samples_len: usize, times: *mut u32, times_len: usize, carried: *mut u64) -> u64;
+        pub fn chim_record_open(step: u64, ramp: u64, level: u64, decorrelation: u64, acceleration_level: u64, state: *mut u64, state_len: usize, carried: *mut u64) -> u64;
+        #[rustfmt::skip]
+        pub fn chim_record_feed(state: *mut u64, state_len: usize, roll: *const i32, roll_len: usize, acceleration: *const i32, acceleration_len: usize, carried: *mut u64, channel: *mut u64) -> u64;
+        #[rustfmt::skip]
+        pub fn chim_record_first_crossing(roll: *const i32, roll_len: usize, acceleration: *const i32, acceleration_len: usize, ramp: u64, level: u64, acceleration_level: u64) -> usize;
+        #[rustfmt::skip]
+        pub fn chim_record_list(step: u64, ramp: u64, level: u64, decorrelation: u64, acceleration_level: u64, roll: *const i32, roll_len: usize, acceleration: *const i32, acceleration_len: usize, times: *mut u32, times_len: usize, carried: *mut u64, channel: *mut u64) -> u64;
         pub fn chim_campaign_open(standard: u64, state: *mut u64, state_len: usize, carried: *mut u64) -> u64;
         pub fn chim_record_end(state: *const u64, state_len: usize, result: *mut u64, result_len: usize, carried: *mut u64) -> u64;
         pub fn chim_campaign_enter(state: *mut u64, state_len: usize, failed: u64, exposure: u64, carried: *mut u64) -> u64;
@@ -26,7 +29,7 @@ mod c {
     }
 }
 
-/// What stands in `carried` before a call: every call has to write over it.
+/// What stands in `carried` and `channel` before a call: every call has to write over it.
 const UNTOUCHED: u64 = 0xdead_beef_dead_beef;
 
 /// The number answered and what it carries.
@@ -38,23 +41,37 @@ fn told(call: impl FnOnce(*mut u64) -> u64) -> Told {
     (number, carried)
 }
 
-pub fn record_open(items: [u64; 4], state: &mut [u64]) -> Told {
-    let [step, ramp, level, decorrelation] = items;
-    told(|carried| unsafe { c::chim_record_open(step, ramp, level, decorrelation, state.as_mut_ptr(), state.len(), carried) })
+/// The same, and the channel that is told.
+pub type ToldOfTwo = (u64, u64, u64);
+
+fn told_of_two(call: impl FnOnce(*mut u64, *mut u64) -> u64) -> ToldOfTwo {
+    let mut channel = UNTOUCHED;
+    let (number, carried) = told(|carried| call(carried, &mut channel));
+    (number, carried, channel)
 }
 
-pub fn record_feed(state: &mut [u64], piece: &[i32]) -> Told {
-    told(|carried| unsafe { c::chim_record_feed(state.as_mut_ptr(), state.len(), piece.as_ptr(), piece.len(), carried) })
+pub fn record_open(items: [u64; 5], state: &mut [u64]) -> Told {
+    let [step, ramp, level, decorrelation, acceleration] = items;
+    told(|carried| unsafe { c::chim_record_open(step, ramp, level, decorrelation, acceleration, state.as_mut_ptr(), state.len(), carried) })
 }
 
-pub fn first_crossing(samples: &[i32], ramp: u64, level: u64) -> usize {
-    unsafe { c::chim_record_first_crossing(samples.as_ptr(), samples.len(), ramp, level) }
+pub fn record_feed(state: &mut [u64], [roll, acceleration]: [&[i32]; 2]) -> ToldOfTwo {
+    #[rustfmt::skip]
+    return told_of_two(|carried, channel| unsafe {
+        c::chim_record_feed(state.as_mut_ptr(), state.len(), roll.as_ptr(), roll.len(), acceleration.as_ptr(), acceleration.len(), carried, channel)
+    });
 }
 
-pub fn record_list(items: [u64; 4], samples: &[i32], times: &mut [u32]) -> Told {
-    let [step, ramp, level, decorrelation] = items;
-    told(|carried| unsafe {
-        c::chim_record_list(step, ramp, level, decorrelation, samples.as_ptr(), samples.len(), times.as_mut_ptr(), times.len(), carried)
+pub fn first_crossing([roll, acceleration]: [&[i32]; 2], ramp: u64, levels: [u64; 2]) -> usize {
+    let (xs, ys) = (roll.as_ptr(), acceleration.as_ptr());
+    unsafe { c::chim_record_first_crossing(xs, roll.len(), ys, acceleration.len(), ramp, levels[0], levels[1]) }
+}
+
+pub fn record_list(items: [u64; 5], [roll, acceleration]: [&[i32]; 2], times: &mut [u32]) -> ToldOfTwo {
+    let [step, ramp, level, decorrelation, other] = items;
+    let (xs, ys, places) = (roll.as_ptr(), acceleration.as_ptr(), times.as_mut_ptr());
+    told_of_two(|carried, channel| unsafe {
+        c::chim_record_list(step, ramp, level, decorrelation, other, xs, roll.len(), ys, acceleration.len(), places, times.len(), carried, channel)
     })
 }
 

@@ -1,20 +1,23 @@
-// The library against document 01 (`paper`), through its C functions: every answer, what it carries, and the later contents of everything lent, on
+// The library against documents 01 and 02 (`paper`), through its C functions: every answer, what it carries, and the later contents of everything lent, on
 // generated cases. The seed is fixed. The last line says how many cases agreed; a disagreement, or a refusal that was hardly met, ends the run.
 mod bench;
 mod library;
 mod paper;
 mod random;
+mod single;
 
-use paper::{Campaign, Record, Refused, Rows, Verdict, LONGEST, MOST_RECORDS, ROWS, SAMPLE};
+use paper::{Campaign, Items, Record, Refused, RefusedOfTwo, Rows, Verdict, LONGEST, MOST_RECORDS, ROWS, SAMPLE};
 use random::Random;
 use std::collections::BTreeMap;
 use std::fmt::Debug;
 
-/// What each entry may answer (include/chimenickel.h); each has to be met at least this often.
-const EXPECTED: [(&str, &[u64]); 14] = [
+/// What each entry may answer (include/chimenickel.h); each has to be met at least this often. Where refusal 2 names the acceleration it stands in a row of its own.
+const EXPECTED: [(&str, &[u64]); 16] = [
     ("record_open", &[0, 1, 8]),
-    ("record_feed", &[0, 2, 3, 8]),
-    ("record_list", &[0, 1, 2, 3, 4, 7]),
+    ("record_feed", &[0, 2, 3, 8, 12]),
+    (FED_ACCELERATION, &[2]),
+    ("record_list", &[0, 1, 2, 3, 4, 7, 12]),
+    (LISTED_ACCELERATION, &[2]),
     ("campaign_open", &[0, 1, 8]),
     ("record_end", &[0, 4, 8]),
     ("campaign_enter", &[0, 5, 6, 8]),
@@ -27,28 +30,52 @@ const EXPECTED: [(&str, &[u64]); 14] = [
     ("bench_rates", &[0, 8, 13, 15]),
     ("bench_give_back", &[0, 8, 13, 15]),
 ];
+const FED_ACCELERATION: &str = "feed, acceleration";
+const LISTED_ACCELERATION: &str = "list, acceleration";
+
+/// What else has to be met as often: comparisons that are no entry's, and what the two channels do at a sample.
+const BESIDE: [&str; 11] = [
+    "first_crossing",
+    "whole record",
+    "largest set",
+    "groups",
+    "one channel",
+    "marked cases",
+    "by the roll",
+    "by the acceleration",
+    "by both at once",
+    "handed over",
+    "bad in both",
+];
 const OFTEN: u64 = 200;
 
 // ---- the arrays of the header
 
-const RECORD_NUMBERS: usize = 12;
+const RECORD_NUMBERS: usize = 14;
 const RESULT_NUMBERS: usize = 5;
 
+fn code(x: i32) -> u64 {
+    let x = i64::from(x);
+    (if x < 0 { -2 * x - 1 } else { 2 * x }) as u64
+}
+
 fn record_numbers(r: &Record) -> Vec<u64> {
-    let x = i64::from(r.last);
-    let code = if x < 0 { -2 * x - 1 } else { 2 * x } as u64;
-    let mut s = r.items.to_vec();
-    s.extend([r.n, code, r.crossings, r.largest, r.first, r.latest, r.recent, r.groups]);
+    let [step, ramp, level, decorrelation, acceleration_level] = r.items;
+    let [roll, acceleration] = r.last.map(code);
+    let mut s = vec![step, ramp, level, decorrelation, r.n, roll, r.crossings, r.largest, r.first, r.latest, r.recent, r.groups];
+    s.extend([acceleration_level, acceleration]);
     s
 }
 
 fn record_in(s: &[u64]) -> Option<Record> {
-    if s.len() != RECORD_NUMBERS || s[5] > 2_000_000 {
+    if s.len() != RECORD_NUMBERS || s[5] > 2_000_000 || s[13] > 2_000_000 {
         return None;
     }
-    let half = (s[5] / 2) as i32;
-    let last = if s[5] % 2 == 0 { half } else { -half - 1 };
-    let items = [s[0], s[1], s[2], s[3]];
+    let last = [s[5], s[13]].map(|code| {
+        let half = (code / 2) as i32;
+        if code % 2 == 0 { half } else { -half - 1 }
+    });
+    let items = [s[0], s[1], s[2], s[3], s[12]];
     Some(Record { items, n: s[4], last, crossings: s[6], largest: s[7], first: s[8], latest: s[9], recent: s[10], groups: s[11] })
 }
 
@@ -71,6 +98,39 @@ fn told<T>(answer: Result<T, Refused>, numbers: impl Fn(&T) -> Vec<u64>, before:
     }
 }
 
+fn times_before(places: usize) -> Vec<u32> {
+    (0..places as u32).map(|k| u32::MAX - k).collect()
+}
+
+/// What is told of a listing, and the lent slice of so many places afterwards.
+fn lent_times(listed: Result<Vec<u32>, RefusedOfTwo>, places: usize) -> (RefusedOfTwo, Vec<u32>) {
+    let mut after = times_before(places);
+    match listed {
+        Ok(times) => {
+            after[..times.len()].copy_from_slice(&times);
+            ((0, times.len() as u64, 0), after)
+        }
+        Err(refused) => (refused, after),
+    }
+}
+
+fn list_by_library(items: Items, samples: [&[i32]; 2], places: usize) -> (RefusedOfTwo, Vec<u32>) {
+    let mut times = times_before(places);
+    (library::record_list(items, samples, &mut times), times)
+}
+
+/// A sample at its place; the length is no place.
+fn put(samples: &mut [i32], place: usize, x: i32) {
+    if place < samples.len() {
+        samples[place] = x;
+    }
+}
+
+/// Both channels, as they are lent.
+fn lent(samples: &[Vec<i32>; 2]) -> [&[i32]; 2] {
+    [&samples[0], &samples[1]]
+}
+
 struct Bench {
     random: Random,
     rows: Rows,
@@ -86,44 +146,47 @@ impl Bench {
             std::process::exit(1);
         }
         self.cases += 1;
+        self.meet(entry, number);
+    }
+
+    fn meet(&mut self, entry: &'static str, number: u64) {
         *self.met.entry((entry, number)).or_default() += 1;
     }
 
     // ---- one comparison for each entry
 
-    fn record_open(&mut self, items: [u64; 4], state: &mut Vec<u64>) {
+    fn record_open(&mut self, items: Items, state: &mut Vec<u64>) {
         let answer = if state.len() == RECORD_NUMBERS { paper::open(items) } else { Err((8, 0)) };
         let expected = told(answer, record_numbers, state);
         let (number, carried) = library::record_open(items, state);
         self.same("record_open", number, &items, expected, (number, carried, state.clone()));
     }
 
-    fn record_feed(&mut self, state: &mut Vec<u64>, piece: &[i32]) {
+    /// Whether the piece was taken.
+    fn record_feed(&mut self, state: &mut Vec<u64>, piece: [&[i32]; 2]) -> bool {
         let before = state.clone();
-        let answer = record_in(state).ok_or((8, 0)).and_then(|r| paper::fed(&r, piece));
-        let expected = told(answer, record_numbers, state);
-        let (number, carried) = library::record_feed(state, piece);
-        self.same("record_feed", number, &(before, piece), expected, (number, carried, state.clone()));
-    }
-
-    fn first_crossing(&mut self, samples: &[i32], ramp: u64, level: u64) {
-        let place = paper::crossings(samples, ramp, level).first().copied().unwrap_or(samples.len());
-        self.same("first_crossing", 0, &(samples, ramp, level), place, library::first_crossing(samples, ramp, level));
-    }
-
-    fn record_list(&mut self, items: [u64; 4], samples: &[i32], places: usize) {
-        let before: Vec<u32> = (0..places as u32).map(|k| u32::MAX - k).collect();
-        let expected = match paper::listed(items, samples, places) {
-            Ok(times) => {
-                let mut after = before.clone();
-                after[..times.len()].copy_from_slice(&times);
-                (0, times.len() as u64, after)
-            }
-            Err((number, carried)) => (number, carried, before.clone()),
+        let expected = match record_in(state).ok_or((8, 0, 0)).and_then(|r| paper::fed(&r, piece)) {
+            Ok(r) => ((0, 0, 0), record_numbers(&r)),
+            Err(refused) => (refused, before.clone()),
         };
-        let mut times = before;
-        let (number, carried) = library::record_list(items, samples, &mut times);
-        self.same("record_list", number, &(items, samples, places), expected, (number, carried, times));
+        let told = library::record_feed(state, piece);
+        let entry = if told.2 == 2 { FED_ACCELERATION } else { "record_feed" };
+        self.same(entry, told.0, &(before, piece), expected, (told, state.clone()));
+        told.0 == 0
+    }
+
+    fn first_crossing(&mut self, samples: [&[i32]; 2], ramp: u64, levels: [u64; 2]) {
+        let none = samples[0].len().min(samples[1].len());
+        let place = paper::crossings(samples, ramp, levels).first().copied().unwrap_or(none);
+        self.same("first_crossing", 0, &(samples, ramp, levels), place, library::first_crossing(samples, ramp, levels));
+    }
+
+    fn record_list(&mut self, items: Items, samples: [&[i32]; 2], places: usize) {
+        let expected = lent_times(paper::listed(items, samples, places), places);
+        let listed = list_by_library(items, samples, places);
+        let (number, _, channel) = listed.0;
+        let entry = if channel == 2 { LISTED_ACCELERATION } else { "record_list" };
+        self.same(entry, number, &(items, samples, places), expected, listed);
     }
 
     fn campaign_open(&mut self, standard: u64, state: &mut Vec<u64>) {
@@ -211,17 +274,18 @@ impl Bench {
         }
     }
 
-    fn items(&mut self) -> [u64; 4] {
-        [self.item(1, 10_000), self.item(0, 1_000_000), self.item(1, 1_000_000), self.item(0, 10_000_000)]
+    fn items(&mut self) -> Items {
+        [self.item(1, 10_000), self.item(0, 1_000_000), self.item(1, 1_000_000), self.item(0, 10_000_000), self.item(1, 1_000_000)]
     }
 
     /// Items in range that a short record has something to show for.
-    fn lively(&mut self) -> [u64; 4] {
+    fn lively(&mut self) -> Items {
         let step = self.random.of(&[1, 2, 10, 499, 500, 9_999, 10_000]);
         let ramp = self.random.within(0, 4);
-        let level = self.random.of(&[1, 2, 9_810, 40_000, 999_999, 1_000_000]);
+        let levels = [1, 2, 9_810, 40_000, 999_999, 1_000_000];
+        let (level, other) = (self.random.of(&levels), self.random.of(&levels));
         let gap = self.random.within(0, 5) * step + self.random.within(0, 2);
-        [step, ramp, level, gap]
+        [step, ramp, level, gap, other]
     }
 
     fn sample(&mut self, level: u64) -> i32 {
@@ -240,19 +304,53 @@ impl Bench {
         self.random.of(&[SAMPLE + 1, -SAMPLE - 1, i32::MAX, i32::MIN, 1_500_000])
     }
 
-    /// Samples about the level; one in `odd` lists has one out of range, and at times a second.
-    fn samples(&mut self, n: usize, level: u64, odd: u64) -> Vec<i32> {
-        let mut xs: Vec<i32> = (0..n).map(|_| self.sample(level)).collect();
+    /// One that is not above the level.
+    fn calm_sample(&mut self, level: u64) -> i32 {
+        let level = level.min(SAMPLE as u64);
+        let x = if self.random.one_in(2) { level } else { self.random.within(0, level) } as i32;
+        if self.random.one_in(2) { -x } else { x }
+    }
+
+    /// Samples about the level, at times mostly or all below it.
+    fn channel(&mut self, n: usize, level: u64) -> Vec<i32> {
+        let lively = self.random.of(&[1, 1, 2, 5, 60, u64::MAX]);
+        (0..n).map(|_| if self.random.one_in(lively) { self.sample(level) } else { self.calm_sample(level) }).collect()
+    }
+
+    /// Both channels about their levels; one in `odd` pairs has a sample out of range, in either channel or in both at the same or at neighbouring places, and at
+    /// times more.
+    fn samples(&mut self, n: usize, levels: [u64; 2], odd: u64) -> [Vec<i32>; 2] {
+        let mut xs = levels.map(|level| self.channel(n, level));
         while n > 0 && self.random.one_in(odd) {
-            let place = self.random.within(0, n as u64 - 1) as usize;
-            xs[place] = self.bad_sample();
+            let place = self.random.within(1, n as u64);
+            let beside = self.random.within(place - 1, place + 1).clamp(1, n as u64);
+            match self.random.within(0, 3) {
+                0 => xs[0][place as usize - 1] = self.bad_sample(),
+                1 => xs[1][place as usize - 1] = self.bad_sample(),
+                _ => {
+                    xs[0][place as usize - 1] = self.bad_sample();
+                    xs[1][beside as usize - 1] = self.bad_sample();
+                    self.meet("bad in both", 0);
+                }
+            }
         }
         xs
     }
 
+    /// The same, but for one in `odd` times, when one of the two slices is cut shorter than the other, or made longer where there is nothing to cut.
+    fn unequal<'a>(&mut self, samples: [&'a [i32]; 2], odd: u64) -> [&'a [i32]; 2] {
+        let [roll, acceleration] = samples;
+        if !self.random.one_in(odd) {
+            return samples;
+        }
+        let n = roll.len() as u64;
+        let other = |b: &mut Bench, xs: &'a [i32]| if n == 0 { &[0][..] } else { &xs[..b.random.within(0, n - 1) as usize] };
+        if self.random.one_in(2) { [other(self, roll), acceleration] } else { [roll, other(self, acceleration)] }
+    }
+
     fn openings(&mut self, times: u64) {
         for _ in 0..times {
-            let length = if self.random.one_in(5) { self.random.within(0, 14) } else { RECORD_NUMBERS as u64 };
+            let length = if self.random.one_in(5) { self.random.within(0, 16) } else { RECORD_NUMBERS as u64 };
             let mut state: Vec<u64> = (0..length).map(|_| self.random.next()).collect();
             let items = self.items();
             self.record_open(items, &mut state);
@@ -263,31 +361,54 @@ impl Bench {
         }
     }
 
-    /// Whole records, fed in random cuts: every state on the way, and the figures of the joined list at the end.
+    /// What the two channels do at the samples of a record: which of them makes a crossing, and where one is above just after the other was.
+    fn meet_channels(&mut self, [roll, acceleration]: [&[i32]; 2], ramp: u64, levels: [u64; 2]) {
+        let above = |i: usize| paper::each_above(levels, [roll[i], acceleration[i]]);
+        for i in 1..roll.len() {
+            match (above(i - 1), above(i)) {
+                _ if ((i - 1) as u64) < ramp => {}
+                ([false, false], [true, false]) => self.meet("by the roll", 0),
+                ([false, false], [false, true]) => self.meet("by the acceleration", 0),
+                ([false, false], [true, true]) => self.meet("by both at once", 0),
+                ([true, false], [false, true]) | ([false, true], [true, false]) => self.meet("handed over", 0),
+                _ => {}
+            }
+        }
+    }
+
+    /// Whole records, fed in random cuts, both channels at the same place: every state on the way, and the figures of the joined lists at the end. Pieces of
+    /// unequal lengths in between.
     fn records(&mut self, times: u64) {
         for _ in 0..times {
             let items = self.lively();
+            let levels = paper::levels(items);
             let mut state = vec![0; RECORD_NUMBERS];
             self.record_open(items, &mut state);
-            let length = self.random.within(0, 40) as usize;
-            let samples = self.samples(length, items[2], 12);
-            let mut taken = Vec::new();
+            let most = if self.random.one_in(12) { 300 } else { 40 };
+            let length = self.random.within(0, most) as usize;
+            let samples = self.samples(length, levels, 12);
+            let mut joined = [Vec::new(), Vec::new()];
             let mut from = 0;
-            while from < samples.len() || self.random.one_in(3) {
-                let to = self.random.within(from as u64, samples.len() as u64) as usize;
-                let piece = &samples[from..to];
-                let before = state.clone();
-                self.record_feed(&mut state, piece);
-                if piece.is_empty() || state != before {
-                    taken.extend_from_slice(piece);
+            while from < length || self.random.one_in(3) {
+                let to = self.random.within(from as u64, length as u64) as usize;
+                let piece = [&samples[0][from..to], &samples[1][from..to]];
+                let unequal = self.unequal(piece, 15);
+                if unequal != piece {
+                    self.record_feed(&mut state, unequal);
+                }
+                if self.record_feed(&mut state, piece) {
+                    joined[0].extend_from_slice(piece[0]);
+                    joined[1].extend_from_slice(piece[1]);
                 }
                 from = to;
             }
-            let whole = paper::state_of(items, &taken);
+            let taken = lent(&joined);
+            let whole = paper::state_of(items, taken);
             self.same("whole record", 0, &(items, &taken), record_numbers(&whole), state.clone());
-            self.first_crossing(&taken, items[1], items[2]);
+            self.first_crossing(taken, items[1], levels);
+            self.meet_channels(taken, items[1], levels);
             if whole.crossings <= 10 {
-                let places = paper::crossings(&taken, items[1], items[2]);
+                let places = paper::crossings(taken, items[1], levels);
                 let stands: Vec<u64> = places.iter().map(|&i| (i as u64 - items[1]) * items[0]).collect();
                 self.same("largest set", 0, &(items, &taken), paper::largest(&stands, items[3]) as u64, state[7]);
                 // one group more for each gap that is not less than the time
@@ -311,7 +432,7 @@ impl Bench {
                 _ => self.random.within(0, 30),
             };
             if r.n > 0 {
-                r.last = self.sample(items[2]);
+                r.last = paper::levels(items).map(|level| if self.random.one_in(2) { self.sample(level) } else { self.calm_sample(level) });
             }
             if r.n >= items[1] + 2 && r.n <= most && self.random.one_in(2) {
                 r.crossings = self.random.within(1, r.n - 1 - items[1]);
@@ -365,7 +486,7 @@ impl Bench {
     fn damaged(&mut self, state: &[u64], place: usize) -> Vec<u64> {
         let mut s = state.to_vec();
         if place == s.len() {
-            let length = self.random.within(0, 14) as usize;
+            let length = self.random.within(0, 16) as usize;
             s.resize(length, 1);
             return s;
         }
@@ -382,12 +503,12 @@ impl Bench {
     }
 
     /// A sound record, its numbers and those of a sound campaign, and a short piece to feed.
-    fn sound_case(&mut self, odd: u64) -> (Record, Vec<u64>, Vec<u64>, Vec<i32>) {
+    fn sound_case(&mut self, odd: u64) -> (Record, Vec<u64>, Vec<u64>, [Vec<i32>; 2]) {
         let r = self.sound_record();
         let record = record_numbers(&r);
         let campaign = campaign_numbers(&self.sound_campaign());
         let length = self.random.within(0, 6) as usize;
-        let piece = self.samples(length, r.items[2], odd);
+        let piece = self.samples(length, paper::levels(r.items), odd);
         (r, record, campaign, piece)
     }
 
@@ -395,13 +516,14 @@ impl Bench {
     fn states(&mut self, times: u64) {
         for _ in 0..times {
             let (_, record, campaign, piece) = self.sound_case(8);
-            self.record_feed(&mut record.clone(), &piece);
+            let piece = self.unequal(lent(&piece), 10);
+            self.record_feed(&mut record.clone(), piece);
             let places = if self.random.one_in(5) { self.random.within(0, 7) as usize } else { RESULT_NUMBERS };
             self.record_end(&record, places, &campaign);
             for place in 0..=record.len() {
                 let mut broken = self.damaged(&record, place);
                 self.record_end(&broken, RESULT_NUMBERS, &campaign);
-                self.record_feed(&mut broken, &piece);
+                self.record_feed(&mut broken, piece);
             }
             for place in 0..=campaign.len() {
                 let broken = self.damaged(&campaign, place);
@@ -420,17 +542,41 @@ impl Bench {
                     state[10] = recent;
                     state[11] = groups;
                     self.record_end(&state, RESULT_NUMBERS, &campaign);
-                    self.record_feed(&mut state, &piece);
+                    self.record_feed(&mut state, lent(&piece));
                 }
             }
-            for length in [10, 11, 13] {
+            for length in [10, 12, 13, 15] {
                 let mut state = record.clone();
                 state.resize(length, 0);
                 self.record_end(&state, RESULT_NUMBERS, &campaign);
-                self.record_feed(&mut state, &piece);
+                self.record_feed(&mut state, lent(&piece));
                 self.record_open(r.items, &mut state);
             }
             self.record_end(&record, 4, &campaign);
+        }
+    }
+
+    /// Each level and each last sample alone at the ends of its range and past them, and the last samples of a record that has none.
+    fn two_channel_states(&mut self, times: u64) {
+        for _ in 0..times {
+            let (r, record, campaign, piece) = self.sound_case(50);
+            let piece = self.unequal(lent(&piece), 10);
+            let empty = record_numbers(&paper::open(r.items).unwrap());
+            for (state, place, values) in [
+                (&record, 2, [0, 1, SAMPLE as u64, SAMPLE as u64 + 1, u64::MAX]),
+                (&record, 12, [0, 1, SAMPLE as u64, SAMPLE as u64 + 1, u64::MAX]),
+                (&record, 5, [0, 1, 1_999_999, 2_000_000, 2_000_001]),
+                (&record, 13, [0, 1, 1_999_999, 2_000_000, 2_000_001]),
+                (&empty, 5, [0, 1, 2, 1_999_999, 2_000_000]),
+                (&empty, 13, [0, 1, 2, 1_999_999, 2_000_000]),
+            ] {
+                for value in values {
+                    let mut state = state.clone();
+                    state[place] = value;
+                    self.record_end(&state, RESULT_NUMBERS, &campaign);
+                    self.record_feed(&mut state, piece);
+                }
+            }
         }
     }
 
@@ -454,59 +600,185 @@ impl Bench {
         for _ in 0..times {
             let items = if self.random.one_in(3) { self.items() } else { self.lively() };
             let length = self.random.within(0, 40) as usize;
-            let samples = self.samples(length, items[2], 10);
+            let samples = self.samples(length, paper::levels(items), 10);
+            let samples = self.unequal(lent(&samples), 15);
             let places = self.random.within(0, 12) as usize;
-            self.record_list(items, &samples, places);
+            self.record_list(items, samples, places);
             let ramp = if self.random.one_in(4) { self.random.next() } else { self.random.within(0, 10) };
-            let level = if self.random.one_in(4) { self.random.next() } else { items[2] };
-            self.first_crossing(&samples, ramp, level);
+            let levels = paper::levels(items).map(|level| if self.random.one_in(4) { self.random.next() } else { level });
+            self.first_crossing(samples, ramp, levels);
         }
-        for _ in 0..times / 20 {
-            let items = [10_000, self.random.within(0, 3), 40_000, self.random.within(0, 50_000)];
+        for _ in 0..times / 12 {
+            let items = [10_000, self.random.within(0, 3), 40_000, self.random.within(0, 50_000), 9_810];
             let most = paper::most_samples(items[0], items[1]) as usize;
             let length = most + self.random.within(0, 2) as usize - 1;
-            let samples = self.samples(length, items[2], 20);
+            let samples = self.samples(length, paper::levels(items), 20);
+            let samples = self.unequal(lent(&samples), 20);
             let places = self.random.of(&[0, 200, 400]);
-            self.record_list(items, &samples, places);
+            self.record_list(items, samples, places);
         }
         // more times than the library keeps aside on its first pass
         for _ in 0..20 {
-            let items = [1, self.random.within(0, 3), 40_000, self.random.within(0, 2)];
+            let items = [1, self.random.within(0, 3), 40_000, self.random.within(0, 2), 9_810];
             let length = self.random.within(6_000, 20_000) as usize;
-            let samples = self.samples(length, items[2], 50_000);
+            let samples = self.samples(length, paper::levels(items), 50_000);
             let places = self.random.of(&[0, 2_047, 2_048, 2_049, 20_000]);
-            self.record_list(items, &samples, places);
+            self.record_list(items, lent(&samples), places);
         }
     }
 
     /// A bad sample, or one just within the range, at the first and the last place of the first, a middle and the last block of a library that looks at
-    /// 64 samples at a time; in a piece, in a piece that there is no room for, and in a whole record.
+    /// 64 samples at a time, in either channel, in both at once and in both at neighbouring places; in a piece, in a piece that there is no room for, and in a whole
+    /// record.
     fn ends(&mut self) {
         let values = [i32::MIN, i32::MIN + 1, -SAMPLE - 1, -SAMPLE, SAMPLE, SAMPLE + 1, i32::MAX];
         for n in [64, 65, 175, 192, 257] {
             for place in [0, 1, 62, 63, 64, 65, 127, 128, n - 1].into_iter().filter(|&place| place < n) {
-                for value in values {
-                    let mut samples = vec![0; n];
-                    samples[place] = value;
-                    for (items, step_back) in [([500, 0, 40_000, 0], 0), ([500, 3, 1_000_000, 0], 0), ([10_000, 0, 40_000, 0], 500)] {
-                        let mut state = vec![0; RECORD_NUMBERS];
-                        self.record_open(items, &mut state);
-                        let before: Vec<i32> = vec![0; step_back];
-                        for _ in 0..step_back / 200 {
-                            self.record_feed(&mut state, &before);
-                        }
-                        self.record_feed(&mut state, &samples);
-                        self.record_list(items, &samples, 4);
-                        self.first_crossing(&samples, items[1], items[2]);
+                let neither = n;
+                for [roll, acceleration] in [[place, neither], [neither, place], [place, place], [place, place + 1], [place + 1, place]] {
+                    for value in values {
+                        let mut samples = [vec![0; n], vec![0; n]];
+                        put(&mut samples[0], roll, value);
+                        put(&mut samples[1], acceleration, value);
+                        self.ends_of(lent(&samples));
                     }
                 }
             }
         }
         for level in [0, 999_999, 1_000_000, 1_000_001, i32::MAX as u64 - 1, i32::MAX as u64, i32::MAX as u64 + 1, u64::MAX] {
             for value in values {
-                self.first_crossing(&[0, value], 0, level);
+                self.first_crossing([&[0, value], &[0, 0]], 0, [level, 0]);
+                self.first_crossing([&[0, 0], &[0, value]], 0, [0, level]);
+                self.first_crossing([&[0, value], &[0, value]], 0, [level, u64::MAX]);
             }
         }
+    }
+
+    fn ends_of(&mut self, samples: [&[i32]; 2]) {
+        for (items, step_back) in [([500, 0, 40_000, 0, 9_810], 0), ([500, 3, 1_000_000, 0, 999_999], 0), ([10_000, 0, 40_000, 0, 9_810], 500)] {
+            let mut state = vec![0; RECORD_NUMBERS];
+            self.record_open(items, &mut state);
+            let before: Vec<i32> = vec![0; step_back];
+            for _ in 0..step_back / 200 {
+                self.record_feed(&mut state, [&before, &before]);
+            }
+            self.record_feed(&mut state, samples);
+            self.record_list(items, samples, 4);
+            self.first_crossing(samples, items[1], paper::levels(items));
+        }
+    }
+
+    /// The roll above its level at one place and the acceleration at another, each at an end of a block of 64 or beside it, or nowhere; fed whole, cut at
+    /// either place or between the blocks, listed and searched.
+    fn boundaries(&mut self) {
+        for n in [64, 65, 129, 192] {
+            let places: Vec<usize> = [0, 1, 62, 63, 64, 65, 127, 128, n - 1, n].into_iter().filter(|&place| place <= n).collect();
+            for ramp in [0, 62, 64] {
+                let items = [500, ramp, 40_000, 1_000, 9_810];
+                for &roll in &places {
+                    for &acceleration in &places {
+                        let mut samples = [vec![40_000; n], vec![-9_810; n]];
+                        put(&mut samples[0], roll, -40_001);
+                        put(&mut samples[1], acceleration, 9_811);
+                        let samples = lent(&samples);
+                        for cut in [0, 64, roll, acceleration] {
+                            let mut state = vec![0; RECORD_NUMBERS];
+                            self.record_open(items, &mut state);
+                            self.record_feed(&mut state, samples.map(|channel| &channel[..cut]));
+                            self.record_feed(&mut state, samples.map(|channel| &channel[cut..]));
+                            self.same("whole record", 0, &(items, samples), record_numbers(&paper::state_of(items, samples)), state);
+                        }
+                        self.record_list(items, samples, 2);
+                        self.first_crossing(samples, ramp, paper::levels(items));
+                    }
+                }
+            }
+        }
+    }
+
+    /// Jobs of one channel, the roll or the acceleration, with zeros lent for the other and any level for it: what document 01 says of one channel.
+    fn one_channel(&mut self, times: u64) {
+        for _ in 0..times {
+            let [step, ramp, level, gap, other] = self.lively();
+            let (own, length, odd) = match self.random.within(0, 20) {
+                // about as long as a record may be
+                0 => ([10_000, ramp, level, gap], 1_000 + self.random.within(ramp, ramp + 2), 4),
+                _ => ([step, ramp, level, gap], self.random.within(0, 40), 12),
+            };
+            let xs = &self.samples(length as usize, [level, other], odd)[0];
+            let zeros = vec![0; xs.len()];
+            let channel = self.random.within(1, 2);
+            let [step, ramp, level, gap] = own;
+            let (samples, items) =
+                if channel == 1 { ([&xs[..], &zeros], [step, ramp, level, gap, other]) } else { ([&zeros[..], xs], [step, ramp, other, gap, level]) };
+            let asked = (items, samples, channel);
+            let of_two = |(number, carried): Refused| (number, carried, if number == 2 { channel } else { 0 });
+
+            let mut state = vec![0; RECORD_NUMBERS];
+            self.record_open(items, &mut state);
+            let expected = match single::fed(own, xs) {
+                Ok((last, [crossings, largest, first, latest, recent, groups])) => {
+                    let [roll, acceleration] = if channel == 1 { [code(last), 0] } else { [0, code(last)] };
+                    let mut s = items[..4].to_vec();
+                    s.extend([length, roll, crossings, largest, first, latest, recent, groups, items[4], acceleration]);
+                    ((0, 0, 0), s)
+                }
+                Err(refused) => (of_two(refused), state.clone()),
+            };
+            let told = library::record_feed(&mut state, samples);
+            self.same("one channel", 0, &asked, expected, (told, state));
+
+            let places = self.random.within(0, 12) as usize;
+            let expected = lent_times(single::listed(own, xs, places).map_err(of_two), places);
+            self.same("one channel", 0, &(asked, places), expected, list_by_library(items, samples, places));
+
+            let place = single::crossings(xs, ramp, level).first().copied().unwrap_or(xs.len());
+            self.same("one channel", 0, &asked, place, library::first_crossing(samples, ramp, paper::levels(items)));
+        }
+    }
+
+    /// Document 01's marked cases A to H, with document 02's groups, each sample put into either channel in every way, zeros into the other: all into the roll, all into
+    /// the acceleration, and handed to and fro. The figures are the papers'; `paper` and the library have to have them.
+    fn marked(&mut self) {
+        const A: &[i32] = &[0, 41_000, 39_000, 41_000, 39_000, 41_000, 0];
+        // the ramp, the decorrelation time and the samples; the crossings' times, the largest set, the counted times
+        #[rustfmt::skip]
+        let cases: [(u64, u64, &[i32], &[u64], u64, &[u32]); 8] = [
+            (0, 2_000, A, &[500, 1_500, 2_500], 2, &[500]),
+            (0, 2_001, A, &[500, 1_500, 2_500], 1, &[500]),
+            (0, 0, A, &[500, 1_500, 2_500], 3, &[500, 1_500, 2_500]),
+            (0, 2_000, &[40_000, 40_000], &[], 0, &[]),
+            (0, 2_000, &[40_000, 40_001], &[500], 1, &[500]),
+            (0, 2_000, &[41_000, 0, -41_000], &[1_000], 1, &[1_000]),
+            (0, 2_000, &[0, 41_000, -41_000], &[500], 1, &[500]),
+            (2, 2_000, &[0, 41_000, 41_000, 0, 41_000], &[1_000], 1, &[1_000]),
+        ];
+        for (ramp, gap, xs, crossings, largest, counted) in cases {
+            let items = [500, ramp, 40_000, gap, 40_000];
+            let n = xs.len();
+            for choice in 0..1 << n {
+                let mut samples = [vec![0; n], vec![0; n]];
+                (0..n).for_each(|i| samples[choice >> i & 1][i] = xs[i]);
+                let samples = lent(&samples);
+                let times: Vec<u64> = paper::crossings(samples, ramp, paper::levels(items)).iter().map(|&i| (i as u64 - ramp) * 500).collect();
+                let whole = paper::state_of(items, samples);
+                assert_eq!((&times[..], whole.crossings), (crossings, crossings.len() as u64));
+                assert_eq!((whole.largest, whole.groups), (largest, counted.len() as u64));
+                assert_eq!(paper::listed(items, samples, 3), Ok(counted.to_vec()));
+
+                let first = crossings.first().map_or(0, |time| time / 500 + ramp);
+                let exposure = crossings.first().copied().unwrap_or((n as u64 - 1 - ramp) * 500);
+                let (mut state, mut result) = (vec![0; RECORD_NUMBERS], vec![0; RESULT_NUMBERS]);
+                self.record_open(items, &mut state);
+                self.record_feed(&mut state, samples);
+                library::record_end(&state, &mut result);
+                let expected = vec![crossings.len() as u64, counted.len() as u64, first, exposure, largest];
+                self.same("marked cases", 0, &(items, samples), expected, result);
+                self.record_list(items, samples, 3);
+            }
+        }
+        // H's full time, and A without its crossings
+        assert_eq!(paper::ended(&paper::state_of([500, 2, 40_000, 0, 40_000], [&[0; 5], &[0; 5]])), Ok([0, 0, 0, 1_000, 0]));
     }
 
     fn table(&mut self) {
@@ -526,23 +798,31 @@ fn main() {
     let often = OFTEN / share as u64;
     let mut b = Bench { random: Random::new(1980), rows, cases: 0, met: BTreeMap::new(), verdicts: BTreeMap::new() };
     b.table();
+    b.marked();
     b.ends();
+    b.boundaries();
     b.openings(10_000);
     b.records(15_000);
+    b.one_channel(5_000);
     b.listings(15_000);
     b.states(4_000);
-    b.grouped_states(2_000);
+    b.grouped_states(1_500);
+    b.two_channel_states(1_000);
     b.campaigns(5_000);
     b.histories(100_000 / share);
 
     let mut rare = Vec::new();
     for (entry, numbers) in EXPECTED {
         let met: Vec<String> = numbers.iter().map(|&n| format!("{n}: {}", b.met.get(&(entry, n)).unwrap_or(&0))).collect();
-        println!("{entry:18} {}", met.join("  "));
+        println!("{entry:19} {}", met.join("  "));
         rare.extend(numbers.iter().filter(|&&n| *b.met.get(&(entry, n)).unwrap_or(&0) < often).map(|n| format!("{entry} {n}")));
     }
-    for entry in ["first_crossing", "whole record", "largest set", "groups", "rows"] {
-        println!("{entry:18} {}", b.met[&(entry, 0)]);
+    for entry in BESIDE.into_iter().chain(["rows"]) {
+        let met = *b.met.get(&(entry, 0)).unwrap_or(&0);
+        println!("{entry:19} {met}");
+        if met < often && entry != "rows" {
+            rare.push(entry.to_string());
+        }
     }
     for (case, name) in ["no record", "accept", "reject", "continue"].iter().enumerate() {
         let met = *b.verdicts.get(&(case as u64)).unwrap_or(&0);

@@ -1,16 +1,28 @@
-// Document 01 read once more, in plain Rust, sharing no line with the proved code. Where 01 speaks of a whole record, so does this: it keeps
-// every sample and looks back at all of them. Only `fed` goes sample by sample, since a state that was handed in has no samples to look back at.
+// Document 01 read once more with document 02's [4], [5] and [8], in plain Rust, sharing no line with the proved code. Where they speak of a whole record, so does this: it
+// keeps every sample and looks back at all of them. Only `fed` goes sample by sample, since a state that was handed in has no samples to look back at. What has two
+// channels is a pair here, the roll's first.
 
 /// A refusal number and what is returned with it.
 pub type Refused = (u64, u64);
+
+/// The same of two slices, and the channel: 1 the roll, 2 the acceleration, 0 none.
+pub type RefusedOfTwo = (u64, u64, u64);
 
 pub const LONGEST: u64 = 10_000_000;
 pub const MOST_RECORDS: u64 = 100_000;
 pub const ROWS: u64 = 64;
 pub const SAMPLE: i32 = 1_000_000;
 
-// "Numbers a job may carry", items 1 to 5
-const RANGES: [(u64, u64); 5] = [(1, 10_000), (0, 1_000_000), (1, 1_000_000), (0, 10_000_000), (1, 100_000_000_000)];
+// "Numbers a job may carry", items 1 to 5; item 3 is 3 and 6 by [8]
+const RANGES: [(u64, u64); 6] = [(1, 10_000), (0, 1_000_000), (1, 1_000_000), (0, 10_000_000), (1, 100_000_000_000), (1, 1_000_000)];
+
+/// What opens a record: items 1, 2, 3, 4, 6.
+pub type Items = [u64; 5];
+const OPENING: [usize; 5] = [1, 2, 3, 4, 6];
+
+pub fn levels(items: Items) -> [u64; 2] {
+    [items[2], items[4]]
+}
 
 fn item_ok(item: usize, value: u64) -> bool {
     let (low, high) = RANGES[item - 1];
@@ -21,8 +33,15 @@ fn sample_ok(x: i32) -> bool {
     -SAMPLE <= x && x <= SAMPLE
 }
 
-fn above(level: u64, x: i32) -> bool {
-    u64::from(x.unsigned_abs()) > level
+/// Each channel's sample above its own level or not.
+pub fn each_above(levels: [u64; 2], now: [i32; 2]) -> [bool; 2] {
+    [u64::from(now[0].unsigned_abs()) > levels[0], u64::from(now[1].unsigned_abs()) > levels[1]]
+}
+
+/// [8]: "roll above its level or acceleration above its own".
+fn above(levels: [u64; 2], now: [i32; 2]) -> bool {
+    let [roll, acceleration] = each_above(levels, now);
+    roll || acceleration
 }
 
 /// Refusal 3's bound on n.
@@ -32,10 +51,12 @@ pub fn most_samples(step: u64, ramp: u64) -> u64 {
 
 // ---- "Reading a record", over all its samples
 
-pub fn crossings(samples: &[i32], ramp: u64, level: u64) -> Vec<usize> {
+/// At the places that both slices have.
+pub fn crossings([roll, acceleration]: [&[i32]; 2], ramp: u64, levels: [u64; 2]) -> Vec<usize> {
     let mut places = Vec::new();
-    for i in 1..samples.len() {
-        if (i - 1) as u64 >= ramp && !above(level, samples[i - 1]) && above(level, samples[i]) {
+    let above = |i: usize| above(levels, [roll[i], acceleration[i]]);
+    for i in 1..roll.len().min(acceleration.len()) {
+        if (i - 1) as u64 >= ramp && !above(i - 1) && above(i) {
             places.push(i);
         }
     }
@@ -84,9 +105,9 @@ pub fn largest(times: &[u64], decorrelation: u64) -> usize {
 
 #[derive(Clone, Debug, PartialEq)]
 pub struct Record {
-    pub items: [u64; 4],
+    pub items: Items,
     pub n: u64,
-    pub last: i32,
+    pub last: [i32; 2],
     pub crossings: u64,
     pub largest: u64,
     pub first: u64,
@@ -95,24 +116,24 @@ pub struct Record {
     pub groups: u64,
 }
 
-pub fn open(items: [u64; 4]) -> Result<Record, Refused> {
-    for item in 1..=4 {
-        if !item_ok(item, items[item - 1]) {
+pub fn open(items: Items) -> Result<Record, Refused> {
+    for (k, item) in OPENING.into_iter().enumerate() {
+        if !item_ok(item, items[k]) {
             return Err((1, item as u64));
         }
     }
-    Ok(Record { items, n: 0, last: 0, crossings: 0, largest: 0, first: 0, latest: 0, recent: 0, groups: 0 })
+    Ok(Record { items, n: 0, last: [0, 0], crossings: 0, largest: 0, first: 0, latest: 0, recent: 0, groups: 0 })
 }
 
-/// The state of a whole list of samples, figure by figure.
-pub fn state_of(items: [u64; 4], samples: &[i32]) -> Record {
-    let [step, ramp, level, decorrelation] = items;
-    let places = crossings(samples, ramp, level);
+/// The state of two whole lists of samples, figure by figure.
+pub fn state_of(items: Items, samples: [&[i32]; 2]) -> Record {
+    let [step, ramp, _, decorrelation, _] = items;
+    let places = crossings(samples, ramp, levels(items));
     let kept = apart(&places, step, ramp, decorrelation);
     Record {
         items,
-        n: samples.len() as u64,
-        last: samples.last().copied().unwrap_or(0),
+        n: samples[0].len() as u64,
+        last: samples.map(|channel| channel.last().copied().unwrap_or(0)),
         crossings: places.len() as u64,
         largest: kept.len() as u64,
         first: places.first().map_or(0, |&i| i as u64),
@@ -122,13 +143,13 @@ pub fn state_of(items: [u64; 4], samples: &[i32]) -> Record {
     }
 }
 
-/// "Relations for 8", the record's, and document 02's [5] in addition.
+/// "Relations for 8", the record's, and document 02's [5] in addition; by [8] of both levels and both last samples.
 pub fn record_ok(r: &Record) -> bool {
     let [step, ramp, ..] = r.items;
-    if open(r.items).is_err() || !sample_ok(r.last) || r.n > most_samples(step, ramp) || r.largest > r.crossings {
+    if open(r.items).is_err() || r.last.iter().any(|&x| !sample_ok(x)) || r.n > most_samples(step, ramp) || r.largest > r.crossings {
         return false;
     }
-    if r.n == 0 && r.last != 0 {
+    if r.n == 0 && r.last != [0, 0] {
         return false;
     }
     if r.first == 0 {
@@ -143,11 +164,11 @@ pub fn record_ok(r: &Record) -> bool {
     r.n > ramp && r.crossings <= r.n - 1 - ramp && r.first > ramp && r.first <= r.latest && r.latest < r.n
 }
 
-fn one_more(r: &Record, x: i32) -> Record {
-    let [step, ramp, level, decorrelation] = r.items;
+fn one_more(r: &Record, now: [i32; 2]) -> Record {
+    let [step, ramp, _, decorrelation, _] = r.items;
     let mut s = r.clone();
     let timed_before = r.n > ramp;
-    if timed_before && !above(level, r.last) && above(level, x) {
+    if timed_before && !above(levels(r.items), r.last) && above(levels(r.items), now) {
         s.crossings += 1;
         if r.crossings == 0 {
             s.first = r.n;
@@ -161,40 +182,51 @@ fn one_more(r: &Record, x: i32) -> Record {
         s.recent = r.n;
     }
     s.n += 1;
-    s.last = x;
+    s.last = now;
     s
 }
 
-pub fn fed(r: &Record, piece: &[i32]) -> Result<Record, Refused> {
+/// [8]: 12 for unequal lengths, before 2 with the lower place and its channel, "roll first on a tie".
+fn both_taken([roll, acceleration]: [&[i32]; 2]) -> Result<(), RefusedOfTwo> {
+    if roll.len() != acceleration.len() {
+        return Err((12, 0, 0));
+    }
+    let bad = |channel: &[i32]| channel.iter().position(|&x| !sample_ok(x)).map(|place| place as u64);
+    match (bad(roll), bad(acceleration)) {
+        (None, None) => Ok(()),
+        (Some(i), None) => Err((2, i, 1)),
+        (None, Some(j)) => Err((2, j, 2)),
+        (Some(i), Some(j)) => Err(if j < i { (2, j, 2) } else { (2, i, 1) }),
+    }
+}
+
+pub fn fed(r: &Record, piece: [&[i32]; 2]) -> Result<Record, RefusedOfTwo> {
     if !record_ok(r) {
-        return Err((8, 0));
+        return Err((8, 0, 0));
     }
-    if let Some(place) = piece.iter().position(|&x| !sample_ok(x)) {
-        return Err((2, place as u64));
+    both_taken(piece)?;
+    let [roll, acceleration] = piece;
+    if r.n + roll.len() as u64 > most_samples(r.items[0], r.items[1]) {
+        return Err((3, 0, 0));
     }
-    if r.n + piece.len() as u64 > most_samples(r.items[0], r.items[1]) {
-        return Err((3, 0));
-    }
-    Ok(piece.iter().fold(r.clone(), |s, &x| one_more(&s, x)))
+    Ok(roll.iter().zip(acceleration).fold(r.clone(), |s, (&x, &y)| one_more(&s, [x, y])))
 }
 
 /// The counted times, for a slice of so many places.
-pub fn listed(items: [u64; 4], samples: &[i32], places: usize) -> Result<Vec<u32>, Refused> {
-    open(items)?;
-    let [step, ramp, level, decorrelation] = items;
-    if let Some(place) = samples.iter().position(|&x| !sample_ok(x)) {
-        return Err((2, place as u64));
-    }
-    let n = samples.len() as u64;
+pub fn listed(items: Items, samples: [&[i32]; 2], places: usize) -> Result<Vec<u32>, RefusedOfTwo> {
+    open(items).map_err(|(number, carried)| (number, carried, 0))?;
+    let [step, ramp, _, decorrelation, _] = items;
+    both_taken(samples)?;
+    let n = samples[0].len() as u64;
     if n > most_samples(step, ramp) {
-        return Err((3, 0));
+        return Err((3, 0, 0));
     }
     if n < ramp + 2 {
-        return Err((4, 0));
+        return Err((4, 0, 0));
     }
-    let groups = groups(&crossings(samples, ramp, level), step, ramp, decorrelation);
+    let groups = groups(&crossings(samples, ramp, levels(items)), step, ramp, decorrelation);
     if groups.len() > places {
-        return Err((7, groups.len() as u64));
+        return Err((7, groups.len() as u64, 0));
     }
     Ok(groups.iter().map(|group| ((group[0] as u64 - ramp) * step) as u32).collect())
 }

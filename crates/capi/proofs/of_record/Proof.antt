@@ -1,18 +1,23 @@
--- `capi::of_record` meets its contract: eleven fields, and the last sample's code between them. Assumes nothing.
+-- `capi::of_record` meets its contract: twelve numbers, and the codes of the last samples between them. Assumes nothing.
+use borrow.Author.Needs.{needs}
 use mir.Facts.{toZ-ofZ}
 use mir.Syntax.{w32}
 use mir.Val.{SFits}
-use borrow.Author.Needs.{needs}
 use Rattle.capi.proofs.of_record.Statement.{statement}
 use Rattle.capi.proofs.of_record.Tie as tie
 
 code-of-requires : tie.Need-code-of-requires
 code-of-requires c κs = search needs
 
+code-of-requires-2 : tie.Need-code-of-requires-2
+code-of-requires-2 c κs = search needs
+
 returns : tie.Need-returns
 returns c =
-    let f : SFits w32 (c .before .before .args .r .last) = search needs in
-    rw (c .code-of .ensures, toZ-ofZ f)
+    let last = c .before .before .before .before .before .before .args .r .last in
+    let roll : SFits w32 (last .roll) = search needs in
+    let acceleration : SFits w32 (last .acceleration) = search needs in
+    rw (c .before .before .code-of .ensures, c .code-of2 .ensures, toZ-ofZ roll, toZ-ofZ acceleration)
 
 pub of-record-spec : {M : Type 1} → statement M
-of-record-spec = tie.close (tie.spec code-of-requires returns)
+of-record-spec = tie.close (tie.spec code-of-requires code-of-requires-2 returns)

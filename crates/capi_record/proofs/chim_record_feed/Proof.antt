@@ -1,4 +1,4 @@
--- `capi_record::chim_record_feed` meets its contract: what feeding answered the record of the array is kept in it. Assumes nothing.
+-- `capi_record::chim_record_feed` meets its contract: what feeding answered the record of the array is kept in it, and the channel that it names is told. Assumes nothing.
 use borrow.Author.Needs.{needs}
 use Rattle.capi_record.proofs.chim_record_feed.Statement.{statement}
 use Rattle.capi_record.proofs.chim_record_feed.Tie as tie
@@ -9,6 +9,9 @@ record-of-requires c κs = search needs
 feed-requires : tie.Need-feed-requires
 feed-requires c κs = search needs
 
+channel-in-requires : tie.Need-channel-in-requires
+channel-in-requires c κs = search needs
+
 keep-record-requires : tie.Need-keep-record-requires
 keep-record-requires c κs = search needs
 
@@ -16,8 +19,15 @@ same-length : tie.Need-same-length
 same-length c = search needs
 
 returns : tie.Need-returns
-returns c = rw (← c .before .before .before .before .before .before .record-of .ensures, ← c .before .before .before .before .before .feed .ensures) (c .before .before .keep-record .ensures)
+returns c = rw (← c .before .before .before .before .before .before .before .record-of .ensures, ← c .before .before .before .before .before .before .feed .ensures) (c .before .before .keep-record .ensures, c .before .before .before .before .before .channel-in .ensures)
 
 pub chim-record-feed-spec : {M : Type 1} → statement M
 chim-record-feed-spec =
-    tie.close (tie.spec record-of-requires feed-requires keep-record-requires same-length returns)
+    tie.close
+    (tie.spec
+    record-of-requires
+    feed-requires
+    channel-in-requires
+    keep-record-requires
+    same-length
+    returns)

@@ -1,6 +1,7 @@
 -- `capi_record::chim_record_list` meets its contract: what `list` answered is known in each arm, and the slice is as it left it. Assumes nothing.
-use Rattle.capi_record.specs.Told.{listTold}
+use mathlib.Core.Path.{refl}
 use borrow.Author.Needs.{needs}
+use Rattle.capi_record.specs.Told.{listChannel, listTold}
 use Rattle.capi_record.proofs.chim_record_list.Statement.{statement}
 use Rattle.capi_record.proofs.chim_record_list.Tie as tie
 
@@ -16,6 +17,9 @@ give-requires c κs = search needs
 enum-known-a-2 : tie.Need-enum-known-a-2
 enum-known-a-2 c = search needs
 
+channel-requires : tie.Need-channel-requires
+channel-requires c κs = search needs
+
 refuse-requires : tie.Need-refuse-requires
 refuse-requires c κs = search needs
 
@@ -23,19 +27,19 @@ same-length : tie.Need-same-length
 same-length c = search needs
 
 returns : tie.Need-returns
-unfolding listTold
+unfolding listTold listChannel
 returns c =
     let e = c .before .before .before .before .before .before .before .list .ensures in
-    rw (← e .answers, ← e .leaves, c .before .before .before .a .given .1, c .give .ensures .0, c .give .ensures .1)
+    rw (← e .answers, ← e .leaves, c .before .before .before .a .given .1, c .give .ensures .0, c .give .ensures .1) (refl, refl)
 
 same-length-2 : tie.Need-same-length-2
 same-length-2 c = search needs
 
 returns-2 : tie.Need-returns-2
-unfolding listTold
+unfolding listTold listChannel
 returns-2 c =
-    let e = c .before .before .before .before .before .before .before .list .ensures in
-    rw (← e .answers, ← e .leaves, c .before .before .before .a2 .given .1, c .refuse .ensures .0, c .refuse .ensures .1)
+    let e = c .before .before .before .before .before .before .before .before .list .ensures in
+    rw (← e .answers, ← e .leaves, c .before .before .before .before .a2 .given .1, c .refuse .ensures .0, c .refuse .ensures .1, c .before .before .channel .ensures) (refl, refl)
 
 pub chim-record-list-spec : {M : Type 1} → statement M
 chim-record-list-spec =
@@ -45,6 +49,7 @@ chim-record-list-spec =
     enum-known-a
     give-requires
     enum-known-a-2
+    channel-requires
     refuse-requires
     same-length
     returns

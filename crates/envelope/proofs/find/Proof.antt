@@ -5,6 +5,7 @@ use borrow.Author.Needs.{needs}
 use lib.ListN.{length, length-drop}
 use Rattle.limits.proofs.Items.{items}
 use Rattle.whole.proofs.Judged.{Fitting, fitting, refused-tested}
+use Rattle.envelope.specs.Answers.{anyLevels}
 use Rattle.runs.proofs.Due.{from-place}
 use Rattle.envelope.proofs.Answered.{finds-refused, finds-bad, finds-good}
 use Rattle.envelope.proofs.find.Statement.{statement}
@@ -17,14 +18,14 @@ enum-known-size : tie.Need-enum-known-size
 enum-known-size c = search needs
 
 returns : tie.Need-returns
-returns c = finds-refused (c .before .before .before .before .before .before .args .step) (c .before .before .before .before .before .before .args .ramp) (c .before .before .before .before .before .before .args .decorrelation) (c .before .before .before .before .before .before .args .samples .now) (c .before .before .before .before .before .before .args .sizes .now) (c .before .before .before .before .before .before .args .times .now) (c .before .size .given .0 .0) (refused-tested (c .before .before .before .before .before .before .args .step) (c .before .before .before .before .before .before .args .ramp) 1 (c .before .before .before .before .before .before .args .decorrelation) (c .before .before .before .before .before .before .args .samples .now) (c .before .size .given .0 .0) (sym (c .before .before .before .judge .ensures) ∙ c .before .size .given .1))
+returns c = finds-refused (c .before .before .before .before .before .before .args .step) (c .before .before .before .before .before .before .args .ramp) (c .before .before .before .before .before .before .args .decorrelation) (c .before .before .before .before .before .before .args .samples .now) (c .before .before .before .before .before .before .args .sizes .now) (c .before .before .before .before .before .before .args .times .now) (c .before .size .given .0 .0) (refused-tested (c .before .before .before .before .before .before .args .step) (c .before .before .before .before .before .before .args .ramp) anyLevels (c .before .before .before .before .before .before .args .decorrelation) (c .before .before .before .before .before .before .args .samples .now) (c .before .before .before .before .before .before .args .samples .now) (c .before .size .given .0 .0) (sym (c .before .before .before .judge .ensures) ∙ c .before .size .given .1))
 
 enum-told : tie.Need-enum-told
 enum-told c = search needs
 
 -- past the first tests the record fits
-fit : (c : tie.After-enum-told) → Fitting (c .before .before .before .before .before .args .step) (c .before .before .before .before .before .args .ramp) 1 (c .before .before .before .before .before .args .decorrelation) (length (c .before .before .before .before .before .args .samples .now))
-fit c = fitting (c .before .before .before .before .before .args .step) (c .before .before .before .before .before .args .ramp) 1 (c .before .before .before .before .before .args .decorrelation) (c .before .before .before .before .before .args .samples .now) (sym (c .before .before .judge .ensures) ∙ c .enum-told .given .1)
+fit : (c : tie.After-enum-told) → Fitting (c .before .before .before .before .before .args .step) (c .before .before .before .before .before .args .ramp) anyLevels (c .before .before .before .before .before .args .decorrelation) (length (c .before .before .before .before .before .args .samples .now)) (length (c .before .before .before .before .before .args .samples .now))
+fit c = fitting (c .before .before .before .before .before .args .step) (c .before .before .before .before .before .args .ramp) anyLevels (c .before .before .before .before .before .args .decorrelation) (c .before .before .before .before .before .args .samples .now) (c .before .before .before .before .before .args .samples .now) (sym (c .before .before .judge .ensures) ∙ c .enum-told .given .1)
 
 first-bad-requires : tie.Need-first-bad-requires
 first-bad-requires c κs = search needs
@@ -48,7 +49,7 @@ hand-out-requires : tie.Need-hand-out-requires
 hand-out-requires c κs =
     let a = c .before .before .before .before .before .before .before .before .before .before .args in
     let f = fit (c .before .before .before .before .before) in
-    let i = items (a .step) (a .ramp) 1 (a .decorrelation) (f .items) in
+    let i = items (a .step) (a .ramp) anyLevels (a .decorrelation) (f .items) in
     (omega (arith, f .most, ap length (from-place (a .ramp) (a .samples .now)), length-drop (a .ramp) (a .samples .now)), i .decorrelation)
 
 same-length : tie.Need-same-length

@@ -2,12 +2,11 @@
 -- nothing.
 use borrow.Author.Needs.{needs}
 use Prim.Native.Nat.{_-_}
-use mathlib.Core.Path.{sym, ap, _∙_}
+use mathlib.Core.Path.{_≡_, sym, ap, _∙_}
 use native.Mathlib.Omega.{arith}
 use lib.ListN.{length}
-use mir.Val.{SFits}
-use mir.Syntax.{w32}
-use mir.Facts.{toZ-ofZ}
+use Rattle.channels.specs.Channels.{moments}
+use Rattle.channels.proofs.Moments.{moments-length}
 use Rattle.reading.specs.Reading.{sampleAt}
 use Rattle.steps.specs.Step.{moved}
 use Rattle.record.proofs.Relations.{kept-from}
@@ -22,33 +21,26 @@ step-all-requires c κs = search needs
 returns : tie.Need-returns
 returns c = search needs
 
-sub-moved : tie.Need-sub-moved
-sub-moved c = search needs
+sub-moment-at : tie.Need-sub-moment-at
+sub-moment-at c = search needs
 
-mul-moved : tie.Need-mul-moved
-mul-moved c = search needs
-
-shared-slice-copy-out-moved : tie.Need-shared-slice-copy-out-moved
-shared-slice-copy-out-moved c = search needs
+moment-at-requires : tie.Need-moment-at-requires
+moment-at-requires c κs = search needs
 
 moved-requires : tie.Need-moved-requires
-moved-requires c κs = omega (arith, small (kept-from (c .before .before .args .r) (c .before .before .pre .0)))
+moved-requires c κs = let a = c .before .before in omega (arith, a .pre .0 .room, small (kept-from (a .args .r) (a .pre .0 .state)))
 
 returns-2 : tie.Need-returns-2
 returns-2 c =
-    let r = c .before .before .before .args .r in
-    let p = c .before .before .before .args .block .now in
-    let f : SFits w32 (sampleAt p (length p - 1)) = search needs in
-    c .moved .ensures ∙ ap (moved r (length p)) (toZ-ofZ f) ∙ sym (still-run r p (quiet-still r p (sym (c .before .before .before .pre .1) ∙ c .before .before .if1 .left)) (omega arith))
+    let a = c .before .before .before in
+    let r = a .args .r in
+    let xs = a .args .roll .now in
+    let ys = a .args .acceleration .now in
+    let k : length (moments xs ys) ≡ length xs = moments-length xs ys (a .pre .0 .equal) in
+    let q = quiet-still r xs ys (sym (a .pre .1) ∙ c .before .before .if1 .left) in
+    c .moved .ensures ∙ ap (moved r (length xs)) (c .before .moment-at .ensures) ∙ sym (rw k at (still-run r (moments xs ys) q (omega arith)))
 
 pub advance-spec : {M : Type 1} → statement M
 advance-spec =
     tie.close
-    (tie.spec
-    step-all-requires
-    returns
-    sub-moved
-    mul-moved
-    shared-slice-copy-out-moved
-    moved-requires
-    returns-2)
+    (tie.spec step-all-requires returns sub-moment-at moment-at-requires moved-requires returns-2)

@@ -1,8 +1,6 @@
 -- `feeding::crossed` meets its contract, by its test. Assumes nothing.
 use borrow.Author.Needs.{needs}
-use mathlib.Core.Path.{sym, ap, _∙_}
-use mir.Facts.{toZ-ofZ}
-use Rattle.steps.specs.Step.{crossed}
+use mathlib.Core.Path.{sym, _∙_}
 use Rattle.record.proofs.Relations.{kept-from}
 use Rattle.record.proofs.Bounds.{latest-earlier}
 use Rattle.feeding.proofs.crossed.Statement.{statement}
@@ -20,10 +18,10 @@ joining-requires : tie.Need-joining-requires
 joining-requires c κs = (c .before .before .pre .0, c .before .before .pre .1, sym (c .before .far .ensures) ∙ c .if1 .left)
 
 returns : tie.Need-returns
-returns c = c .counted .ensures ∙ ap (crossed (c .before .before .before .args .r)) (toZ-ofZ (c .before .before .before .fits .x))
+returns c = c .counted .ensures
 
 returns-2 : tie.Need-returns-2
-returns-2 c = c .joining .ensures ∙ ap (crossed (c .before .before .before .args .r)) (toZ-ofZ (c .before .before .before .fits .x))
+returns-2 c = c .joining .ensures
 
 pub crossed-spec : {M : Type 1} → statement M
 crossed-spec = tie.close (tie.spec far-requires counted-requires joining-requires returns returns-2)

@@ -2,13 +2,13 @@
 use mathlib.Core.Path.{_≡_, sym, _∙_}
 use mathlib.Core.Bool.{true}
 use native.Mathlib.Omega.{arith}
+use borrow.Author.Needs.{needs}
 use borrow.Author.Tests.{not-true, not-false}
 use Rattle.limits.specs.Limits.{mostSamples}
 use Rattle.record.specs.State.{sound}
 use Rattle.record.proofs.Relations.{Kept, kept-from}
 use Rattle.record.proofs.Bounds.{most-of}
-use Rattle.feeding.proofs.Fed.{fed-broken, fed-full}
-use borrow.Author.Needs.{needs}
+use Rattle.feeding.proofs.Fed.{fed-broken, fed-unequal, fed-full}
 use Rattle.feeding.proofs.feed.Statement.{statement}
 use Rattle.feeding.proofs.feed.Tie as tie
 
@@ -16,7 +16,7 @@ sound-requires : tie.Need-sound-requires
 sound-requires c κs = search needs
 
 returns : tie.Need-returns
-returns c = sym (fed-broken _ _ (sym (c .before .sound .ensures) ∙ not-true _ (c .if1 .taken)))
+returns c = sym (fed-broken _ _ _ (sym (c .before .sound .ensures) ∙ not-true _ (c .if1 .taken)))
 
 -- past the first test the state is sound
 held : (c : tie.Else1) → sound (c .before .before .args .r) ≡ true
@@ -25,29 +25,32 @@ held c = sym (c .before .sound .ensures) ∙ not-false _ (c .if1 .left)
 facts : (c : tie.Else1) → Kept (c .before .before .args .r)
 facts c = kept-from (c .before .before .args .r) (held c)
 
+returns-2 : tie.Need-returns-2
+returns-2 c = sym (fed-unequal _ _ _ (held (c .before)) (c .if2 .taken))
+
 most-samples-requires : tie.Need-most-samples-requires
 most-samples-requires c κs = search needs
 
 -- the room for samples
-most : (c : tie.After-most-samples) → c .most-samples .result ≡ mostSamples (c .before .before .before .args .r .step) (c .before .before .before .args .r .ramp)
-most c = c .most-samples .ensures ∙ most-of (facts (c .before))
+most : (c : tie.After-most-samples) → c .most-samples .result ≡ mostSamples (c .before .before .before .before .args .r .step) (c .before .before .before .before .args .r .ramp)
+most c = c .most-samples .ensures ∙ most-of (facts (c .before .before))
 
 sub-room : tie.Need-sub-room
-sub-room c = omega (arith, most (c .before), facts (c .before .before) .length)
+sub-room c = omega (arith, most (c .before), facts (c .before .before .before) .length)
 
 pass-requires : tie.Need-pass-requires
-pass-requires c κs = (held (c .before .before .before), omega (arith, most (c .before .before), facts (c .before .before .before) .length))
-
-returns-2 : tie.Need-returns-2
-returns-2 c = search needs
-
-too-long-requires : tie.Need-too-long-requires
-too-long-requires c κs = search needs
+pass-requires c κs = (held (c .before .before .before .before), c .before .before .before .if2 .left, omega (arith, most (c .before .before), facts (c .before .before .before .before) .length))
 
 returns-3 : tie.Need-returns-3
-returns-3 c =
-    let k = facts (c .before .before .before .before) in
-    c .too-long .ensures ∙ sym (fed-full _ _ (held (c .before .before .before .before)) (omega (arith, most (c .before .before .before), k .length)))
+returns-3 c = search needs
+
+fault-requires : tie.Need-fault-requires
+fault-requires c κs = search needs
+
+returns-4 : tie.Need-returns-4
+returns-4 c =
+    let k = facts (c .before .before .before .before .before) in
+    c .fault .ensures ∙ sym (fed-full _ _ _ (held (c .before .before .before .before .before)) (c .before .before .before .before .if2 .left) (omega (arith, most (c .before .before .before), k .length)))
 
 pub feed-spec : {M : Type 1} → statement M
 feed-spec =
@@ -55,9 +58,10 @@ feed-spec =
     (tie.spec
     sound-requires
     returns
+    returns-2
     most-samples-requires
     sub-room
     pass-requires
-    returns-2
-    too-long-requires
-    returns-3)
+    returns-3
+    fault-requires
+    returns-4)

@@ -1,9 +1,8 @@
 -- `feeding::step` meets its contract, by its test. Assumes nothing.
 use borrow.Author.Needs.{needs}
-use mathlib.Core.Path.{sym, ap, _∙_}
-use mir.Facts.{toZ-ofZ}
+use mathlib.Core.Path.{sym, _∙_}
 use native.Mathlib.Omega.{arith}
-use Rattle.steps.specs.Step.{moved, crossed, stepped}
+use Rattle.steps.specs.Step.{stepped}
 use Rattle.record.proofs.Relations.{kept-from}
 use Rattle.record.proofs.Bounds.{small}
 use Rattle.steps.proofs.Steps.{crosses-after}
@@ -18,11 +17,11 @@ moved-requires c κs = let k = kept-from (c .before .args .r) (c .before .pre .0
 
 returns : tie.Need-returns
 unfolding stepped
-returns c = rw (← c .before .before .pre .2, c .before .if1 .taken) (c .crossed .ensures ∙ ap (crossed (c .before .before .args .r)) (toZ-ofZ (c .before .before .fits .x)))
+returns c = rw (← c .before .before .pre .2, c .before .if1 .taken) (c .crossed .ensures)
 
 returns-2 : tie.Need-returns-2
 unfolding stepped
-returns-2 c = rw (← c .before .before .pre .2, c .before .if1 .left) (c .moved .ensures ∙ ap (moved (c .before .before .args .r) 1) (toZ-ofZ (c .before .before .fits .x)))
+returns-2 c = rw (← c .before .before .pre .2, c .before .if1 .left) (c .moved .ensures)
 
 pub step-spec : {M : Type 1} → statement M
 step-spec = tie.close (tie.spec crossed-requires moved-requires returns returns-2)

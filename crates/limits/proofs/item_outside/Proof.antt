@@ -28,9 +28,15 @@ between-requires-4 c κs = search needs
 pick-requires-4 : tie.Need-pick-requires-4
 pick-requires-4 c κs = search needs
 
+between-requires-5 : tie.Need-between-requires-5
+between-requires-5 c κs = search needs
+
+pick-requires-5 : tie.Need-pick-requires-5
+pick-requires-5 c κs = search needs
+
 returns : tie.Need-returns
 unfolding itemOutside
-returns c = rw (c .pick4 .ensures, c .before .between4 .ensures, c .before .before .pick3 .ensures, c .before .before .before .between3 .ensures, c .before .before .before .before .pick2 .ensures, c .before .before .before .before .before .between2 .ensures, c .before .before .before .before .before .before .pick .ensures, c .before .before .before .before .before .before .before .between .ensures)
+returns c = rw (c .pick5 .ensures, c .before .between5 .ensures, c .before .before .pick4 .ensures, c .before .before .before .between4 .ensures, c .before .before .before .before .pick3 .ensures, c .before .before .before .before .before .between3 .ensures, c .before .before .before .before .before .before .pick2 .ensures, c .before .before .before .before .before .before .before .between2 .ensures, c .before .before .before .before .before .before .before .before .pick .ensures, c .before .before .before .before .before .before .before .before .before .between .ensures)
 
 pub item-outside-spec : {M : Type 1} → statement M
 item-outside-spec =
@@ -44,4 +50,6 @@ item-outside-spec =
     pick-requires-3
     between-requires-4
     pick-requires-4
+    between-requires-5
+    pick-requires-5
     returns)

@@ -1,8 +1,12 @@
 -- `listing::advance` meets its contract: over a quiet block only the time moves (`quiet-block`); another is walked sample by sample. Assumes nothing.
-use mathlib.Core.Path.{sym, ap, _∙_}
 use borrow.Author.Needs.{needs}
+use mathlib.Core.Path.{_≡_, sym, ap, _∙_}
+use native.Mathlib.Omega.{arith}
+use lib.ListN.{length}
+use Rattle.channels.specs.Channels.{moments}
+use Rattle.channels.proofs.Moments.{moments-length}
 use Rattle.walk.specs.declared.Walk.{Walk}
-use Rattle.walk.specs.Walk.{noting}
+use Rattle.walk.specs.Walk.{passed, noting}
 use Rattle.walk.proofs.Steps.{quiet-block}
 use Rattle.listing.proofs.advance.Statement.{statement}
 use Rattle.listing.proofs.advance.Tie as tie
@@ -20,8 +24,12 @@ passed-requires : tie.Need-passed-requires
 passed-requires c κs = search needs
 
 returns-2 : tie.Need-returns-2
-returns-2 c = ap (λ (w : Walk). noting w (c .before .before .before .args .times .now)) (c .passed .ensures) ∙ sym (quiet-block (c .before .before .before .args .step) (c .before .before .before .args .level) (c .before .before .before .args .decorrelation) (c .before .before .before .args .times .now) (c .before .before .before .args .w) (c .before .before .before .args .block .now) (sym (c .before .before .before .pre .1) ∙ c .before .if1 .left) (c .before .before .before .pre .2))
+returns-2 c =
+    let a = c .before .before .before in
+    let g = a .args in
+    let n : length (moments (g .roll .now) (g .acceleration .now)) ≡ length (g .roll .now) = moments-length (g .roll .now) (g .acceleration .now) (a .pre .1) in
+    let q = quiet-block (g .step) (g .levels) (g .decorrelation) (g .times .now) (g .w) (g .roll .now) (g .acceleration .now) (sym (a .pre .2) ∙ c .before .if1 .left) (omega (arith, a .pre .3)) in
+    ap (λ (w : Walk). noting w (g .times .now)) (c .passed .ensures) ∙ sym (rw n at q)
 
 pub advance-spec : {M : Type 1} → statement M
-advance-spec =
-    tie.close (tie.spec along-requires same-length returns passed-requires returns-2)
+advance-spec = tie.close (tie.spec along-requires same-length returns passed-requires returns-2)

@@ -1,15 +1,14 @@
--- `listing::list` meets its contract: each answer is the law of `Answered` whose tests held on the way to it. Assumes nothing.
-use Prim.Native.Nat.{_+_, _-_}
-use mathlib.Core.Path.{_≡_, refl, sym, ap, _∙_}
-use native.Mathlib.Omega.{arith}
-use mathlib.Core.List.{_++_}
-use lib.ListN.{length, take, drop, take-append-drop, length-drop}
-use lib.Seq.{take-all, length-take-le}
-use Rattle.truth.proofs.Cases.{by-order}
+-- `listing::list` meets its contract: each answer is the law of `Answered` whose tests held on the way to it. A sample is bad in the ramp or behind it (`any-parts`). Assumes nothing.
 use borrow.Author.Needs.{needs}
-use Rattle.range.specs.Range.{firstBad}
-use Rattle.range.proofs.Bad.{bad-append, bad-left, bad-within}
-use Rattle.limits.proofs.Items.{items}
+use Prim.Native.Nat.{_-_}
+use mathlib.Core.Path.{_≡_, sym, _∙_}
+use mathlib.Core.Bool.{true, false}
+use native.Mathlib.Omega.{arith}
+use lib.ListN.{length, take, drop, length-drop}
+use lib.Seq.{take-all, length-take-le}
+use Rattle.channels.specs.Channels.{anyBad}
+use Rattle.channels.proofs.Blocks.{any-parts}
+use Rattle.channels.proofs.Range.{looked-bad, looked-good}
 use Rattle.whole.proofs.Judged.{Fitting, fitting, refused-tested}
 use Rattle.listing.proofs.Ready.{ready}
 use Rattle.listing.proofs.Answered.{lists-refused, lists-bad, lists-good}
@@ -23,75 +22,107 @@ enum-known-size : tie.Need-enum-known-size
 enum-known-size c = search needs
 
 returns : tie.Need-returns
-returns c = lists-refused (c .before .before .before .before .before .args .step) (c .before .before .before .before .before .args .ramp) (c .before .before .before .before .before .args .level) (c .before .before .before .before .before .args .decorrelation) (c .before .before .before .before .before .args .samples .now) (c .before .before .before .before .before .args .times .now) (c .before .size .given .0 .0) (refused-tested (c .before .before .before .before .before .args .step) (c .before .before .before .before .before .args .ramp) (c .before .before .before .before .before .args .level) (c .before .before .before .before .before .args .decorrelation) (c .before .before .before .before .before .args .samples .now) (c .before .size .given .0 .0) (sym (c .before .before .before .judge .ensures) ∙ c .before .size .given .1))
+returns c = lists-refused (c .before .before .before .before .before .args .step) (c .before .before .before .before .before .args .ramp) (c .before .before .before .before .before .args .levels) (c .before .before .before .before .before .args .decorrelation) (c .before .before .before .before .before .args .roll .now) (c .before .before .before .before .before .args .acceleration .now) (c .before .before .before .before .before .args .times .now) (c .before .size .given .0 .0) (refused-tested (c .before .before .before .before .before .args .step) (c .before .before .before .before .before .args .ramp) (c .before .before .before .before .before .args .levels) (c .before .before .before .before .before .args .decorrelation) (c .before .before .before .before .before .args .roll .now) (c .before .before .before .before .before .args .acceleration .now) (c .before .size .given .0 .0) (sym (c .before .before .before .judge .ensures) ∙ c .before .size .given .1))
 
 enum-told : tie.Need-enum-told
 enum-told c = search needs
 
 -- past the first tests the record fits
-fit : (c : tie.After-enum-told) → Fitting (c .before .before .before .before .args .step) (c .before .before .before .before .args .ramp) (c .before .before .before .before .args .level) (c .before .before .before .before .args .decorrelation) (length (c .before .before .before .before .args .samples .now))
-fit c = fitting (c .before .before .before .before .args .step) (c .before .before .before .before .args .ramp) (c .before .before .before .before .args .level) (c .before .before .before .before .args .decorrelation) (c .before .before .before .before .args .samples .now) (sym (c .before .before .judge .ensures) ∙ c .enum-told .given .1)
+fit : (c : tie.After-enum-told) → Fitting (c .before .before .before .before .args .step) (c .before .before .before .before .args .ramp) (c .before .before .before .before .args .levels) (c .before .before .before .before .args .decorrelation) (length (c .before .before .before .before .args .roll .now)) (length (c .before .before .before .before .args .acceleration .now))
+fit c = fitting (c .before .before .before .before .args .step) (c .before .before .before .before .args .ramp) (c .before .before .before .before .args .levels) (c .before .before .before .before .args .decorrelation) (c .before .before .before .before .args .roll .now) (c .before .before .before .before .args .acceleration .now) (sym (c .before .before .judge .ensures) ∙ c .enum-told .given .1)
 
--- the ramp's samples
-ramp : (c : tie.After-enum-told) → length (take (c .before .before .before .before .args .ramp) (c .before .before .before .before .args .samples .now)) ≡ c .before .before .before .before .args .ramp
-ramp c = length-take-le _ _ (omega (arith, fit c .few))
+slice-aggregate-look-over : tie.Need-slice-aggregate-look-over
+slice-aggregate-look-over c = sym (length-take-le _ _ (omega (arith, fit (c .before) .few)))
 
--- the record is its ramp and its timed samples
-parted : (c : tie.After-enum-told) → firstBad (c .before .before .before .before .args .samples .now) ≡ firstBad (take (c .before .before .before .before .args .ramp) (c .before .before .before .before .args .samples .now) ++ drop (c .before .before .before .before .args .ramp) (c .before .before .before .before .args .samples .now))
-parted c = ap firstBad (sym (take-append-drop (c .before .before .before .before .args .ramp) (c .before .before .before .before .args .samples .now)))
+slice-aggregate-look-over-2 : tie.Need-slice-aggregate-look-over-2
+slice-aggregate-look-over-2 c = sym (length-take-le _ _ (omega (arith, fit (c .before .before) .few, fit (c .before .before) .equal)))
 
--- the slice from the ramp on holds the samples from the ramp on
-timed : (c : tie.After-enum-told) → take (length (c .before .before .before .before .args .samples .now) - c .before .before .before .before .args .ramp) (drop (c .before .before .before .before .args .ramp) (c .before .before .before .before .args .samples .now)) ≡ drop (c .before .before .before .before .args .ramp) (c .before .before .before .before .args .samples .now)
-timed c = take-all (length (c .before .before .before .before .args .samples .now) - c .before .before .before .before .args .ramp) (drop (c .before .before .before .before .args .ramp) (c .before .before .before .before .args .samples .now)) (omega (arith, length-drop (c .before .before .before .before .args .ramp) (c .before .before .before .before .args .samples .now)))
+look-over-requires : tie.Need-look-over-requires
+look-over-requires c κs = search needs
 
-slice-aggregate-first-bad : tie.Need-slice-aggregate-first-bad
-slice-aggregate-first-bad c = sym (ramp (c .before))
+enum-told-2 : tie.Need-enum-told-2
+enum-told-2 c = search needs
 
-first-bad-requires : tie.Need-first-bad-requires
-first-bad-requires c κs = search needs
+fault-requires : tie.Need-fault-requires
+fault-requires c κs = search needs
 
 returns-2 : tie.Need-returns-2
 returns-2 c =
-    let xs = c .before .before .before .before .before .before .before .args .samples .now in
-    let R = c .before .before .before .before .before .before .before .args .ramp in
-    let l = ramp (c .before .before .before) in
-    let e = c .before .first-bad .ensures in
-    let f = parted (c .before .before .before) ∙ bad-left (take R xs) (drop R xs) (omega arith) in
-    rw (e ∙ sym f) (lists-bad (c .before .before .before .before .before .before .before .args .step) (c .before .before .before .before .before .before .before .args .ramp) (c .before .before .before .before .before .before .before .args .level) (c .before .before .before .before .before .before .before .args .decorrelation) (c .before .before .before .before .before .before .before .args .samples .now) (c .before .before .before .before .before .before .before .args .times .now) (fit (c .before .before .before)) (omega (arith, fit (c .before .before .before) .few)))
+    let l = looked-bad (take (c .before .before .before .before .before .before .before .before .before .before .args .ramp) (c .before .before .before .before .before .before .before .before .before .before .args .roll .now)) (take (c .before .before .before .before .before .before .before .before .before .before .args .ramp) (c .before .before .before .before .before .before .before .before .before .before .args .acceleration .now)) (c .before .enum-told2 .given .0 .0) (sym (c .before .before .before .look-over .ensures) ∙ c .before .enum-told2 .given .1) in
+    let w : anyBad (c .before .before .before .before .before .before .before .before .before .before .args .roll .now) (c .before .before .before .before .before .before .before .before .before .before .args .acceleration .now) ≡ true = any-parts (c .before .before .before .before .before .before .before .before .before .before .args .roll .now) (c .before .before .before .before .before .before .before .before .before .before .args .acceleration .now) (c .before .before .before .before .before .before .before .before .before .before .args .ramp) ∙ rw (l .0) in
+    rw (c .fault .ensures w) (lists-bad (c .before .before .before .before .before .before .before .before .before .before .args .step) (c .before .before .before .before .before .before .before .before .before .before .args .ramp) (c .before .before .before .before .before .before .before .before .before .before .args .levels) (c .before .before .before .before .before .before .before .before .before .before .args .decorrelation) (c .before .before .before .before .before .before .before .before .before .before .args .roll .now) (c .before .before .before .before .before .before .before .before .before .before .args .acceleration .now) (c .before .before .before .before .before .before .before .before .before .before .args .times .now) (fit (c .before .before .before .before .before .before)) w)
+
+enum-told-3 : tie.Need-enum-told-3
+enum-told-3 c = search needs
+
+-- past the look no sample of the ramp is bad
+good : (c : tie.After-enum-told3) → anyBad (take (c .before .before .before .before .before .before .before .before .before .args .ramp) (c .before .before .before .before .before .before .before .before .before .args .roll .now)) (take (c .before .before .before .before .before .before .before .before .before .args .ramp) (c .before .before .before .before .before .before .before .before .before .args .acceleration .now)) ≡ false
+good c = looked-good (take (c .before .before .before .before .before .before .before .before .before .args .ramp) (c .before .before .before .before .before .before .before .before .before .args .roll .now)) (take (c .before .before .before .before .before .before .before .before .before .args .ramp) (c .before .before .before .before .before .before .before .before .before .args .acceleration .now)) (sym (c .before .before .look-over .ensures) ∙ c .enum-told3 .given .1)
+
+-- the slice from the ramp on holds the samples from the ramp on
+timed : (c : tie.After-enum-told3) → (take (length (c .before .before .before .before .before .before .before .before .before .args .roll .now) - c .before .before .before .before .before .before .before .before .before .args .ramp) (drop (c .before .before .before .before .before .before .before .before .before .args .ramp) (c .before .before .before .before .before .before .before .before .before .args .roll .now)) ≡ drop (c .before .before .before .before .before .before .before .before .before .args .ramp) (c .before .before .before .before .before .before .before .before .before .args .roll .now)) × (take (length (c .before .before .before .before .before .before .before .before .before .args .acceleration .now) - c .before .before .before .before .before .before .before .before .before .args .ramp) (drop (c .before .before .before .before .before .before .before .before .before .args .ramp) (c .before .before .before .before .before .before .before .before .before .args .acceleration .now)) ≡ drop (c .before .before .before .before .before .before .before .before .before .args .ramp) (c .before .before .before .before .before .before .before .before .before .args .acceleration .now))
+timed c =
+    let g = c .before .before .before .before .before .before .before .before .before .args in
+    (take-all (length (g .roll .now) - g .ramp) (drop (g .ramp) (g .roll .now)) (omega (arith, length-drop (g .ramp) (g .roll .now))), take-all (length (g .acceleration .now) - g .ramp) (drop (g .ramp) (g .acceleration .now)) (omega (arith, length-drop (g .ramp) (g .acceleration .now))))
 
 mul-list-timed : tie.Need-mul-list-timed
-mul-list-timed c = omega (arith, fit (c .before .before .before) .few)
+mul-list-timed c = omega (arith, fit (c .before .before .before .before .before) .few)
 
 sub-list-timed : tie.Need-sub-list-timed
-sub-list-timed c = omega (arith, fit (c .before .before .before) .few)
+sub-list-timed c = omega (arith, fit (c .before .before .before .before .before) .few)
 
 part-list-timed-start : tie.Need-part-list-timed-start
-part-list-timed-start c = omega (arith, fit (c .before .before .before) .few)
+part-list-timed-start c = omega (arith, fit (c .before .before .before .before .before) .few)
 
 part-list-timed-end : tie.Need-part-list-timed-end
 part-list-timed-end c = search needs
 
+mul-list-timed-2 : tie.Need-mul-list-timed-2
+mul-list-timed-2 c = omega (arith, fit (c .before .before .before .before .before .before) .few, fit (c .before .before .before .before .before .before) .equal)
+
+sub-list-timed-2 : tie.Need-sub-list-timed-2
+sub-list-timed-2 c = omega (arith, fit (c .before .before .before .before .before .before) .few, fit (c .before .before .before .before .before .before) .equal)
+
+part-list-timed-start-2 : tie.Need-part-list-timed-start-2
+part-list-timed-start-2 c = omega (arith, fit (c .before .before .before .before .before .before) .few, fit (c .before .before .before .before .before .before) .equal)
+
+part-list-timed-end-2 : tie.Need-part-list-timed-end-2
+part-list-timed-end-2 c = search needs
+
 list-timed-requires : tie.Need-list-timed-requires
 list-timed-requires c κs =
-    let f = fit (c .before .before .before .before .before) in
-    let i = items (c .before .before .before .before .before .before .before .before .before .args .step) (c .before .before .before .before .before .before .before .before .before .args .ramp) (c .before .before .before .before .before .before .before .before .before .args .level) (c .before .before .before .before .before .before .before .before .before .args .decorrelation) (f .items) in
-    (rw (timed (c .before .before .before .before .before)) (ready (c .before .before .before .before .before .before .before .before .before .args .step) (c .before .before .before .before .before .before .before .before .before .args .ramp) (c .before .before .before .before .before .before .before .before .before .args .level) (c .before .before .before .before .before .before .before .before .before .args .decorrelation) (c .before .before .before .before .before .before .before .before .before .args .samples .now) f), i .ramp)
+    let f = fit (c .before .before .before .before .before .before .before .before) in
+    let g = c .before .before .before .before .before .before .before .before .before .before .before .before .args in
+    let t = timed (c .before .before .before) in
+    rw (t .0, t .1) (ready (c .before .before .before .before .before .before .before .before .before .before .before .before .args .step) (c .before .before .before .before .before .before .before .before .before .before .before .before .args .ramp) (c .before .before .before .before .before .before .before .before .before .before .before .before .args .levels) (c .before .before .before .before .before .before .before .before .before .before .before .before .args .decorrelation) (g .roll .now) f, omega (arith, f .equal, length-drop (g .ramp) (g .roll .now), length-drop (g .ramp) (g .acceleration .now)))
+
+enum-known-settled : tie.Need-enum-known-settled
+enum-known-settled c = search needs
+
+enum-told-4 : tie.Need-enum-told-4
+enum-told-4 c = search needs
+
+fault-requires-2 : tie.Need-fault-requires-2
+fault-requires-2 c κs = search needs
 
 same-length : tie.Need-same-length
 same-length c = search needs
 
 returns-3 : tie.Need-returns-3
 returns-3 c =
-    let xs = c .before .before .before .before .before .before .before .before .before .before .before .before .args .samples .now in
-    let R = c .before .before .before .before .before .before .before .before .before .before .before .before .args .ramp in
-    let f = fit (c .before .before .before .before .before .before .before .before) in
-    let t = rw (timed (c .before .before .before .before .before .before .before .before)) at (c .before .before .list-timed .ensures) in
-    let e = c .before .before .before .before .before .before .first-bad .ensures in
-    let g : firstBad (take R xs) ≡ length (take R xs) = omega (arith, bad-within (take R xs), ramp (c .before .before .before .before .before .before .before .before)) in
-    let d : firstBad xs ≡ R + firstBad (drop R xs) = omega (arith, parted (c .before .before .before .before .before .before .before .before) ∙ bad-append (take R xs) (drop R xs) g, ramp (c .before .before .before .before .before .before .before .before)) in
-    by-order (firstBad (drop R xs)) (length (drop R xs))
-    (λ l. rw (t .bad l .0, t .bad l .1, ← d) (lists-bad (c .before .before .before .before .before .before .before .before .before .before .before .before .args .step) (c .before .before .before .before .before .before .before .before .before .before .before .before .args .ramp) (c .before .before .before .before .before .before .before .before .before .before .before .before .args .level) (c .before .before .before .before .before .before .before .before .before .before .before .before .args .decorrelation) (c .before .before .before .before .before .before .before .before .before .before .before .before .args .samples .now) (c .before .before .before .before .before .before .before .before .before .before .before .before .args .times .now) f (omega (arith, length-drop R xs))))
-    (λ l. lists-good (c .before .before .before .before .before .before .before .before .before .before .before .before .args .step) (c .before .before .before .before .before .before .before .before .before .before .before .before .args .ramp) (c .before .before .before .before .before .before .before .before .before .before .before .before .args .level) (c .before .before .before .before .before .before .before .before .before .before .before .before .args .decorrelation) (c .before .before .before .before .before .before .before .before .before .before .before .before .args .samples .now) (c .before .before .before .before .before .before .before .before .before .before .before .before .args .times .now) f (omega (arith, length-drop R xs)) (t .good (omega (arith, bad-within (drop R xs)))))
+    let t = timed (c .before .before .before .before .before .before .before .before .before) in
+    let q = rw (t .0, t .1, c .before .settled .given .1) at (c .before .before .before .before .before .list-timed .ensures) in
+    lists-good (c .before .before .before .before .before .before .before .before .before .before .before .before .before .before .before .before .before .before .args .step) (c .before .before .before .before .before .before .before .before .before .before .before .before .before .before .before .before .before .before .args .ramp) (c .before .before .before .before .before .before .before .before .before .before .before .before .before .before .before .before .before .before .args .levels) (c .before .before .before .before .before .before .before .before .before .before .before .before .before .before .before .before .before .before .args .decorrelation) (c .before .before .before .before .before .before .before .before .before .before .before .before .before .before .before .before .before .before .args .roll .now) (c .before .before .before .before .before .before .before .before .before .before .before .before .before .before .before .before .before .before .args .acceleration .now) (c .before .before .before .before .before .before .before .before .before .before .before .before .before .before .before .before .before .before .args .times .now) (fit (c .before .before .before .before .before .before .before .before .before .before .before .before .before .before)) (any-parts (c .before .before .before .before .before .before .before .before .before .before .before .before .before .before .before .before .before .before .args .roll .now) (c .before .before .before .before .before .before .before .before .before .before .before .before .before .before .before .before .before .before .args .acceleration .now) (c .before .before .before .before .before .before .before .before .before .before .before .before .before .before .before .before .before .before .args .ramp) ∙ rw (good (c .before .before .before .before .before .before .before .before .before), q .0)) (q .1)
+
+same-length-2 : tie.Need-same-length-2
+same-length-2 c = search needs
+
+returns-4 : tie.Need-returns-4
+returns-4 c =
+    let t = timed (c .before .before .before .before .before .before .before .before .before) in
+    let q = rw (t .0, t .1, c .before .enum-told4 .given .1) at (c .before .before .before .before .before .list-timed .ensures) in
+    let w : anyBad (c .before .before .before .before .before .before .before .before .before .before .before .before .before .before .before .before .before .before .args .roll .now) (c .before .before .before .before .before .before .before .before .before .before .before .before .before .before .before .before .before .before .args .acceleration .now) ≡ true = any-parts (c .before .before .before .before .before .before .before .before .before .before .before .before .before .before .before .before .before .before .args .roll .now) (c .before .before .before .before .before .before .before .before .before .before .before .before .before .before .before .before .before .before .args .acceleration .now) (c .before .before .before .before .before .before .before .before .before .before .before .before .before .before .before .before .before .before .args .ramp) ∙ rw (good (c .before .before .before .before .before .before .before .before .before), q .0) in
+    rw (c .fault2 .ensures w, q .1) (lists-bad (c .before .before .before .before .before .before .before .before .before .before .before .before .before .before .before .before .before .before .args .step) (c .before .before .before .before .before .before .before .before .before .before .before .before .before .before .before .before .before .before .args .ramp) (c .before .before .before .before .before .before .before .before .before .before .before .before .before .before .before .before .before .before .args .levels) (c .before .before .before .before .before .before .before .before .before .before .before .before .before .before .before .before .before .before .args .decorrelation) (c .before .before .before .before .before .before .before .before .before .before .before .before .before .before .before .before .before .before .args .roll .now) (c .before .before .before .before .before .before .before .before .before .before .before .before .before .before .before .before .before .before .args .acceleration .now) (c .before .before .before .before .before .before .before .before .before .before .before .before .before .before .before .before .before .before .args .times .now) (fit (c .before .before .before .before .before .before .before .before .before .before .before .before .before .before)) w)
 
 pub list-spec : {M : Type 1} → statement M
 list-spec =
@@ -101,13 +132,26 @@ list-spec =
     enum-known-size
     returns
     enum-told
-    slice-aggregate-first-bad
-    first-bad-requires
+    slice-aggregate-look-over
+    slice-aggregate-look-over-2
+    look-over-requires
+    enum-told-2
+    fault-requires
     returns-2
+    enum-told-3
     mul-list-timed
     sub-list-timed
     part-list-timed-start
     part-list-timed-end
+    mul-list-timed-2
+    sub-list-timed-2
+    part-list-timed-start-2
+    part-list-timed-end-2
     list-timed-requires
+    enum-known-settled
+    enum-told-4
+    fault-requires-2
     same-length
-    returns-3)
+    returns-3
+    same-length-2
+    returns-4)

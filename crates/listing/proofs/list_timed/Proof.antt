@@ -1,6 +1,6 @@
 -- `listing::list_timed` meets its contract: the times go straight into a slice that has room, or the first pass goes into a slice of its own. Assumes nothing.
-use mathlib.Core.Path.{sym}
 use borrow.Author.Needs.{needs}
+use mathlib.Core.Path.{sym}
 use Rattle.listing.proofs.list_timed.Statement.{statement}
 use Rattle.listing.proofs.list_timed.Tie as tie
 
@@ -26,7 +26,7 @@ slice-aggregate-settle : tie.Need-slice-aggregate-settle
 slice-aggregate-settle c = search needs
 
 settle-requires : tie.Need-settle-requires
-settle-requires c κs = (c .before .before .before .before .before .before .before .before .pre .0, c .before .before .before .before .before .before .before .before .pre .1, record { before = _; same = sym (c .before .before .before .pass .kept .1 .1 .1 .1 .0); passes = c .before .before .before .pass .ensures })
+settle-requires c κs = (c .before .before .before .before .before .before .before .before .pre .0, c .before .before .before .before .before .before .before .before .pre .1, record { before = _; same = sym (c .before .before .before .pass .kept .1 .1 .1 .1 .1 .0); passes = c .before .before .before .pass .ensures })
 
 same-length-2 : tie.Need-same-length-2
 same-length-2 c = search needs

@@ -1,55 +1,61 @@
 -- `listing::straight` meets its contract: where no sample is bad nothing is refused, since half as many times as samples are the most. Assumes nothing.
-use Prim.Native.Nat.{ℕ, _+_, _≤_}
-use mathlib.Core.Path.{_≡_, refl, ap, _∙_}
+use borrow.Author.Needs.{needs}
+use Prim.Native.Nat.{_≤_}
+use mathlib.Core.Path.{_≡_, refl, sym, ap, _∙_}
 use native.Mathlib.Omega.{arith}
 use lib.ListN.{length}
-use borrow.Author.Needs.{needs}
-use Rattle.refusal.specs.declared.Refusal.the-variants.{Sample}
+use Rattle.channels.specs.Channels.{moments}
+use Rattle.channels.proofs.Moments.{moments-length}
+use Rattle.channels.proofs.Range.{looked-bad, looked-good}
 use Rattle.reading.specs.Reading.{countedTimes}
-use Rattle.listing.specs.declared.Listed.the-variants.{Refused}
 use Rattle.walk.specs.Walk.{Noting}
-use Rattle.listing.proofs.Answered.{writes-times}
 use Rattle.walk.proofs.Walked.{walked-count, walked-times, half-counted}
+use Rattle.listing.proofs.Answered.{writes-times}
 use Rattle.listing.proofs.straight.Statement.{statement}
 use Rattle.listing.proofs.straight.Tie as tie
 
-first-bad-requires : tie.Need-first-bad-requires
-first-bad-requires c κs = search needs
+look-over-requires : tie.Need-look-over-requires
+look-over-requires c κs = search needs
 
-add-t12 : tie.Need-add-t12
-add-t12 c = search needs
+enum-told : tie.Need-enum-told
+enum-told c = search needs
 
 returns : tie.Need-returns
-returns c =
-    let e = c .before .first-bad .ensures in
-    record { bad = λ h. (ap (λ (k : ℕ). Refused (Sample (c .before .before .before .args .ramp + k))) e, refl); good = λ g. absurd (omega arith) }
+returns c = (looked-bad _ _ (c .enum-told .given .0 .0) (sym (c .before .before .look-over .ensures) ∙ c .enum-told .given .1) .0, refl)
+
+enum-told-2 : tie.Need-enum-told-2
+enum-told-2 c = search needs
 
 start-requires : tie.Need-start-requires
 start-requires c κs = search needs
 
 along-requires : tie.Need-along-requires
-along-requires c κs = rw (c .before .start .ensures) (c .before .before .before .before .before .pre .0)
+along-requires c κs = rw (c .before .start .ensures) (c .before .before .before .before .before .before .pre .0, c .before .before .before .before .before .before .pre .1)
 
 same-length : tie.Need-same-length
 same-length c = search needs
 
 returns-2 : tie.Need-returns-2
 returns-2 c =
-    let g = c .before .before .before .before .before .before .before .before .args in
-    let ts = countedTimes (g .step) 0 (g .level) (g .decorrelation) (g .timed .now) in
-    let l : length ts ≤ length (g .times .now) = omega (arith, half-counted (g .step) (g .level) (g .decorrelation) (g .timed .now), c .before .before .before .before .before .before .before .before .pre .2) in
+    let a = c .before .before .before .before .before .before .before .before .before in
+    let g = a .args in
+    let p = moments (g .roll .now) (g .acceleration .now) in
+    let ts = countedTimes (g .step) 0 (g .levels) (g .decorrelation) p in
+    let k = moments-length (g .roll .now) (g .acceleration .now) (a .pre .1) in
+    let l : length ts ≤ length (g .times .now) = omega (arith, half-counted (g .step) (g .levels) (g .decorrelation) p, a .pre .2) in
     let e = rw (c .before .before .before .before .start .ensures) at (c .before .before .along .ensures) in
-    let n = ap (λ (s : Noting). s .walk .count) e ∙ walked-count (g .step) (g .level) (g .decorrelation) (g .timed .now) (g .times .now) in
-    let t = ap (λ (s : Noting). s .times) e ∙ walked-times (g .step) (g .level) (g .decorrelation) (g .timed .now) (g .times .now) l in
-    record { bad = λ h. absurd (omega (arith, c .before .before .before .before .before .before .first-bad .ensures)); good = λ h. rw (t, n) (writes-times ts (g .times .now) l) }
+    let n = ap (λ (s : Noting). s .walk .count) e ∙ walked-count (g .step) (g .levels) (g .decorrelation) p (g .times .now) in
+    let t = ap (λ (s : Noting). s .times) e ∙ walked-times (g .step) (g .levels) (g .decorrelation) p (g .times .now) l in
+    (looked-good (g .roll .now) (g .acceleration .now) (sym (c .before .before .before .before .before .before .before .look-over .ensures) ∙ c .before .before .before .before .before .enum-told2 .given .1), rw (t, n) (writes-times ts (g .times .now) l))
 
 pub straight-spec : {M : Type 1} → statement M
 straight-spec =
     tie.close
     (tie.spec
-    first-bad-requires
-    add-t12
+    look-over-requires
+    enum-told
     returns
+    enum-told-2
     start-requires
     along-requires
     same-length

@@ -1,10 +1,11 @@
 -- `listing::straightway` meets its contract: past the two tests there is room, whatever is guessed. Assumes nothing.
+use borrow.Author.Needs.{needs}
 use Prim.Native.Nat.{ℕ, _+_, _/_}
 use mathlib.Core.Path.{_≡_}
 use native.Mathlib.Omega.{arith}
 use lib.ListN.{length}
-use borrow.Author.Needs.{needs}
 use Rattle.block.proofs.Cut.{block-length}
+use Rattle.channels.proofs.Blocks.{block-equal}
 use Rattle.walk.proofs.Steps.{ready-less}
 use Rattle.listing.proofs.straightway.Statement.{statement}
 use Rattle.listing.proofs.straightway.Tie as tie
@@ -30,14 +31,30 @@ part-pass-start c = search needs
 part-pass-end : tie.Need-part-pass-end
 part-pass-end c = search needs
 
+add-pass-2 : tie.Need-add-pass-2
+add-pass-2 c = search needs
+
+mul-pass-2 : tie.Need-mul-pass-2
+mul-pass-2 c = search needs
+
+sub-pass-2 : tie.Need-sub-pass-2
+sub-pass-2 c = search needs
+
+part-pass-start-2 : tie.Need-part-pass-start-2
+part-pass-start-2 c = search needs
+
+part-pass-end-2 : tie.Need-part-pass-end-2
+part-pass-end-2 c = search needs
+
 slice-aggregate-pass : tie.Need-slice-aggregate-pass
 slice-aggregate-pass c = search needs
 
 pass-requires : tie.Need-pass-requires
 pass-requires c κs =
-    let xs = c .before .before .before .before .args .timed .now in
+    let a = c .before .before .before .before .before in
+    let xs = a .args .roll .now in
     let l = block-length xs (length xs / 2) (length xs / 2 + 1024) (omega arith) (omega arith) in
-    ready-less (omega (arith, l)) (c .before .before .before .before .pre)
+    (ready-less (omega (arith, l)) (a .pre .0), block-equal xs (a .args .acceleration .now) (a .pre .1) (length xs / 2) (length xs / 2 + 1024) (omega arith) (omega arith))
 
 enum-known-found : tie.Need-enum-known-found
 enum-known-found c = search needs
@@ -62,6 +79,11 @@ straightway-spec =
     sub-pass
     part-pass-start
     part-pass-end
+    add-pass-2
+    mul-pass-2
+    sub-pass-2
+    part-pass-start-2
+    part-pass-end-2
     slice-aggregate-pass
     pass-requires
     enum-known-found

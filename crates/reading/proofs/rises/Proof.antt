@@ -1,6 +1,5 @@
 -- `reading::rises` meets its contract, which it follows word for word. Assumes nothing.
 use borrow.Author.Needs.{needs}
-use mir.Facts.{toZ-ofZ}
 use Rattle.reading.proofs.rises.Statement.{statement}
 use Rattle.reading.proofs.rises.Tie as tie
 
@@ -14,7 +13,7 @@ both-requires : tie.Need-both-requires
 both-requires c κs = search needs
 
 returns : tie.Need-returns
-returns c = cc (toZ-ofZ (c .before .before .before .fits .x), toZ-ofZ (c .before .before .before .fits .y))
+returns c = rw (c .both .ensures, c .before .before .above .ensures, c .before .above2 .ensures)
 
 pub rises-spec : {M : Type 1} → statement M
 rises-spec = tie.close (tie.spec above-requires above-requires-2 both-requires returns)

@@ -57,10 +57,18 @@ returns-17 c = rw (c .enum-told17 .given .1)
 returns-18 : tie.Need-returns-18
 returns-18 c = rw (c .enum-told18 .given .1)
 
+returns-19 : tie.Need-returns-19
+returns-19 c = rw (c .enum-told19 .given .1)
+
+returns-20 : tie.Need-returns-20
+returns-20 c = rw (c .enum-told20 .given .1)
+
 pub number-spec : {M : Type 1} → statement M
 number-spec =
     tie.close
     (tie.spec
+    (λ c. search needs)
+    (λ c. search needs)
     (λ c. search needs)
     (λ c. search needs)
     (λ c. search needs)
@@ -96,4 +104,6 @@ number-spec =
     returns-15
     returns-16
     returns-17
-    returns-18)
+    returns-18
+    returns-19
+    returns-20)

@@ -9,45 +9,58 @@ use borrow.Author.Tests.{lt-ltb}
 use lib.ListN.{length}
 use Rattle.truth.proofs.Cases.{by-order}
 use Rattle.block.proofs.Cut.{end-within}
+use Rattle.channels.specs.Channels.{moments}
+use Rattle.channels.proofs.Moments.{moments-shorter}
 use Rattle.reading.specs.Reading.{crossesAt}
 use Rattle.reading.proofs.First.{ramp-none, first-none, first-at}
 use Rattle.search.proofs.first_crossing.Statement.{statement}
 use Rattle.search.proofs.first_crossing.Tie as tie
 
 abbrev Inv-loop : tie.InvT-loop
-Inv-loop samples ramp level i₀ i = (ramp < i) × (i ≤ length samples) × ((k : ℕ) → k < i → crossesAt ramp level samples k ≡ false)
+Inv-loop roll acceleration ramp levels n i₀ i = (ramp < i) × (i ≤ n) × ((k : ℕ) → k < i → crossesAt ramp levels (moments roll acceleration) k ≡ false)
 
 abbrev μ-loop : tie.MeasureT-loop
-μ-loop samples ramp level i₀ i = length samples - i
+μ-loop roll acceleration ramp levels n i₀ i = n - i
+
+shorter-requires : tie.Need-shorter-requires Inv-loop μ-loop
+shorter-requires c κs = search needs
+
+-- so many samples both channels have
+long : (c : tie.After-shorter Inv-loop μ-loop) → c .shorter .result ≡ length (moments (c .before .args .roll .now) (c .before .args .acceleration .now))
+long c = c .shorter .ensures ∙ sym (moments-shorter (c .before .args .roll .now) (c .before .args .acceleration .now))
 
 returns : tie.Need-returns Inv-loop μ-loop
 returns c =
-    let g = c .before .args in
-    sym (first-none (crossesAt (g .ramp) (g .level) (g .samples .now)) _ (length (g .samples .now)) (λ k h. ramp-none (g .ramp) (g .level) (g .samples .now) k (omega arith)))
+    let g = c .before .before .args in
+    let p = moments (g .roll .now) (g .acceleration .now) in
+    long (c .before) ∙ sym (first-none (crossesAt (g .ramp) (g .levels) p) _ (length p) (λ k h. ramp-none (g .ramp) (g .levels) p k (omega (arith, long (c .before)))))
 
 add-i : tie.Need-add-i Inv-loop μ-loop
 add-i c = omega arith
 
 loop-holds : tie.Need-loop-holds Inv-loop μ-loop
 loop-holds c =
-    let g = c .before .args in
-    (omega arith, omega arith, λ k h. ramp-none (g .ramp) (g .level) (g .samples .now) k (omega arith))
+    let g = c .before .before .args in
+    (omega arith, omega arith, λ k h. ramp-none (g .ramp) (g .levels) (moments (g .roll .now) (g .acceleration .now)) k (omega arith))
 
 end-requires : tie.Need-end-requires Inv-loop μ-loop
 end-requires c κs = search needs
 
 -- the block is within the samples, and not empty
-within : (c : tie.After-end Inv-loop μ-loop) → (c .before .before .loop .i < c .end .result) × (c .end .result ≤ length (c .before .before .before .before .args .samples .now))
-within c = end-within (c .before .before .loop .i) (length (c .before .before .before .before .args .samples .now)) (c .end .ensures) (omega arith)
+within : (c : tie.After-end Inv-loop μ-loop) → (c .before .before .loop .i < c .end .result) × (c .end .result ≤ c .before .before .before .before .shorter .result)
+within c = end-within (c .before .before .loop .i) (c .before .before .before .before .shorter .result) (c .end .ensures) (omega arith)
 
 rise-in-requires : tie.Need-rise-in-requires Inv-loop μ-loop
-rise-in-requires c κs = let w = within c in (omega arith, omega arith, w .1)
+rise-in-requires c κs =
+    let w = within c in
+    let m = c .before .before .before .before .shorter .ensures in
+    (omega arith, omega arith, omega arith, omega arith)
 
 -- no crossing stands before what the block's search answers
-none : (c : tie.After-rise-in Inv-loop μ-loop) (k : ℕ) → k < c .rise-in .result → crossesAt (c .before .before .before .before .before .args .ramp) (c .before .before .before .before .before .args .level) (c .before .before .before .before .before .args .samples .now) k ≡ false
+none : (c : tie.After-rise-in Inv-loop μ-loop) (k : ℕ) → k < c .rise-in .result → crossesAt (c .before .before .before .before .before .before .args .ramp) (c .before .before .before .before .before .before .args .levels) (moments (c .before .before .before .before .before .before .args .roll .now) (c .before .before .before .before .before .before .args .acceleration .now)) k ≡ false
 none c k h =
     by-order k (c .before .before .before .loop .i) (c .before .before .before .loop .inv .2 k)
-    (λ l. rw (lt-ltb (c .before .before .before .before .before .args .ramp) k (omega (arith, c .before .before .before .loop .inv .0))) (c .rise-in .ensures .none k l h))
+    (λ l. rw (lt-ltb (c .before .before .before .before .before .before .args .ramp) k (omega (arith, c .before .before .before .loop .inv .0))) (c .rise-in .ensures .none k l h))
 
 loop-less : tie.Need-loop-less Inv-loop μ-loop
 loop-less c = omega (arith, within (c .before .before))
@@ -59,17 +72,21 @@ loop-again c =
 
 returns-2 : tie.Need-returns-2 Inv-loop μ-loop
 returns-2 c =
-    let g = c .before .before .before .args in
-    sym (first-none (crossesAt (g .ramp) (g .level) (g .samples .now)) _ (length (g .samples .now)) (λ k h. c .before .loop .inv .2 k (omega arith)))
+    let g = c .before .before .before .before .args in
+    let p = moments (g .roll .now) (g .acceleration .now) in
+    let l = long (c .before .before .before) in
+    l ∙ sym (first-none (crossesAt (g .ramp) (g .levels) p) _ (length p) (λ k h. c .before .loop .inv .2 k (omega arith)))
 
 returns-3 : tie.Need-returns-3 Inv-loop μ-loop
 returns-3 c =
-    let g = c .before .before .before .before .before .before .args in
+    let g = c .before .before .before .before .before .before .before .args in
+    let p = moments (g .roll .now) (g .acceleration .now) in
     let r = c .before .rise-in .result in
     let w = within (c .before .before) in
     let f = c .before .rise-in .ensures in
-    let e : crossesAt (g .ramp) (g .level) (g .samples .now) r ≡ true = rw (lt-ltb (g .ramp) r (omega (arith, f .after, c .before .before .before .before .loop .inv .0))) (f .found (c .if3 .taken)) in
-    sym (first-at (crossesAt (g .ramp) (g .level) (g .samples .now)) _ r (length (g .samples .now)) (omega (arith, c .if3 .taken)) (none (c .before)) e)
+    let l = long (c .before .before .before .before .before .before) in
+    let e : crossesAt (g .ramp) (g .levels) p r ≡ true = rw (lt-ltb (g .ramp) r (omega (arith, f .after, c .before .before .before .before .loop .inv .0))) (f .found (c .if3 .taken)) in
+    sym (first-at (crossesAt (g .ramp) (g .levels) p) _ r (length p) (omega (arith, c .if3 .taken)) (none (c .before)) e)
 
 pub first-crossing-spec : {M : Type 1} → statement M
 first-crossing-spec =
@@ -77,6 +94,7 @@ first-crossing-spec =
     (tie.spec
     Inv-loop
     μ-loop
+    shorter-requires
     returns
     add-i
     loop-holds

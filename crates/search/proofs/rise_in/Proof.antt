@@ -1,27 +1,24 @@
--- `search::rise_in` meets its contract. In a quiet block no sample is above the level, so none crosses it. The loop's invariant: i is in the stretch and
--- the level is not crossed before i. The measure is what is left. Assumes nothing.
+-- `search::rise_in` meets its contract. In a quiet block no sample is above its level, so none crosses it. The loop's invariant: i is in the stretch and
+-- no level is crossed before i. The measure is what is left. Assumes nothing.
 use Prim.Native.Nat.{ℕ, _≤_, _<_, _-_}
-use mathlib.Core.Path.{_≡_, refl, sym, ap, _∙_}
+use mathlib.Core.Path.{_≡_, refl, sym, _∙_}
 use mathlib.Core.Bool.{Bool, true, false, not, _&&_}
 use native.Mathlib.Omega.{arith}
 use borrow.Author.Needs.{needs}
 use borrow.Author.Count.{below-more}
 use borrow.Author.Tests.{not-true}
-use lib.ListN.{length}
-use mir.Val.{SFits}
-use mir.Syntax.{w32}
-use mir.Facts.{toZ-ofZ}
-use Rattle.magnitude.specs.Above.{above}
-use Rattle.block.proofs.Quiet.{quiet-at}
+use Rattle.channels.specs.Channels.{above, moments}
+use Rattle.channels.proofs.Quiet.{quiet-at}
 use Rattle.reading.specs.Reading.{sampleAt, rises}
 use Rattle.search.proofs.rise_in.Statement.{statement}
 use Rattle.search.proofs.rise_in.Tie as tie
 
 abbrev Inv-loop : tie.InvT-loop
-Inv-loop samples level from end i₀ i = (from ≤ i) × (i ≤ end) × ((k : ℕ) → k < i → from ≤ k → rises level (sampleAt samples (k - 1)) (sampleAt samples k) ≡ false)
+Inv-loop roll acceleration levels from end i₀ i =
+    (from ≤ i) × (i ≤ end) × ((k : ℕ) → k < i → from ≤ k → rises levels (sampleAt (moments roll acceleration) (k - 1)) (sampleAt (moments roll acceleration) k) ≡ false)
 
 abbrev μ-loop : tie.MeasureT-loop
-μ-loop samples level from end i₀ i = end - i
+μ-loop roll acceleration levels from end i₀ i = end - i
 
 mul-loud : tie.Need-mul-loud Inv-loop μ-loop
 mul-loud c = omega arith
@@ -35,6 +32,18 @@ part-loud-start c = omega arith
 part-loud-end : tie.Need-part-loud-end Inv-loop μ-loop
 part-loud-end c = omega arith
 
+mul-loud-2 : tie.Need-mul-loud-2 Inv-loop μ-loop
+mul-loud-2 c = omega arith
+
+sub-loud-2 : tie.Need-sub-loud-2 Inv-loop μ-loop
+sub-loud-2 c = omega arith
+
+part-loud-start-2 : tie.Need-part-loud-start-2 Inv-loop μ-loop
+part-loud-start-2 c = omega arith
+
+part-loud-end-2 : tie.Need-part-loud-end-2 Inv-loop μ-loop
+part-loud-end-2 c = omega arith
+
 loud-requires : tie.Need-loud-requires Inv-loop μ-loop
 loud-requires c κs = search needs
 
@@ -44,44 +53,33 @@ and-false false = refl
 
 returns : tie.Need-returns Inv-loop μ-loop
 returns c =
-    let g = c .before .before .before .args in
+    let g = c .before .before .before .before .args in
     let q = sym (c .before .loud .ensures) ∙ not-true _ (c .if1 .taken) in
     record {
       after = omega arith;
       within = omega arith;
-      none = λ k h l. rw (quiet-at (g .level) (g .samples .now) (g .from) (g .end) k (omega arith) h l q) (and-false (not (above (g .level) (sampleAt (g .samples .now) (k - 1)))));
+      none = λ k h l. rw (quiet-at (g .levels) (g .roll .now) (g .acceleration .now) (g .from) (g .end) k (omega arith) (omega arith) h l q) (and-false (not (above (g .levels) (sampleAt (moments (g .roll .now) (g .acceleration .now)) (k - 1)))));
       found = λ h. absurd (omega arith);
     }
 
 loop-holds : tie.Need-loop-holds Inv-loop μ-loop
 loop-holds c = (omega arith, omega arith, λ k h l. absurd (omega arith))
 
-sub-rises : tie.Need-sub-rises Inv-loop μ-loop
-sub-rises c = omega arith
+sub-moment-at : tie.Need-sub-moment-at Inv-loop μ-loop
+sub-moment-at c = omega arith
 
-mul-rises : tie.Need-mul-rises Inv-loop μ-loop
-mul-rises c = omega arith
+moment-at-requires : tie.Need-moment-at-requires Inv-loop μ-loop
+moment-at-requires c κs = search needs
 
-shared-slice-copy-out-rises : tie.Need-shared-slice-copy-out-rises Inv-loop μ-loop
-shared-slice-copy-out-rises c = omega arith
-
-mul-rises-2 : tie.Need-mul-rises-2 Inv-loop μ-loop
-mul-rises-2 c = omega arith
-
-shared-slice-copy-out-rises-2 : tie.Need-shared-slice-copy-out-rises-2 Inv-loop μ-loop
-shared-slice-copy-out-rises-2 c = omega arith
+moment-at-requires-2 : tie.Need-moment-at-requires-2 Inv-loop μ-loop
+moment-at-requires-2 c κs = search needs
 
 rises-requires : tie.Need-rises-requires Inv-loop μ-loop
 rises-requires c κs = search needs
 
 -- what the call of `rises` answers
-told : (c : tie.After-rises Inv-loop μ-loop) → c .rises .result ≡ rises (c .before .before .before .before .before .before .before .before .args .level) (sampleAt (c .before .before .before .before .before .before .before .before .args .samples .now) (c .before .before .before .before .loop .i - 1)) (sampleAt (c .before .before .before .before .before .before .before .before .args .samples .now) (c .before .before .before .before .loop .i))
-told c =
-    let g = c .before .before .before .before .before .before .before .before .args in
-    let i = c .before .before .before .before .loop .i in
-    let e : SFits w32 (sampleAt (g .samples .now) (i - 1)) = search needs in
-    let f : SFits w32 (sampleAt (g .samples .now) i) = search needs in
-    c .rises .ensures ∙ rw (toZ-ofZ e, toZ-ofZ f)
+told : (c : tie.After-rises Inv-loop μ-loop) → c .rises .result ≡ rises (c .before .before .before .before .before .before .before .before .before .args .levels) (sampleAt (moments (c .before .before .before .before .before .before .before .before .before .args .roll .now) (c .before .before .before .before .before .before .before .before .before .args .acceleration .now)) (c .before .before .before .before .loop .i - 1)) (sampleAt (moments (c .before .before .before .before .before .before .before .before .before .args .roll .now) (c .before .before .before .before .before .before .before .before .before .args .acceleration .now)) (c .before .before .before .before .loop .i))
+told c = c .rises .ensures ∙ rw (c .before .before .moment-at .ensures, c .before .moment-at2 .ensures)
 
 returns-2 : tie.Need-returns-2 Inv-loop μ-loop
 returns-2 c =
@@ -112,14 +110,16 @@ rise-in-spec =
     sub-loud
     part-loud-start
     part-loud-end
+    mul-loud-2
+    sub-loud-2
+    part-loud-start-2
+    part-loud-end-2
     loud-requires
     returns
     loop-holds
-    sub-rises
-    mul-rises
-    shared-slice-copy-out-rises
-    mul-rises-2
-    shared-slice-copy-out-rises-2
+    sub-moment-at
+    moment-at-requires
+    moment-at-requires-2
     rises-requires
     returns-2
     add-i

@@ -5,10 +5,10 @@ use Rattle.slate.proofs.again.Statement.{statement}
 use Rattle.slate.proofs.again.Tie as tie
 
 abbrev Inv-loop : tie.InvT-loop
-Inv-loop piece times b₀ i₀ b i = i ≤ times
+Inv-loop roll acceleration times b₀ i₀ b i = i ≤ times
 
 abbrev μ-loop : tie.MeasureT-loop
-μ-loop piece times b₀ i₀ b i = times - i
+μ-loop roll acceleration times b₀ i₀ b i = times - i
 
 loop-holds : tie.Need-loop-holds Inv-loop μ-loop
 loop-holds c = search needs

@@ -1,14 +1,14 @@
--- `slate::rows` is safe and ends: i is at most 35, and what is left to 35 falls. Assumes nothing.
+-- `slate::rows` is safe and ends: i is at most 44, and what is left to 44 falls. Assumes nothing.
 use Prim.Native.Nat.{_≤_, _-_}
 use borrow.Author.Needs.{needs}
 use Rattle.slate.proofs.rows.Statement.{statement}
 use Rattle.slate.proofs.rows.Tie as tie
 
 abbrev Inv-loop : tie.InvT-loop
-Inv-loop i₀ i = i ≤ 35
+Inv-loop i₀ i = i ≤ 44
 
 abbrev μ-loop : tie.MeasureT-loop
-μ-loop i₀ i = 35 - i
+μ-loop i₀ i = 44 - i
 
 loop-holds : tie.Need-loop-holds Inv-loop μ-loop
 loop-holds c = search needs

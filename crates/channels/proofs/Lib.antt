@@ -1,0 +1,5 @@
+pub mod Moments
+pub mod Quiet
+pub mod Range
+pub mod Blocks
+pub mod Unique

@@ -1,0 +1,103 @@
+// Roll and acceleration watched together: the levels of the two channels, what both show at one sample, whether that is above, whether anything of a block is, and which bad sample refusal 2
+// names. The slices of the two channels are looked at side by side, as far as both go.
+ghost use mathlib.Core.Path.{_≡_};
+ghost use mathlib.Core.Bool.{_||_};
+ghost use lib.ListN.{getD};
+ghost use Rattle.channels.specs.Channels.{still, above, moments, pastEnds, outsideEnds, anyAbove, badSample, looked};
+use block::Ends;
+use refusal::Refusal;
+
+pub struct Levels {
+    pub roll: u64,
+    pub acceleration: u64,
+}
+
+// One sample of both channels.
+pub struct Moment {
+    pub roll: i32,
+    pub acceleration: i32,
+}
+
+// Whether all samples are in range, or refusal 2.
+pub enum Look {
+    Good,
+    Bad(Refusal),
+}
+
+// Whether one of the channels is above its level.
+pub fn above(levels: Levels, x: Moment) -> bool
+    ensures { λ k. ⌜ k ≡ above levels x ⌝ }
+{
+    truth::either(
+        magnitude::above(levels.roll, x.roll),
+        magnitude::above(levels.acceleration, x.acceleration),
+    )
+}
+
+// Whether an end of a block is above its channel's level.
+pub fn past(levels: Levels, roll: Ends, acceleration: Ends) -> bool
+    ensures { λ k. ⌜ k ≡ (pastEnds (levels .roll) roll || pastEnds (levels .acceleration) acceleration) ⌝ }
+{
+    truth::either(
+        block::past(levels.roll, roll),
+        block::past(levels.acceleration, acceleration),
+    )
+}
+
+// Whether a sample of one of the channels is above its level.
+pub fn loud(levels: Levels, roll: &[i32], acceleration: &[i32]) -> bool
+    ensures { λ k. ⌜ k ≡ anyAbove levels (now (roll .entry)) (now (acceleration .entry)) ⌝ }
+{
+    truth::either(
+        block::loud(levels.roll, roll),
+        block::loud(levels.acceleration, acceleration),
+    )
+}
+
+// Whether an end of a block is out of range.
+pub fn outside(roll: Ends, acceleration: Ends) -> bool
+    ensures { λ k. ⌜ k ≡ (outsideEnds roll || outsideEnds acceleration) ⌝ }
+{
+    truth::either(range::outside(roll), range::outside(acceleration))
+}
+
+// What both channels show at a place; 0 where one of them has no such place.
+pub fn moment_at(roll: &[i32], acceleration: &[i32], i: usize) -> Moment
+    ensures { λ x. ⌜ x ≡ getD (moments (now (roll .entry)) (now (acceleration .entry))) i still ⌝ }
+{
+    if i < roll.len() {
+        if i < acceleration.len() {
+            return Moment {
+                roll: roll[i],
+                acceleration: acceleration[i],
+            };
+        }
+    }
+    Moment {
+        roll: 0,
+        acceleration: 0,
+    }
+}
+
+// Refusal 2, from the places of the first bad sample of each channel.
+fn bad_sample(roll: u64, acceleration: u64) -> Refusal
+    ensures { λ f. ⌜ f ≡ badSample roll acceleration ⌝ }
+{
+    if roll <= acceleration {
+        Refusal::Sample(roll)
+    } else {
+        Refusal::Acceleration(acceleration)
+    }
+}
+
+// A look for a sample out of range in both channels.
+pub fn look_over(roll: &[i32], acceleration: &[i32]) -> Look
+    ensures { λ l. ⌜ l ≡ looked (now (roll .entry)) (now (acceleration .entry)) ⌝ }
+{
+    let p = range::first_bad(roll);
+    let q = range::first_bad(acceleration);
+    if truth::either(p < roll.len(), q < acceleration.len()) {
+        return Look::Bad(bad_sample(p as u64, q as u64));
+    }
+    Look::Good
+}

@@ -1,0 +1,18 @@
+-- Samples that may be stepped one by one from a state. Assumes nothing.
+use Prim.Native.Nat.{_+_, _≤_}
+use mathlib.Core.Path.{_≡_}
+use mathlib.Core.Bool.{true}
+use mathlib.Core.List.{List}
+use lib.IntN.{ℤ}
+use lib.ListN.{length}
+use Rattle.channels.specs.Channels.{moments, AllInRange}
+use Rattle.limits.specs.Limits.{mostSamples}
+use Rattle.record.specs.declared.Record.{Record}
+use Rattle.record.specs.State.{sound}
+
+-- the state r is sound, and the slices are of equal length, in range, and not too long
+pub record Fits (r : Record) (xs ys : List ℤ) : Type 0 where
+  pub state : sound r ≡ true
+  pub equal : length xs ≡ length ys
+  pub good : AllInRange (moments xs ys)
+  pub room : r .n + length xs ≤ mostSamples (r .step) (r .ramp)

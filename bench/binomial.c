@@ -3,21 +3,15 @@
 #include <stdint.h>
 #include <stdio.h>
 #include <string.h>
-#include <time.h>
 
 #include "chimenickel.h"
+#include "clock.h"
 
 uint64_t plain_add(uint64_t *s, size_t len, const uint64_t *r, size_t r_len, uint64_t *carried);
 uint64_t plain_bounds(const uint64_t *s, size_t len, uint64_t *bounds, size_t bounds_len, uint64_t *carried);
 uint64_t plain_rates(const uint64_t *s, size_t len, double *estimate, double *lower, double *upper, uint64_t *carried);
 
 enum { SUMS = 1000, RUNS = 300 };
-
-static double now(void) {
-    struct timespec t;
-    clock_gettime(CLOCK_MONOTONIC, &t);
-    return t.tv_sec * 1e9 + t.tv_nsec;
-}
 
 static uint64_t sums[SUMS][CHIM_SUM_NUMBERS], bounds[2][SUMS][CHIM_BOUNDS_NUMBERS];
 static double rates[2][SUMS][3];

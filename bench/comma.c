@@ -9,15 +9,9 @@
 #include <stdio.h>
 #include <stdlib.h>
 #include <string.h>
-#include <time.h>
 
 #include "chimenickel.h"
-
-static double now(void) {
-    struct timespec t;
-    clock_gettime(CLOCK_MONOTONIC, &t);
-    return t.tv_sec * 1e9 + t.tv_nsec;
-}
+#include "clock.h"
 
 /* One line at s[i], the line of the time `want`: the place behind it and the sample, or 0 where it is wrong. */
 static inline size_t line(const uint8_t *s, size_t n, size_t i, uint64_t want, int64_t *sample) {

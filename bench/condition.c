@@ -3,9 +3,9 @@
 #include <stdint.h>
 #include <stdio.h>
 #include <string.h>
-#include <time.h>
 
 #include "chimenickel.h"
+#include "clock.h"
 
 uint64_t plain_judge(const uint64_t (*campaigns)[5], size_t situations, uint64_t *carried);
 uint64_t plain_report(const uint64_t (*campaigns)[5], size_t situations, uint8_t *out, size_t room, uint64_t *carried);
@@ -14,12 +14,6 @@ extern uint32_t upper_rows[65], lower_rows[65];
 enum { SITUATIONS = CHIM_MOST_SITUATIONS, RUNS = 200, CALLS = 200 };
 
 typedef const uint64_t (*rows)[5];
-
-static double now(void) {
-    struct timespec t;
-    clock_gettime(CLOCK_MONOTONIC, &t);
-    return t.tv_sec * 1e9 + t.tv_nsec;
-}
 
 /* Campaigns at one failure in two hours. `all accepted`: 20 to 40 quiet hours each. `as they come`: up to 40 records, of which some fail, so that all letters are there.
  * `full`: 100,000 records and 64 failures each, the longest lines. */

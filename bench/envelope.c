@@ -6,19 +6,13 @@
 #include <stdio.h>
 #include <stdlib.h>
 #include <string.h>
-#include <time.h>
 
 #include "chimenickel.h"
+#include "clock.h"
 
 uint64_t plain_envelope(uint64_t step, uint64_t ramp, uint64_t tau, const int32_t *samples, size_t n, uint32_t *sizes, uint32_t *times, size_t places);
 
 enum { SAMPLES = 10000001, STEP = 1, RAMP = 0, RUNS = 9 };
-
-static double now(void) {
-    struct timespec t;
-    clock_gettime(CLOCK_MONOTONIC, &t);
-    return t.tv_sec * 1e9 + t.tv_nsec;
-}
 
 /* a roll of that many samples a period, its amplitude swelling and sinking, with some noise; 0 for noise alone, which changes its sign at any sample */
 static void fill(int32_t *samples, double period) {
@@ -33,11 +27,6 @@ static void fill(int32_t *samples, double period) {
             samples[i] = (int32_t)(wide * sin(i * 6.283185307 / period) + noise * (period > 1000 ? 0 : 0.2));
         }
     }
-}
-
-static void least(double *best, double t) {
-    if (t < *best)
-        *best = t;
 }
 
 int main(void) {

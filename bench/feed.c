@@ -5,9 +5,10 @@
 #include <stdio.h>
 #include <stdlib.h>
 #include <string.h>
-#include <time.h>
 
+#include "channels.h"
 #include "chimenickel.h"
+#include "clock.h"
 
 uint64_t plain_feed(uint64_t step, uint64_t ramp, uint64_t level, uint64_t decorrelation, uint64_t acceleration_level, const int32_t *roll,
                     const int32_t *acceleration, size_t n, uint64_t *crossings, uint64_t *largest_set);
@@ -49,35 +50,6 @@ static uint64_t plainly_bad(Job job, size_t n) {
     (void)job;
     uint64_t channel, place = plain_first_bad(roll, acceleration, n, &channel);
     return place << 2 | channel;
-}
-
-static double now(void) {
-    struct timespec t;
-    clock_gettime(CLOCK_MONOTONIC, &t);
-    return t.tv_sec * 1e9 + t.tv_nsec;
-}
-
-/* a roll within 39 degrees and an acceleration within 9,000 mm/s2; at every `every`-th sample (0: never) one of them is above its level, in turn. With `alone` it is always the
-   roll, and zeros are lent for the acceleration */
-static void fill(size_t n, size_t every, int alone) {
-    uint32_t seed = 12345;
-    for (size_t i = 0; i < n; i++) {
-        seed = seed * 1664525u + 1013904223u;
-        int32_t x = (int32_t)(seed >> 16) % 39000, y = (int32_t)(seed >> 13 & 0x7fff) % 9000;
-        roll[i] = seed & 128 ? -x : x;
-        acceleration[i] = alone ? 0 : seed & 64 ? -y : y;
-        if (every != 0 && i % every == every - 1) {
-            if (alone || i / every % 2 == 0)
-                roll[i] = 41000;
-            else
-                acceleration[i] = -9900;
-        }
-    }
-}
-
-static void least(double *best, double t) {
-    if (t < *best)
-        *best = t;
 }
 
 /* a row: what the library and plain C take, and a sum; 1 if their answers differ */
@@ -125,12 +97,12 @@ int main(void) {
     int differ = roll == NULL || acceleration == NULL;
     printf("%-38s %10s %10s %10s %10s %10s\n", "samples: above a level", "feed", "plain C", "sum", "plain/feed", "feed/sum");
     for (size_t k = 0; k < sizeof kinds / sizeof *kinds && !differ; k++) {
-        fill(kinds[k].n, kinds[k].every, kinds[k].alone);
+        fill(roll, acceleration, kinds[k].n, kinds[k].every, kinds[k].alone);
         differ = row(kinds[k].name, kinds[k].n < MOST ? few : most, kinds[k].n, counted, plainly_counted);
     }
     printf("%-38s %10s %10s %10s %10s %10s\n", "samples: which is bad", "look", "plain C", "sum", "plain/look", "look/sum");
     if (!differ) {
-        fill(MOST + 2, 0, 0);
+        fill(roll, acceleration, MOST + 2, 0, 0);
         acceleration[MOST - 1] = acceleration[FEW - 1] = 1000001;
         differ = row("100,000: the last", few, FEW, bad, plainly_bad);
         acceleration[FEW - 1] = 0;

@@ -11,17 +11,11 @@
 #include <stdio.h>
 #include <stdlib.h>
 #include <string.h>
-#include <time.h>
 
 #include "chimenickel.h"
+#include "clock.h"
 
 enum { RECORDS = 100000, RUNS = 25, LONGEST = 10000000, ROWS = 64 };
-
-static double now(void) {
-    struct timespec t;
-    clock_gettime(CLOCK_MONOTONIC, &t);
-    return t.tv_sec * 1e9 + t.tv_nsec;
-}
 
 static long by_snprintf(uint64_t q, const int32_t *x, size_t n, char *out, size_t room) {
     if (q < 1 || q > 100000000000) return -1;

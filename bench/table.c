@@ -3,9 +3,9 @@
 #include <stdint.h>
 #include <stdio.h>
 #include <string.h>
-#include <time.h>
 
 #include "chimenickel.h"
+#include "clock.h"
 
 typedef uint64_t place[CHIM_PLACE_NUMBERS];
 
@@ -16,12 +16,6 @@ uint64_t plain_give_back(place *t, size_t len, uint64_t bureau, uint64_t i, uint
 extern uint32_t upper_rows[65], lower_rows[65];
 
 enum { CALLS = 5000, RUNS = 200 };
-
-static double now(void) {
-    struct timespec t;
-    clock_gettime(CLOCK_MONOTONIC, &t);
-    return t.tv_sec * 1e9 + t.tv_nsec;
-}
 
 static place ours[CHIM_BENCH_PLACES], theirs[CHIM_BENCH_PLACES];
 

@@ -1,4 +1,4 @@
-/* Feeding roll and acceleration as one piece, beside plain C and a sum of both slices: nanoseconds a sample of each, best of several runs. 11,000,000 are the most that a
+/* Feeding roll and acceleration as one piece, beside plain C, plain Rust and a sum of both slices: nanoseconds a sample of each, best of several runs. 11,000,000 are the most that a
    record takes, 88 MB; 100,000 stay in the processor's cache. */
 #include <stddef.h>
 #include <stdint.h>
@@ -9,11 +9,7 @@
 #include "channels.h"
 #include "chimenickel.h"
 #include "clock.h"
-
-uint64_t plain_feed(uint64_t step, uint64_t ramp, uint64_t level, uint64_t decorrelation, uint64_t acceleration_level, const int32_t *roll,
-                    const int32_t *acceleration, size_t n, uint64_t *crossings, uint64_t *largest_set);
-int64_t plain_sum(const int32_t *samples, size_t n);
-size_t plain_first_bad(const int32_t *roll, const int32_t *acceleration, size_t n, uint64_t *channel);
+#include "plain.h"
 
 enum { MOST = 11000000, FEW = 100000, LEVEL = 40000, DECORRELATION = 5000, ACCELERATION_LEVEL = 9810 };
 
@@ -38,6 +34,12 @@ static uint64_t plainly_counted(Job job, size_t n) {
     return plain_feed(job.step, job.ramp, LEVEL, DECORRELATION, ACCELERATION_LEVEL, roll, acceleration, n, &crossings, &largest) << 32 | largest;
 }
 
+static uint64_t counted_in_rust(Job job, size_t n) {
+    uint64_t largest = 0;
+    Items items = {job.step, job.ramp, LEVEL, DECORRELATION, ACCELERATION_LEVEL};
+    return rust_feed(&items, roll, acceleration, n, &largest) << 32 | largest;
+}
+
 /* the place of the first bad sample and its channel as a piece's refusal tells them; the number of samples where a piece is refused for its length alone */
 static uint64_t bad(Job job, size_t n) {
     uint64_t record[CHIM_RECORD_NUMBERS], carried = 0, channel = 0;
@@ -52,9 +54,9 @@ static uint64_t plainly_bad(Job job, size_t n) {
     return place << 2 | channel;
 }
 
-/* a row: what the library and plain C take, and a sum; 1 if their answers differ */
-static int row(const char *name, Job job, size_t n, uint64_t (*ours)(Job, size_t), uint64_t (*theirs)(Job, size_t)) {
-    double library = 1e18, plain = 1e18, sum = 1e18;
+/* a row: what the library and plain C take, Rust where it is asked, and a sum; 1 if their answers differ */
+static int row(const char *name, Job job, size_t n, uint64_t (*ours)(Job, size_t), uint64_t (*theirs)(Job, size_t), uint64_t (*in_rust)(Job, size_t)) {
+    double library = 1e18, plain = 1e18, rust = 1e18, sum = 1e18;
     volatile int64_t sink = 0;
     for (int run = 0; run < (n < MOST ? 400 : 15); run++) {
         double t0 = now();
@@ -62,17 +64,25 @@ static int row(const char *name, Job job, size_t n, uint64_t (*ours)(Job, size_t
         double t1 = now();
         uint64_t b = theirs(job, n);
         double t2 = now();
-        sink += plain_sum(roll, n) + plain_sum(acceleration, n);
+        uint64_t c = in_rust == NULL ? a : in_rust(job, n);
         double t3 = now();
-        if (a != b) {
-            printf("the answers differ: %llu and %llu\n", (unsigned long long)a, (unsigned long long)b);
+        sink += plain_sum(roll, n) + plain_sum(acceleration, n);
+        double t4 = now();
+        if (a != b || a != c) {
+            printf("the answers differ: %llu, %llu and %llu\n", (unsigned long long)a, (unsigned long long)b, (unsigned long long)c);
             return 1;
         }
         least(&library, t1 - t0);
         least(&plain, t2 - t1);
-        least(&sum, t3 - t2);
+        least(&rust, t3 - t2);
+        least(&sum, t4 - t3);
     }
-    printf("%-38s %7.3f ns %7.3f ns %7.3f ns %10.2f %10.2f\n", name, library / n, plain / n, sum / n, plain / library, library / sum);
+    printf("%-38s %7.3f ns %7.3f ns", name, library / n, plain / n);
+    if (in_rust == NULL)
+        printf(" %10s %7.3f ns %7.2f %7s", "", sum / n, plain / library, "");
+    else
+        printf(" %7.3f ns %7.3f ns %7.2f %7.2f", rust / n, sum / n, plain / library, rust / library);
+    printf(" %8.2f\n", library / sum);
     return 0;
 }
 
@@ -95,23 +105,23 @@ int main(void) {
     roll = malloc((MOST + 2) * sizeof *roll);
     acceleration = malloc((MOST + 2) * sizeof *acceleration);
     int differ = roll == NULL || acceleration == NULL;
-    printf("%-38s %10s %10s %10s %10s %10s\n", "samples: above a level", "feed", "plain C", "sum", "plain/feed", "feed/sum");
+    printf("%-38s %10s %10s %10s %10s %7s %7s %8s\n", "samples: above a level", "feed", "plain C", "Rust", "sum", "C/feed", "Rust/..", "feed/sum");
     for (size_t k = 0; k < sizeof kinds / sizeof *kinds && !differ; k++) {
         fill(roll, acceleration, kinds[k].n, kinds[k].every, kinds[k].alone);
-        differ = row(kinds[k].name, kinds[k].n < MOST ? few : most, kinds[k].n, counted, plainly_counted);
+        differ = row(kinds[k].name, kinds[k].n < MOST ? few : most, kinds[k].n, counted, plainly_counted, counted_in_rust);
     }
-    printf("%-38s %10s %10s %10s %10s %10s\n", "samples: which is bad", "look", "plain C", "sum", "plain/look", "look/sum");
+    printf("%-38s %10s %10s %10s %10s %7s %7s %8s\n", "samples: which is bad", "look", "plain C", "", "sum", "C/look", "", "look/sum");
     if (!differ) {
         fill(roll, acceleration, MOST + 2, 0, 0);
         acceleration[MOST - 1] = acceleration[FEW - 1] = 1000001;
-        differ = row("100,000: the last", few, FEW, bad, plainly_bad);
+        differ = row("100,000: the last", few, FEW, bad, plainly_bad, NULL);
         acceleration[FEW - 1] = 0;
-        differ |= row("100,000: none, no room", short_of_room, FEW, bad, plainly_bad);
-        differ |= row("11,000,000: the last", most, MOST, bad, plainly_bad);
+        differ |= row("100,000: none, no room", short_of_room, FEW, bad, plainly_bad, NULL);
+        differ |= row("11,000,000: the last", most, MOST, bad, plainly_bad, NULL);
         acceleration[MOST - 1] = 0;
-        differ |= row("11,000,002: none, no room", most, MOST + 2, bad, plainly_bad);
+        differ |= row("11,000,002: none, no room", most, MOST + 2, bad, plainly_bad, NULL);
         memset(acceleration, 0, (MOST + 2) * sizeof *acceleration);
-        differ |= row("100,000: none, no room, zeros lent", short_of_room, FEW, bad, plainly_bad);
+        differ |= row("100,000: none, no room, zeros lent", short_of_room, FEW, bad, plainly_bad, NULL);
     }
     free(roll);
     free(acceleration);

@@ -1,4 +1,4 @@
-/* Listing a whole record, and searching it for its first crossing, beside plain C doing the same: nanoseconds a sample of both channels, best of several runs. */
+/* Listing a whole record, and searching it for its first crossing, beside plain C, and plain Rust for the list, doing the same: nanoseconds a sample of both channels, best of several runs. */
 #include <stddef.h>
 #include <stdint.h>
 #include <stdio.h>
@@ -8,10 +8,7 @@
 #include "channels.h"
 #include "chimenickel.h"
 #include "clock.h"
-
-uint64_t plain_list(uint64_t step, uint64_t ramp, uint64_t level, uint64_t decorrelation, uint64_t acceleration_level, const int32_t *roll,
-                    const int32_t *acceleration, size_t n, uint32_t *times, size_t places);
-size_t plain_search(const int32_t *roll, const int32_t *acceleration, size_t n, uint64_t ramp, uint64_t level, uint64_t acceleration_level);
+#include "plain.h"
 
 enum { MOST = 10000000, STEP = 1, RAMP = 0, LEVEL = 40000, ACCELERATION_LEVEL = 9810 };
 
@@ -38,11 +35,11 @@ int main(void) {
         return 1;
     memset(ours, 0, MOST * sizeof *ours);
     memset(theirs, 0, MOST * sizeof *theirs);
-    printf("%-40s %9s %9s %6s %11s %9s %6s\n", "samples: above a level", "list", "plain C", "ratio", "search", "plain C", "ratio");
+    printf("%-40s %9s %9s %9s %6s %6s %11s %9s %6s\n", "samples: above a level", "list", "plain C", "Rust", "C/list", "Rust/..", "search", "plain C", "ratio");
     for (size_t k = 0; k < sizeof kinds / sizeof *kinds; k++) {
         size_t n = kinds[k].n;
         fill(roll, acceleration, n, kinds[k].every, kinds[k].alone);
-        double list = 1e18, plain = 1e18, search = 1e18, plainly = 1e18;
+        double list = 1e18, plain = 1e18, rust = 1e18, search = 1e18, plainly = 1e18;
         for (int run = 0; run < (n == MOST ? 15 : 400); run++) {
             uint64_t number = 0, channel;
             double t0 = now();
@@ -50,20 +47,24 @@ int main(void) {
             double t1 = now();
             uint64_t counted = plain_list(STEP, RAMP, LEVEL, kinds[k].decorrelation, ACCELERATION_LEVEL, roll, acceleration, n, theirs, MOST);
             double t2 = now();
-            size_t place = chim_record_first_crossing(roll, n, acceleration, n, RAMP, LEVEL, ACCELERATION_LEVEL);
+            Items items = {STEP, RAMP, LEVEL, kinds[k].decorrelation, ACCELERATION_LEVEL};
+            uint64_t also = rust_list(&items, roll, acceleration, n, theirs, MOST);
             double t3 = now();
-            size_t at = plain_search(roll, acceleration, n, RAMP, LEVEL, ACCELERATION_LEVEL);
+            size_t place = chim_record_first_crossing(roll, n, acceleration, n, RAMP, LEVEL, ACCELERATION_LEVEL);
             double t4 = now();
-            if (answer != CHIM_TAKEN || number != counted || memcmp(ours, theirs, counted * sizeof *ours) != 0 || place != at) {
+            size_t at = plain_search(roll, acceleration, n, RAMP, LEVEL, ACCELERATION_LEVEL);
+            double t5 = now();
+            if (answer != CHIM_TAKEN || number != counted || number != also || memcmp(ours, theirs, counted * sizeof *ours) != 0 || place != at) {
                 printf("the answers differ\n");
                 return 1;
             }
             least(&list, t1 - t0);
             least(&plain, t2 - t1);
-            least(&search, t3 - t2);
-            least(&plainly, t4 - t3);
+            least(&rust, t3 - t2);
+            least(&search, t4 - t3);
+            least(&plainly, t5 - t4);
         }
-        printf("%-40s %6.3f ns %6.3f ns %6.2f", kinds[k].name, list / n, plain / n, plain / list);
+        printf("%-40s %6.3f ns %6.3f ns %6.3f ns %6.2f %7.2f", kinds[k].name, list / n, plain / n, rust / n, plain / list, rust / list);
         /* where a crossing stands at the second sample there is nothing to search */
         if (kinds[k].every == 2)
             printf("\n");

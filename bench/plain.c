@@ -5,6 +5,8 @@
 #include <stdint.h>
 #include <stdlib.h>
 
+#include "plain.h"
+
 static bool bad(int32_t x) { return x < -1000000 || x > 1000000; }
 
 static bool above(int32_t x, uint64_t level, int32_t y, uint64_t acceleration_level) {

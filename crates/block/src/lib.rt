@@ -6,7 +6,7 @@ ghost use Rattle.magnitude.specs.Above.{above};
 ghost use Rattle.block.specs.Block.{blockEnd, lowest, highest, anyAbove};
 
 // Enough samples to be worth it; few enough that one above the level costs little, and that a processor fetches the next block while it steps through this one.
-const BLOCK: usize = 64;
+pub const BLOCK: usize = 64;
 
 // Where the block that starts at i ends, of n samples.
 pub fn end(i: usize, n: usize) -> usize

@@ -1,4 +1,5 @@
 pub mod Moments
+pub mod Marks
 pub mod Quiet
 pub mod Range
 pub mod Blocks

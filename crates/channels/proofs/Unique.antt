@@ -1,10 +1,11 @@
 -- Two answers that a promise allows are the same answer: each promise is an equation. Assumes nothing.
-use Prim.Native.Nat.{ℕ}
+use Prim.Native.Nat.{ℕ, min}
 use mathlib.Core.Path.{_≡_, sym, _∙_}
 use mathlib.Core.Bool.{Bool, _||_}
-use mathlib.Core.List.{List}
+use mathlib.Core.List.{List, map}
 use lib.IntN.{ℤ}
-use lib.ListN.{getD}
+use lib.ListN.{getD, length}
+use lib.Seq.{paste}
 use Rattle.block.specs.declared.Ends.{Ends}
 use Rattle.channels.specs.declared.Levels.{Levels}
 use Rattle.channels.specs.declared.Moment.{Moment}
@@ -25,6 +26,9 @@ outside-unique e f x y p q = p ∙ sym q
 
 pub moment-at-unique : (xs ys : List ℤ) (i : ℕ) (x y : Moment) → x ≡ getD (moments xs ys) i still → y ≡ getD (moments xs ys) i still → x ≡ y
 moment-at-unique xs ys i x y e f = e ∙ sym f
+
+pub mark-unique : (a : Levels) (xs ys : List ℤ) (ups x y : List Bool) → x ≡ paste ups 0 (map (above a) (moments xs ys)) (min (length ups) (length (moments xs ys))) → y ≡ paste ups 0 (map (above a) (moments xs ys)) (min (length ups) (length (moments xs ys))) → x ≡ y
+mark-unique a xs ys ups x y e f = e ∙ sym f
 
 pub look-over-unique : (xs ys : List ℤ) (x y : Look) → x ≡ looked xs ys → y ≡ looked xs ys → x ≡ y
 look-over-unique xs ys x y e f = e ∙ sym f

@@ -2,7 +2,10 @@
 // names. The slices of the two channels are looked at side by side, as far as both go.
 ghost use mathlib.Core.Path.{_≡_};
 ghost use mathlib.Core.Bool.{_||_};
-ghost use lib.ListN.{getD};
+ghost use mathlib.Core.List.{map};
+ghost use Prim.Native.Nat.{_<_, min};
+ghost use lib.ListN.{getD, length};
+ghost use lib.Seq.{paste};
 ghost use Rattle.channels.specs.Channels.{still, above, moments, pastEnds, outsideEnds, anyAbove, badSample, looked};
 use block::Ends;
 use refusal::Refusal;
@@ -61,21 +64,47 @@ pub fn outside(roll: Ends, acceleration: Ends) -> bool
     truth::either(range::outside(roll), range::outside(acceleration))
 }
 
+// What both channels show at a place that they have.
+fn seen(roll: &[i32], acceleration: &[i32], i: usize) -> Moment
+    requires { ⌜ (i < length (now roll)) × (i < length (now acceleration)) ⌝ }
+    ensures { λ x. ⌜ x ≡ getD (moments (now (roll .entry)) (now (acceleration .entry))) i still ⌝ }
+{
+    Moment {
+        roll: roll[i],
+        acceleration: acceleration[i],
+    }
+}
+
 // What both channels show at a place; 0 where one of them has no such place.
 pub fn moment_at(roll: &[i32], acceleration: &[i32], i: usize) -> Moment
     ensures { λ x. ⌜ x ≡ getD (moments (now (roll .entry)) (now (acceleration .entry))) i still ⌝ }
 {
     if i < roll.len() {
         if i < acceleration.len() {
-            return Moment {
-                roll: roll[i],
-                acceleration: acceleration[i],
-            };
+            return seen(roll, acceleration, i);
         }
     }
     Moment {
         roll: 0,
         acceleration: 0,
+    }
+}
+
+fn fewer(m: usize, n: usize) -> usize
+    ensures { λ r. ⌜ r ≡ min m n ⌝ }
+{
+    if m < n { m } else { n }
+}
+
+// Notes of each sample of both channels whether one of them is above its level, from the start of `ups`, as far as it goes; the rest of it stays. A machine looks at several at once.
+pub fn mark(levels: Levels, roll: &[i32], acceleration: &[i32], ups: &mut [bool])
+    ensures { λ u. ⌜ now (ups .exit) ≡ paste (now (ups .entry)) 0 (map (above levels) (moments (now (roll .entry)) (now (acceleration .entry)))) (min (length (now (ups .entry))) (length (moments (now (roll .entry)) (now (acceleration .entry))))) ⌝ }
+{
+    let n = fewer(ups.len(), fewer(roll.len(), acceleration.len()));
+    let mut i = 0;
+    while i < n {
+        ups[i] = above(levels, seen(roll, acceleration, i));
+        i += 1;
     }
 }
 

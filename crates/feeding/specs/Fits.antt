@@ -10,9 +10,10 @@ use Rattle.limits.specs.Limits.{mostSamples}
 use Rattle.record.specs.declared.Record.{Record}
 use Rattle.record.specs.State.{sound}
 
--- the state r is sound, and the slices are of equal length, in range, and not too long
+-- the state r is sound, and the slices are of equal length, in range, not too long, and a block at most
 pub record Fits (r : Record) (xs ys : List ℤ) : Type 0 where
   pub state : sound r ≡ true
   pub equal : length xs ≡ length ys
   pub good : AllInRange (moments xs ys)
   pub room : r .n + length xs ≤ mostSamples (r .step) (r .ramp)
+  pub short : length xs ≤ 64

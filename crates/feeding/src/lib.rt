@@ -1,11 +1,11 @@
 // Feeding a record: the samples of its two channels, handed over in pieces. The state goes in by value and comes back in the answer, so a refusal leaves the caller's as it stood.
 ghost use mathlib.Core.Path.{_≡_};
 ghost use mathlib.Core.Bool.{true, false, cond};
-ghost use mathlib.Core.List.{foldl};
+ghost use mathlib.Core.List.{foldl, map};
 ghost use Prim.Native.Nat.{_+_, _-_, _≤_, _<_, min};
-ghost use lib.ListN.{getD, length};
+ghost use lib.ListN.{length};
 ghost use Rattle.refusal.specs.declared.Refusal.the-variants.{TooLong};
-ghost use Rattle.channels.specs.Channels.{still, moments, anyAbove, anyBad, badSample};
+ghost use Rattle.channels.specs.Channels.{above, moments, anyAbove, anyBad, badSample};
 ghost use Rattle.limits.specs.Limits.{mostSamples};
 ghost use Rattle.range.specs.Range.{firstBad};
 ghost use Rattle.record.specs.declared.Answer.the-variants.{Refused};
@@ -137,20 +137,9 @@ fn step(r: Record, gap: u64, crossing: bool, x: Moment) -> Record
     }
 }
 
-// What both channels show at a place that they have.
-fn moment(roll: &[i32], acceleration: &[i32], i: usize) -> Moment
-    requires { ⌜ (i < length (now roll)) × (i < length (now acceleration)) ⌝ }
-    ensures { λ x. ⌜ x ≡ getD (moments (now (roll .entry)) (now (acceleration .entry))) i still ⌝ }
-{
-    Moment {
-        roll: roll[i],
-        acceleration: acceleration[i],
-    }
-}
-
-// The state after timed samples that are in range and not too many.
-fn run(r: Record, roll: &[i32], acceleration: &[i32]) -> Record
-    requires { ⌜ Fits r (now roll) (now acceleration) × (r .ramp < r .n) ⌝ }
+// The state after timed samples that are in range and not too many, of which it is known whether they are above.
+fn along(r: Record, ups: &[bool], roll: &[i32], acceleration: &[i32]) -> Record
+    requires { ⌜ Fits r (now roll) (now acceleration) × (r .ramp < r .n) × (now ups ≡ map (above (r .levels)) (moments (now roll) (now acceleration))) ⌝ }
     ensures { λ s. ⌜ s ≡ foldl stepped r (moments (now (roll .entry)) (now (acceleration .entry))) ⌝ }
 {
     let gap = gap_of(r);
@@ -158,13 +147,25 @@ fn run(r: Record, roll: &[i32], acceleration: &[i32]) -> Record
     let mut low = below(r);
     let mut i = 0;
     while i < roll.len() {
-        let x = moment(roll, acceleration, i);
-        let up = channels::above(s.levels, x);
+        let x = channels::moment_at(roll, acceleration, i);
+        let up = ups[i];
         s = step(s, gap, truth::both(low, up), x);
         low = !up;
         i += 1;
     }
     s
+}
+
+// The state after timed samples that are in range and not too many: all of them are looked at first, several at once, and then stepped one by one.
+fn run(r: Record, roll: &[i32], acceleration: &[i32]) -> Record
+    requires { ⌜ Fits r (now roll) (now acceleration) × (r .ramp < r .n) ⌝ }
+    ensures { λ s. ⌜ s ≡ foldl stepped r (moments (now (roll .entry)) (now (acceleration .entry))) ⌝ }
+{
+    let n = roll.len();
+    let mut ups = [false; block::BLOCK];
+    channels::mark(r.levels, roll, acceleration, &mut ups);
+    // a slice of just n samples, so that the compiler sees that each place of the roll is one of the acceleration
+    along(r, &ups[..n], roll, &acceleration[..n])
 }
 
 // How many of k samples no crossing can stand at: those up to the first timed one.

@@ -1,4 +1,5 @@
 pub mod Ready
+pub mod Underway
 pub mod Answered
 pub mod Heard
 pub mod Unique

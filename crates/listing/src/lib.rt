@@ -16,7 +16,6 @@ ghost use Rattle.listing.specs.Pass.{Passes, Heard};
 ghost use Rattle.listing.specs.Answers.{WritesTo, SettlesTo, ListsTo};
 use channels::Levels;
 use channels::Look;
-use channels::Moment;
 use refusal::Refusal;
 use walk::Walk;
 use whole::Size;
@@ -119,19 +118,22 @@ fn stepped(step: u64, decorrelation: u64, w: Walk, up: bool, times: &mut [u32]) 
     }
 }
 
-// What both channels show at a place that they have.
-fn moment(roll: &[i32], acceleration: &[i32], i: usize) -> Moment
-    requires { ⌜ (i < length (now roll)) × (i < length (now acceleration)) ⌝ }
-    ensures { λ x. ⌜ x ≡ getD (moments (now (roll .entry)) (now (acceleration .entry))) i still ⌝ }
+// The walk over samples of which it is known whether they are above.
+fn along(step: u64, decorrelation: u64, w: Walk, ups: &[bool], times: &mut [u32]) -> Walk
+    requires { ⌜ Ready step decorrelation w (length (now ups)) ⌝ }
+    ensures { λ v. ⌜ noting v (now (times .exit)) ≡ foldl (marked step decorrelation) (noting w (now (times .entry))) (now (ups .entry)) ⌝ }
 {
-    Moment {
-        roll: roll[i],
-        acceleration: acceleration[i],
+    let mut v = w;
+    let mut i = 0;
+    while i < ups.len() {
+        v = stepped(step, decorrelation, v, ups[i], times);
+        i += 1;
     }
+    v
 }
 
-// The walk over a block sample by sample.
-fn along(
+// The walk over a block: all its samples are looked at first, several at once, and then the walk goes along.
+fn walk_block(
     step: u64,
     levels: Levels,
     decorrelation: u64,
@@ -140,17 +142,12 @@ fn along(
     acceleration: &[i32],
     times: &mut [u32],
 ) -> Walk
-    requires { ⌜ Ready step decorrelation w (length (now roll)) × (length (now roll) ≡ length (now acceleration)) ⌝ }
+    requires { ⌜ Ready step decorrelation w (length (now roll)) × (length (now roll) ≡ length (now acceleration)) × (length (now roll) ≤ 64) ⌝ }
     ensures { λ v. ⌜ noting v (now (times .exit)) ≡ foldl (noted step levels decorrelation) (noting w (now (times .entry))) (moments (now (roll .entry)) (now (acceleration .entry))) ⌝ }
 {
-    let mut v = w;
-    let mut i = 0;
-    while i < roll.len() {
-        let up = channels::above(levels, moment(roll, acceleration, i));
-        v = stepped(step, decorrelation, v, up, times);
-        i += 1;
-    }
-    v
+    let mut ups = [false; block::BLOCK];
+    channels::mark(levels, roll, acceleration, &mut ups);
+    along(step, decorrelation, w, &ups[..roll.len()], times)
 }
 
 // The same, where it is known whether a sample of the block is above its level.
@@ -164,11 +161,11 @@ fn advance(
     acceleration: &[i32],
     times: &mut [u32],
 ) -> Walk
-    requires { ⌜ Ready step decorrelation w (length (now roll)) × (length (now roll) ≡ length (now acceleration)) × (loud ≡ anyAbove levels (now roll) (now acceleration)) × (1 ≤ length (now roll)) ⌝ }
+    requires { ⌜ Ready step decorrelation w (length (now roll)) × (length (now roll) ≡ length (now acceleration)) × (length (now roll) ≤ 64) × (loud ≡ anyAbove levels (now roll) (now acceleration)) × (1 ≤ length (now roll)) ⌝ }
     ensures { λ v. ⌜ noting v (now (times .exit)) ≡ foldl (noted step levels decorrelation) (noting w (now (times .entry))) (moments (now (roll .entry)) (now (acceleration .entry))) ⌝ }
 {
     if loud {
-        return along(step, levels, decorrelation, w, roll, acceleration, times);
+        return walk_block(step, levels, decorrelation, w, roll, acceleration, times);
     }
     passed(step, decorrelation, w, roll.len())
 }
@@ -312,6 +309,36 @@ fn settle(
     }
 }
 
+// The walk over timed samples, block by block, of which none is passed over.
+fn walk_all(
+    step: u64,
+    levels: Levels,
+    decorrelation: u64,
+    roll: &[i32],
+    acceleration: &[i32],
+    times: &mut [u32],
+) -> Walk
+    requires { ⌜ Ready step decorrelation start (length (now roll)) × (length (now roll) ≡ length (now acceleration)) ⌝ }
+    ensures { λ v. ⌜ noting v (now (times .exit)) ≡ foldl (noted step levels decorrelation) (noting start (now (times .entry))) (moments (now (roll .entry)) (now (acceleration .entry))) ⌝ }
+{
+    let mut w = start();
+    let mut i = 0;
+    while i < roll.len() {
+        let end = block::end(i, roll.len());
+        w = walk_block(
+            step,
+            levels,
+            decorrelation,
+            w,
+            &roll[i..end],
+            &acceleration[i..end],
+            times,
+        );
+        i = end;
+    }
+    w
+}
+
 // The timed samples, listed into a slice with room for all times there can be.
 fn straight(
     step: u64,
@@ -328,15 +355,7 @@ fn straight(
     if let Look::Bad(_) = look {
         return Settled::Spoilt;
     }
-    let w = along(
-        step,
-        levels,
-        decorrelation,
-        start(),
-        roll,
-        acceleration,
-        times,
-    );
+    let w = walk_all(step, levels, decorrelation, roll, acceleration, times);
     Settled::Done(Listed::Times(w.count))
 }
 

@@ -1,6 +1,7 @@
 // The size of a sample without its sign, and whether it is above a level. Here signed numbers end: all that stands on this crate
 // compares whole numbers.
 ghost use mathlib.Core.Path.{_≡_};
+ghost use Prim.Native.Nat.{min};
 ghost use lib.IntN.{natAbs};
 ghost use Rattle.magnitude.specs.Above.{above};
 
@@ -16,9 +17,20 @@ pub fn magnitude(x: i32) -> u32
     }
 }
 
+// The level in 32 bits; where it has more, their most, which no magnitude is above either. A loop over samples then compares numbers of 32 bits, several at once.
+fn narrow(level: u64) -> u32
+    ensures { λ r. ⌜ r ≡ min level 4294967295 ⌝ }
+{
+    if level < 4_294_967_295 {
+        level as u32
+    } else {
+        4_294_967_295
+    }
+}
+
 // Whether |x| is above the level.
 pub fn above(level: u64, x: i32) -> bool
     ensures { λ r. ⌜ r ≡ above level x ⌝ }
 {
-    level < magnitude(x) as u64
+    narrow(level) < magnitude(x)
 }

@@ -193,6 +193,14 @@ stepped-most r x = go (crosses r x)
     go false = refl
 
 -- after a timed sample the next one is timed
+pub stepped-levels : (r : Record) (x : Moment) → stepped r x .levels ≡ r .levels
+unfolding stepped
+stepped-levels r x = go (crosses r x)
+  where
+    go : (b : Bool) → cond b (crossed r x) (moved r 1 x) .levels ≡ r .levels
+    go true = refl
+    go false = refl
+
 pub stepped-timed : (r : Record) (x : Moment) → r .ramp < r .n → stepped r x .ramp < stepped r x .n
 unfolding stepped
 stepped-timed r x h = go (crosses r x)

@@ -2,7 +2,7 @@
 use Prim.Native.Nat.{ℕ, suc, _+_, _*_, _≤_}
 use mathlib.Core.Path.{_≡_, refl, sym, ap, _∙_}
 use mathlib.Core.Bool.{Bool, true, false, cond, not, _&&_}
-use mathlib.Core.List.{List, [], _∷_, foldl}
+use mathlib.Core.List.{List, [], _∷_, foldl, map}
 use native.Mathlib.Nat.{mul-le-mul-left, mul-le-mul-right, zero-add}
 use native.Mathlib.Omega.{arith}
 use lib.ListN.{length, set, length-set}
@@ -12,7 +12,7 @@ use Rattle.channels.specs.declared.Moment.{Moment}
 use Rattle.channels.specs.Channels.{above, moment, moments, anyAbove}
 use Rattle.channels.proofs.Quiet.{first-quiet}
 use Rattle.walk.specs.declared.Walk.{Walk}
-use Rattle.walk.specs.Walk.{counts, stepped, passed, Noting, noting, noted, Ready}
+use Rattle.walk.specs.Walk.{counts, stepped, passed, Noting, noting, marked, noted, Ready}
 
 -- ready for several samples is ready for fewer, and after the first for the others
 pub ready-less : {D τ : ℕ} {w : Walk} {m n : ℕ} → m ≤ n → Ready D τ w n → Ready D τ w m
@@ -43,17 +43,23 @@ ready-after a {w} ts (x ∷ xs) n {m} e r =
     ready-after a (cond (counts w (above a x)) (set ts (w .count) (w .time)) ts) xs n refl (ready-next (above a x) (rw f at r))
 
 -- noting leaves the slice's length
-pub noted-length : (D : ℕ) (a : Levels) (τ : ℕ) (s : Noting) (x : Moment) → length (noted D a τ s x .times) ≡ length (s .times)
-unfolding noted
-noted-length D a τ s x = go (counts (s .walk) (above a x))
+pub marked-length : (D τ : ℕ) (s : Noting) (up : Bool) → length (marked D τ s up .times) ≡ length (s .times)
+marked-length D τ s up = go (counts (s .walk) up)
   where
     go : (b : Bool) → length (cond b (set (s .times) (s .walk .count) (s .walk .time)) (s .times)) ≡ length (s .times)
     go true = length-set (s .times) (s .walk .count) (s .walk .time)
     go false = refl
 
 pub walked-length : (D : ℕ) (a : Levels) (τ : ℕ) (s : Noting) (xs : List Moment) → length (foldl (noted D a τ) s xs .times) ≡ length (s .times)
+unfolding noted
 walked-length D a τ s [] = refl
-walked-length D a τ s (x ∷ xs) = walked-length D a τ (noted D a τ s x) xs ∙ noted-length D a τ s x
+walked-length D a τ s (x ∷ xs) = walked-length D a τ (noted D a τ s x) xs ∙ marked-length D τ s (above a x)
+
+-- ---- a block whose samples were looked at first
+pub noted-marks : (D : ℕ) (a : Levels) (τ : ℕ) (s : Noting) (xs : List Moment) → foldl (noted D a τ) s xs ≡ foldl (marked D τ) s (map (above a) xs)
+unfolding noted
+noted-marks D a τ s [] = refl
+noted-marks D a τ s (x ∷ xs) = noted-marks D a τ (noted D a τ s x) xs
 
 -- ---- a quiet block
 and-quiet : (b : Bool) → (b && false) ≡ false

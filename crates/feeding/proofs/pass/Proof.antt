@@ -18,7 +18,7 @@ use Rattle.limits.specs.Limits.{mostSamples}
 use Rattle.record.specs.State.{sound}
 use Rattle.steps.specs.Step.{stepped}
 use Rattle.range.specs.Range.{firstBad}
-use Rattle.block.proofs.Cut.{end-within, block-length}
+use Rattle.block.proofs.Cut.{end-within, end-near, block-length}
 use Rattle.feeding.specs.Fits.{Fits}
 use Rattle.feeding.proofs.Cutting.{run-n, run-most, run-sound}
 use Rattle.feeding.proofs.Fed.{fed-bad, fed-taken}
@@ -116,6 +116,7 @@ advance-requires c κs =
       equal = block-equal xs ys (a .pre .1) (l .i) e (omega arith) (w .1);
       good = all-in _ _ (g .0) (g .1);
       room = omega (arith, l .inv .4);
+      short = omega (arith, k, end-near (l .i) (length xs) (c .before .before .before .before .before .before .before .end .ensures));
     } in
     (fits, c .past .ensures ∙ ends-say (l .s .levels) _ _ (c .before .before .before .before .ends-of .result) (c .before .before .before .ends-of2 .result) (c .before .before .before .before .ends-of .ensures) (c .before .before .before .ends-of2 .ensures), omega arith)
 

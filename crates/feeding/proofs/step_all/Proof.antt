@@ -89,6 +89,7 @@ run-requires-2 c κs =
         equal = omega (arith, a .pre .0 .equal, length-drop j xs, length-drop j ys);
         good = rw (moments-drop j xs ys) (led-good r p j (omega arith) (omega arith) i (a .pre .0 .good));
         room = omega (arith, a .pre .0 .room, length-drop j xs);
+        short = omega (arith, a .pre .0 .short, length-drop j xs);
       },
       omega arith,
     )

@@ -1,31 +1,28 @@
--- `listing::pass` meets its contract. The invariant is that of `along`, and: the samples passed are in range, so the first bad place of each channel is i and that of what is left. A turn takes a block, which is not empty, so what is left falls. Assumes nothing.
+-- `listing::pass` meets its contract. The invariant: the walk is underway (`Underway`), and the samples passed are in range, so the first bad place of each channel is i and that of what is left. A turn takes a block, which is not empty, so what is left falls. Assumes nothing.
 use Prim.Native.Nat.{_+_, _-_, _≤_, _<_}
 use mathlib.Core.Path.{_≡_, refl, sym, ap, _∙_}
-use mathlib.Core.List.{[], foldl, foldl-append}
+use mathlib.Core.List.{[]}
 use native.Mathlib.Nat.{zero-add}
 use native.Mathlib.Omega.{arith}
 use borrow.Author.Needs.{needs}
 use lib.ListN.{length, take, drop, drop-of-length-le}
-use Rattle.block.proofs.Cut.{end-within, block-length}
+use Rattle.block.proofs.Cut.{end-within, end-near, block-length}
 use Rattle.range.specs.Range.{firstBad}
-use Rattle.channels.specs.Channels.{moments, anyBad}
-use Rattle.channels.proofs.Blocks.{good-on, block-equal, moments-cut, block-bad}
-use Rattle.channels.proofs.Moments.{moments-length}
+use Rattle.channels.specs.Channels.{anyBad}
+use Rattle.channels.proofs.Blocks.{good-on, block-equal, block-bad}
 use Rattle.channels.proofs.Quiet.{ends-say}
 use Rattle.channels.proofs.Range.{all-good, none-bad, ends-tell}
-use Rattle.walk.specs.Walk.{start, Noting, noting, noted, Ready}
-use Rattle.walk.proofs.Steps.{ready-less, ready-after, walked-length}
+use Rattle.walk.specs.Walk.{Noting}
+use Rattle.walk.proofs.Steps.{ready-less}
+use Rattle.listing.proofs.Underway.{Underway, begins, goes-on, arrives}
 use Rattle.listing.proofs.pass.Statement.{statement}
 use Rattle.listing.proofs.pass.Tie as tie
 
 abbrev Inv-loop : tie.InvT-loop
 Inv-loop step levels decorrelation roll acceleration times₀ w₀ i₀ times w i =
-    (i ≤ length roll)
-    × Ready step decorrelation w (length roll - i)
+    Underway step levels decorrelation roll acceleration times₀ times w i
     × (i + firstBad (drop i roll) ≡ firstBad roll)
     × (i + firstBad (drop i acceleration) ≡ firstBad acceleration)
-    × (length times ≡ length times₀)
-    × (foldl (noted step levels decorrelation) (noting w times) (drop i (moments roll acceleration)) ≡ foldl (noted step levels decorrelation) (noting start times₀) (moments roll acceleration))
 
 abbrev μ-loop : tie.MeasureT-loop
 μ-loop step levels decorrelation roll acceleration times₀ w₀ i₀ times w i = length roll - i
@@ -35,8 +32,8 @@ start-requires c κs = search needs
 
 loop-holds : tie.Need-loop-holds Inv-loop μ-loop
 loop-holds c =
-    let e : length (c .before .before .args .roll .now) ≡ length (c .before .before .args .roll .now) - 0 = omega arith in
-    rw (c .start .ensures) (omega arith, rw e at (c .before .before .pre .0), zero-add _, zero-add _, refl, refl)
+    let g = c .before .before .args in
+    rw (c .start .ensures) (begins (g .step) (g .levels) (g .decorrelation) (g .roll .now) (g .acceleration .now) (g .times .now) (c .before .before .pre .0), zero-add _, zero-add _)
 
 end-requires : tie.Need-end-requires Inv-loop μ-loop
 end-requires c κs = search needs
@@ -83,14 +80,14 @@ told : (c : tie.After-outside Inv-loop μ-loop) → c .outside .result ≡ anyBa
 told c = c .outside .ensures ∙ ends-tell _ _ (c .before .before .ends-of .result) (c .before .ends-of2 .result) (c .before .before .ends-of .ensures) (c .before .ends-of2 .ensures)
 
 same-length : tie.Need-same-length Inv-loop μ-loop
-same-length c = c .before .before .before .before .before .before .before .before .loop .inv .4
+same-length c = c .before .before .before .before .before .before .before .before .loop .inv .0 .same
 
 returns : tie.Need-returns Inv-loop μ-loop
 returns c =
     let a = c .before .before .before .before .before .before .before .before .before .before .before in
     let v = c .before .before .before .before .before .before .before .before .loop .inv in
     let w = within (c .before .before .before .before .before .before) in
-    block-bad (a .args .roll .now) (a .args .acceleration .now) (a .pre .1) (c .before .before .before .before .before .before .before .before .loop .i) (c .before .before .before .before .before .before .end .result) (omega arith) (w .1) (v .2) (v .3) (sym (told (c .before)) ∙ c .if1 .taken)
+    block-bad (a .args .roll .now) (a .args .acceleration .now) (a .pre .1) (c .before .before .before .before .before .before .before .before .loop .i) (c .before .before .before .before .before .before .end .result) (omega arith) (w .1) (v .1) (v .2) (sym (told (c .before)) ∙ c .if1 .taken)
 
 past-requires : tie.Need-past-requires Inv-loop μ-loop
 past-requires c κs = search needs
@@ -103,7 +100,7 @@ advance-requires c κs =
     let w = within (c .before .before .before .before .before .before .before .before) in
     let k = block-length (a .args .roll .now) (l .i) e (omega arith) (w .1) in
     let q = ends-say (a .args .levels) _ _ (c .before .before .before .before .before .ends-of .result) (c .before .before .before .before .ends-of2 .result) (c .before .before .before .before .before .ends-of .ensures) (c .before .before .before .before .ends-of2 .ensures) in
-    (ready-less (omega arith) (l .inv .1), block-equal (a .args .roll .now) (a .args .acceleration .now) (a .pre .1) (l .i) e (omega arith) (w .1), c .before .past .ensures ∙ q, omega arith)
+    (ready-less (omega (arith, k)) (l .inv .0 .ready), block-equal (a .args .roll .now) (a .args .acceleration .now) (a .pre .1) (l .i) e (omega arith) (w .1), omega (arith, end-near (l .i) (length (a .args .roll .now)) (c .before .before .before .before .before .before .before .before .end .ensures)), c .before .past .ensures ∙ q, omega arith)
 
 loop-less : tie.Need-loop-less Inv-loop μ-loop
 loop-less c = omega (arith, within (c .before .before .before .before .before .before .before .before .before .before .before))
@@ -115,28 +112,17 @@ loop-again c =
     let ys = g .acceleration .now in
     let same = c .before .before .before .before .before .before .before .before .before .before .before .before .before .before .before .before .pre .1 in
     let i = c .before .before .before .before .before .before .before .before .before .before .before .before .before .loop .i in
-    let w = c .before .before .before .before .before .before .before .before .before .before .before .before .before .loop .w in
-    let ts = c .before .before .before .before .before .before .before .before .before .before .before .before .before .loop .times in
     let inv = c .before .before .before .before .before .before .before .before .before .before .before .before .before .loop .inv in
     let e = c .before .before .before .before .before .before .before .before .before .before .before .end .result in
     let h = within (c .before .before .before .before .before .before .before .before .before .before .before) in
-    let m : e ≤ length ys = omega (arith, h .1, same) in
-    let block = moments (take (e - i) (drop i xs)) (take (e - i) (drop i ys)) in
-    let n : length block ≡ e - i = moments-length _ _ (block-equal xs ys same i e (omega arith) (h .1)) ∙ block-length xs i e (omega arith) (h .1) in
-    let k = moments-cut xs ys same i e (omega arith) (h .1) in
-    let f = noted (g .step) (g .levels) (g .decorrelation) in
-    let good = none-bad _ _ (sym (told (c .before .before .before .before .before .before)) ∙ c .before .before .before .before .before .if1 .left) in
-    let a = c .before .before .advance .ensures in (
-      h .1,
-      rw (ap (λ (s : Noting). s .walk) a) (ready-after (g .levels) ts block (length xs - e) (omega arith) (inv .1)),
-      good-on xs i e (omega arith) (h .1) (inv .2) (good .0),
-      good-on ys i e (omega arith) m (inv .3) (good .1),
-      ap (λ (s : Noting). length (s .times)) a ∙ walked-length (g .step) (g .levels) (g .decorrelation) (noting w ts) block ∙ inv .4,
-      ap (λ (s : Noting). foldl f s (drop e (moments xs ys))) a ∙ sym (foldl-append f (noting w ts) block (drop e (moments xs ys))) ∙ sym (ap (foldl f (noting w ts)) k) ∙ inv .5,
+    let good = none-bad _ _ (sym (told (c .before .before .before .before .before .before)) ∙ c .before .before .before .before .before .if1 .left) in (
+      goes-on same (inv .0) e (omega arith) (h .1) (c .before .before .advance .ensures),
+      good-on xs i e (omega arith) (h .1) (inv .1) (good .0),
+      good-on ys i e (omega arith) (omega (arith, h .1, same)) (inv .2) (good .1),
     )
 
 same-length-2 : tie.Need-same-length-2 Inv-loop μ-loop
-same-length-2 c = c .before .loop .inv .4
+same-length-2 c = c .before .loop .inv .0 .same
 
 returns-2 : tie.Need-returns-2 Inv-loop μ-loop
 unfolding firstBad
@@ -146,13 +132,10 @@ returns-2 c =
     let xs = g .roll .now in
     let ys = g .acceleration .now in
     let l = c .before .loop in
-    let n : length (moments xs ys) ≡ length xs = moments-length xs ys (a .pre .1) in
-    let e : drop (l .i) (moments xs ys) ≡ [] = drop-of-length-le (moments xs ys) {i = l .i} (omega arith) in
     let p : drop (l .i) xs ≡ [] = drop-of-length-le xs {i = l .i} (omega arith) in
     let q : drop (l .i) ys ≡ [] = drop-of-length-le ys {i = l .i} (omega (arith, a .pre .1)) in
-    let f = noted (g .step) (g .levels) (g .decorrelation) in
-    let d : noting (l .w) (l .times) ≡ foldl f (noting start (g .times .now)) (moments xs ys) = sym (ap (foldl f (noting (l .w) (l .times))) e) ∙ l .inv .5 in
-    (all-good xs ys (omega (arith, l .inv .2, ap firstBad p)) (omega (arith, l .inv .3, ap firstBad q, a .pre .1)), ap (λ (s : Noting). s .walk .count) d, ap (λ (s : Noting). s .times) d)
+    let d = arrives (a .pre .1) (l .inv .0) (omega arith) in
+    (all-good xs ys (omega (arith, l .inv .0 .within, l .inv .1, ap firstBad p)) (omega (arith, l .inv .0 .within, l .inv .2, ap firstBad q, a .pre .1)), ap (λ (s : Noting). s .walk .count) d, ap (λ (s : Noting). s .times) d)
 
 pub pass-spec : {M : Type 1} → statement M
 pass-spec =

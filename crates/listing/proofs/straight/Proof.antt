@@ -26,27 +26,24 @@ returns c = (looked-bad _ _ (c .enum-told .given .0 .0) (sym (c .before .before 
 enum-told-2 : tie.Need-enum-told-2
 enum-told-2 c = search needs
 
-start-requires : tie.Need-start-requires
-start-requires c κs = search needs
-
-along-requires : tie.Need-along-requires
-along-requires c κs = rw (c .before .start .ensures) (c .before .before .before .before .before .before .pre .0, c .before .before .before .before .before .before .pre .1)
+walk-all-requires : tie.Need-walk-all-requires
+walk-all-requires c κs = (c .before .before .before .before .before .pre .0, c .before .before .before .before .before .pre .1)
 
 same-length : tie.Need-same-length
 same-length c = search needs
 
 returns-2 : tie.Need-returns-2
 returns-2 c =
-    let a = c .before .before .before .before .before .before .before .before .before in
+    let a = c .before .before .before .before .before .before .before .before in
     let g = a .args in
     let p = moments (g .roll .now) (g .acceleration .now) in
     let ts = countedTimes (g .step) 0 (g .levels) (g .decorrelation) p in
     let k = moments-length (g .roll .now) (g .acceleration .now) (a .pre .1) in
     let l : length ts ≤ length (g .times .now) = omega (arith, half-counted (g .step) (g .levels) (g .decorrelation) p, a .pre .2) in
-    let e = rw (c .before .before .before .before .start .ensures) at (c .before .before .along .ensures) in
+    let e = c .before .before .walk-all .ensures in
     let n = ap (λ (s : Noting). s .walk .count) e ∙ walked-count (g .step) (g .levels) (g .decorrelation) p (g .times .now) in
     let t = ap (λ (s : Noting). s .times) e ∙ walked-times (g .step) (g .levels) (g .decorrelation) p (g .times .now) l in
-    (looked-good (g .roll .now) (g .acceleration .now) (sym (c .before .before .before .before .before .before .before .look-over .ensures) ∙ c .before .before .before .before .before .enum-told2 .given .1), rw (t, n) (writes-times ts (g .times .now) l))
+    (looked-good (g .roll .now) (g .acceleration .now) (sym (c .before .before .before .before .before .before .look-over .ensures) ∙ c .before .before .before .before .enum-told2 .given .1), rw (t, n) (writes-times ts (g .times .now) l))
 
 pub straight-spec : {M : Type 1} → statement M
 straight-spec =
@@ -56,7 +53,6 @@ straight-spec =
     enum-told
     returns
     enum-told-2
-    start-requires
-    along-requires
+    walk-all-requires
     same-length
     returns-2)

@@ -1,4 +1,4 @@
--- `listing::moment` meets its contract: the two samples side by side. Assumes nothing.
+-- `channels::seen` meets its contract: the two samples side by side. Assumes nothing.
 use mathlib.Core.Path.{sym}
 use lib.IntN.{pos}
 use lib.ListN.{getD}
@@ -6,9 +6,9 @@ use borrow.Author.Needs.{needs}
 use mir.Facts.{toZ-ofZ}
 use mir.Val.{SFits}
 use mir.Syntax.{w32}
 use Rattle.channels.proofs.Moments.{moments-at}
-use Rattle.listing.proofs.moment.Statement.{statement}
-use Rattle.listing.proofs.moment.Tie as tie
+use Rattle.channels.proofs.seen.Statement.{statement}
+use Rattle.channels.proofs.seen.Tie as tie
 
 mul-t4 : tie.Need-mul-t4
 mul-t4 c = search needs
@@ -30,6 +30,6 @@ returns c =
     let acceleration : SFits w32 (getD (a .acceleration .now) (a .i) (pos 0)) = search needs in
     rw (toZ-ofZ roll, toZ-ofZ acceleration) (sym (moments-at (a .roll .now) (a .acceleration .now) (a .i) (p .0) (p .1)))
 
-pub moment-spec : {M : Type 1} → statement M
-moment-spec =
+pub seen-spec : {M : Type 1} → statement M
+seen-spec =
     tie.close (tie.spec mul-t4 shared-slice-copy-out-t6 mul-t7 shared-slice-copy-out-t9 returns)

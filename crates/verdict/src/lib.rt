@@ -1,12 +1,12 @@
 // What a campaign says: its censored count, its verdict and its rates (document 01, "The campaign"), by the rows of the quantile table. A state that breaks
 // the campaign's relations is refused.
 ghost use mathlib.Core.Path.{_≡_};
-ghost use Prim.Native.Nat.{_≤_};
+ghost use Prim.Native.Nat.{_*_, _≤_};
 ghost use Rattle.poisson.specs.Tables.{l, u};
 ghost use Rattle.campaign.specs.Kept.{Kept};
 ghost use Rattle.campaign.specs.State.{censored};
 ghost use Rattle.verdict.specs.Answers.{Judges, counting, rating};
-ghost use Rattle.verdict.specs.Figures.{IsVerdict, accepts, lowerRate, quotient, rejects, three, upperRate};
+ghost use Rattle.verdict.specs.Figures.{IsVerdict, accepts, quotient, rejects, three};
 use campaign::Campaign;
 use refusal::Refusal;
 
@@ -75,32 +75,27 @@ fn high(c: Campaign) -> u64
     poisson::upper_row(censored_of(c)) as u64
 }
 
-fn rejects(c: Campaign) -> bool
-    requires { ⌜ Kept c ⌝ }
+// The tests and the rates are handed the row that they need: a row is looked up once for all that it serves.
+fn rejects(c: Campaign, low: u64) -> bool
+    requires { ⌜ Kept c × (low ≡ l (c .failures)) × (low ≤ 49287798) ⌝ }
     ensures { λ r. ⌜ r ≡ rejects c ⌝ }
 {
-    c.exposure * 1_000_000 < low(c) * c.standard
+    c.exposure * 1_000_000 < low * c.standard
 }
 
-fn accepts(c: Campaign) -> bool
-    requires { ⌜ Kept c ⌝ }
+fn accepts(c: Campaign, high: u64) -> bool
+    requires { ⌜ Kept c × (high ≡ u (censored c)) × (high ≤ 80604368) ⌝ }
     ensures { λ r. ⌜ r ≡ accepts c ⌝ }
 {
-    high(c) * c.standard < c.exposure * 1_000_000
+    high * c.standard < c.exposure * 1_000_000
 }
 
-fn lower_rate(c: Campaign) -> f64
-    requires { ⌜ Kept c ⌝ }
-    ensures { λ r. ⌜ r ≡ lowerRate c ⌝ }
+// The rate of a row: its millionths of a failure in so many ms.
+fn rate_of(c: Campaign, row: u64) -> f64
+    requires { ⌜ Kept c × (row ≤ 80604368) ⌝ }
+    ensures { λ r. ⌜ r ≡ quotient row (c .exposure * 1000) ⌝ }
 {
-    quotient(low(c), c.exposure * 1_000)
-}
-
-fn upper_rate(c: Campaign) -> f64
-    requires { ⌜ Kept c ⌝ }
-    ensures { λ r. ⌜ r ≡ upperRate c ⌝ }
-{
-    quotient(high(c), c.exposure * 1_000)
+    quotient(row, c.exposure * 1_000)
 }
 
 // The verdict of a state with a record.
@@ -108,13 +103,15 @@ fn weigh(c: Campaign) -> Verdict
     requires { ⌜ Kept c × (1 ≤ c .records) ⌝ }
     ensures { λ r. ⌜ IsVerdict c r ⌝ }
 {
-    if rejects(c) {
-        return Verdict::Reject(lower_rate(c));
+    let l = low(c);
+    if rejects(c, l) {
+        return Verdict::Reject(rate_of(c, l));
     }
-    if accepts(c) {
-        return Verdict::Accept(upper_rate(c));
+    let u = high(c);
+    if accepts(c, u) {
+        return Verdict::Accept(rate_of(c, u));
     }
-    Verdict::Continue(lower_rate(c), upper_rate(c))
+    Verdict::Continue(rate_of(c, l), rate_of(c, u))
 }
 
 // The three rates of a state with a record.
@@ -124,8 +121,8 @@ fn three(c: Campaign) -> Rates
 {
     Rates {
         estimate: quotient(c.failures * 1_000, c.exposure),
-        lower: lower_rate(c),
-        upper: upper_rate(c),
+        lower: rate_of(c, low(c)),
+        upper: rate_of(c, high(c)),
     }
 }
 

@@ -5,17 +5,14 @@ use borrow.Author.Needs.{needs}
 use Rattle.verdict.proofs.accepts.Statement.{statement}
 use Rattle.verdict.proofs.accepts.Tie as tie
 
-high-requires : tie.Need-high-requires
-high-requires c κs = search needs
-
 mul-result : tie.Need-mul-result
-mul-result c = omega (arith, mul-le-mul (c .before .high .ensures .1) (c .before .before .pre .standard-high))
+mul-result c = omega (arith, mul-le-mul (c .before .pre .2) (c .before .pre .0 .standard-high))
 
 mul-result-2 : tie.Need-mul-result-2
 mul-result-2 c = search needs
 
 returns : tie.Need-returns
-returns c = rw (← c .before .before .high .ensures .0)
+returns c = rw (← c .before .before .pre .1)
 
 pub accepts-spec : {M : Type 1} → statement M
-accepts-spec = tie.close (tie.spec high-requires mul-result mul-result-2 returns)
+accepts-spec = tie.close (tie.spec mul-result mul-result-2 returns)

@@ -8,14 +8,11 @@ use Rattle.verdict.proofs.rejects.Tie as tie
 mul-result : tie.Need-mul-result
 mul-result c = search needs
 
-low-requires : tie.Need-low-requires
-low-requires c κs = search needs
-
 mul-result-2 : tie.Need-mul-result-2
-mul-result-2 c = omega (arith, mul-le-mul (c .before .low .ensures .1) (c .before .before .before .pre .standard-high))
+mul-result-2 c = omega (arith, mul-le-mul (c .before .before .pre .2) (c .before .before .pre .0 .standard-high))
 
 returns : tie.Need-returns
-returns c = rw (← c .before .low .ensures .0)
+returns c = rw (← c .before .before .pre .1)
 
 pub rejects-spec : {M : Type 1} → statement M
-rejects-spec = tie.close (tie.spec mul-result low-requires mul-result-2 returns)
+rejects-spec = tie.close (tie.spec mul-result mul-result-2 returns)

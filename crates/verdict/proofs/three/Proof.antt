@@ -9,15 +9,29 @@ mul-quotient c = search needs
 quotient-requires : tie.Need-quotient-requires
 quotient-requires c κs = search needs
 
-lower-rate-requires : tie.Need-lower-rate-requires
-lower-rate-requires c κs = search needs
+low-requires : tie.Need-low-requires
+low-requires c κs = search needs
 
-upper-rate-requires : tie.Need-upper-rate-requires
-upper-rate-requires c κs = search needs
+rate-of-requires : tie.Need-rate-of-requires
+rate-of-requires c κs = search needs
+
+high-requires : tie.Need-high-requires
+high-requires c κs = search needs
+
+rate-of-requires-2 : tie.Need-rate-of-requires-2
+rate-of-requires-2 c κs = search needs
 
 returns : tie.Need-returns
-returns c = rw (c .before .before .quotient .ensures, c .before .lower-rate .ensures, c .upper-rate .ensures)
+returns c = rw (c .before .before .before .before .quotient .ensures, c .before .before .rate-of .ensures, c .before .before .before .low .ensures .0, c .rate-of2 .ensures, c .before .high .ensures .0)
 
 pub three-spec : {M : Type 1} → statement M
 three-spec =
-    tie.close (tie.spec mul-quotient quotient-requires lower-rate-requires upper-rate-requires returns)
+    tie.close
+    (tie.spec
+    mul-quotient
+    quotient-requires
+    low-requires
+    rate-of-requires
+    high-requires
+    rate-of-requires-2
+    returns)

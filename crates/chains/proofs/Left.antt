@@ -71,9 +71,6 @@ module _ (joins : Peak → Peak → Bool) where
         go false false false p q r = rw (le-ltb 1 (h .opened) (omega (arith, ltb-false 0 (g .opened) r)))
 
 -- fed nothing, a machine gives nothing
-pub gave-none : (g : Group) → gave g g ≡ false
-gave-none g = rw (eq-eqb (g .opened) (g .opened) refl) (and-false (ltb 1 (g .opened)))
-
 pub closed-none : (g : Group) → closed g (g .opened) ≡ false
 closed-none g = rw (eq-eqb (g .opened) (g .opened) refl) (and-false (ltb 0 (g .opened)))
 

@@ -1,19 +1,17 @@
 -- The look at the campaigns on its way: what was seen and what is left to see add up to what there is (`Along`). A campaign more keeps that, and at the end
 -- all is seen. Assumes nothing.
 use Prim.Native.Nat.{ℕ, _+_, _≤_}
-use mathlib.Core.Path.{_≡_, refl, sym, ap, _∙_}
+use mathlib.Core.Path.{_≡_, refl, sym, _∙_}
 use mathlib.Core.Bool.{Bool, cond, false, true, _&&_, _||_}
 use mathlib.Core.List.{List, [], _∷_}
 use native.Mathlib.Omega.{arith}
 use lib.Dec.{eqb}
-use lib.ListN.{drop}
 use borrow.Author.Tests.{eqb-true, ne-eqb}
 use Rattle.truth.proofs.Cases.{by-test}
 use Rattle.campaign.specs.declared.Campaign.{Campaign}
 use Rattle.campaign.specs.State.{sound}
 use Rattle.condition.specs.Standing.{accepted, allAccepted, oneRejected, rejected}
 use Rattle.condition.specs.Answers.{brokenFrom, lower, lowestBroken, seenOf}
-use Rattle.condition.specs.declared.Seen.{Seen}
 
 -- before i campaigns this was seen, these are left
 pub record Along (cs rest : List Campaign) (i broken : ℕ) (one all : Bool) : Type 0 where

@@ -1,12 +1,12 @@
 -- Campaigns that all keep their relations: what is known at the one that is due in a loop over them, and that a standing is given for no others. Assumes nothing.
 use Prim.Native.Nat.{ℕ, _+_, _≤_, _<_}
-use mathlib.Core.Path.{_≡_, sym}
-use mathlib.Core.Bool.{Bool, cond, not, false, true}
+use mathlib.Core.Path.{_≡_}
+use mathlib.Core.Bool.{true}
 use mathlib.Core.List.{List, _∷_}
 use native.Mathlib.Omega.{arith}
 use lib.Dec.{eqb, leb}
 use lib.ListN.{drop, getD, length, take}
-use borrow.Author.Tests.{eqb-true, leb-true, not-false}
+use borrow.Author.Tests.{eqb-true, leb-true}
 use Rattle.truth.proofs.Cases.{by-test}
 use Rattle.truth.proofs.Laws.{and-true}
 use Rattle.refusal.specs.declared.Refusal.{Refusal}
@@ -14,7 +14,6 @@ use Rattle.campaign.specs.declared.Campaign.{Campaign}
 use Rattle.campaign.specs.State.{empty, sound}
 use Rattle.condition.specs.Standing.{standing}
 use Rattle.condition.specs.Answers.{situationsInRange, brokenFrom, judging, lowestBroken}
-use Rattle.condition.specs.declared.Answer.{Answer}
 use Rattle.condition.specs.declared.Answer.the-variants.{Given, Refused}
 use Rattle.condition.specs.declared.Standing.{Standing}
 use Rattle.condition.proofs.Front.{front-next}

@@ -1,17 +1,17 @@
 -- Laws of a number's reading: the reader takes the digits that a text starts with, 12 at most. Assumes nothing.
 use mathlib.Core.Path.{_≡_, refl, _∙_}
-use mathlib.Core.Bool.{Bool, true, false, cond, not, _&&_, and-false, true≢false}
+use mathlib.Core.Bool.{true, false, not, _&&_}
 use mathlib.Core.List.{List, [], _∷_}
 use Prim.Native.Nat.{ℕ, zero, suc, _+_, _-_, _≤_, _<_, min}
 use native.Mathlib.Nat.{add-zero, not-suc-le-zero}
 use native.Mathlib.Numerals.{add-one}
 use native.Mathlib.Omega.{arith}
-use lib.Dec.{leb, ltb, eqb, leb·suc-suc}
+use lib.Dec.{leb, ltb, eqb}
 use lib.ListN.{length, getD, drop, length-drop, drop-of-length-le}
-use lib.Seq.{drop-cons, drop-drop, getD-drop}
-use borrow.Author.Tests.{lt-leb, le-leb, ne-eqb}
+use lib.Seq.{drop-cons, getD-drop}
+use borrow.Author.Tests.{lt-leb, le-leb}
 use Rattle.truth.proofs.Cases.{by-order, by-test}
-use Rattle.decimal.specs.Decimal.{zeroByte, longest, isDigit, allDigits, leadingDigits, isNumber, valueOf}
+use Rattle.decimal.specs.Decimal.{zeroByte, longest, isDigit, allDigits, leadingDigits, isNumber}
 
 -- the digits that a text starts with are digits, and no more than were asked for
 pub leading-all : (n : ℕ) (text : List ℕ) → allDigits (leadingDigits n text) ≡ true

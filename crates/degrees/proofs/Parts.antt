@@ -1,22 +1,22 @@
 -- Degrees taken apart and put together: a text that starts with degrees is a sign, the bytes of a size and what follows; and such a text starts with those
 -- degrees, whatever follows, if it is neither a digit nor a point. Assumes nothing.
-use mathlib.Core.Path.{_≡_, refl, sym, ap, _∙_}
+use mathlib.Core.Path.{_≡_, refl, ap, _∙_}
 use mathlib.Core.Bool.{Bool, true, false, cond, _&&_}
 use mathlib.Core.List.{List, [], _∷_, _++_, append-assoc}
-use Prim.Native.Nat.{ℕ, _+_, _*_, _≤_, _<_}
+use Prim.Native.Nat.{ℕ, _+_, _*_, _≤_}
 use native.Mathlib.Nat.{add-zero, zero-add, not-suc-le-zero}
 use native.Mathlib.Omega.{arith}
 use lib.Dec.{leb, eqb}
-use lib.ListN.{length, getD, drop, length-append}
-use lib.Seq.{drop-drop, drop-append-add}
+use lib.ListN.{length, drop, length-append}
+use lib.Seq.{drop-drop}
 use borrow.Author.Tests.{eqb-true, leb-true, ne-eqb}
 use Rattle.truth.proofs.Cases.{by-test}
-use Rattle.truth.proofs.Laws.{and-true, true≢false}
-use Rattle.decimal.specs.Decimal.{zeroByte, isDigit, allDigits, isNumber, valueOf}
+use Rattle.truth.proofs.Laws.{and-true}
+use Rattle.decimal.specs.Decimal.{isDigit, allDigits, isNumber, valueOf}
 use Rattle.decimal.specs.Leading.{leading, behind}
 use Rattle.decimal.proofs.Text.{sound, digit-range}
 use Rattle.decimal.proofs.Leading.{led}
-use Rattle.degrees.specs.Degrees.{minus, point, first, pointed, decimals, isSize, sizeLength, filled, size, below, unsigned, isDegrees, degreesLength}
+use Rattle.degrees.specs.Degrees.{minus, point, first, pointed, isSize, sizeLength, filled, size, below, unsigned, isDegrees, degreesLength}
 use Rattle.degrees.proofs.Forms.{Sized, with-point, without-point}
 
 -- the bytes of a size, and its thousandths

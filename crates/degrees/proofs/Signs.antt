@@ -5,7 +5,7 @@ use mathlib.Core.List.{List, [], _∷_}
 use Prim.Native.Nat.{ℕ, zero, suc, _+_, _/_, _≤_}
 use native.Mathlib.Nat.{add-assoc}
 use native.Mathlib.Omega.{arith}
-use borrow.Author.Tests.{ltb-true, lt-ltb, le-ltb, eq-eqb, ne-eqb}
+use borrow.Author.Tests.{ltb-true, lt-ltb, eq-eqb, ne-eqb}
 use lib.Dec.{eqb}
 use lib.IntN.{ℤ, pos, negsuc, negℤ, natAbs, _-ℤ_}
 use lib.ListN.{length, drop, length-append}
@@ -17,7 +17,7 @@ use Rattle.truth.proofs.Cases.{by-test}
 use Rattle.truth.proofs.Laws.{true≢false}
 use Rattle.decimal.specs.Decimal.{digitsOf}
 use Rattle.degrees.specs.declared.Degrees.the-variants.{Says, Bad}
-use Rattle.degrees.specs.Degrees.{minus, below, signLength, unsigned, size, isDegrees, degreesLength, degreesAt, sizeAt, sign, signed, degreesText}
+use Rattle.degrees.specs.Degrees.{minus, below, signLength, unsigned, size, isDegrees, degreesLength, degreesAt, sizeAt, sign, degreesText}
 
 pub sign-below : (x : ℤ) → ltZ x (pos 0) ≡ true → sign x ≡ minus ∷ []
 sign-below (pos n) t = absurd (omega (arith, ltb-true n 0 t))
@@ -34,11 +34,6 @@ text-length x = simp length-append
 pub below-zero : (n : ℕ) → pos 0 -ℤ pos n ≡ negℤ (pos n)
 below-zero zero = refl
 below-zero (suc n) = rw (lt-ltb 0 (suc n) (omega arith)) (ap negsuc (omega arith))
-
--- a sample's sign and size are those that its text says
-pub signed-abs : (x : ℤ) → (b : Bool) → b ≡ ltZ x (pos 0) → signed b (natAbs x) ≡ x
-signed-abs (pos n) b e = rw (e, le-ltb n 0 (omega arith))
-signed-abs (negsuc n) b e = rw e
 
 -- the size of a sample of 32 bits
 pub abs-small : (x : ℤ) → SFits w32 x → natAbs x ≤ 2147483648

@@ -1,19 +1,19 @@
 -- Laws of degrees without a sign at a place of a text, by the number that stands there, the byte behind it and the digits behind a point. Assumes nothing.
-use mathlib.Core.Path.{_≡_, refl, sym, ap}
+use mathlib.Core.Path.{_≡_, refl, sym}
 use mathlib.Core.Bool.{Bool, true, false, cond, _&&_, and-false}
-use mathlib.Core.List.{List, [], _∷_, _++_}
+use mathlib.Core.List.{List, [], _∷_}
 use Prim.Native.Nat.{ℕ, _+_, _*_, _≤_, _<_, min}
 use native.Mathlib.Nat.{add-zero, add-assoc}
 use native.Mathlib.Omega.{arith}
 use lib.Dec.{leb, eqb}
-use lib.ListN.{length, getD, take, drop, length-take}
+use lib.ListN.{length, getD, drop, length-take}
 use lib.Seq.{drop-drop, getD-drop, take-all}
-use borrow.Author.Tests.{le-leb, lt-leb, eq-eqb, ne-eqb}
+use borrow.Author.Tests.{le-leb, lt-leb}
 use Rattle.decimal.specs.Decimal.{longest, leadingDigits, isNumber, valueOf}
 use Rattle.decimal.specs.Leading.{leading, behind}
 use Rattle.decimal.proofs.Leading.{LeadsTo, leading-front}
 use Rattle.degrees.specs.declared.Degrees.the-variants.{Says, Bad}
-use Rattle.degrees.specs.Degrees.{point, pointed, decimals, isSize, sizeLength, filled, size, sizeAt}
+use Rattle.degrees.specs.Degrees.{point, pointed, isSize, sizeLength, filled, size, sizeAt}
 
 -- one to three digits, filled up with zeros, are worth so many thousandths
 pub filled-value : (ds : List ℕ) → 1 ≤ length ds → length ds ≤ 3
@@ -40,9 +40,6 @@ module _ (s : List ℕ) (at : ℕ) (minus : Bool) where
     -- the digits behind the point
     abbrev pub Behind : List ℕ
     Behind = leading (drop (end + 1) s)
-
-    decimals-are : eqb (getD s end 0) point ≡ true → decimals (drop at s) ≡ Behind
-    decimals-are p = rw (pointed-is, p, behind-is, drop-drop)
 
     pub size-plain : eqb (getD s end 0) point ≡ false → sizeAt s at minus ≡ Says minus (v * 1000) end
     unfolding sizeAt isSize size sizeLength filled valueOf

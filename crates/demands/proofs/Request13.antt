@@ -19,7 +19,7 @@ use Rattle.condition.specs.Standing.{accepted, rejected, standing}
 use Rattle.condition.specs.declared.Answer.the-variants.{Given, Refused}
 use Rattle.condition.specs.declared.Standing.the-variants.{Accepted, Rejected}
 use Rattle.condition.proofs.Theorems.{accepted-accepts, accepts-accepted, all-needed, empty-open, lowest-named, one-rejects, order, rejected-rejects, rejects-rejected}
-use Rattle.report.specs.Answers.{afterJudging, laidBy, writing}
+use Rattle.report.specs.Answers.{laidBy, writing}
 use Rattle.report.specs.Report.{blocks, reportText}
 use Rattle.report.specs.WholeCase.{theirReport, twoSituations}
 use Rattle.report.specs.declared.Writing.the-variants.{Bytes, Refused as Declined}

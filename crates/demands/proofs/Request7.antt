@@ -4,7 +4,7 @@
 -- whole number whose square times P is at least 1,960² · N · (P - N), and there is one. "No record" is answered exactly while nothing was added.
 --
 -- D is the step, R the ramp, a the levels and τ the decorrelation time. Assumes nothing.
-use mathlib.Core.Path.{_≡_, ap, refl, _∙_}
+use mathlib.Core.Path.{_≡_, ap, refl}
 use mathlib.Core.Bool.{Bool, cond, false, not, true}
 use mathlib.Core.List.{List, [], _∷_, _++_}
 use Prim.Native.Nat.{ℕ, _-_, _≤_}
@@ -12,7 +12,6 @@ use native.Mathlib.Omega.{arith}
 use borrow.Author.Tests.{ne-eqb}
 use lib.Dec.{eqb}
 use lib.ListN.{length}
-use Rattle.truth.proofs.Cases.{by-test}
 use Rattle.truth.proofs.Laws.{is-true}
 use Rattle.refusal.specs.declared.Refusal.{Refusal}
 use Rattle.refusal.specs.declared.Refusal.the-variants.{BrokenState, Item, SumFull, TooShort}

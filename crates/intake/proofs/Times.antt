@@ -2,20 +2,19 @@
 -- theirs; and times that grow get no narrower. Assumes nothing.
 use mathlib.Core.Path.{_≡_, refl, sym, ap, _∙_}
 use mathlib.Core.Bool.{Bool, true, false, _&&_}
-use mathlib.Core.List.{List, [], _∷_, _++_}
-use Prim.Native.Nat.{ℕ, zero, suc, _+_, _-_, _*_, _^_, _≤_, _<_}
-use native.Mathlib.Nat.{add-zero, add-assoc, lt-of-lt-of-le, pow-le-pow-right}
-use native.Mathlib.Numerals.{add-one}
+use mathlib.Core.List.{List, [], _∷_}
+use Prim.Native.Nat.{ℕ, zero, suc, _+_, _-_, _^_, _≤_, _<_}
+use native.Mathlib.Nat.{add-zero, add-assoc}
 use native.Mathlib.Omega.{arith}
 use lib.Dec.{eqb, ltb}
 use lib.ListN.{length, getD, take, drop, length-drop, take-append-drop}
-use lib.Seq.{drop-drop, take-suc, length-take-le, getD-drop}
+use lib.Seq.{drop-drop, length-take-le, getD-drop}
 use borrow.Author.Tests.{eqb-true, le-leb}
 use Rattle.truth.proofs.Cases.{by-test, by-order}
 use Rattle.truth.proofs.Laws.{and-true, true≢false}
 use Rattle.decimal.specs.Decimal.{zeroByte, longest, isDigit, allDigits, isNumber, valueOf, digitsOf}
 use Rattle.decimal.specs.Leading.{leading, behind}
-use Rattle.decimal.proofs.Text.{digits-some, digits-above, digits-below, digits-value, all-append, value-last, value-below, number-below}
+use Rattle.decimal.proofs.Text.{digits-some, digits-above, digits-below, digits-value, number-below}
 use Rattle.decimal.proofs.Leading.{LeadsTo, leading-is}
 use Rattle.comma.specs.Line.{comma, roll, isLine, right, lineLength}
 use Rattle.intake.specs.Plain.{Narrow}
@@ -77,42 +76,12 @@ module _ (s : List ℕ) (at time width : ℕ) (r : right time (drop at s) ≡ tr
 pub narrow-on : {width time : ℕ} (D : ℕ) → Narrow width time → Narrow width (time + D)
 narrow-on {width} {time} D n = record { some = n .some; few = omega (arith, n .few, digits-grow time (time + D) (omega arith)) }
 
-pub narrow-own : (time : ℕ) → Narrow (length (digitsOf time)) time
-narrow-own time = record { some = digits-some time; few = omega arith }
-
 take-first : (l : List ℕ) (n : ℕ) → 1 ≤ n → getD (take n l) 0 0 ≡ getD l 0 0
 take-first l zero some = absurd (omega arith)
 take-first [] (suc n) some = refl
 take-first (b ∷ l) (suc n) some = refl
 
--- so many digits have been read, and are worth so much
-pub record Counted (s : List ℕ) (at width value i : ℕ) : Type 0 where
-  pub within : i ≤ width
-  pub all : allDigits (take i (drop at s)) ≡ true
-  pub worth : value ≡ valueOf (take i (drop at s))
-
 module _ (s : List ℕ) (at width : ℕ) (room : at + width ≤ length s) where
-  pub none-counted : Counted s at width 0 0
-  unfolding allDigits valueOf
-  none-counted = record { within = omega arith; all = refl; worth = refl }
-
-  module _ {value i : ℕ} (r : Counted s at width value i) where
-    pub counted-small : width ≤ longest → value < 1000000000000
-    counted-small few =
-        rw (r .worth)
-        (lt-of-lt-of-le (value-below (take i (drop at s)) (r .all))
-        (pow-le-pow-right {n = 10} (omega arith) {j = 12} (omega (arith, r .within, length-take-le i (drop at s) (omega (arith, r .within, length-drop at s))))))
-
-    pub one-counted : i < width → isDigit (getD s (at + i) 0) ≡ true → Counted s at width (value * 10 + (getD s (at + i) 0 - zeroByte)) (i + 1)
-    unfolding allDigits
-    one-counted more d =
-        let one : take (suc i) (drop at s) ≡ take i (drop at s) ++ (getD s (at + i) 0 ∷ []) = rw (take-suc (drop at s) i 0 (omega (arith, length-drop at s)), getD-drop) in
-        record {
-          within = omega arith;
-          all = rw (add-one, one, all-append, r .all, d);
-          worth = rw (add-one, one, value-last, ← r .worth);
-        }
-
   -- digits of a width, with the comma behind them
   pub time-leads : (due : ℕ) → 1 ≤ width → width ≤ longest → getD s (at + width) 0 ≡ comma → (ltb 1 width && eqb (getD s at 0) zeroByte) ≡ false
       → allDigits (take width (drop at s)) ≡ true → valueOf (take width (drop at s)) ≡ due → LeadsTo s at due (at + width)

@@ -28,11 +28,6 @@ unfolding u upperRows
 upper-rises zero h k = absurd (not-suc-le-zero h)
 upper-rises (suc i) h k = rising upperRows tt i k
 
-pub lower-rises : (n : ℕ) → n < rows → l n ≤ l (suc n)
-unfolding l lowerRows
-lower-rises zero k = zero-le
-lower-rises (suc i) k = rising lowerRows tt i k
-
 pub lower-below-upper : (n : ℕ) → 1 ≤ n → n ≤ rows → l n < u n
 unfolding l u lowerRows upperRows
 lower-below-upper zero h k = absurd (not-suc-le-zero h)

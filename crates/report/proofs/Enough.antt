@@ -1,7 +1,7 @@
 -- A report that is written has at most 28 bytes in each situation's line and 40 in the last: a number of 2 digits, N, N* and blocks of 2, T of 13; sums of 7, 4, 14 and
 -- 3. So 1,832 bytes are room for any. Assumes nothing.
 use Prim.Native.Nat.{ℕ, _+_, _*_, _≤_, _<_}
-use mathlib.Core.Path.{_≡_, refl, ap, _∙_}
+use mathlib.Core.Path.{_≡_, refl}
 use mathlib.Core.Bool.{true}
 use mathlib.Core.List.{List, [], _∷_}
 use native.Mathlib.Omega.{arith}

@@ -1,5 +1,5 @@
 -- Blocks are N divided by 5 and rounded up: enough for N, and one block fewer is not. Assumes nothing.
-use Prim.Native.Nat.{ℕ, _+_, _*_, _/_, _≤_, _<_}
+use Prim.Native.Nat.{ℕ, _*_, _≤_}
 use native.Mathlib.Omega.{arith}
 use Rattle.report.specs.Report.{blocks}
 

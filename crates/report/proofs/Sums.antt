@@ -6,7 +6,6 @@ use native.Mathlib.Omega.{arith}
 use Rattle.campaign.specs.declared.Campaign.{Campaign}
 use Rattle.campaign.specs.Kept.{Kept}
 use Rattle.report.specs.Report.{blocks, sumOf, totalOf}
-use Rattle.report.specs.declared.Total.{Total}
 
 pub record Summed (cs rest : List Campaign) (i records failures exposure billed : ℕ) : Type 0 where
   pub all-records : records + sumOf (λ c. c .records) rest ≡ sumOf (λ c. c .records) cs

@@ -1,7 +1,7 @@
 -- Request 10 of document 02 changed no more than columns: a text comes to what it came to, its account without the columns (`columns-aside`). A line steps
 -- as before but for the column of a malformed one, and along the lines that is all. Assumes nothing.
 use Prim.Native.Nat.{ℕ}
-use mathlib.Core.Path.{_≡_, refl, sym, ap, _∙_}
+use mathlib.Core.Path.{refl, sym, ap, _∙_}
 use mathlib.Core.Bool.{Bool, true, false, cond}
 use mathlib.Core.List.{List, [], _∷_, _++_, append-assoc}
 use lib.Dec.{eqb}

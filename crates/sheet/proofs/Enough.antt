@@ -2,7 +2,7 @@
 -- most 30, the refused line at most 35. Assumes nothing.
 use Prim.Native.Nat.{ℕ, _+_, _*_, _≤_}
 use mathlib.Core.Path.{_≡_, refl}
-use mathlib.Core.Bool.{Bool, true, cond}
+use mathlib.Core.Bool.{Bool, true}
 use mathlib.Core.List.{List, [], _∷_}
 use native.Mathlib.Omega.{arith}
 use lib.Dec.{eqb}
@@ -14,9 +14,8 @@ use Rattle.line.specs.declared.Step.{Step}
 use Rattle.line.specs.declared.Step.the-variants.{Next, Stop}
 use Rattle.line.specs.Line.{soundSheet, stepping}
 use Rattle.reply.proofs.Few.{refused-few}
-use Rattle.sheet.specs.declared.Reading.the-variants.{Waiting}
 use Rattle.decimal.specs.Lines.{linesOf, startLine}
-use Rattle.sheet.specs.Sheet.{afterStep, ended, reading, waits}
+use Rattle.sheet.specs.Sheet.{afterStep, reading, waits}
 use Rattle.sheet.proofs.Running.{last-few}
 use Rattle.sheet.proofs.Steps.{step-led, step-line}
 

@@ -7,7 +7,6 @@ use mathlib.Core.List.{List, [], _++_}
 use native.Mathlib.Nat.{zero-add}
 use native.Mathlib.Omega.{arith}
 use lib.ListN.{length, length-append}
-use Rattle.refusal.specs.declared.Refusal.{Refusal}
 use Rattle.refusal.specs.declared.Refusal.the-variants.{Line}
 use Rattle.text.specs.Write.{laid, written}
 use Rattle.text.proofs.Laws.{laid-none, laid-join, length-written, written-fits}
@@ -18,7 +17,6 @@ use Rattle.line.specs.Line.{soundSheet}
 use Rattle.reply.proofs.Few.{refused-few}
 use Rattle.sheet.specs.declared.Found.the-variants.{Taken}
 use Rattle.sheet.specs.declared.Reading.{Reading}
-use Rattle.sheet.specs.declared.Reading.the-variants.{Stopped, Waiting}
 use Rattle.sheet.specs.Sheet.{endText, ended, lastOf, leftIn, textOf}
 use Rattle.sheet.specs.Cut.{Passed, found}
 use Rattle.sheet.proofs.Along.{Along, along-start, along-next, whole-end, whole-text}

@@ -3,7 +3,7 @@ use Prim.Native.Nat.{ℕ}
 use mathlib.Core.Bool.{Bool, true, false, cond, not, _&&_}
 use mathlib.Core.List.{List, [], _∷_, _++_}
 use lib.ListN.{length}
-use lib.Dec.{eqb, leb, ltb}
+use lib.Dec.{leb, ltb}
 use Rattle.refusal.specs.declared.Refusal.the-variants.{BrokenState, Line, Room}
 use Rattle.text.specs.Write.{written}
 use Rattle.decimal.specs.Lines.{linesOf}

@@ -2,7 +2,6 @@
 use mathlib.Core.Bool.{cond}
 use Prim.Native.Nat.{ℕ, _+_, _-_, _*_}
 use lib.Dec.{eqb}
-use lib.Ieee.{Float}
 use Rattle.sum.specs.declared.Sum.{Sum}
 use Rattle.verdict.specs.Figures.{quotient, zero64}
 use Rattle.verdict.specs.declared.Rates.{Rates}

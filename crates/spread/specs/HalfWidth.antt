@@ -1,5 +1,5 @@
 -- Document 02, [7]: the half-width of N failures among P samples, in thousandths of a failure. Assumes nothing.
-use mathlib.Core.Bool.{Bool, cond}
+use mathlib.Core.Bool.{cond}
 use Prim.Native.Nat.{ℕ, zero, suc, _-_, _*_, _≤_}
 use lib.Dec.{leb}
 

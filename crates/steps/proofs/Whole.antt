@@ -2,14 +2,13 @@
 -- among them lead to `finish r ys cs` (`whole`, by induction on ys). Assumes nothing.
 use Prim.Native.Nat.{ℕ, _+_, _-_}
 use mathlib.Core.Path.{_≡_, refl, sym, ap, _∙_}
-use mathlib.Core.Bool.{Bool, true, false, cond, _&&_, _||_}
+use mathlib.Core.Bool.{Bool, true, false, cond, _||_}
 use mathlib.Core.List.{List, [], _∷_, foldl}
 use native.Mathlib.Nat.{zero-add, add-zero}
 use native.Mathlib.Omega.{arith}
-use lib.ListN.{length, drop}
-use lib.Seq.{getD-drop, drop-drop}
-use lib.Dec.{ltb, eqb}
-use borrow.Author.Tests.{ne-eqb, ltb-true}
+use lib.ListN.{length}
+use lib.Dec.{eqb}
+use borrow.Author.Tests.{ne-eqb}
 use Rattle.channels.specs.declared.Levels.{Levels}
 use Rattle.channels.specs.declared.Moment.{Moment}
 use Rattle.largest.specs.Walk.{since, later, walk}
@@ -17,7 +16,7 @@ use Rattle.groups.specs.Groups as grouping
 use Rattle.groups.proofs.Parting.{as-many}
 use Rattle.groups.proofs.Starts as start
 use Rattle.record.specs.declared.Record.{Record}
-use Rattle.reading.specs.Reading.{timeAt, sampleAt, rises, crossesAt, passing, crossings, firstOf, lastOf}
+use Rattle.reading.specs.Reading.{timeAt, passing, crossings, firstOf, lastOf}
 use Rattle.record.specs.State.{stateOf}
 use Rattle.steps.specs.Step.{moved, counts, starts, crossed, crosses, stepped}
 use Rattle.truth.proofs.Laws.{true≢false}

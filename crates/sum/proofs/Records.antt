@@ -1,14 +1,14 @@
 -- However many records are added, the sum is that of the list of them; it has a timed sample as soon as it has a record; and records that are all taken are all
 -- taken in any other order, with the same sum. Neighbours may change places: what is left of both limits after two records is left for either of them first. Assumes
 -- nothing.
-use mathlib.Core.Path.{_≡_, ap, refl, sym, _∙_}
-use mathlib.Core.List.{List, [], _∷_, _++_, append-assoc, append-nil}
-use Prim.Native.Nat.{ℕ, _+_, _≤_}
+use mathlib.Core.Path.{_≡_, ap, refl, _∙_}
+use mathlib.Core.List.{List, [], _∷_, _++_}
+use Prim.Native.Nat.{ℕ, _+_}
 use native.Mathlib.Omega.{arith}
 use Rattle.record.specs.declared.Record.{Record}
 use Rattle.sum.specs.declared.Answer.the-variants.{Taken}
 use Rattle.sum.specs.declared.Sum.{Sum}
-use Rattle.sum.specs.Answers.{adding, opened}
+use Rattle.sum.specs.Answers.{opened}
 use Rattle.sum.specs.Records.{AllAdded, groupsIn, none, one, sumOf, timedIn}
 use Rattle.sum.specs.State.{grown, timed}
 use Rattle.sum.proofs.Answered.{Added, added-back, added-from, added-sound, opened-from}

@@ -1,6 +1,6 @@
 -- Laws of writing a text, for the writers here and above. A writer stores from the text's end to its front: `laid-last` takes the last
--- byte off, and `laid-none` says that nothing is left to do. `wrote-then` is for texts that are written one after another. Assumes nothing.
-use mathlib.Core.Path.{_≡_, _∙_}
+-- byte off, and `laid-none` says that nothing is left to do. Assumes nothing.
+use mathlib.Core.Path.{_≡_}
 use mathlib.Core.List.{List, [], _∷_, _++_, append-assoc}
 use Prim.Native.Nat.{ℕ, zero, suc, _+_, _-_, _≤_, _<_}
 use native.Mathlib.Nat.{add-zero, add-suc, add-assoc}
@@ -93,31 +93,3 @@ length-written out at text =
     by-order (length out) (at + length text)
     (λ short. rw (written-short out at text short))
     (λ room. rw (written-fits out at text room) (length-laid out at text room))
-
--- one text written after another is both written as one
-module _ (out : List ℕ) (at : ℕ) (text more : List ℕ) (room : at + length (text ++ more) ≤ length out) where
-  within : at + length text + length more ≤ length out
-  within = rw (length-append, ← add-assoc) at room
-
-  written-join : written (written out at text) (placeAfter out at text) more ≡ written out at (text ++ more)
-  written-join =
-      rw (
-        written-fits out at text (omega (arith, within)),
-        after-fits out at text (omega (arith, within)),
-        written-fits (laid out at text) (at + length text) more (rw (length-laid out at text (omega (arith, within))) within),
-        written-fits out at (text ++ more) room,
-      )
-      (laid-join out at text more (omega (arith, within)))
-
-  after-join : placeAfter (written out at text) (placeAfter out at text) more ≡ placeAfter out at (text ++ more)
-  after-join =
-      rw (
-        after-fits out at text (omega (arith, within)),
-        after-fits (written out at text) (at + length text) more (rw length-written within),
-        after-fits out at (text ++ more) room,
-        length-append,
-        add-assoc,
-      )
-
-  pub wrote-then : {middle later : List ℕ} {here next : ℕ} → Wrote out at text middle here → Wrote middle here more later next → Wrote out at (text ++ more) later next
-  wrote-then (e, f) (g, h) = ((rw (e, f) at g) ∙ after-join, (rw (e, f) at h) ∙ written-join)

@@ -1,9 +1,9 @@
 -- What a step keeps, and what a quiet block does. Assumes nothing.
-use Prim.Native.Nat.{ℕ, suc, _+_, _*_, _≤_}
-use mathlib.Core.Path.{_≡_, refl, sym, ap, _∙_}
-use mathlib.Core.Bool.{Bool, true, false, cond, not, _&&_}
+use Prim.Native.Nat.{ℕ, suc, _+_, _≤_}
+use mathlib.Core.Path.{_≡_, refl, ap, _∙_}
+use mathlib.Core.Bool.{Bool, true, false, cond, _&&_}
 use mathlib.Core.List.{List, [], _∷_, foldl, map}
-use native.Mathlib.Nat.{mul-le-mul-left, mul-le-mul-right, zero-add}
+use native.Mathlib.Nat.{mul-le-mul-right, zero-add}
 use native.Mathlib.Omega.{arith}
 use lib.ListN.{length, set, length-set}
 use lib.IntN.{ℤ}
@@ -17,9 +17,6 @@ use Rattle.walk.specs.Walk.{counts, stepped, passed, Noting, noting, mar
 -- ready for several samples is ready for fewer, and after the first for the others
 pub ready-less : {D τ : ℕ} {w : Walk} {m n : ℕ} → m ≤ n → Ready D τ w n → Ready D τ w m
 ready-less {D} {m = m} {n = n} l r = record { step = r .step; decorrelation = r .decorrelation; counted = r .counted; room = omega (arith, r .room, mul-le-mul-right {m = m} {n = n} D l) }
-
-pub ready-short : {D τ : ℕ} {w : Walk} {n : ℕ} → Ready D τ w n → n ≤ 20000000
-ready-short {n = n} r = omega (arith, r .room, mul-le-mul-left n (r .step))
 
 counted-next : (b : Bool) (c t D : ℕ) → c ≤ t → 1 ≤ D → cond b (c + 1) c ≤ t + D
 counted-next true c t D l h = omega arith

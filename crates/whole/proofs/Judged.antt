@@ -8,7 +8,7 @@ use native.Mathlib.Omega.{arith}
 use lib.ListN.{length}
 use lib.Dec.{ltb, leb, eqb}
 use lib.IntN.{ℤ}
-use borrow.Author.Tests.{leb-true, leb-false, eqb-true, ltb-false, le-leb, lt-ltb, le-ltb, eq-eqb, ne-eqb}
+use borrow.Author.Tests.{leb-true, leb-false, eqb-true, ltb-false, le-leb, lt-ltb, eq-eqb, ne-eqb}
 use Rattle.refusal.specs.declared.Refusal.{Refusal}
 use Rattle.refusal.specs.declared.Refusal.the-variants.{Item, TooLong, TooShort, Unequal}
 use Rattle.truth.proofs.Laws.{and-true, both-true}
@@ -17,7 +17,6 @@ use Rattle.channels.specs.Channels.{anyBad, badSample}
 use Rattle.limits.specs.Limits.{itemOutside, mostSamples}
 use Rattle.range.specs.Range.{firstBad}
 use Rattle.reading.specs.Reading.{tooFew}
-use Rattle.whole.specs.declared.Size.{Size}
 use Rattle.whole.specs.declared.Size.the-variants.{Fits, Refused}
 use Rattle.whole.specs.Tests.{tested, inSize, sized}
 

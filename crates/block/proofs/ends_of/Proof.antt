@@ -1,7 +1,7 @@
 -- `block::ends_of` meets its contract. The invariant: what is left, taken from the ends so far, has the ends of all. The measure is what is left. Assumes nothing.
 use Prim.Native.Nat.{_+_, _-_, _≤_, _<_}
 use mathlib.Core.Path.{_≡_, refl, sym, ap, _∙_}
-use mathlib.Core.List.{List, [], foldl}
+use mathlib.Core.List.{[], foldl}
 use native.Mathlib.Omega.{arith}
 use borrow.Author.Needs.{needs}
 use lib.ListN.{length, getD, drop, drop-of-length-le}

@@ -1,5 +1,5 @@
 -- `condition::said` meets its contract: the verdict that is answered is the campaign's only one. Assumes nothing.
-use mathlib.Core.Path.{_≡_, ap, sym, _∙_}
+use mathlib.Core.Path.{ap, sym, _∙_}
 use borrow.Author.Needs.{needs}
 use Rattle.verdict.specs.declared.Judged.{Judged}
 use Rattle.verdict.proofs.Only.{only}

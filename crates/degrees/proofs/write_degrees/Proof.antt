@@ -1,9 +1,8 @@
 -- `degrees::write_degrees` meets its contract: the text is written part by part, each taking itself off what is left of it. Assumes nothing.
-use mathlib.Core.Path.{_≡_, refl, sym, _∙_}
+use mathlib.Core.Path.{_≡_}
 use mathlib.Core.List.{List, _∷_, _++_}
 use Prim.Native.Nat.{ℕ, _+_, _/_, _≤_}
 use native.Mathlib.Omega.{arith}
-use lib.IntN.{natAbs}
 use lib.ListN.{length}
 use mir.Facts.{toZ-ofZ}
 use denote.Ref.{now}

@@ -7,7 +7,6 @@ use native.Mathlib.Omega.{arith}
 use lib.ListN.{length}
 use Rattle.channels.specs.Channels.{moments}
 use Rattle.channels.proofs.Moments.{moments-length}
-use Rattle.reading.specs.Reading.{sampleAt}
 use Rattle.steps.specs.Step.{moved}
 use Rattle.record.proofs.Relations.{kept-from}
 use Rattle.record.proofs.Bounds.{small}

@@ -17,7 +17,7 @@ use Rattle.limits.specs.Limits.{mostSamples}
 use Rattle.reading.specs.Reading.{sampleAt}
 use Rattle.record.specs.State.{sound}
 use Rattle.feeding.specs.Gap.{Gap}
-use Rattle.steps.specs.Step.{below, crosses, stepped}
+use Rattle.steps.specs.Step.{below, stepped}
 use Rattle.feeding.proofs.Gaps.{gap-stays}
 use Rattle.steps.proofs.Steps.{stepped-sound, stepped-n, stepped-most, stepped-levels, stepped-timed, stepped-low}
 use Rattle.feeding.proofs.along.Statement.{statement}

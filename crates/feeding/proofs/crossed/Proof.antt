@@ -1,5 +1,4 @@
 -- `feeding::crossed` meets its contract, by its test. Assumes nothing.
-use borrow.Author.Needs.{needs}
 use mathlib.Core.Path.{sym, _∙_}
 use Rattle.record.proofs.Relations.{kept-from}
 use Rattle.record.proofs.Bounds.{latest-earlier}

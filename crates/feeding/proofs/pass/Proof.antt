@@ -2,7 +2,7 @@
 -- place of each channel is i and the first bad place of what is left. A turn takes a block, which is not empty, so what is left falls. Assumes nothing.
 use Prim.Native.Nat.{_+_, _-_, _≤_, _<_}
 use mathlib.Core.Path.{_≡_, refl, sym, ap, _∙_}
-use mathlib.Core.Bool.{true, false}
+use mathlib.Core.Bool.{true}
 use mathlib.Core.List.{[], foldl, foldl-append}
 use native.Mathlib.Nat.{zero-add}
 use native.Mathlib.Omega.{arith}

@@ -1,5 +1,4 @@
 -- `feeding::step` meets its contract, by its test. Assumes nothing.
-use borrow.Author.Needs.{needs}
 use mathlib.Core.Path.{sym, _∙_}
 use native.Mathlib.Omega.{arith}
 use Rattle.steps.specs.Step.{stepped}

@@ -1,12 +1,10 @@
 -- `form::look_at` meets its contract, case by case of what the field reads as; a place in a line of 64 bytes is small. Assumes nothing.
-use Prim.Native.Nat.{ℕ, _≤_}
+use Prim.Native.Nat.{_≤_}
 use mathlib.Core.Path.{_≡_, refl, sym, ap, _∙_}
 use native.Mathlib.Omega.{arith}
 use lib.ListN.{length}
 use denote.Ref.{now}
 use Rattle.fields.specs.Field.{fieldAt}
-use Rattle.fields.specs.declared.Field.{Field}
-use Rattle.fields.specs.declared.Field.the-variants.{Number, Strange}
 use Rattle.fields.proofs.Back.{read-only}
 use Rattle.fields.proofs.Faults.{strangePlace, strange-within}
 use borrow.Author.Needs.{needs}

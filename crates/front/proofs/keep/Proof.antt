@@ -1,15 +1,14 @@
 -- `front::keep` meets its contract. The invariant: the bytes before i are moved, and those from i on are as they were, so that a byte is read before it is
 -- written over. What is left to move falls. Assumes nothing.
 use Prim.Native.Nat.{ℕ, _+_, _-_, _≤_, _<_}
-use mathlib.Core.Path.{_≡_, refl, sym, ap, _∙_}
-use mathlib.Core.List.{List, _++_}
+use mathlib.Core.Path.{_≡_, refl, sym}
+use mathlib.Core.List.{List}
 use native.Mathlib.Numerals.{add-one}
 use native.Mathlib.Omega.{arith}
 use borrow.Author.Needs.{needs}
 use borrow.Author.Tests.{le-leb, leb-true}
 use lib.ListN.{length, take, drop, getD, set, length-set, length-drop, take-append-drop}
 use lib.Seq.{getD-drop, take-suc, take-suc-set, drop-set-lt, drop-drop}
-use denote.Ref.{now}
 use Rattle.truth.proofs.Laws.{said-no, said-yes}
 use Rattle.front.specs.Front.{kept}
 use Rattle.front.proofs.keep.Statement.{statement}

@@ -6,7 +6,6 @@ use mathlib.Core.Bool.{false}
 use mathlib.Core.List.{foldl, [], _∷_}
 use native.Mathlib.Numerals.{add-one}
 use native.Mathlib.Omega.{arith}
-use borrow.Author.Needs.{needs}
 use lib.ListN.{length, getD, drop, drop-of-length-le}
 use lib.Seq.{drop-cons}
 use Rattle.walk.specs.Walk.{Noting, noting, marked, Ready}

@@ -1,6 +1,6 @@
 -- `listing::pass` meets its contract. The invariant: the walk is underway (`Underway`), and the samples passed are in range, so the first bad place of each channel is i and that of what is left. A turn takes a block, which is not empty, so what is left falls. Assumes nothing.
 use Prim.Native.Nat.{_+_, _-_, _≤_, _<_}
-use mathlib.Core.Path.{_≡_, refl, sym, ap, _∙_}
+use mathlib.Core.Path.{_≡_, sym, ap, _∙_}
 use mathlib.Core.List.{[]}
 use native.Mathlib.Nat.{zero-add}
 use native.Mathlib.Omega.{arith}

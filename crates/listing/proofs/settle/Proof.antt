@@ -1,6 +1,6 @@
 -- `listing::settle` meets its contract: what the first pass found is the count, or that a sample is bad. Assumes nothing.
 use borrow.Author.Needs.{needs}
-use mathlib.Core.Path.{_≡_, refl}
+use mathlib.Core.Path.{refl}
 use Rattle.listing.proofs.Heard.{heard-count, heard-times}
 use Rattle.listing.proofs.settle.Statement.{statement}
 use Rattle.listing.proofs.settle.Tie as tie

@@ -1,7 +1,7 @@
 -- `listing::straight` meets its contract: where no sample is bad nothing is refused, since half as many times as samples are the most. Assumes nothing.
 use borrow.Author.Needs.{needs}
 use Prim.Native.Nat.{_≤_}
-use mathlib.Core.Path.{_≡_, refl, sym, ap, _∙_}
+use mathlib.Core.Path.{refl, sym, ap, _∙_}
 use native.Mathlib.Omega.{arith}
 use lib.ListN.{length}
 use Rattle.channels.specs.Channels.{moments}

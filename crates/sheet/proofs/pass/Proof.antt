@@ -7,10 +7,9 @@ use borrow.Author.Needs.{needs}
 use lib.ListN.{length}
 use denote.Ref.{now}
 use Rattle.reply.proofs.Few.{refused-few}
-use Rattle.sheet.specs.declared.Found.{Found}
-use Rattle.sheet.specs.declared.Found.the-variants.{Taken, Waits, Bad}
+use Rattle.sheet.specs.declared.Found.the-variants.{Taken}
 use Rattle.sheet.specs.Cut.{found}
-use Rattle.sheet.specs.Sheet.{ended, lastOf}
+use Rattle.sheet.specs.Sheet.{ended}
 use Rattle.sheet.proofs.Along.{along-last}
 use Rattle.sheet.proofs.Put.{none-written}
 use Rattle.sheet.proofs.Running.{Running, running-start, running-next, running-end, few-so-far, line-few, last-few, last-left}

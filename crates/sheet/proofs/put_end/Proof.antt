@@ -1,5 +1,5 @@
 -- `sheet::put_end` meets its contract: a refusal has its line, and the other ends have none. Assumes nothing.
-use Prim.Native.Nat.{ℕ, _+_}
+use Prim.Native.Nat.{_+_}
 use mathlib.Core.Path.{_≡_, ap, _∙_}
 use native.Mathlib.Omega.{arith}
 use lib.ListN.{length}

@@ -1,5 +1,5 @@
 -- `sheet::put_sheet` meets its contract: before line 1 nothing is written, and after a line the record's. Assumes nothing.
-use Prim.Native.Nat.{ℕ, _+_}
+use Prim.Native.Nat.{_+_}
 use mathlib.Core.Path.{_≡_, ap, _∙_}
 use native.Mathlib.Omega.{arith}
 use lib.ListN.{length}

@@ -12,6 +12,7 @@ use Rattle.channels.specs.declared.Levels.{Levels}
 use Rattle.channels.specs.Channels.{above, still, moments}
 use Rattle.channels.proofs.Moments.{moments-length}
 
+-- with room for all, the slice starts with what each sample is
 pub marks-front :
     (a : Levels) (xs ys : List ℤ) (ups : List Bool)
     → length xs ≡ length ys
@@ -24,6 +25,7 @@ marks-front a xs ys ups same l =
     let all = take-all (length xs) (map (above a) p) (omega (arith, n, length-map p (above a))) in
     rw (m, all) (take-at (map (above a) p) (drop (0 + length xs) ups) (length xs) (length-map p (above a) ∙ n))
 
+-- as many as samples
 pub marks-many : (a : Levels) (xs ys : List ℤ) → length xs ≡ length ys → length (map (above a) (moments xs ys)) ≡ length xs
 marks-many a xs ys same = length-map (moments xs ys) (above a) ∙ moments-length xs ys same
 
@@ -31,5 +33,6 @@ marks-many a xs ys same = length-map (moments xs ys) (above a) ∙ moments-lengt
 still-low : (a : Levels) → above a still ≡ false
 still-low a = rw (le-ltb (a .roll) 0 (omega arith), le-ltb (a .acceleration) 0 (omega arith))
 
+-- at a place, whether the sample there is above
 pub marks-at : (a : Levels) (xs ys : List ℤ) (i : ℕ) → getD (map (above a) (moments xs ys)) i false ≡ above a (getD (moments xs ys) i still)
 marks-at a xs ys i = sym (ap (getD (map (above a) (moments xs ys)) i) (still-low a)) ∙ List·getD-map (above a) (moments xs ys) i still

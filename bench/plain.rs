@@ -8,54 +8,51 @@ fn above(x: i32, level: u64, y: i32, acceleration_level: u64) -> bool {
     u64::from(x.unsigned_abs()) > level || u64::from(y.unsigned_abs()) > acceleration_level
 }
 
-/// Groups, and the largest set; nothing for a bad sample.
-fn feed(items: &Items, roll: &[i32], acceleration: &[i32]) -> Option<(u64, u64)> {
-    let (mut groups, mut recent, mut largest, mut latest, mut met) = (0, 0, 0, 0, false);
+/// Hands each crossing's place on, in order; answers whether all samples are in range, and stops at the first that is not.
+fn each_crossing(items: &Items, roll: &[i32], acceleration: &[i32], mut met: impl FnMut(u64)) -> bool {
     let mut before = false;
     for (i, (&x, &y)) in roll.iter().zip(acceleration).enumerate() {
-        let i = i as u64;
         if bad(x) || bad(y) {
-            return None;
+            return false;
         }
         let now = above(x, items.level, y, items.acceleration_level);
-        if i > items.ramp && !before && now {
-            if !met || (i - latest) * items.step >= items.decorrelation {
-                largest += 1;
-                latest = i;
-            }
-            if !met || (i - recent) * items.step >= items.decorrelation {
-                groups += 1;
-            }
-            recent = i;
-            met = true;
+        if i as u64 > items.ramp && !before && now {
+            met(i as u64);
         }
         before = now;
     }
-    Some((groups, largest))
+    true
+}
+
+/// Groups, and the largest set; nothing for a bad sample.
+fn feed(items: &Items, roll: &[i32], acceleration: &[i32]) -> Option<(u64, u64)> {
+    let (mut groups, mut recent, mut largest, mut latest) = (0, 0, 0, 0);
+    let good = each_crossing(items, roll, acceleration, |i| {
+        if largest == 0 || (i - latest) * items.step >= items.decorrelation {
+            largest += 1;
+            latest = i;
+        }
+        if groups == 0 || (i - recent) * items.step >= items.decorrelation {
+            groups += 1;
+        }
+        recent = i;
+    });
+    good.then_some((groups, largest))
 }
 
 /// The number of counted times, those for which there is a place written; nothing for a bad sample.
 fn list(items: &Items, roll: &[i32], acceleration: &[i32], times: &mut [u32]) -> Option<u64> {
     let (mut counted, mut recent) = (0, 0);
-    let mut before = false;
-    for (i, (&x, &y)) in roll.iter().zip(acceleration).enumerate() {
-        let i = i as u64;
-        if bad(x) || bad(y) {
-            return None;
-        }
-        let now = above(x, items.level, y, items.acceleration_level);
-        if i > items.ramp && !before && now {
-            if counted == 0 || (i - recent) * items.step >= items.decorrelation {
-                if let Some(place) = times.get_mut(counted) {
-                    *place = ((i - items.ramp) * items.step) as u32;
-                }
-                counted += 1;
+    let good = each_crossing(items, roll, acceleration, |i| {
+        if counted == 0 || (i - recent) * items.step >= items.decorrelation {
+            if let Some(place) = times.get_mut(counted) {
+                *place = ((i - items.ramp) * items.step) as u32;
             }
-            recent = i;
+            counted += 1;
         }
-        before = now;
-    }
-    Some(counted as u64)
+        recent = i;
+    });
+    good.then_some(counted as u64)
 }
 
 /// What a record is counted by.

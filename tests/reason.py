@@ -17,7 +17,7 @@ SHAPE = re.compile(
     r"|: error\["
     r"|: error: `[^`]*-spec`:"
 )
-FACT = re.compile(r": error: `|^note: .*it is not proved that")
+FACT = re.compile(r": error: `|^note: .*(it is not proved that|is out of bounds of)")
 
 
 def reason(log):

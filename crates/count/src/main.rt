@@ -1,18 +1,17 @@
 // The clerk's counter: a simulator's comma file from standard input, and one line to standard output: samples, crossings, groups, largest set, time of the first
 // failure or a dash, exposure; or refused, the line at fault or 0, and the refusal's number. The four items of the record come as arguments. The file may have any length: it is
-// read through a fixed buffer, each right line is fed as it comes, and what the file as a whole would be refused for is kept until its end, a malformed line
-// alone ending the reading. What a line says is `comma::line_at`'s promise, what feeding and ending make of it is `feeding`'s and `result`'s; here bytes are only
+// read through a fixed buffer, its right lines are fed as they come, and what the file as a whole would be refused for is kept until its end, a malformed line
+// alone ending the reading. What the lines say is `follow`'s promise, what feeding and ending make of them is `feeding`'s and `result`'s; here bytes are only
 // carried. Behind the items may stand the lengths in bytes of several files, which then come one behind the other: each is counted and added to a sum (document 02, [7]), and
 // the line has N, P, the estimate and its bounds in thousandths of a failure, and P·D; or refused, the file's number, and the rest as for one file. How it ended goes as a
 // digit to a descriptor of its own, where bin/program waits for it.
-ghost use mathlib.Core.Path.{_≡_};
-ghost use mathlib.Core.Bool.{true};
-ghost use Prim.Native.Nat.{_+_, _≤_, _<_};
+ghost use Prim.Native.Nat.{_≤_, _<_};
 ghost use lib.ListN.{length};
 ghost use Rattle.count.specs.Kept.{keptBy};
 use channels::Levels;
-use comma::Line;
-use decimal::Lead;
+use follow::Follow;
+use follow::Followed;
+use follow::Rest;
 use libc::STDERR_FILENO;
 use libc::STDIN_FILENO;
 use libc::STDOUT_FILENO;
@@ -35,8 +34,10 @@ const TAB: u8 = 9;
 
 const LF: u8 = 10;
 
-// The most bytes of a line: two numbers of 12 digits, comma, minus, point, three digits, LF.
-const LONGEST_LINE: usize = 31;
+// The most bytes that are read at once, and the most lines of four bytes among them.
+const BYTES: usize = 65_536;
+
+const LINES: usize = 16_384;
 
 // The program's own name and the four items; arguments behind them are the lengths of files.
 const ITEMS: usize = 5;
@@ -47,11 +48,7 @@ const LIVELY: u64 = 1_000_000;
 // Where the counting of a file stands.
 struct Count {
     record: Record,
-    // The lines so far, and the time that the next has to have.
-    lines: u64,
-    time: u64,
-    // The line of the first sample out of range, 0 for none.
-    outside: u64,
+    follow: Follow,
     // Whether there are more samples than a record may have.
     long: bool,
     // How many bytes of the file are still to come; where it has no length of its own, more than any file has.
@@ -71,94 +68,44 @@ struct Reached {
     at: usize,
 }
 
-// One sample more: a file has one channel, so zeros are lent for the other.
-fn fed(c: Count, x: i32) -> Count {
+// The samples of the lines up to `f`; behind one out of range nothing is fed any more. A file has one channel. The other's level is the highest, which no sample is
+// above: any samples do for it, so the same are lent.
+fn fed(c: Count, f: Follow, samples: &[i32]) -> Count {
     let r = c.record;
-    let one = [x; 1];
-    let zero = [0i32; 1];
-    match feeding::feed(r, &one, &zero) {
+    if f.outside != 0 {
+        return Count {
+            record: r,
+            follow: f,
+            long: c.long,
+            coming: c.coming,
+        };
+    }
+    match feeding::feed(r, samples, samples) {
         record::Answer::Taken(s) => Count {
             record: s,
-            lines: c.lines,
-            time: c.time,
-            outside: c.outside,
+            follow: f,
             long: c.long,
             coming: c.coming,
         },
         record::Answer::Refused(_) => Count {
             record: r,
-            lines: c.lines,
-            time: c.time,
-            outside: c.outside,
+            follow: f,
             long: true,
             coming: c.coming,
         },
     }
 }
 
-// One right line more; behind a sample out of range nothing is fed any more.
-fn stepped(c: Count, minus: bool, size: u64) -> Count {
-    let r = c.record;
-    let line = std::num::wrapping_add_u64(c.lines, 1);
-    let outside = truth::pick(
-        truth::both(c.outside == 0, size > comma::SAMPLE_LIMIT as u64),
-        line,
-        c.outside,
-    );
-    let next = Count {
-        record: r,
-        lines: line,
-        time: std::num::wrapping_add_u64(c.time, r.step),
-        outside: outside,
-        long: c.long,
-        coming: c.coming,
-    };
-    if outside != 0 {
-        return next;
-    }
-    fed(next, degrees::sample(minus, size))
-}
-
 // The right lines that `text` starts with, and where they end.
 fn lines(c: Count, text: &[u8]) -> Reached {
-    let mut count = c;
-    let mut at = 0;
-    let mut left = text.len();
-    while left > 0 {
-        let Line::Says(minus, size, next) = comma::line_at(text, at, count.time) else {
-            return Reached {
-                count: count,
-                at: at,
-            };
-        };
-        count = stepped(count, minus, size);
-        at = next;
-        left -= 1;
+    let mut samples = [0i32; LINES];
+    match follow::take(c.follow, text, &mut samples) {
+        Followed::Taken(f, at, n) => Reached {
+            count: fed(c, f, &samples[..n]),
+            at: at,
+        },
+        Followed::Refused(_) => Reached { count: c, at: 0 },
     }
-    Reached {
-        count: count,
-        at: at,
-    }
-}
-
-// Whether a line may have begun at `at`: it has no LF yet, and fewer bytes than a line may have.
-fn begun(text: &[u8], at: usize) -> bool
-    ensures { λ r. ⌜ (r ≡ true → length (now (text .entry)) < at + 31) ⌝ }
-{
-    if text.len() <= at {
-        return true;
-    }
-    if text.len() - at >= LONGEST_LINE {
-        return false;
-    }
-    let mut i = at;
-    while i < text.len() {
-        if text[i] == LF {
-            return false;
-        }
-        i += 1;
-    }
-    true
 }
 
 // Works through the lines of the first `end` bytes of `text`; a line begun goes to the start of `text`.
@@ -169,20 +116,14 @@ fn work(c: Count, text: &mut [u8], end: usize, more: bool) -> After
     let reached = lines(c, &text[..end]);
     let at = reached.at;
     let count = reached.count;
-    if end <= at {
-        if more {
-            return After::On(count, 0);
+    match follow::left(&text[..end], at, more) {
+        Rest::Waits(kept) => {
+            front::keep(text, at, kept);
+            After::On(count, kept)
         }
-        return After::Over(count);
+        Rest::Over => After::Over(count),
+        Rest::Wrong => After::Wrong(std::num::wrapping_add_u64(count.follow.lines, 1)),
     }
-    if !more {
-        return After::Wrong(std::num::wrapping_add_u64(count.lines, 1));
-    }
-    if !begun(&text[..end], at) {
-        return After::Wrong(std::num::wrapping_add_u64(count.lines, 1));
-    }
-    front::keep(text, at, end - at);
-    After::On(count, end - at)
 }
 
 // How many bytes are read at once: no more than are to come, and no more than there is room for.
@@ -198,11 +139,10 @@ fn least(coming: u64, room: usize) -> usize
 // So many bytes have come.
 fn nearer(c: Count, more: u64) -> Count {
     let r = c.record;
+    let f = c.follow;
     Count {
         record: r,
-        lines: c.lines,
-        time: c.time,
-        outside: c.outside,
+        follow: f,
         long: c.long,
         coming: std::num::wrapping_sub_u64(c.coming, more),
     }
@@ -223,18 +163,17 @@ fn turn(c: Count, text: &mut [u8], kept: usize) -> After
     work(nearer(c, more as u64), text, kept + more, more > 0)
 }
 
-// Writes `v` and the byte `end` into `out` from `at` on.
-fn put(v: u64, end: u8, out: &mut [u8], at: usize) -> usize {
-    let next = decimal::write_number(v, out, at);
-    text::write_byte(end, out, next)
+// Writes the first `n` bytes of `out`; answers whether it could.
+fn say(to: i32, out: &[u8], n: usize) -> bool {
+    if out.len() < n {
+        return false;
+    }
+    io::write_all(to, &out[..n])
 }
 
-// Writes the first `n` bytes of `out` to standard output, and answers how the program ends.
-fn say(out: &[u8], n: usize, end: u8) -> u8 {
-    if out.len() < n {
-        return FAILED;
-    }
-    if !io::write_all(STDOUT_FILENO, &out[..n]) {
+// Writes them to standard output, and answers how the program ends.
+fn answered(out: &[u8], n: usize, end: u8) -> u8 {
+    if !say(STDOUT_FILENO, out, n) {
         os::fail(b"standard output");
         return FAILED;
     }
@@ -244,32 +183,33 @@ fn say(out: &[u8], n: usize, end: u8) -> u8 {
 fn refused(line: u64, r: Refusal) -> u8 {
     let mut out = [0u8; 64];
     let word = text::write_bytes(b"refused\t", &mut out, 0);
-    let number = put(line, TAB, &mut out, word);
-    let n = put(refusal::number(r), LF, &mut out, number);
-    say(&out, n, REFUSED)
+    let number = decimal::write_field(line, TAB, &mut out, word);
+    let n = decimal::write_field(refusal::number(r), LF, &mut out, number);
+    answered(&out, n, REFUSED)
 }
 
 // Samples, crossings, groups, largest set, time of the first failure or a dash, exposure. A failed record's exposure is the time of its first failure.
 fn told(samples: u64, r: Result) -> u8 {
     let mut out = [0u8; 128];
-    let crossings = put(samples, TAB, &mut out, 0);
-    let groups = put(r.crossings, TAB, &mut out, crossings);
-    let largest = put(r.counted, TAB, &mut out, groups);
-    let first = put(r.largest, TAB, &mut out, largest);
+    let crossings = decimal::write_field(samples, TAB, &mut out, 0);
+    let groups = decimal::write_field(r.crossings, TAB, &mut out, crossings);
+    let largest = decimal::write_field(r.counted, TAB, &mut out, groups);
+    let first = decimal::write_field(r.largest, TAB, &mut out, largest);
     if r.first == 0 {
         let exposure = text::write_bytes(b"-\t", &mut out, first);
-        let n = put(r.exposure, LF, &mut out, exposure);
-        return say(&out, n, READ);
+        let n = decimal::write_field(r.exposure, LF, &mut out, exposure);
+        return answered(&out, n, READ);
     }
-    let exposure = put(r.exposure, TAB, &mut out, first);
-    let n = put(r.exposure, LF, &mut out, exposure);
-    say(&out, n, READ)
+    let exposure = decimal::write_field(r.exposure, TAB, &mut out, first);
+    let n = decimal::write_field(r.exposure, LF, &mut out, exposure);
+    answered(&out, n, READ)
 }
 
 // Behind the last line: 2 with the line, 3, 4, or the result.
 fn finish(c: Count) -> u8 {
-    if c.outside != 0 {
-        return refused(c.outside, Refusal::Sample(c.outside));
+    let outside = c.follow.outside;
+    if outside != 0 {
+        return refused(outside, Refusal::Sample(outside));
     }
     if c.long {
         return refused(0, Refusal::TooLong);
@@ -290,11 +230,9 @@ fn live(before: u64, lines: u64, shown: bool) {
         return;
     }
     let mut out = [0u8; 64];
-    let word = put(lines, b' ', &mut out, 0);
+    let word = decimal::write_field(lines, b' ', &mut out, 0);
     let n = text::write_bytes(b"lines\r", &mut out, word);
-    if n <= 64 {
-        io::write_all(STDERR_FILENO, &out[..n]);
-    }
+    say(STDERR_FILENO, &out, n);
 }
 
 // A file from its first byte to its end, or to its first wrong line. A proved loop has to end, and nothing says that the input does; so it counts its turns down, from a
@@ -310,7 +248,7 @@ fn serve(start: Count, text: &mut [u8], shown: bool) -> After
         let After::On(c, left) = after else {
             return after;
         };
-        live(count.lines, c.lines, shown);
+        live(count.follow.lines, c.follow.lines, shown);
         count = c;
         kept = left;
         turns -= 1;
@@ -322,22 +260,18 @@ fn serve(start: Count, text: &mut [u8], shown: bool) -> After
 fn item(i: usize) -> u64 {
     let mut buffer = [0u8; 32];
     let n = os::arg(i, &mut buffer);
-    let Lead::Number(v, end) = decimal::leading_at(&buffer[..n], 0) else {
-        return u64::MAX;
-    };
-    if end != n {
-        return u64::MAX;
-    }
-    v
+    decimal::number_or(&buffer[..n], u64::MAX)
 }
 
 // The start of a file of so many bytes.
 fn fresh(r: Record, bytes: u64) -> Count {
     Count {
         record: r,
-        lines: 0,
-        time: 0,
-        outside: 0,
+        follow: Follow {
+            step: r.step,
+            lines: 0,
+            outside: 0,
+        },
         long: false,
         coming: bytes,
     }
@@ -362,10 +296,10 @@ enum Next {
 fn refused_in(file: u64, line: u64, r: Refusal) -> u8 {
     let mut out = [0u8; 128];
     let word = text::write_bytes(b"refused\t", &mut out, 0);
-    let first = put(file, TAB, &mut out, word);
-    let second = put(line, TAB, &mut out, first);
-    let n = put(refusal::number(r), LF, &mut out, second);
-    say(&out, n, REFUSED)
+    let first = decimal::write_field(file, TAB, &mut out, word);
+    let second = decimal::write_field(line, TAB, &mut out, first);
+    let n = decimal::write_field(refusal::number(r), LF, &mut out, second);
+    answered(&out, n, REFUSED)
 }
 
 // The file's record added to the sum; or 4, 11.
@@ -385,8 +319,9 @@ fn closed(file: u64, c: Count, s: Sum) -> Next {
         );
         return Next::Ended(FAILED);
     }
-    if c.outside != 0 {
-        return Next::Ended(refused_in(file, c.outside, Refusal::Sample(c.outside)));
+    let outside = c.follow.outside;
+    if outside != 0 {
+        return Next::Ended(refused_in(file, outside, Refusal::Sample(outside)));
     }
     if c.long {
         return Next::Ended(refused_in(file, 0, Refusal::TooLong));
@@ -407,15 +342,15 @@ fn among(file: u64, a: After, s: Sum) -> Next {
 // N, P, the estimate, its lower and its upper bound in thousandths of a failure, and P·D in ms.
 fn summed(s: Sum) -> u8 {
     let mut out = [0u8; 128];
-    let second = put(s.failures, TAB, &mut out, 0);
-    let third = put(s.samples, TAB, &mut out, second);
+    let second = decimal::write_field(s.failures, TAB, &mut out, 0);
+    let third = decimal::write_field(s.samples, TAB, &mut out, second);
     match spread::bound(s) {
         Bounded::Given(_, b) => {
-            let fourth = put(b.estimate, TAB, &mut out, third);
-            let fifth = put(b.lower, TAB, &mut out, fourth);
-            let sixth = put(b.upper, TAB, &mut out, fifth);
-            let n = put(b.time, LF, &mut out, sixth);
-            say(&out, n, READ)
+            let fourth = decimal::write_field(b.estimate, TAB, &mut out, third);
+            let fifth = decimal::write_field(b.lower, TAB, &mut out, fourth);
+            let sixth = decimal::write_field(b.upper, TAB, &mut out, fifth);
+            let n = decimal::write_field(b.time, LF, &mut out, sixth);
+            answered(&out, n, READ)
         }
         Bounded::Refused(f) => refused_in(0, 0, f),
     }
@@ -481,7 +416,7 @@ fn many(words: usize, text: &mut [u8], shown: bool) -> u8
 }
 
 fn run() -> u8 {
-    let mut text = [0u8; 65536];
+    let mut text = [0u8; BYTES];
     let shown = libc::isatty(STDERR_FILENO) == 1;
     let words = os::arg_count();
     if words <= ITEMS {

@@ -2,10 +2,10 @@
 -- digits that the text starts with; is it one, there are more than 12. Assumes nothing.
 use mathlib.Core.Path.{_≡_, refl, sym, ap, _∙_}
 use mathlib.Core.Bool.{Bool, true, false, cond, not, _&&_, and-false, true≢false}
-use mathlib.Core.List.{List, [], _∷_, _++_}
+use mathlib.Core.List.{List, [], _∷_, _++_, append-nil}
 use Prim.Native.Nat.{ℕ, zero, suc, _+_, _^_, _≤_, _<_}
 use native.Mathlib.Omega.{arith}
-use lib.ListN.{length, getD, take, drop, length-append, length-drop, List·getD-eq-default}
+use lib.ListN.{length, getD, take, drop, drop-of-length-le, length-append, length-drop, List·getD-eq-default}
 use lib.Dec.{eqb, leb, ltb}
 use lib.Seq.{getD-drop}
 use borrow.Author.Tests.{lt-leb, lt-ltb, le-ltb, ltb-true, ne-eqb}
@@ -39,6 +39,14 @@ led (b ∷ text) =
     by-test (isDigit b)
     (λ d. record { parts = rw d (rw (← led text .parts)); all = rw (d, d) (led text .all); stops = rw d (led text .stops) })
     (λ d. record { parts = rw d; all = rw d; stops = rw d d })
+
+-- of a number they are all
+pub all-lead : (text : List ℕ) → isNumber text ≡ true → leading text ≡ text
+all-lead text number = ap leading (sym (append-nil text)) ∙ leading-is text [] (sound text number .all) refl
+
+-- and where they go up to the end, too
+pub led-all : (text : List ℕ) → length text ≤ length (leading text) → leading text ≡ text
+led-all text h = sym (led text .parts ∙ rw (drop-of-length-le text h) (append-nil (leading text)))
 
 -- at most n of them are a front of them
 pub leading-front : (n : ℕ) (text : List ℕ) → leadingDigits n text ≡ take n (leading text)

@@ -1,11 +1,12 @@
 -- Two answers that a promise allows are the same answer, with the same bytes left. Assumes nothing.
 use mathlib.Core.Path.{_≡_, sym, _∙_}
-use mathlib.Core.Bool.{Bool}
+use mathlib.Core.Bool.{Bool, cond}
 use mathlib.Core.List.{List}
 use Prim.Native.Nat.{ℕ, _+_, _%_}
 use lib.ListN.{length, drop}
 use Rattle.text.specs.Write.{written, placeAfter}
-use Rattle.decimal.specs.Decimal.{zeroByte, isDigit, longest, leadingDigits, valueOf, digitsOf}
+use Rattle.decimal.specs.Decimal.{zeroByte, isDigit, isNumber, longest, leadingDigits, valueOf, digitsOf}
+use Rattle.decimal.specs.Field.{fieldText}
 use Rattle.decimal.specs.Leading.{standsAt, leadingAt}
 use Rattle.decimal.specs.declared.Lead.{Lead}
 use Rattle.decimal.specs.declared.Run.{Run}
@@ -18,6 +19,9 @@ stands-unique s at b r q e f = cc
 
 pub leading-at-unique : (s : List ℕ) (at : ℕ) (r q : Lead) → r ≡ leadingAt s at → q ≡ leadingAt s at → r ≡ q
 leading-at-unique s at r q e f = cc
+
+pub number-or-unique : (s : List ℕ) (other r q : ℕ) → r ≡ cond (isNumber s) (valueOf s) other → q ≡ cond (isNumber s) (valueOf s) other → r ≡ q
+number-or-unique s other r q e f = cc
 
 -- of `run_at`
 module _ (s : List ℕ) (at : ℕ) where
@@ -39,3 +43,11 @@ module _ (v : ℕ) (out : List ℕ) (at : ℕ) where
 
   pub bytes-unique : (later other : List ℕ) → later ≡ written out at (digitsOf v) → other ≡ written out at (digitsOf v) → later ≡ other
   bytes-unique later other e f = cc
+
+-- of `write_field`
+module _ (v end : ℕ) (out : List ℕ) (at : ℕ) where
+  pub field-place-unique : (r q : ℕ) → r ≡ placeAfter out at (fieldText v end) → q ≡ placeAfter out at (fieldText v end) → r ≡ q
+  field-place-unique r q e f = cc
+
+  pub field-bytes-unique : (later other : List ℕ) → later ≡ written out at (fieldText v end) → other ≡ written out at (fieldText v end) → later ≡ other
+  field-bytes-unique later other e f = cc

@@ -1,10 +1,12 @@
 // Numbers in text, by document 01, "The job sheet": decimal, 1 to 12 digits, no leading zero but for 0 itself.
 // The reader makes one pass over a number's bytes and divides nothing; the writer stores a number's digits from the last to the first.
 ghost use mathlib.Core.Path.{_≡_};
+ghost use mathlib.Core.Bool.{cond};
 ghost use Prim.Native.Nat.{_+_, _%_, _≤_, min};
 ghost use lib.ListN.{length, drop, getD};
 ghost use Rattle.text.specs.Write.{written, placeAfter};
-ghost use Rattle.decimal.specs.Decimal.{zeroByte, longest, isDigit, leadingDigits, valueOf, digitsOf, widest};
+ghost use Rattle.decimal.specs.Decimal.{zeroByte, longest, isDigit, isNumber, leadingDigits, valueOf, digitsOf, widest};
+ghost use Rattle.decimal.specs.Field.{fieldText};
 ghost use Rattle.decimal.specs.Leading.{leadingAt, standsAt};
 
 // The byte of the digit 0.
@@ -39,6 +41,19 @@ pub fn leading_at(s: &[u8], at: usize) -> Lead
         return Lead::Nothing;
     }
     Lead::Number(run.value, end)
+}
+
+// The number that the whole of `s` is; `other` where it is none.
+pub fn number_or(s: &[u8], other: u64) -> u64
+    ensures { λ r. ⌜ r ≡ cond (isNumber (now (s .entry))) (valueOf (now (s .entry))) other ⌝ }
+{
+    let Lead::Number(v, end) = leading_at(s, 0) else {
+        return other;
+    };
+    if end < s.len() {
+        return other;
+    }
+    v
 }
 
 // Whether the byte `b` stands at `at`.
@@ -147,6 +162,18 @@ pub fn write_number(v: u64, out: &mut [u8], at: usize) -> usize
     }
     out[at] = last_digit(rest);
     at + count
+}
+
+// Writes `v` and the byte `end` behind it into `out` from `at` on, both or neither.
+pub fn write_field(v: u64, end: u8, out: &mut [u8], at: usize) -> usize
+    ensures { λ r. ⌜ r ≡ placeAfter (now (out .entry)) at (fieldText v end) ⌝ }
+    ensures { λ _. ⌜ now (out .exit) ≡ written (now (out .entry)) at (fieldText v end) ⌝ }
+{
+    if !text::has_room(out.len(), at, digits(v) + 1) {
+        return at;
+    }
+    let next = write_number(v, out, at);
+    text::write_byte(end, out, next)
 }
 
 // The byte of the last digit of `v`.

@@ -1,8 +1,9 @@
 -- Document 02, [1]: comma files. Reading and writing are decided by their tests in 02's order, each over all lines or samples (demand 1), and a refusal leaves what was
--- lent as it stood; what was written reads back, and what a text reads as, written and read again, is the same. Assumes nothing.
+-- lent as it stood; what was written reads back, and what a text reads as, written and read again, is the same. A file that comes in pieces ends as it reads whole.
+-- Assumes nothing.
 use mathlib.Core.Path.{_≡_, refl}
-use mathlib.Core.Bool.{not, true}
-use mathlib.Core.List.{List, [], _∷_}
+use mathlib.Core.Bool.{not, true, false}
+use mathlib.Core.List.{List, [], _∷_, _++_}
 use Prim.Native.Nat.{ℕ, _+_, _^_, _≤_, _<_}
 use native.Mathlib.Omega.{arith}
 use lib.Dec.{leb, ltb}
@@ -14,9 +15,14 @@ use Rattle.limits.specs.Limits.{stepInRange}
 use Rattle.range.specs.Range.{firstBad}
 use Rattle.decimal.specs.Decimal.{longest}
 use Rattle.decimal.specs.Lines.{linesOf}
+use Rattle.comma.specs.Line.{right}
 use Rattle.comma.specs.Text.{firstWrong, samplesOf, textOf}
 use Rattle.intake.specs.declared.Reading.the-variants.{Samples, Refused}
 use Rattle.intake.specs.Answers.{filledBy, reading, readingLines}
+use Rattle.follow.specs.Follow.{mayBegin}
+use Rattle.follow.specs.Pieces.{joined, nothing, passing, ending}
+use Rattle.follow.proofs.Pieces.{followed-whole, followed-samples}
+use Rattle.follow.proofs.Begun.{wrong-stays}
 use Rattle.scribe.specs.declared.Writing.the-variants.{Bytes, Refused as Declined}
 use Rattle.scribe.specs.Answers.{laidBy, lastTime, writing}
 use Rattle.scribe.proofs.Back.{read-again, read-back}
@@ -53,6 +59,11 @@ pub record Request1 : Type 0 where
   -- what a text reads as, written and read again, is the same
   pub again : (D : ℕ) (text : List ℕ) (places n : ℕ) → reading D text places ≡ Samples n
       → (reading D (textOf D (samplesOf (linesOf text))) places ≡ Samples n) × (samplesOf (linesOf (textOf D (samplesOf (linesOf text)))) ≡ samplesOf (linesOf text))
+  -- in whatever pieces a file comes, it ends as it reads whole, with the same samples; and a line that is told to be wrong before its end is wrong with anything behind it
+  pub pieces : (D places : ℕ) (pieces : List (List ℕ)) → stepInRange D ≡ true → length (linesOf (joined pieces)) ≤ places
+      → ending (passing (nothing D) pieces) ≡ reading D (joined pieces) places
+  pub same-samples : (D : ℕ) (pieces : List (List ℕ)) → let p = passing (nothing D) pieces in p .left ≡ [] → p .samples ≡ samplesOf (linesOf (joined pieces))
+  pub early : (time : ℕ) (text more : List ℕ) → mayBegin text ≡ false → right time text ≡ false → right time (text ++ more) ≡ false
 
 -- ---- the proof
 module _ (r s : Refusal) where
@@ -75,4 +86,7 @@ request-1 =
       bytes-kept = λ r text out. refl;
       back = read-back;
       again = read-again;
+      pieces = followed-whole;
+      same-samples = followed-samples;
+      early = wrong-stays;
     }

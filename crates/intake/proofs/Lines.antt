@@ -55,6 +55,9 @@ pub record Turn (time : ℕ) (text : List ℕ) : Type 0 where
   pub lines : linesOf text ≡ line ∷ linesOf (drop (lineLength text) text)
   pub is : right time line ≡ true
   pub sample : sampleOf (roll line) ≡ sampleOf (roll text)
+  pub parts : text ≡ line ++ drop (lineLength text) text
+  pub before : (more : List ℕ) → linesOf (line ++ more) ≡ line ∷ linesOf more
+  pub bytes : length line ≡ lineLength text
   pub some : 1 ≤ lineLength text
   pub within : lineLength text ≤ length text
   pub small : time < 10 ^ longest
@@ -64,18 +67,22 @@ turn time text r =
     let s = shape time text r in
     let front = Front (s .bytes) (below (roll text)) (s .size-bytes) in
     let f = front-line (s .bytes) (s .number) (below (roll text)) (s .is) [] in
+    let none = front-none (s .bytes) (s .number) (below (roll text)) (s .is) in
     record {
       line = front ++ (lineFeed ∷ []);
-      lines = ap linesOf (s .parts) ∙ lines-front front (drop (lineLength text) text) (front-none (s .bytes) (s .number) (below (roll text)) (s .is));
+      lines = ap linesOf (s .parts) ∙ lines-front front (drop (lineLength text) text) none;
       is = subst (λ t. right t (front ++ (lineFeed ∷ [])) ≡ true) (s .value) (f .is);
       sample = rw (f .value, f .sign);
+      parts = s .parts ∙ sym (append-assoc front (lineFeed ∷ []) (drop (lineLength text) text));
+      before = λ more. ap linesOf (append-assoc front (lineFeed ∷ []) more) ∙ lines-front front more none;
+      bytes = length-append front (lineFeed ∷ []) ∙ s .count;
       some = omega (arith, s .count);
       within = omega (arith, s .count, ap length (s .parts) ∙ length-append front (lineFeed ∷ drop (lineLength text) text));
       small = subst (λ t. t < 10 ^ longest) (s .value) (number-below (s .bytes) (s .number));
     }
 
 -- a right line in front makes the text right
-right-front : (time : ℕ) (line more : List ℕ) → right time line ≡ true → right time (line ++ more) ≡ true
+pub right-front : (time : ℕ) (line more : List ℕ) → right time line ≡ true → right time (line ++ more) ≡ true
 right-front time line more r =
     let s = shape time line r in
     let f = front-line (s .bytes) (s .number) (below (roll line)) (s .is) (drop (lineLength line) line ++ more) in

@@ -1,17 +1,16 @@
 // The clerk's search for envelope peaks: a simulator's comma file from standard input, and one line to standard output for each peak handed out: its magnitude in
 // degrees, its time in ms after the ramp; or refused, the line at fault or 0, and the refusal's number. Items 1, 2 and 4 come as arguments. Which peaks are high is
 // known only when all are, so the samples are held, as many as fit the stack that a process has; lines are read through a fixed buffer. A malformed line alone
-// ends the reading. What a line says is `comma::line_at`'s promise, what is handed out is `envelope::find`'s; here bytes are only carried. How it ended goes
+// ends the reading. What the lines say is `follow`'s promise, what is handed out is `envelope::find`'s; here bytes are only carried. How it ended goes
 // as a digit to a descriptor of its own, where bin/program waits for it.
-ghost use mathlib.Core.Path.{_≡_};
-ghost use mathlib.Core.Bool.{true};
-ghost use Prim.Native.Nat.{_+_, _≤_, _<_};
+ghost use Prim.Native.Nat.{_≤_, _<_};
 ghost use lib.ListN.{length};
 ghost use Rattle.peaks.specs.Kept.{keptBy};
 use channels::Levels;
-use comma::Line;
-use decimal::Lead;
 use envelope::Found;
+use follow::Follow;
+use follow::Followed;
+use follow::Rest;
 use libc::STDERR_FILENO;
 use libc::STDIN_FILENO;
 use libc::STDOUT_FILENO;
@@ -29,13 +28,15 @@ const TAB: u8 = 9;
 
 const LF: u8 = 10;
 
-// The most bytes of a line: two numbers of 12 digits, comma, minus, point, three digits, LF.
-const LONGEST_LINE: usize = 31;
+// The most bytes that are read at once, and the most lines of four bytes among them.
+const BYTES: usize = 65_536;
+
+const LINES: usize = 16_384;
 
 // How many lines make a sign of life.
 const LIVELY: u64 = 1_000_000;
 
-// The most samples that are held, and the most peaks handed out of them: 6.8 MB.
+// The most samples that are held, and the most peaks handed out of them: 6.9 MB.
 const HELD: usize = 1_500_000;
 
 const PLACES: usize = 100_000;
@@ -50,11 +51,7 @@ struct Items {
 // Where the reading of a file stands.
 struct Count {
     items: Items,
-    // The lines so far, and the time that the next has to have.
-    lines: u64,
-    time: u64,
-    // The line of the first sample out of range, 0 for none.
-    outside: u64,
+    follow: Follow,
 }
 
 // What a turn of the loop comes to: the bytes of a line begun are kept, or the file has ended, or a line is wrong, or nothing can be read.
@@ -70,72 +67,41 @@ struct Reached {
     at: usize,
 }
 
-// Puts a sample into its place, if there is such a place.
-fn hold(samples: &mut [i32], place: u64, x: i32) {
-    if place < samples.len() as u64 {
-        let k = place as usize;
-        samples[k] = x;
+// How many samples are held in `len` places: behind them there is room for one piece.
+fn held(len: usize) -> usize
+    ensures { λ r. ⌜ r ≤ len ⌝ }
+{
+    if len < LINES {
+        return 0;
     }
+    len - LINES
 }
 
-// One right line more.
-fn stepped(c: Count, minus: bool, size: u64, samples: &mut [i32]) -> Count {
-    hold(samples, c.lines, degrees::sample(minus, size));
-    let items = c.items;
-    let line = std::num::wrapping_add_u64(c.lines, 1);
-    let outside = truth::pick(
-        truth::both(c.outside == 0, size > comma::SAMPLE_LIMIT as u64),
-        line,
-        c.outside,
-    );
-    Count {
-        items: items,
-        lines: line,
-        time: std::num::wrapping_add_u64(c.time, items.step),
-        outside: outside,
+// Where the samples of the next lines go: behind those that are held, or, where no more are, one piece over the other.
+fn place(lines: u64, len: usize) -> usize
+    ensures { λ r. ⌜ r ≤ len ⌝ }
+{
+    let most = held(len);
+    if lines < most as u64 {
+        return lines as usize;
     }
+    most
 }
 
 // The right lines that `text` starts with, and where they end.
 fn lines(c: Count, text: &[u8], samples: &mut [i32]) -> Reached {
-    let mut count = c;
-    let mut at = 0;
-    let mut left = text.len();
-    while left > 0 {
-        let Line::Says(minus, size, next) = comma::line_at(text, at, count.time) else {
-            return Reached {
-                count: count,
-                at: at,
-            };
-        };
-        count = stepped(count, minus, size, samples);
-        at = next;
-        left -= 1;
+    let items = c.items;
+    let from = place(c.follow.lines, samples.len());
+    match follow::take(c.follow, text, &mut samples[from..]) {
+        Followed::Taken(f, at, _) => Reached {
+            count: Count {
+                items: items,
+                follow: f,
+            },
+            at: at,
+        },
+        Followed::Refused(_) => Reached { count: c, at: 0 },
     }
-    Reached {
-        count: count,
-        at: at,
-    }
-}
-
-// Whether a line may have begun at `at`: it has no LF yet, and fewer bytes than a line may have.
-fn begun(text: &[u8], at: usize) -> bool
-    ensures { λ r. ⌜ (r ≡ true → length (now (text .entry)) < at + 31) ⌝ }
-{
-    if text.len() <= at {
-        return true;
-    }
-    if text.len() - at >= LONGEST_LINE {
-        return false;
-    }
-    let mut i = at;
-    while i < text.len() {
-        if text[i] == LF {
-            return false;
-        }
-        i += 1;
-    }
-    true
 }
 
 // Works through the lines of the first `end` bytes of `text`; a line begun goes to the start of `text`.
@@ -146,20 +112,14 @@ fn work(c: Count, text: &mut [u8], end: usize, more: bool, samples: &mut [i32]) 
     let reached = lines(c, &text[..end], samples);
     let at = reached.at;
     let count = reached.count;
-    if end <= at {
-        if more {
-            return After::On(count, 0);
+    match follow::left(&text[..end], at, more) {
+        Rest::Waits(kept) => {
+            front::keep(text, at, kept);
+            After::On(count, kept)
         }
-        return After::Over(count);
+        Rest::Over => After::Over(count),
+        Rest::Wrong => After::Wrong(std::num::wrapping_add_u64(count.follow.lines, 1)),
     }
-    if !more {
-        return After::Wrong(std::num::wrapping_add_u64(count.lines, 1));
-    }
-    if !begun(&text[..end], at) {
-        return After::Wrong(std::num::wrapping_add_u64(count.lines, 1));
-    }
-    front::keep(text, at, end - at);
-    After::On(count, end - at)
 }
 
 // Reads once, behind the `kept` bytes of a line begun.
@@ -176,18 +136,17 @@ fn turn(c: Count, text: &mut [u8], kept: usize, samples: &mut [i32]) -> After
     work(c, text, kept + more, more > 0, samples)
 }
 
-// Writes `v` and the byte `end` into `out` from `at` on.
-fn put(v: u64, end: u8, out: &mut [u8], at: usize) -> usize {
-    let next = decimal::write_number(v, out, at);
-    text::write_byte(end, out, next)
+// Writes the first `n` bytes of `out`; answers whether it could.
+fn say(to: i32, out: &[u8], n: usize) -> bool {
+    if out.len() < n {
+        return false;
+    }
+    io::write_all(to, &out[..n])
 }
 
-// Writes the first `n` bytes of `out` to standard output, and answers how the program ends.
-fn say(out: &[u8], n: usize, end: u8) -> u8 {
-    if out.len() < n {
-        return FAILED;
-    }
-    if !io::write_all(STDOUT_FILENO, &out[..n]) {
+// Writes them to standard output, and answers how the program ends.
+fn answered(out: &[u8], n: usize, end: u8) -> u8 {
+    if !say(STDOUT_FILENO, out, n) {
         os::fail(b"standard output");
         return FAILED;
     }
@@ -197,9 +156,9 @@ fn say(out: &[u8], n: usize, end: u8) -> u8 {
 fn refused(line: u64, r: Refusal) -> u8 {
     let mut out = [0u8; 64];
     let word = text::write_bytes(b"refused\t", &mut out, 0);
-    let number = put(line, TAB, &mut out, word);
-    let n = put(refusal::number(r), LF, &mut out, number);
-    say(&out, n, REFUSED)
+    let number = decimal::write_field(line, TAB, &mut out, word);
+    let n = decimal::write_field(refusal::number(r), LF, &mut out, number);
+    answered(&out, n, REFUSED)
 }
 
 // One peak's line.
@@ -207,8 +166,8 @@ fn told(size: u32, time: u32) -> u8 {
     let mut out = [0u8; 64];
     let degrees = degrees::write_degrees(degrees::sample(false, size as u64), &mut out, 0);
     let tab = text::write_byte(TAB, &mut out, degrees);
-    let n = put(time as u64, LF, &mut out, tab);
-    say(&out, n, READ)
+    let n = decimal::write_field(time as u64, LF, &mut out, tab);
+    answered(&out, n, READ)
 }
 
 // The lines of the first k peaks.
@@ -267,16 +226,18 @@ fn found(items: Items, samples: &[i32]) -> u8 {
 // Behind the last line: 2 with the line, 3, or what `find` says of the samples.
 fn finish(c: Count, samples: &[i32]) -> u8 {
     let items = c.items;
-    if c.outside != 0 {
-        return refused(c.outside, Refusal::Sample(c.outside));
+    let outside = c.follow.outside;
+    let lines = c.follow.lines;
+    if outside != 0 {
+        return refused(outside, Refusal::Sample(outside));
     }
-    if limits::most_samples(items.step, items.ramp) < c.lines {
+    if limits::most_samples(items.step, items.ramp) < lines {
         return refused(0, Refusal::TooLong);
     }
-    if (samples.len() as u64) < c.lines {
+    if (held(samples.len()) as u64) < lines {
         return too_many();
     }
-    let n = c.lines as usize;
+    let n = lines as usize;
     found(items, &samples[..n])
 }
 
@@ -289,11 +250,9 @@ fn live(before: u64, lines: u64, shown: bool) {
         return;
     }
     let mut out = [0u8; 64];
-    let word = put(lines, b' ', &mut out, 0);
+    let word = decimal::write_field(lines, b' ', &mut out, 0);
     let n = text::write_bytes(b"lines\r", &mut out, word);
-    if n <= 64 {
-        io::write_all(STDERR_FILENO, &out[..n]);
-    }
+    say(STDERR_FILENO, &out, n);
 }
 
 // A proved loop has to end, and nothing says that the input does; so it counts its turns down, from a number that no run uses up.
@@ -306,7 +265,7 @@ fn serve(start: Count, text: &mut [u8], samples: &mut [i32], shown: bool) -> u8
     while turns > 0 {
         match turn(count, text, kept, samples) {
             After::On(c, left) => {
-                live(count.lines, c.lines, shown);
+                live(count.follow.lines, c.follow.lines, shown);
                 count = c;
                 kept = left;
             }
@@ -329,13 +288,7 @@ fn serve(start: Count, text: &mut [u8], samples: &mut [i32], shown: bool) -> u8
 fn item(i: usize) -> u64 {
     let mut buffer = [0u8; 32];
     let n = os::arg(i, &mut buffer);
-    let Lead::Number(v, end) = decimal::leading_at(&buffer[..n], 0) else {
-        return u64::MAX;
-    };
-    if end != n {
-        return u64::MAX;
-    }
-    v
+    decimal::number_or(&buffer[..n], u64::MAX)
 }
 
 fn run() -> u8 {
@@ -352,14 +305,16 @@ fn run() -> u8 {
     if outside != 0 {
         return refused(0, Refusal::Item(outside));
     }
-    let mut text = [0u8; 65536];
-    let mut samples = [0i32; HELD];
+    let mut text = [0u8; BYTES];
+    let mut samples = [0i32; HELD + LINES];
     serve(
         Count {
             items: items,
-            lines: 0,
-            time: 0,
-            outside: 0,
+            follow: Follow {
+                step: items.step,
+                lines: 0,
+                outside: 0,
+            },
         },
         &mut text,
         &mut samples,

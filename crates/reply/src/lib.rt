@@ -5,7 +5,6 @@ ghost use mathlib.Core.Bool.{true};
 ghost use Prim.Native.Nat.{_+_, _≤_};
 ghost use lib.ListN.{length};
 ghost use Rattle.text.specs.Write.{written, placeAfter};
-ghost use Rattle.decimal.specs.Field.{fieldText};
 ghost use Rattle.campaign.specs.State.{censored, sound};
 ghost use Rattle.reply.specs.Written.{letterFor, reasonText, recordText, recordLeft, recordWriting, refusedText, writing};
 use campaign::Campaign;
@@ -28,16 +27,6 @@ const LONGEST_RECORD: usize = 30;
 pub enum Written {
     Upto(usize),
     Refused(Refusal),
-}
-
-// Writes `v` and the byte `end` into `out` from `at` on.
-fn put_field(v: u64, end: u8, out: &mut [u8], at: usize) -> usize
-    requires { ⌜ at + length (fieldText v end) ≤ length (now out) ⌝ }
-    ensures { λ r. ⌜ r ≡ placeAfter (now (out .entry)) at (fieldText v end) ⌝ }
-    ensures { λ _. ⌜ now (out .exit) ≡ written (now (out .entry)) at (fieldText v end) ⌝ }
-{
-    let next = decimal::write_number(v, out, at);
-    text::write_byte(end, out, next)
 }
 
 // The letter of the verdict on a campaign that keeps its relations.
@@ -93,10 +82,10 @@ fn put_record(c: Campaign, out: &mut [u8], at: usize) -> usize
     }
     let censors = censored(c);
     let verdict = letter(c);
-    let second = put_field(c.records, TAB, out, at);
-    let third = put_field(c.failures, TAB, out, second);
-    let fourth = put_field(censors, TAB, out, third);
-    let fifth = put_field(c.exposure, TAB, out, fourth);
+    let second = decimal::write_field(c.records, TAB, out, at);
+    let third = decimal::write_field(c.failures, TAB, out, second);
+    let fourth = decimal::write_field(censors, TAB, out, third);
+    let fifth = decimal::write_field(c.exposure, TAB, out, fourth);
     let end = text::write_byte(verdict, out, fifth);
     text::write_byte(LF, out, end)
 }
@@ -137,10 +126,10 @@ fn put_reason(number: u64, column: u64, out: &mut [u8], at: usize) -> usize
     ensures { λ _. ⌜ now (out .exit) ≡ written (now (out .entry)) at (reasonText number column) ⌝ }
 {
     if number == MALFORMED {
-        let next = put_field(number, TAB, out, at);
-        return put_field(column, LF, out, next);
+        let next = decimal::write_field(number, TAB, out, at);
+        return decimal::write_field(column, LF, out, next);
     }
-    put_field(number, LF, out, at)
+    decimal::write_field(number, LF, out, at)
 }
 
 // The bytes of the refused line.
@@ -157,7 +146,7 @@ fn put_refused(line: u64, column: u64, r: Refusal, out: &mut [u8], at: usize) ->
     ensures { λ _. ⌜ now (out .exit) ≡ written (now (out .entry)) at (refusedText line column r) ⌝ }
 {
     let number = text::write_bytes(b"refused\t", out, at);
-    let reason = put_field(line, TAB, out, number);
+    let reason = decimal::write_field(line, TAB, out, number);
     put_reason(refusal::number(r), column, out, reason)
 }
 

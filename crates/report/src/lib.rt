@@ -5,7 +5,6 @@ ghost use mathlib.Core.Bool.{true};
 ghost use Prim.Native.Nat.{_+_, _≤_};
 ghost use lib.ListN.{length, take};
 ghost use Rattle.text.specs.Write.{placeAfter, written};
-ghost use Rattle.decimal.specs.Field.{fieldText};
 ghost use Rattle.campaign.specs.State.{censored, sound};
 ghost use Rattle.condition.specs.Answers.{lowestBroken};
 ghost use Rattle.report.specs.Report.{blocks, fourText, letterFor, lineText, linesFrom, reportText, standingLetter, totalOf, totalText, verdictLetter};
@@ -156,26 +155,16 @@ fn lines_length(campaigns: [Campaign; 64], number: usize) -> u64
     total
 }
 
-// Puts `v` and the byte `end` into `out` from `at` on.
-fn put_field(v: u64, end: u8, out: &mut [u8], at: usize) -> usize
-    requires { ⌜ at + length (fieldText v end) ≤ length (now out) ⌝ }
-    ensures { λ r. ⌜ r ≡ placeAfter (now (out .entry)) at (fieldText v end) ⌝ }
-    ensures { λ _. ⌜ now (out .exit) ≡ written (now (out .entry)) at (fieldText v end) ⌝ }
-{
-    let next = decimal::write_number(v, out, at);
-    text::write_byte(end, out, next)
-}
-
 // Puts four numbers, a tab behind each, into `out` from `at` on.
 fn put_four(a: u64, b: u64, c: u64, d: u64, out: &mut [u8], at: usize) -> usize
     requires { ⌜ at + length (fourText a b c d) ≤ length (now out) ⌝ }
     ensures { λ r. ⌜ r ≡ placeAfter (now (out .entry)) at (fourText a b c d) ⌝ }
     ensures { λ _. ⌜ now (out .exit) ≡ written (now (out .entry)) at (fourText a b c d) ⌝ }
 {
-    let second = put_field(a, TAB, out, at);
-    let third = put_field(b, TAB, out, second);
-    let fourth = put_field(c, TAB, out, third);
-    put_field(d, TAB, out, fourth)
+    let second = decimal::write_field(a, TAB, out, at);
+    let third = decimal::write_field(b, TAB, out, second);
+    let fourth = decimal::write_field(c, TAB, out, third);
+    decimal::write_field(d, TAB, out, fourth)
 }
 
 // Puts a situation's line into `out` from `at` on.
@@ -190,7 +179,7 @@ fn put_line(number: u64, c: Campaign, out: &mut [u8], at: usize) -> usize
     let fifth = put_four(number, c.failures, censors, c.exposure, out, at);
     let tab = text::write_byte(mark, out, fifth);
     let sixth = text::write_byte(TAB, out, tab);
-    put_field(billed, LF, out, sixth)
+    decimal::write_field(billed, LF, out, sixth)
 }
 
 // Puts the situations' lines into `out`.

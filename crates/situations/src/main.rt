@@ -9,7 +9,6 @@ ghost use lib.ListN.{length};
 ghost use Rattle.form.specs.Form.{longestLine};
 ghost use Rattle.situations.specs.Left.{comingBy, keptBy};
 use campaign::Campaign;
-use decimal::Lead;
 use libc::STDERR_FILENO;
 use libc::STDIN_FILENO;
 use libc::STDOUT_FILENO;
@@ -115,12 +114,6 @@ fn one(size: u64, text: &mut [u8]) -> Reading
     sheet::read(sheet, &text[..kept], false)
 }
 
-// Writes `v` and the byte `end` into `out` from `at` on.
-fn put(v: u64, end: u8, out: &mut [u8], at: usize) -> usize {
-    let next = decimal::write_number(v, out, at);
-    text::write_byte(end, out, next)
-}
-
 // Writes the first `n` bytes of `out` to standard output, and answers how the program ends.
 fn say(out: &[u8], n: usize, end: u8) -> u8 {
     if out.len() < n {
@@ -137,14 +130,14 @@ fn refused(situation: u64, line: u64, column: u64, r: Refusal) -> u8 {
     let mut out = [0u8; 128];
     let number = refusal::number(r);
     let first = text::write_bytes(b"refused\t", &mut out, 0);
-    let second = put(situation, TAB, &mut out, first);
-    let third = put(line, TAB, &mut out, second);
+    let second = decimal::write_field(situation, TAB, &mut out, first);
+    let third = decimal::write_field(line, TAB, &mut out, second);
     if number == MALFORMED {
-        let fourth = put(number, TAB, &mut out, third);
-        let n = put(column, LF, &mut out, fourth);
+        let fourth = decimal::write_field(number, TAB, &mut out, third);
+        let n = decimal::write_field(column, LF, &mut out, fourth);
         return say(&out, n, REFUSED);
     }
-    let n = put(number, LF, &mut out, third);
+    let n = decimal::write_field(number, LF, &mut out, third);
     say(&out, n, REFUSED)
 }
 
@@ -161,13 +154,7 @@ fn told(campaigns: [Campaign; 64], number: usize) -> u8 {
 fn size(i: usize) -> u64 {
     let mut buffer = [0u8; 32];
     let n = os::arg(i, &mut buffer);
-    let Lead::Number(v, end) = decimal::leading_at(&buffer[..n], 0) else {
-        return u64::MAX;
-    };
-    if end != n {
-        return u64::MAX;
-    }
-    v
+    decimal::number_or(&buffer[..n], u64::MAX)
 }
 
 // Sheet after sheet, up to the first that is refused; behind the last the report.

@@ -7,7 +7,7 @@
 ghost use Prim.Native.Nat.{_≤_};
 use channels::Levels;
 use comma::Line;
-use decimal::Lead;
+use follow::Rest;
 use libc::STDERR_FILENO;
 use libc::STDIN_FILENO;
 use libc::STDOUT_FILENO;
@@ -33,9 +33,6 @@ const FAILED: u8 = b'2';
 const TAB: u8 = 9;
 
 const LF: u8 = 10;
-
-// The most bytes of a line: two numbers of 12 digits, comma, minus, point, three digits, LF.
-const LONGEST_LINE: usize = 31;
 
 // How many lines make a sign of life.
 const LIVELY: u64 = 1_000_000;
@@ -92,29 +89,13 @@ fn sample(minus: bool, size: u64) -> i32 {
     degrees::sample(minus, size)
 }
 
-// Whether a line may have begun at `at`: it has no LF yet, and fewer bytes than a line may have.
-fn begun(text: &[u8], at: usize) -> bool {
-    if text.len() <= at {
-        return true;
-    }
-    if text.len() - at >= LONGEST_LINE {
-        return false;
-    }
-    bytes::scan::find(text, at, text.len(), LF) == text.len()
-}
-
 // What stands at `at` where that is no right line.
 fn cut_off(text: &[u8], at: usize, over: bool) -> Seen {
-    if !begun(text, at) {
-        return Seen::Wrong;
+    match follow::left(text, at, !over) {
+        Rest::Waits(_) => Seen::Begun,
+        Rest::Over => Seen::Ended,
+        Rest::Wrong => Seen::Wrong,
     }
-    if !over {
-        return Seen::Begun;
-    }
-    if at < text.len() {
-        return Seen::Wrong;
-    }
-    Seen::Ended
 }
 
 fn seen_in(text: &[u8], at: usize, over: bool, time: u64) -> Seen {
@@ -296,12 +277,6 @@ fn turn(w: Watch, p: Part, q: Part, roll: &mut [u8], acceleration: &mut [u8]) ->
     }
 }
 
-// Writes `v` and the byte `end` into `out` from `at` on.
-fn put(v: u64, end: u8, out: &mut [u8], at: usize) -> usize {
-    let next = decimal::write_number(v, out, at);
-    text::write_byte(end, out, next)
-}
-
 // Writes the first `n` bytes of `out`; answers whether it could.
 fn say(to: i32, out: &[u8], n: usize) -> bool {
     if out.len() < n {
@@ -322,34 +297,34 @@ fn answered(out: &[u8], n: usize, end: u8) -> u8 {
 fn refused(line: u64, r: Refusal) -> u8 {
     let mut out = [0u8; 64];
     let word = text::write_bytes(b"refused\t", &mut out, 0);
-    let number = put(line, TAB, &mut out, word);
-    let n = put(refusal::number(r), LF, &mut out, number);
+    let number = decimal::write_field(line, TAB, &mut out, word);
+    let n = decimal::write_field(refusal::number(r), LF, &mut out, number);
     answered(&out, n, REFUSED)
 }
 
 fn refused_in(line: u64, r: Refusal, channel: u64) -> u8 {
     let mut out = [0u8; 64];
     let word = text::write_bytes(b"refused\t", &mut out, 0);
-    let number = put(line, TAB, &mut out, word);
-    let fourth = put(refusal::number(r), TAB, &mut out, number);
-    let n = put(channel, LF, &mut out, fourth);
+    let number = decimal::write_field(line, TAB, &mut out, word);
+    let fourth = decimal::write_field(refusal::number(r), TAB, &mut out, number);
+    let n = decimal::write_field(channel, LF, &mut out, fourth);
     answered(&out, n, REFUSED)
 }
 
 // Samples, crossings, groups, largest set, time of the first failure or a dash, exposure. A failed record's exposure is the time of its first failure.
 fn told(samples: u64, r: Result) -> u8 {
     let mut out = [0u8; 128];
-    let crossings = put(samples, TAB, &mut out, 0);
-    let groups = put(r.crossings, TAB, &mut out, crossings);
-    let largest = put(r.counted, TAB, &mut out, groups);
-    let first = put(r.largest, TAB, &mut out, largest);
+    let crossings = decimal::write_field(samples, TAB, &mut out, 0);
+    let groups = decimal::write_field(r.crossings, TAB, &mut out, crossings);
+    let largest = decimal::write_field(r.counted, TAB, &mut out, groups);
+    let first = decimal::write_field(r.largest, TAB, &mut out, largest);
     if r.first == 0 {
         let exposure = text::write_bytes(b"-\t", &mut out, first);
-        let n = put(r.exposure, LF, &mut out, exposure);
+        let n = decimal::write_field(r.exposure, LF, &mut out, exposure);
         return answered(&out, n, READ);
     }
-    let exposure = put(r.exposure, TAB, &mut out, first);
-    let n = put(r.exposure, LF, &mut out, exposure);
+    let exposure = decimal::write_field(r.exposure, TAB, &mut out, first);
+    let n = decimal::write_field(r.exposure, LF, &mut out, exposure);
     answered(&out, n, READ)
 }
 
@@ -391,7 +366,7 @@ fn live(before: u64, lines: u64, shown: bool) {
         return;
     }
     let mut out = [0u8; 64];
-    let word = put(lines, b' ', &mut out, 0);
+    let word = decimal::write_field(lines, b' ', &mut out, 0);
     let n = text::write_bytes(b"lines\r", &mut out, word);
     say(STDERR_FILENO, &out, n);
 }
@@ -425,13 +400,7 @@ fn serve(start: Watch, roll: &mut [u8], acceleration: &mut [u8], shown: bool) ->
 fn item(i: usize) -> u64 {
     let mut buffer = [0u8; 32];
     let n = os::arg(i, &mut buffer);
-    let Lead::Number(v, end) = decimal::leading_at(&buffer[..n], 0) else {
-        return u64::MAX;
-    };
-    if end != n {
-        return u64::MAX;
-    }
-    v
+    decimal::number_or(&buffer[..n], u64::MAX)
 }
 
 fn watched(r: Record) -> u8 {

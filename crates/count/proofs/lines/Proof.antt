@@ -1,58 +1,59 @@
--- `count::lines` is safe and ends: there are no more lines than bytes. Assumes nothing.
+-- `count::lines` is safe: no more samples are fed than were taken. Assumes nothing.
+use Prim.Native.Nat.{_≤_}
+use mathlib.Core.Path.{_≡_, sym, subst}
 use native.Mathlib.Omega.{arith}
+use lib.ListN.{length}
+use lib.Seq.{length-take-le}
 use borrow.Author.Needs.{needs}
+use Rattle.follow.specs.Follow.{numberOf}
 use Rattle.count.proofs.lines.Statement.{statement}
 use Rattle.count.proofs.lines.Tie as tie
 
-abbrev Inv-loop : tie.InvT-loop
-Inv-loop text count₀ at₀ left₀ count at left = Unit {0}
+slice-aggregate-take : tie.Need-slice-aggregate-take
+slice-aggregate-take c = search needs
 
-abbrev μ-loop : tie.MeasureT-loop
-μ-loop text count₀ at₀ left₀ count at left = left
+take-requires : tie.Need-take-requires
+take-requires c κs = search needs
 
-loop-holds : tie.Need-loop-holds Inv-loop μ-loop
-loop-holds c = tt
+enum-known-f : tie.Need-enum-known-f
+enum-known-f c = search needs
 
-line-at-requires : tie.Need-line-at-requires Inv-loop μ-loop
-line-at-requires c κs = search needs
+few : (c : tie.After-known-told) → c .before .f .given .0 .1 .1 .0 ≤ length (c .before .before .before .before .take .last .1 .1 .0)
+unfolding numberOf
+few c =
+    let t = c .before .before .before .before .take in
+    let n = subst (λ r. numberOf r ≤ _) (c .before .f .given .1) (t .ensures .1 .1) in
+    let same : length (t .last .1 .1 .0) ≡ 16384 = search needs in
+    omega (arith, n, same)
 
-enum-known-minus : tie.Need-enum-known-minus Inv-loop μ-loop
-enum-known-minus c = search needs
+array-share-prefix-samples : tie.Need-array-share-prefix-samples
+array-share-prefix-samples c = few c
 
-enum-told : tie.Need-enum-told Inv-loop μ-loop
+slice-aggregate-fed : tie.Need-slice-aggregate-fed
+slice-aggregate-fed c = sym (length-take-le _ _ (few (c .before)))
+
+fed-requires : tie.Need-fed-requires
+fed-requires c κs = search needs
+
+enum-told : tie.Need-enum-told
 enum-told c = search needs
 
-returns : tie.Need-returns Inv-loop μ-loop
+returns : tie.Need-returns
 returns c = search needs
 
-stepped-requires : tie.Need-stepped-requires Inv-loop μ-loop
-stepped-requires c κs = search needs
-
-sub-left : tie.Need-sub-left Inv-loop μ-loop
-sub-left c = omega arith
-
-loop-less : tie.Need-loop-less Inv-loop μ-loop
-loop-less c = omega arith
-
-loop-again : tie.Need-loop-again Inv-loop μ-loop
-loop-again c = tt
-
-returns-2 : tie.Need-returns-2 Inv-loop μ-loop
+returns-2 : tie.Need-returns-2
 returns-2 c = search needs
 
 pub lines-spec : {M : Type 1} → statement M
 lines-spec =
     tie.close
     (tie.spec
-    Inv-loop
-    μ-loop
-    loop-holds
-    line-at-requires
-    enum-known-minus
+    slice-aggregate-take
+    take-requires
+    enum-known-f
+    array-share-prefix-samples
+    slice-aggregate-fed
+    fed-requires
     enum-told
     returns
-    stepped-requires
-    sub-left
-    loop-less
-    loop-again
     returns-2)

@@ -1,10 +1,10 @@
--- `count::work` is safe and keeps less than a line: a line that may have begun is shorter. Assumes nothing.
-use mathlib.Core.Path.{sym}
+-- `count::work` is safe and keeps less than a line. Assumes nothing.
+use Prim.Native.Nat.{_<_}
+use mathlib.Core.Path.{sym, subst}
 use native.Mathlib.Omega.{arith}
 use lib.Seq.{length-take-le}
-use denote.Ref.{now}
-use borrow.Author.Tests.{not-false}
 use borrow.Author.Needs.{needs}
+use Rattle.follow.specs.Follow.{waitingFor}
 use Rattle.count.proofs.work.Statement.{statement}
 use Rattle.count.proofs.work.Tie as tie
 
@@ -17,11 +17,38 @@ slice-aggregate-lines c = sym (length-take-le _ _ (omega arith))
 lines-requires : tie.Need-lines-requires
 lines-requires c κs = search needs
 
+slice-reshare-prefix-left : tie.Need-slice-reshare-prefix-left
+slice-reshare-prefix-left c = search needs
+
+slice-aggregate-left : tie.Need-slice-aggregate-left
+slice-aggregate-left c = sym (length-take-le _ _ (omega arith))
+
+left-requires : tie.Need-left-requires
+left-requires c κs = search needs
+
+enum-known-kept : tie.Need-enum-known-kept
+enum-known-kept c = search needs
+
+keep-requires : tie.Need-keep-requires
+keep-requires c κs = search needs
+
+enum-told : tie.Need-enum-told
+enum-told c = search needs
+
+enum-told-2 : tie.Need-enum-told-2
+enum-told-2 c = search needs
+
+wrapping-add-u64-requires : tie.Need-wrapping-add-u64-requires
+wrapping-add-u64-requires c κs = search needs
+
 same-length : tie.Need-same-length
 same-length c = search needs
 
 returns : tie.Need-returns
-returns c = search needs
+unfolding waitingFor
+returns c =
+    let k = c .before .before .before .before .before in
+    subst (λ r. waitingFor r < 31) (k .kept .given .1) (k .before .before .left .ensures .1)
 
 same-length-2 : tie.Need-same-length-2
 same-length-2 c = search needs
@@ -29,51 +56,11 @@ same-length-2 c = search needs
 returns-2 : tie.Need-returns-2
 returns-2 c = search needs
 
-wrapping-add-u64-requires : tie.Need-wrapping-add-u64-requires
-wrapping-add-u64-requires c κs = search needs
-
 same-length-3 : tie.Need-same-length-3
 same-length-3 c = search needs
 
 returns-3 : tie.Need-returns-3
 returns-3 c = search needs
-
-slice-reshare-prefix-begun : tie.Need-slice-reshare-prefix-begun
-slice-reshare-prefix-begun c = search needs
-
-slice-aggregate-begun : tie.Need-slice-aggregate-begun
-slice-aggregate-begun c = sym (length-take-le _ _ (omega arith))
-
-begun-requires : tie.Need-begun-requires
-begun-requires c κs = search needs
-
-wrapping-add-u64-requires-2 : tie.Need-wrapping-add-u64-requires-2
-wrapping-add-u64-requires-2 c κs = search needs
-
-same-length-4 : tie.Need-same-length-4
-same-length-4 c = search needs
-
-returns-4 : tie.Need-returns-4
-returns-4 c = search needs
-
-sub-keep : tie.Need-sub-keep
-sub-keep c = search needs
-
-keep-requires : tie.Need-keep-requires
-keep-requires c κs = search needs
-
-sub-t20 : tie.Need-sub-t20
-sub-t20 c = search needs
-
-same-length-5 : tie.Need-same-length-5
-same-length-5 c = search needs
-
-returns-5 : tie.Need-returns-5
-returns-5 c =
-    let e = c .before .before .before .before in
-    let s = e .before .before .before .before .before .before .before .before .before in
-    let few = e .before .begun .ensures (not-false _ (e .if4 .left)) in
-    omega (arith, few, length-take-le (s .args .end) (now (s .args .text)) (s .pre))
 
 pub work-spec : {M : Type 1} → statement M
 work-spec =
@@ -82,21 +69,17 @@ work-spec =
     slice-reshare-prefix-lines
     slice-aggregate-lines
     lines-requires
+    slice-reshare-prefix-left
+    slice-aggregate-left
+    left-requires
+    enum-known-kept
+    keep-requires
+    enum-told
+    enum-told-2
+    wrapping-add-u64-requires
     same-length
     returns
     same-length-2
     returns-2
-    wrapping-add-u64-requires
     same-length-3
-    returns-3
-    slice-reshare-prefix-begun
-    slice-aggregate-begun
-    begun-requires
-    wrapping-add-u64-requires-2
-    same-length-4
-    returns-4
-    sub-keep
-    keep-requires
-    sub-t20
-    same-length-5
-    returns-5)
+    returns-3)

@@ -21,6 +21,9 @@ refused-requires-2 c κs = search needs
 returns-2 : tie.Need-returns-2
 returns-2 c = search needs
 
+held-requires : tie.Need-held-requires
+held-requires c κs = search needs
+
 too-many-requires : tie.Need-too-many-requires
 too-many-requires c κs = search needs
 
@@ -45,6 +48,7 @@ finish-spec =
     most-samples-requires
     refused-requires-2
     returns-2
+    held-requires
     too-many-requires
     returns-3
     slice-aggregate-found

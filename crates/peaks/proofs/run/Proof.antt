@@ -28,7 +28,7 @@ slice-aggregate-serve : tie.Need-slice-aggregate-serve
 slice-aggregate-serve c = search needs
 
 slice-aggregate-serve-2 : tie.Need-slice-aggregate-serve-2
-slice-aggregate-serve-2 c = sym (length-replicate 1500000 (pos 0))
+slice-aggregate-serve-2 c = sym (length-replicate 1516384 (pos 0))
 
 isatty-requires : tie.Need-isatty-requires
 isatty-requires c κs = search needs

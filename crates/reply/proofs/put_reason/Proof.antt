@@ -7,7 +7,7 @@ use borrow.Author.Tests.{eq-eqb, ne-eqb}
 use denote.Ref.{now}
 use Rattle.decimal.specs.Field.{tab, lineFeed, fieldText}
 use Rattle.text.proofs.Laws.{laid-none}
-use Rattle.text.proofs.Parts.{Left, left-next, left-fits, left-room, left-last}
+use Rattle.text.proofs.Parts.{Left, left-next, left-last}
 use Rattle.reply.specs.Written.{malformedNumber, reasonText}
 use borrow.Author.Needs.{needs}
 use Rattle.reply.proofs.put_reason.Statement.{statement}
@@ -31,39 +31,39 @@ Stands c rest out at = Left (now (start c .args .out)) (start c .args .at) (reas
 left0 : (c : tie.Then1) → Stands c (fieldText (start c .args .number) tab ++ fieldText (start c .args .column) lineFeed) (now (start c .args .out)) (start c .args .at)
 left0 c = record { front = []; parts = sym (both c); place = sym (add-zero (start c .args .at)); bytes = sym (laid-none (now (start c .args .out)) (start c .args .at)); fits = start c .pre }
 
-left1 : (c : tie.After-put-field) → let t = c .before .before in
-    Stands t (fieldText (start t .args .column) lineFeed) (c .put-field .last .1 .1 .0) (c .put-field .result)
-left1 c = left-next (fieldText (start (c .before .before) .args .number) tab) _ (left0 (c .before .before)) (c .put-field .ensures)
+left1 : (c : tie.After-write-field) → let t = c .before .before in
+    Stands t (fieldText (start t .args .column) lineFeed) (c .write-field .last .1 .1 .0) (c .write-field .result)
+left1 c = left-next (fieldText (start (c .before .before) .args .number) tab) _ (left0 (c .before .before)) (c .write-field .ensures)
 
-put-field-requires : tie.Need-put-field-requires
-put-field-requires c κs = left-room (fieldText (start (c .before) .args .number) tab) _ (left0 (c .before))
+write-field-requires : tie.Need-write-field-requires
+write-field-requires c κs = search needs
 
-put-field-requires-2 : tie.Need-put-field-requires-2
-put-field-requires-2 c κs = left-fits (left1 (c .before .before .before))
+write-field-requires-2 : tie.Need-write-field-requires-2
+write-field-requires-2 c κs = search needs
 
 same-length : tie.Need-same-length
 same-length c = search needs
 
 returns : tie.Need-returns
-returns c = left-last (left1 (c .before .before .before .before .before .before)) (c .before .before .put-field2 .ensures)
+returns c = left-last (left1 (c .before .before .before .before .before .before)) (c .before .before .write-field2 .ensures)
 
-put-field-requires-3 : tie.Need-put-field-requires-3
-put-field-requires-3 c κs = rw (alone (c .before)) at (c .before .before .before .pre)
+write-field-requires-3 : tie.Need-write-field-requires-3
+write-field-requires-3 c κs = search needs
 
 same-length-2 : tie.Need-same-length-2
 same-length-2 c = search needs
 
 returns-2 : tie.Need-returns-2
-returns-2 c = rw (alone (c .before .before .before .before)) (c .before .before .put-field3 .ensures)
+returns-2 c = rw (alone (c .before .before .before .before)) (c .before .before .write-field3 .ensures)
 
 pub put-reason-spec : {M : Type 1} → statement M
 put-reason-spec =
     tie.close
     (tie.spec
-    put-field-requires
-    put-field-requires-2
+    write-field-requires
+    write-field-requires-2
     same-length
     returns
-    put-field-requires-3
+    write-field-requires-3
     same-length-2
     returns-2)

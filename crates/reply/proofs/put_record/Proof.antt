@@ -7,7 +7,7 @@ use borrow.Author.Tests.{eq-eqb, ne-eqb}
 use denote.Ref.{now}
 use Rattle.campaign.specs.declared.Campaign.{Campaign}
 use Rattle.decimal.specs.Field.{tab, lineFeed, fieldText}
-use Rattle.text.proofs.Parts.{Left, left-all, left-next, left-room, left-last, wrote-none}
+use Rattle.text.proofs.Parts.{Left, left-all, left-next, left-last, wrote-none}
 use Rattle.reply.specs.Written.{figures, letterFor, recordText}
 use Rattle.campaign.specs.State.{censored}
 use borrow.Author.Needs.{needs}
@@ -18,19 +18,19 @@ use Rattle.reply.proofs.put_record.Tie as tie
 abbrev start : tie.After-letter → tie.Start
 start c = c .before .before .before .before .before
 
-abbrev letter-of : tie.After-put-field → tie.After-letter
+abbrev letter-of : tie.After-write-field → tie.After-letter
 letter-of c = c .before .before
 
-abbrev first-of : tie.After-put-field2 → tie.After-put-field
+abbrev first-of : tie.After-write-field2 → tie.After-write-field
 first-of c = c .before .before .before .before
 
-abbrev second-of : tie.After-put-field3 → tie.After-put-field2
+abbrev second-of : tie.After-write-field3 → tie.After-write-field2
 second-of c = c .before .before .before .before
 
-abbrev third-of : tie.After-put-field4 → tie.After-put-field3
+abbrev third-of : tie.After-write-field4 → tie.After-write-field3
 third-of c = c .before .before .before .before
 
-abbrev fourth-of : tie.After-write-byte → tie.After-put-field4
+abbrev fourth-of : tie.After-write-byte → tie.After-write-field4
 fourth-of c = c .before .before .before .before
 
 -- what is left of the line after each part, N* and the letter being those that were answered
@@ -71,17 +71,17 @@ whole c = figures-whole (start c .args .c) _ _ (c .before .before .if1 .left) (c
 left0 : (c : tie.After-letter) → Stands c (Of Rest0 c) (now (start c .args .out)) (start c .args .at)
 left0 c = left-all _ _ (Of Rest0 c) (rw (← whole c) (start c .pre .1))
 
-left1 : (c : tie.After-put-field) → Stands (letter-of c) (Of Rest1 (letter-of c)) (c .put-field .last .1 .1 .0) (c .put-field .result)
-left1 c = left-next (fieldText (start (letter-of c) .args .c .records) tab) _ (left0 (letter-of c)) (c .put-field .ensures)
+left1 : (c : tie.After-write-field) → Stands (letter-of c) (Of Rest1 (letter-of c)) (c .write-field .last .1 .1 .0) (c .write-field .result)
+left1 c = left-next (fieldText (start (letter-of c) .args .c .records) tab) _ (left0 (letter-of c)) (c .write-field .ensures)
 
-left2 : (c : tie.After-put-field2) → Stands (letter-of (first-of c)) (Of Rest2 (letter-of (first-of c))) (c .put-field2 .last .1 .1 .0) (c .put-field2 .result)
-left2 c = left-next (fieldText (start (letter-of (first-of c)) .args .c .failures) tab) _ (left1 (first-of c)) (c .put-field2 .ensures)
+left2 : (c : tie.After-write-field2) → Stands (letter-of (first-of c)) (Of Rest2 (letter-of (first-of c))) (c .write-field2 .last .1 .1 .0) (c .write-field2 .result)
+left2 c = left-next (fieldText (start (letter-of (first-of c)) .args .c .failures) tab) _ (left1 (first-of c)) (c .write-field2 .ensures)
 
-left3 : (c : tie.After-put-field3) → let l = letter-of (first-of (second-of c)) in Stands l (Of Rest3 l) (c .put-field3 .last .1 .1 .0) (c .put-field3 .result)
-left3 c = left-next (fieldText (letter-of (first-of (second-of c)) .before .censored .result) tab) _ (left2 (second-of c)) (c .put-field3 .ensures)
+left3 : (c : tie.After-write-field3) → let l = letter-of (first-of (second-of c)) in Stands l (Of Rest3 l) (c .write-field3 .last .1 .1 .0) (c .write-field3 .result)
+left3 c = left-next (fieldText (letter-of (first-of (second-of c)) .before .censored .result) tab) _ (left2 (second-of c)) (c .write-field3 .ensures)
 
-left4 : (c : tie.After-put-field4) → let l = letter-of (first-of (second-of (third-of c))) in Stands l (Of Rest4 l) (c .put-field4 .last .1 .1 .0) (c .put-field4 .result)
-left4 c = left-next (fieldText (start (letter-of (first-of (second-of (third-of c)))) .args .c .exposure) tab) _ (left3 (third-of c)) (c .put-field4 .ensures)
+left4 : (c : tie.After-write-field4) → let l = letter-of (first-of (second-of (third-of c))) in Stands l (Of Rest4 l) (c .write-field4 .last .1 .1 .0) (c .write-field4 .result)
+left4 c = left-next (fieldText (start (letter-of (first-of (second-of (third-of c)))) .args .c .exposure) tab) _ (left3 (third-of c)) (c .write-field4 .ensures)
 
 left5 : (c : tie.After-write-byte) → let l = letter-of (first-of (second-of (third-of (fourth-of c)))) in Stands l (lineFeed ∷ []) (c .write-byte .last .1 .0) (c .write-byte .result)
 left5 c = left-next (letter-of (first-of (second-of (third-of (fourth-of c)))) .letter .result ∷ []) _ (left4 (fourth-of c)) (c .write-byte .ensures)
@@ -95,23 +95,17 @@ censored-requires c κs = search needs
 letter-requires : tie.Need-letter-requires
 letter-requires c κs = search needs
 
-put-field-requires : tie.Need-put-field-requires
-put-field-requires c κs =
-    left-room (fieldText (start (c .before) .args .c .records) tab) _ (left0 (c .before))
+write-field-requires : tie.Need-write-field-requires
+write-field-requires c κs = search needs
 
-put-field-requires-2 : tie.Need-put-field-requires-2
-put-field-requires-2 c κs =
-    left-room (fieldText (start (letter-of (c .before .before .before)) .args .c .failures) tab) _ (left1 (c .before .before .before))
+write-field-requires-2 : tie.Need-write-field-requires-2
+write-field-requires-2 c κs = search needs
 
-put-field-requires-3 : tie.Need-put-field-requires-3
-put-field-requires-3 c κs =
-    let p = c .before .before .before in
-    left-room (fieldText (letter-of (first-of p) .before .censored .result) tab) _ (left2 p)
+write-field-requires-3 : tie.Need-write-field-requires-3
+write-field-requires-3 c κs = search needs
 
-put-field-requires-4 : tie.Need-put-field-requires-4
-put-field-requires-4 c κs =
-    let p = c .before .before .before in
-    left-room (fieldText (start (letter-of (first-of (second-of p))) .args .c .exposure) tab) _ (left3 p)
+write-field-requires-4 : tie.Need-write-field-requires-4
+write-field-requires-4 c κs = search needs
 
 write-byte-requires : tie.Need-write-byte-requires
 write-byte-requires c κs = search needs
@@ -134,10 +128,10 @@ put-record-spec =
     returns
     censored-requires
     letter-requires
-    put-field-requires
-    put-field-requires-2
-    put-field-requires-3
-    put-field-requires-4
+    write-field-requires
+    write-field-requires-2
+    write-field-requires-3
+    write-field-requires-4
     write-byte-requires
     write-byte-requires-2
     same-length

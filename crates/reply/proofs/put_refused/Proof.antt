@@ -5,7 +5,7 @@ use mathlib.Core.Path.{_≡_}
 use denote.Ref.{now}
 use Rattle.refusal.specs.Numbers.{numberOf}
 use Rattle.decimal.specs.Field.{tab, fieldText}
-use Rattle.text.proofs.Parts.{Left, left-all, left-next, left-fits, left-room, left-last}
+use Rattle.text.proofs.Parts.{Left, left-all, left-next, left-fits, left-last}
 use Rattle.reply.specs.Written.{reasonText, refusedWord, refusedText}
 use borrow.Author.Needs.{needs}
 use Rattle.reply.proofs.put_refused.Statement.{statement}
@@ -15,10 +15,10 @@ use Rattle.reply.proofs.put_refused.Tie as tie
 abbrev start : tie.After-write-bytes → tie.Start
 start c = c .before .before .before .before
 
-abbrev word-of : tie.After-put-field → tie.After-write-bytes
+abbrev word-of : tie.After-write-field → tie.After-write-bytes
 word-of c = c .before .before .before .before
 
-abbrev line-of : tie.After-number → tie.After-put-field
+abbrev line-of : tie.After-number → tie.After-write-field
 line-of c = c .before .before .before
 
 -- of the refused line so much is left, and the lent bytes are these
@@ -32,10 +32,10 @@ left1 : (c : tie.After-write-bytes) → Stands c (fieldText (start c .args .line
 unfolding refusedText
 left1 c = left-next refusedWord _ (left-all _ _ (refusedText (start c .args .line) (start c .args .column) (start c .args .r)) (start c .pre)) (c .write-bytes .ensures)
 
-left2 : (c : tie.After-put-field) → Stands (word-of c) (Why (word-of c)) (c .put-field .last .1 .1 .0) (c .put-field .result)
-left2 c = left-next (fieldText (start (word-of c) .args .line) tab) _ (left1 (word-of c)) (c .put-field .ensures)
+left2 : (c : tie.After-write-field) → Stands (word-of c) (Why (word-of c)) (c .write-field .last .1 .1 .0) (c .write-field .result)
+left2 c = left-next (fieldText (start (word-of c) .args .line) tab) _ (left1 (word-of c)) (c .write-field .ensures)
 
-left3 : (c : tie.After-put-field) {n : ℕ} → n ≡ numberOf (start (word-of c) .args .r) → Stands (word-of c) (reasonText n (start (word-of c) .args .column)) (c .put-field .last .1 .1 .0) (c .put-field .result)
+left3 : (c : tie.After-write-field) {n : ℕ} → n ≡ numberOf (start (word-of c) .args .r) → Stands (word-of c) (reasonText n (start (word-of c) .args .column)) (c .write-field .last .1 .1 .0) (c .write-field .result)
 left3 c e = rw e (left2 c)
 
 slice-aggregate-write-bytes : tie.Need-slice-aggregate-write-bytes
@@ -44,9 +44,8 @@ slice-aggregate-write-bytes c = search needs
 write-bytes-requires : tie.Need-write-bytes-requires
 write-bytes-requires c κs = search needs
 
-put-field-requires : tie.Need-put-field-requires
-put-field-requires c κs =
-    left-room (fieldText (start (c .before .before .before) .args .line) tab) _ (left1 (c .before .before .before))
+write-field-requires : tie.Need-write-field-requires
+write-field-requires c κs = search needs
 
 number-requires : tie.Need-number-requires
 number-requires c κs = search needs
@@ -68,7 +67,7 @@ put-refused-spec =
     (tie.spec
     slice-aggregate-write-bytes
     write-bytes-requires
-    put-field-requires
+    write-field-requires
     number-requires
     put-reason-requires
     same-length

@@ -2,7 +2,7 @@
 use Prim.Native.Nat.{ℕ}
 use mathlib.Core.List.{List, _++_}
 use denote.Ref.{now}
-use Rattle.text.proofs.Parts.{Left, left-all, left-fits, left-last, left-next, left-room}
+use Rattle.text.proofs.Parts.{Left, left-all, left-last, left-next}
 use Rattle.decimal.specs.Field.{fieldText, tab}
 use Rattle.report.specs.Report.{fourText}
 use borrow.Author.Needs.{needs}
@@ -28,53 +28,49 @@ module _ (s : tie.Start) where
   left0 = left-all _ _ _ (s .pre)
 
 -- the places on the way back
-abbrev start : tie.After-put-field → tie.Start
+abbrev start : tie.After-write-field → tie.Start
 start c = c .before .before .before
 
-abbrev first-of : tie.After-put-field2 → tie.After-put-field
+abbrev first-of : tie.After-write-field2 → tie.After-write-field
 first-of c = c .before .before .before .before
 
-abbrev second-of : tie.After-put-field3 → tie.After-put-field2
+abbrev second-of : tie.After-write-field3 → tie.After-write-field2
 second-of c = c .before .before .before .before
 
-left1 : (c : tie.After-put-field) → Stands (start c) (BCD (start c)) (c .put-field .last .1 .1 .0) (c .put-field .result)
-left1 c = left-next (fieldText (start c .args .a) tab) _ (left0 (start c)) (c .put-field .ensures)
+left1 : (c : tie.After-write-field) → Stands (start c) (BCD (start c)) (c .write-field .last .1 .1 .0) (c .write-field .result)
+left1 c = left-next (fieldText (start c .args .a) tab) _ (left0 (start c)) (c .write-field .ensures)
 
-left2 : (c : tie.After-put-field2) → let s = start (first-of c) in Stands s (CD s) (c .put-field2 .last .1 .1 .0) (c .put-field2 .result)
-left2 c = left-next (fieldText (start (first-of c) .args .b) tab) _ (left1 (first-of c)) (c .put-field2 .ensures)
+left2 : (c : tie.After-write-field2) → let s = start (first-of c) in Stands s (CD s) (c .write-field2 .last .1 .1 .0) (c .write-field2 .result)
+left2 c = left-next (fieldText (start (first-of c) .args .b) tab) _ (left1 (first-of c)) (c .write-field2 .ensures)
 
-left3 : (c : tie.After-put-field3) → let s = start (first-of (second-of c)) in Stands s (D s) (c .put-field3 .last .1 .1 .0) (c .put-field3 .result)
-left3 c = left-next (fieldText (start (first-of (second-of c)) .args .c) tab) _ (left2 (second-of c)) (c .put-field3 .ensures)
+left3 : (c : tie.After-write-field3) → let s = start (first-of (second-of c)) in Stands s (D s) (c .write-field3 .last .1 .1 .0) (c .write-field3 .result)
+left3 c = left-next (fieldText (start (first-of (second-of c)) .args .c) tab) _ (left2 (second-of c)) (c .write-field3 .ensures)
 
-put-field-requires : tie.Need-put-field-requires
-put-field-requires c κs = let s = c .before .before in left-room (fieldText (s .args .a) tab) _ (left0 s)
+write-field-requires : tie.Need-write-field-requires
+write-field-requires c κs = search needs
 
-put-field-requires-2 : tie.Need-put-field-requires-2
-put-field-requires-2 c κs =
-    let p = c .before .before .before in
-    left-room (fieldText (start p .args .b) tab) _ (left1 p)
+write-field-requires-2 : tie.Need-write-field-requires-2
+write-field-requires-2 c κs = search needs
 
-put-field-requires-3 : tie.Need-put-field-requires-3
-put-field-requires-3 c κs =
-    let p = c .before .before .before in
-    left-room (fieldText (start (first-of p) .args .c) tab) _ (left2 p)
+write-field-requires-3 : tie.Need-write-field-requires-3
+write-field-requires-3 c κs = search needs
 
-put-field-requires-4 : tie.Need-put-field-requires-4
-put-field-requires-4 c κs = left-fits (left3 (c .before .before .before))
+write-field-requires-4 : tie.Need-write-field-requires-4
+write-field-requires-4 c κs = search needs
 
 same-length : tie.Need-same-length
 same-length c = search needs
 
 returns : tie.Need-returns
-returns c = left-last (left3 (c .before .before .before .before .before .before)) (c .before .before .put-field4 .ensures)
+returns c = left-last (left3 (c .before .before .before .before .before .before)) (c .before .before .write-field4 .ensures)
 
 pub put-four-spec : {M : Type 1} → statement M
 put-four-spec =
     tie.close
     (tie.spec
-    put-field-requires
-    put-field-requires-2
-    put-field-requires-3
-    put-field-requires-4
+    write-field-requires
+    write-field-requires-2
+    write-field-requires-3
+    write-field-requires-4
     same-length
     returns)

@@ -4,7 +4,7 @@ use mathlib.Core.Path.{_≡_}
 use mathlib.Core.List.{List, [], _∷_, _++_}
 use denote.Ref.{now}
 use Rattle.truth.proofs.Laws.{holds}
-use Rattle.text.proofs.Parts.{Left, left-all, left-fits, left-last, left-next, left-room}
+use Rattle.text.proofs.Parts.{Left, left-all, left-last, left-next, left-room}
 use Rattle.decimal.specs.Field.{fieldText, lineFeed, tab}
 use Rattle.campaign.proofs.Relations.{kept-from}
 use Rattle.report.specs.Report.{fourText, lineText}
@@ -73,8 +73,8 @@ write-byte-requires c κs = search needs
 write-byte-requires-2 : tie.Need-write-byte-requires-2
 write-byte-requires-2 c κs = search needs
 
-put-field-requires : tie.Need-put-field-requires
-put-field-requires c κs = left-fits (left3 (c .before .before .before))
+write-field-requires : tie.Need-write-field-requires
+write-field-requires c κs = search needs
 
 same-length : tie.Need-same-length
 same-length c = search needs
@@ -82,7 +82,7 @@ same-length c = search needs
 returns : tie.Need-returns
 returns c =
     let t = c .before .before .before .before .before .before in
-    rw (whole (blocks-of (four-of (mark-of t)))) (left-last (left3 t) (c .before .before .put-field .ensures))
+    rw (whole (blocks-of (four-of (mark-of t)))) (left-last (left3 t) (c .before .before .write-field .ensures))
 
 pub put-line-spec : {M : Type 1} → statement M
 put-line-spec =
@@ -94,6 +94,6 @@ put-line-spec =
     put-four-requires
     write-byte-requires
     write-byte-requires-2
-    put-field-requires
+    write-field-requires
     same-length
     returns)

@@ -1,0 +1,67 @@
+-- `decimal::write_field` meets its contract: where there is room for both, the number, then the byte. Assumes nothing.
+use Prim.Native.Nat.{_+_, _≤_}
+use mathlib.Core.Path.{sym, _∙_}
+use mathlib.Core.List.{[], _∷_}
+use native.Mathlib.Omega.{arith}
+use lib.ListN.{length, length-append}
+use denote.Ref.{now}
+use borrow.Author.Needs.{needs}
+use borrow.Author.Tests.{leb-true, leb-false, not-true, not-false}
+use Rattle.text.proofs.Laws.{wrote-short}
+use Rattle.text.proofs.Parts.{left-all, left-next, left-last}
+use Rattle.decimal.specs.Decimal.{digitsOf}
+use Rattle.decimal.specs.Field.{fieldText}
+use Rattle.decimal.proofs.write_field.Statement.{statement}
+use Rattle.decimal.proofs.write_field.Tie as tie
+
+digits-requires : tie.Need-digits-requires
+digits-requires c κs = search needs
+
+add-has-room : tie.Need-add-has-room
+add-has-room c = search needs
+
+has-room-requires : tie.Need-has-room-requires
+has-room-requires c κs = search needs
+
+returns : tie.Need-returns
+unfolding fieldText
+returns c =
+    let a = c .before .before .before .before .args in
+    let no-room = leb-false _ (length (now (a .out))) (sym (c .before .has-room .ensures) ∙ not-true (c .before .has-room .result) (c .if1 .taken)) in
+    wrote-short (now (a .out)) (a .at) (fieldText (a .v) (a .end)) (omega (arith, length-append (digitsOf (a .v)) (a .end ∷ [])))
+
+write-number-requires : tie.Need-write-number-requires
+write-number-requires c κs = search needs
+
+write-byte-requires : tie.Need-write-byte-requires
+write-byte-requires c κs = search needs
+
+same-length : tie.Need-same-length
+same-length c = search needs
+
+room : (c : tie.Else1) → let a = c .before .before .before .before .args in a .at + length (fieldText (a .v) (a .end)) ≤ length (now (a .out))
+unfolding fieldText
+room c =
+    let a = c .before .before .before .before .args in
+    let fits = leb-true _ (length (now (a .out))) (sym (c .before .has-room .ensures) ∙ not-false (c .before .has-room .result) (c .if1 .left)) in
+    omega (arith, length-append (digitsOf (a .v)) (a .end ∷ []))
+
+returns-2 : tie.Need-returns-2
+unfolding fieldText
+returns-2 c =
+    let n = c .before .before .before .before .before .before in
+    let a = n .before .before .before .before .before .before .args in
+    left-last (left-next (digitsOf (a .v)) (a .end ∷ []) (left-all (now (a .out)) (a .at) (fieldText (a .v) (a .end)) (room (n .before .before))) (n .write-number .ensures)) (c .before .before .write-byte .ensures)
+
+pub write-field-spec : {M : Type 1} → statement M
+write-field-spec =
+    tie.close
+    (tie.spec
+    digits-requires
+    add-has-room
+    has-room-requires
+    returns
+    write-number-requires
+    write-byte-requires
+    same-length
+    returns-2)

@@ -1,0 +1,4 @@
+pub mod Going
+pub mod Pieces
+pub mod Begun
+pub mod Unique

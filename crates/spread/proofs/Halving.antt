@@ -42,4 +42,4 @@ module _ {a p low high : ℕ} (b : Between a p low high) (apart : low < high) wh
   downwards enough = record { ordered = middle-low; widest = omega (arith, b .widest, middle-high); enough = enough; below = b .below }
 
 pub ends : {a p low high : ℕ} → Between a p low high → high ≤ low → Least a p high
-ends {low = low} {high = high} b met = record { enough = b .enough; least = λ k e. omega (arith, b .below k e) }
+ends {a} {p} {low} {high} b met = record { enough = b .enough; least = λ k e. omega (arith, b .below k e) }

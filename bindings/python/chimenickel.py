@@ -147,19 +147,14 @@ def _slice(samples):
     return (ctypes.c_int32 * max(len(whole), 1)).from_buffer(whole or array("i", [0])), len(whole)
 
 
-_zeros = (ctypes.c_int32 * 1)()
-
-
 def _slices(roll, acceleration):
-    """Pointer and length of both channels. For one that is None zeros are lent, which are kept for the next call."""
-    global _zeros
+    """Pointer and length of both channels. For one that is None zeros are lent, which are made for this call."""
     if roll is None and acceleration is None:
         raise TypeError("a record has at least one channel")
     given = [None if samples is None else _slice(samples) for samples in (roll, acceleration)]
     n = max(length for _, length in filter(None, given))
-    if None in given and len(_zeros) < n:
-        _zeros = (ctypes.c_int32 * n)()
-    return [part for samples in given for part in samples or (_zeros, n)]
+    zeros = (ctypes.c_int32 * max(n, 1))() if None in given else None
+    return [part for samples in given for part in samples or (zeros, n)]
 
 
 class _State:

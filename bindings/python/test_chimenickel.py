@@ -1,6 +1,9 @@
 """python3 -m unittest test_chimenickel, after bin/build-lib."""
 
 import math
+import pathlib
+import subprocess
+import sys
 import unittest
 from array import array
 
@@ -33,10 +36,111 @@ from chimenickel import (
     write_sheet,
 )
 
+HERE = pathlib.Path(__file__).resolve().parent
 ITEMS = (500, 0, 40_000, 2_000, 9_810)
 ROLL = [0, 41_000, 39_000, 41_000, 39_000, 41_000, 0]
 # above its level where the roll is, and where it has just been
 ACCELERATION = [0, 0, 0, -9_811, 9_811, 0, 9_811]
+
+
+# What test_threads runs, in processes of their own since a read out of bounds may end one.
+MODULE = """
+import pathlib, sys, threading, types
+from array import array
+
+code = compile(pathlib.Path("chimenickel.py").read_text(), str(pathlib.Path("chimenickel.py").resolve()), "exec")
+
+def made():
+    module = types.ModuleType("chimenickel")
+    module.__file__ = code.co_filename
+    exec(code, vars(module))
+    return module
+"""
+
+# A record of 3 samples is fed up to its j-th line of the module, then one of 10,000 up to its k-th; then the first goes
+# on to its end, and then the second: all j and k, each time in a module just made.
+SCHEDULES = MODULE + """
+
+failed = []
+
+class Fed(threading.Thread):
+    def __init__(self, module, n, lines):
+        super().__init__()
+        self.file, self.lines, self.n = module.__file__, lines, n
+        self.record, self.quiet = module.Record(1, 0, 1, 0, 1), array("i", bytes(4 * n))
+        self.stopped, self.onward = threading.Event(), threading.Event()
+        self.start()
+        self.stopped.wait()
+
+    def trace(self, frame, event, _):
+        if frame.f_code.co_filename != self.file:
+            return None
+        if event == "line":
+            self.lines -= 1
+            if self.lines == 0:
+                self.stopped.set()
+                self.onward.wait()
+        return self.trace
+
+    def run(self):
+        sys.settrace(self.trace)
+        try:
+            self.record.feed(self.quiet)
+        except Exception as error:
+            failed.append(str(error))
+        sys.settrace(None)
+        if (self.record.samples, self.record.crossings) != (self.n, 0):
+            failed.append(self.record.numbers)
+        self.stopped.set()
+
+    def end(self):
+        self.onward.set()
+        self.join()
+        return self.lines > 0
+
+def schedule(j, k):
+    module = made()
+    short = Fed(module, 3, j)
+    long = Fed(module, 10_000, k)
+    return short.end(), long.end()
+
+j, done = 0, False
+while not done:
+    j, k, ended = j + 1, 0, False
+    while not ended:
+        k += 1
+        done, ended = schedule(j, k)
+print(j, k)
+sys.exit(str(failed) if failed else 0)
+"""
+
+# The same by chance: six threads at a module just made, which are switched as often as can be.
+THREADS = MODULE + """
+sys.setswitchinterval(1e-6)
+failed = []
+
+def feed(module, n, start):
+    record = module.Record(1, 0, 1, 0, 1)
+    quiet = array("i", bytes(4 * n))
+    start.wait()
+    try:
+        record.feed(*((quiet,) if n % 2 else (None, quiet)))
+    except Exception as error:
+        failed.append((n, error))
+    if (record.samples, record.crossings) != (n, 0):
+        failed.append((n, record.numbers))
+
+for _ in range(25):
+    module = made()
+    lengths = (1_000_001, 3, 1_000_000, 10, 300_001, 2)
+    start = threading.Barrier(len(lengths))
+    threads = [threading.Thread(target=feed, args=(module, n, start)) for n in lengths]
+    for thread in threads:
+        thread.start()
+    for thread in threads:
+        thread.join()
+sys.exit(str(failed) if failed else 0)
+"""
 
 
 def fed(roll, acceleration=None):
@@ -296,6 +400,12 @@ class Records(unittest.TestCase):
         self.refused(16, 0, fit_tail, [], 0)
         self.refused(17, 1, fit_tail, [1, 0, 1_000_001], 2)
         self.assertRaises(OverflowError, fit_tail, [1, -1], 2)
+
+    def test_threads(self):
+        """A record of one channel is told of nothing in the other, whatever other threads feed meanwhile."""
+        for script in (SCHEDULES, THREADS, THREADS):
+            done = subprocess.run([sys.executable, "-c", script], cwd=HERE, capture_output=True, text=True, timeout=300)
+            self.assertEqual((done.returncode, done.stderr), (0, ""))
 
     def test_rows(self):
         self.assertEqual((upper_row(1), lower_row(1), upper_row(0), lower_row(65)), (3_688_880, 25_317, 0, 0))

@@ -6,14 +6,24 @@ thousandths of a degree, accelerations and theirs in mm/s2, times in ms, rates i
 condition (judge_condition, write_report). Records that go on past a failure are added up in a Sum. What the library cannot take raises Refusal, and then nothing has
 changed. A number that is no 64-bit whole number, or a sample that is no 32-bit one, raises OverflowError before the library is asked.
 
+Samples, peaks and records are whole numbers in one dimension: a list, a tuple, what yields them, or an array of 16, 32
+or 64 bits. Anything else raises TypeError, and a table ValueError, before the library is asked. Nothing is shared by
+calls: those on different states may run at the same time, two on one state may not.
+
 The library is looked for in the folder that CHIMENICKEL_LIB names, or else where bin/build-lib writes it.
 """
 
+import collections.abc
 import ctypes
+import decimal
 import enum
 import math
+import numbers
+import operator
 import os
 import pathlib
+import reprlib
+import sys
 from array import array
 from typing import NamedTuple, Optional
 
@@ -109,10 +119,56 @@ class Refusal(Exception):
         self.column = None
 
 
-def _number(x):
+# What a caller hands over, for the sentence that says why something else is not taken.
+_TAKEN = {
+    "step": "is in whole ms",
+    "ramp": "is in whole samples",
+    "level": "is in whole thousandths of a degree",
+    "decorrelation": "is in whole ms",
+    "acceleration_level": "is in whole mm/s2",
+    "standard": "is in whole ms",
+    "exposure": "is in whole ms",
+    "k": "is a whole number of peaks",
+    "bureau": "is a whole number",
+    "place": "is a whole number",
+    "n": "is a whole number",
+    "state": "is stored in whole numbers",
+    "roll": "is in whole thousandths of a degree, in one dimension",
+    "acceleration": "is in whole mm/s2, in one dimension",
+    "samples": "are whole thousandths, in one dimension",
+    "peaks": "are whole numbers, in one dimension",
+    "records": "are in whole ms, in one dimension",
+    "degrees": "are numbers, in one dimension",
+}
+
+
+def _other(name, given):
+    return TypeError(f"{name} {_TAKEN[name]}: {given}")
+
+
+def _whole(kind):
+    """Whether numbers of this type are whole: Python's and numpy's are; truth values are none, nor are numpy's spans of
+    time, which pass for whole but have no index."""
+    return issubclass(kind, numbers.Integral) and hasattr(kind, "__index__") and not issubclass(kind, bool)
+
+
+def _real(kind):
+    """The same of numbers that degrees may be."""
+    return _whole(kind) or issubclass(kind, (numbers.Real, decimal.Decimal)) and not issubclass(kind, numbers.Integral)
+
+
+def _number(name, x):
+    if not _whole(type(x)):
+        raise _other(name, f"{reprlib.repr(x)} given")
+    x = operator.index(x)
     if not 0 <= x < 1 << 64:
-        raise OverflowError(f"{x} is no 64-bit number")
+        raise OverflowError(f"{name} is no 64-bit number: {x} given")
     return x
+
+
+def _items(**items):
+    """The items in their order, each by its name."""
+    return [_number(name, x) for name, x in items.items()]
 
 
 def _ask(function, *arguments):
@@ -133,28 +189,114 @@ def _ask_of_two(function, *arguments):
     return carried.value
 
 
-def _slice(samples):
-    """A pointer and a length. An array of 32-bit numbers is copied at once, anything else number by number."""
+def _view(name, values):
+    """The memory of what holds its values side by side; None for a list and whatever else is gone through."""
+    if hasattr(values, "filled"):  # numpy's, whose memory has numbers behind the mask too
+        raise _other(name, "an array with a mask given")
     try:
-        view = memoryview(samples)
-        whole = array("i")
-        if view.format == "i":
-            whole.frombytes(view.tobytes())
-        else:
-            whole.extend(samples)
+        view = memoryview(values)
+        dimensions = view.ndim
     except TypeError:
-        whole = array("i", samples)
-    return (ctypes.c_int32 * max(len(whole), 1)).from_buffer(whole or array("i", [0])), len(whole)
+        view, dimensions = None, getattr(values, "ndim", 1)
+    except (ValueError, BufferError):  # dates and the like, which have no form of memory
+        raise _other(name, f"{_kind(values)} given") from None
+    if dimensions != 1:
+        raise ValueError(f"{name} {_TAKEN[name]}: {dimensions} dimensions given")
+    return view
+
+
+def _kind(values):
+    return f"an array of {values.dtype}" if hasattr(values, "dtype") else type(values).__name__
+
+
+def _form(view):
+    """The form of one value in memory, without the order of its bytes."""
+    return view.format.lstrip("@=<>!")
+
+
+def _listed(name, values, taken):
+    """Values that are gone through one by one, all of a type that is taken."""
+    if isinstance(values, (collections.abc.Set, collections.abc.Mapping)):  # these are in no order that means something
+        raise _other(name, f"{_kind(values)} given")
+    try:
+        values = iter(values) if not isinstance(values, (list, tuple)) else values
+    except TypeError:
+        raise _other(name, f"{_kind(values)} given") from None
+    values = list(values)
+    strange = {kind for kind in set(map(type, values)) if not taken(kind)}
+    if strange:
+        place, value = next((i, x) for i, x in enumerate(values) if type(x) in strange)
+        raise _other(name, f"{reprlib.repr(value)} given at place {place}")
+    return values
+
+
+_SIGNED = {2: "h", 4: "i", 8: "q"}
+_WHOLE = frozenset("hilqnHILQN")
+_ORDERS = {"<": "little", ">": "big", "!": "big"}
+
+
+def _held(name, values, view, code):
+    """An array of whole numbers as one of 32 bits, read as it stands in memory, whatever its steps and the order of its
+    bytes. Single bytes are a file's text, and no whole numbers."""
+    form = _form(view)
+    if form not in _WHOLE:
+        raise _other(name, f"{_kind(values)} given")
+    held = _SIGNED[view.itemsize]
+    whole = array(held if form.islower() else held.upper(), view.tobytes())
+    if _ORDERS.get(view.format[0], sys.byteorder) != sys.byteorder:
+        whole.byteswap()
+    return array(code, whole)
+
+
+def _side_by_side(name, values, code):
+    """The memory of 32-bit whole numbers: the values' own where they stand so already, else that of an array."""
+    view = _view(name, values)
+    if view is None:
+        return memoryview(array(code, _listed(name, values, _whole)))
+    return view if view.format == code else memoryview(_held(name, values, view, code))
+
+
+def _slice(name, values, code="i", held=ctypes.c_int32):
+    """A pointer and a length, of memory of this call's own, which no other thread changes or shortens meanwhile."""
+    view = _side_by_side(name, values, code)
+    n = len(view)
+    return (held * max(n, 1)).from_buffer_copy(view if view.c_contiguous and n else view.tobytes() or bytes(4)), n
+
+
+def _slice_and_zeros(name, values):
+    """The same, and as many zeros. Both stand in one piece: the system gives and takes back two more slowly."""
+    view = _side_by_side(name, values, "i")
+    n = len(view)
+    both = array("i", [0]) * max(2 * n, 1)
+    memoryview(both)[:n] = view
+    part = ctypes.c_int32 * n
+    return part.from_buffer(both), part.from_buffer(both, 4 * n), n
 
 
 def _slices(roll, acceleration):
     """Pointer and length of both channels. For one that is None zeros are lent, which are made for this call."""
     if roll is None and acceleration is None:
         raise TypeError("a record has at least one channel")
-    given = [None if samples is None else _slice(samples) for samples in (roll, acceleration)]
-    n = max(length for _, length in filter(None, given))
-    zeros = (ctypes.c_int32 * max(n, 1))() if None in given else None
-    return [part for samples in given for part in samples or (zeros, n)]
+    if acceleration is None:
+        lent, zeros, n = _slice_and_zeros("roll", roll)
+        return lent, n, zeros, n
+    if roll is None:
+        lent, zeros, n = _slice_and_zeros("acceleration", acceleration)
+        return zeros, n, lent, n
+    return *_slice("roll", roll), *_slice("acceleration", acceleration)
+
+
+def _text(text):
+    """A file's text as bytes."""
+    if type(text) is bytes:
+        return text
+    try:
+        view = memoryview(text)
+    except TypeError:
+        view = None
+    if view is None or view.ndim != 1 or _form(view) not in ("B", "c"):
+        raise TypeError(f"a file's text is bytes, in one dimension: {_kind(text)} given")
+    return view.tobytes()
 
 
 class _State:
@@ -163,7 +305,7 @@ class _State:
     def __init__(self, numbers):
         if len(numbers) != self.LENGTH:
             raise Refusal(8, 0)
-        self._state = (_u64 * self.LENGTH)(*map(_number, numbers))
+        self._state = (_u64 * self.LENGTH)(*(_number("state", x) for x in numbers))
 
     @classmethod
     def from_numbers(cls, numbers):
@@ -202,7 +344,9 @@ class Record(_State):
 
     def __init__(self, step, ramp, level, decorrelation, acceleration_level):
         super().__init__([0] * self.LENGTH)
-        items = map(_number, (step, ramp, level, decorrelation, acceleration_level))
+        items = _items(
+            step=step, ramp=ramp, level=level, decorrelation=decorrelation, acceleration_level=acceleration_level
+        )
         _ask(_lib.chim_record_open, *items, self._state, self.LENGTH)
 
     def feed(self, roll, acceleration=None):
@@ -244,14 +388,17 @@ class Record(_State):
 def first_crossing(roll, acceleration, ramp, level, acceleration_level):
     """The place of the first crossing of a whole record, or None; of unequal lengths only the places that both have are looked at. Either channel may be None."""
     slices = _slices(roll, acceleration)
-    place = _lib.chim_record_first_crossing(*slices, *map(_number, (ramp, level, acceleration_level)))
+    items = _items(ramp=ramp, level=level, acceleration_level=acceleration_level)
+    place = _lib.chim_record_first_crossing(*slices, *items)
     return place if place < min(slices[1], slices[3]) else None
 
 
 def counted_times(step, ramp, level, decorrelation, acceleration_level, roll, acceleration=None):
     """The counted times of a whole record: of each group, that of its first crossing. Either channel may be None."""
     slices = _slices(roll, acceleration)
-    items = tuple(map(_number, (step, ramp, level, decorrelation, acceleration_level)))
+    items = _items(
+        step=step, ramp=ramp, level=level, decorrelation=decorrelation, acceleration_level=acceleration_level
+    )
     places = 0
     while True:
         times = (ctypes.c_uint32 * max(places, 1))()
@@ -307,14 +454,15 @@ class Campaign(_State):
 
     def __init__(self, standard):
         super().__init__([0] * self.LENGTH)
-        _ask(_lib.chim_campaign_open, _number(standard), self._state, self.LENGTH)
+        _ask(_lib.chim_campaign_open, *_items(standard=standard), self._state, self.LENGTH)
 
     @classmethod
     def read_sheet(cls, text):
         """The campaign of a whole job sheet, as bytes; a Refusal knows its line and column."""
+        text = _text(text)
         state, line, column = (_u64 * cls.LENGTH)(), _u64(), _u64()
         try:
-            _ask(_lib.chim_sheet_read, bytes(text), len(text), state, cls.LENGTH, ctypes.byref(line), ctypes.byref(column))
+            _ask(_lib.chim_sheet_read, text, len(text), state, cls.LENGTH, ctypes.byref(line), ctypes.byref(column))
         except Refusal as refusal:
             refusal.line, refusal.column = line.value, column.value
             raise
@@ -322,7 +470,7 @@ class Campaign(_State):
 
     def enter(self, failed, exposure):
         """Enters a result by what a campaign takes of it: whether there is a first failure, and the exposure, 1 to 10,000,000 ms."""
-        _ask(_lib.chim_campaign_enter, self._state, self.LENGTH, int(bool(failed)), _number(exposure))
+        _ask(_lib.chim_campaign_enter, self._state, self.LENGTH, int(bool(failed)), *_items(exposure=exposure))
 
     @property
     def records(self):
@@ -364,7 +512,7 @@ class Sum(_State):
 
     def __init__(self, step):
         super().__init__([0] * self.LENGTH)
-        _ask(_lib.chim_sum_open, _number(step), self._state, self.LENGTH)
+        _ask(_lib.chim_sum_open, *_items(step=step), self._state, self.LENGTH)
 
     def add(self, record):
         """Adds a record's groups and its timed samples. A record of another step is refused by 1 with item 1."""
@@ -436,7 +584,7 @@ class Bench:
             raise Refusal(8, 0)
         bench = cls()
         for i, row in enumerate(numbers):
-            bench._table[i] = _row(*map(_number, row))
+            bench._table[i] = _row(*(_number("state", x) for x in row))
         return bench
 
     @property
@@ -446,22 +594,23 @@ class Bench:
 
     def take(self, bureau, standard):
         """A job at this standard: its place, the lowest that is free."""
-        return _ask(_lib.chim_bench_take, self._table, self.PLACES, _number(bureau), _number(standard))
+        return _ask(_lib.chim_bench_take, self._table, self.PLACES, *_items(bureau=bureau, standard=standard))
 
     def enter(self, bureau, place, failed, exposure):
         """Enters a result as Campaign.enter does, into the campaign in the bureau's place."""
-        _ask(_lib.chim_bench_enter, self._table, self.PLACES, _number(bureau), _number(place), int(bool(failed)), _number(exposure))
+        bureau, place, exposure = _items(bureau=bureau, place=place, exposure=exposure)
+        _ask(_lib.chim_bench_enter, self._table, self.PLACES, bureau, place, int(bool(failed)), exposure)
 
     def verdict(self, bureau, place):
-        return _judged(_lib.chim_bench_verdict, self._table, self.PLACES, _number(bureau), _number(place))
+        return _judged(_lib.chim_bench_verdict, self._table, self.PLACES, *_items(bureau=bureau, place=place))
 
     def rates(self, bureau, place):
         """The estimate and its 95% bounds; None while there is no record."""
-        return _rated(_lib.chim_bench_rates, self._table, self.PLACES, _number(bureau), _number(place))
+        return _rated(_lib.chim_bench_rates, self._table, self.PLACES, *_items(bureau=bureau, place=place))
 
     def give_back(self, bureau, place):
         """The place is free again."""
-        _ask(_lib.chim_bench_give_back, self._table, self.PLACES, _number(bureau), _number(place))
+        _ask(_lib.chim_bench_give_back, self._table, self.PLACES, *_items(bureau=bureau, place=place))
 
 
 class Peak(NamedTuple):
@@ -473,8 +622,8 @@ class Peak(NamedTuple):
 
 def envelope_peaks(step, ramp, decorrelation, samples):
     """The envelope peaks of a whole record, a list of Peak in order of time."""
-    items = [_number(item) for item in (step, ramp, decorrelation)]
-    xs, n = _slice(samples)
+    items = _items(step=step, ramp=ramp, decorrelation=decorrelation)
+    xs, n = _slice("samples", samples)
     places = 0
     while True:
         sizes, times = (ctypes.c_uint32 * max(places, 1))(), (ctypes.c_uint32 * max(places, 1))()
@@ -501,32 +650,32 @@ class Tail(NamedTuple):
 
 def fit_tail(peaks, k):
     """The tail of the k largest of up to 4,096 peaks, each from 1 to 1,000,000."""
-    if any(not 0 <= peak < 1 << 32 for peak in peaks):
-        raise OverflowError("a peak is no 32-bit number")
-    n = len(peaks)
-    lent, after = (ctypes.c_uint32 * max(n, 1))(*peaks), (ctypes.c_uint32 * max(n, 1))()
-    total = _ask(_lib.chim_tail_fit, lent, n, _number(k), after, n)
+    lent, n = _slice("peaks", peaks, "I", ctypes.c_uint32)
+    after = (ctypes.c_uint32 * max(n, 1))()
+    [k] = _items(k=k)
+    total = _ask(_lib.chim_tail_fit, lent, n, k, after, n)
     return Tail(list(after), k, total)
 
 
 def read_comma(text, step):
     """The samples of a simulator's comma file, as bytes: one a line, time in ms, comma, roll in degrees, each line ended by LF; times start at 0 and grow by
     the step. An array of 32-bit numbers, thousandths of a degree, which Record.feed takes at once."""
-    text = bytes(text)
+    text = _text(text)
     samples = array("i", bytes(4 * max(text.count(b"\n"), 1)))
     lent = (ctypes.c_int32 * len(samples)).from_buffer(samples)
-    n = _ask(_lib.chim_comma_read, text, len(text), _number(step), lent, len(samples))
+    n = _ask(_lib.chim_comma_read, text, len(text), *_items(step=step), lent, len(samples))
     return samples[:n]
 
 
 def write_comma(samples, step):
     """Samples as a comma file, always with three decimals."""
-    xs, n = _slice(samples)
+    xs, n = _slice("samples", samples)
+    items = _items(step=step)
     size = 0
     while True:
         out = ctypes.create_string_buffer(max(size, 1))
         try:
-            written = _ask(_lib.chim_comma_write, xs, n, _number(step), out, size)
+            written = _ask(_lib.chim_comma_write, xs, n, *items, out, size)
             return out.raw[:written]
         except Refusal as refusal:
             if refusal.number != 7:
@@ -536,17 +685,17 @@ def write_comma(samples, step):
 
 def write_sheet(standard, records):
     """The job sheet of a standard and its records as bytes, in order: exposures in ms, with a minus on the failed ones."""
-    xs, n = _slice(records)
+    xs, n = _slice("records", records)
     # room for any sheet of so many records, of which no more than 100,000 are taken
     size = 22 + 18 * min(n, 100_000)
     out = ctypes.create_string_buffer(size)
-    written = _ask(_lib.chim_sheet_write, _number(standard), xs, n, out, size)
+    written = _ask(_lib.chim_sheet_write, *_items(standard=standard), xs, n, out, size)
     return out.raw[:written]
 
 
 def read_records(text):
     """The standard of a whole job sheet, as bytes, and the list of its records, as write_sheet takes them. A Refusal has the line and the column of the fault."""
-    text = bytes(text)
+    text = _text(text)
     places = max(text.count(b"\n"), 1)
     records, standard, line, column = (ctypes.c_int32 * places)(), _u64(), _u64(), _u64()
     try:
@@ -557,29 +706,40 @@ def read_records(text):
     return standard.value, records[:n]
 
 
+def _thousandths(x):
+    # a number of numpy's would be multiplied in its own width
+    return round((x.item() if hasattr(x, "dtype") else x) * 1000)
+
+
 def from_degrees(degrees):
     """Samples of degrees: each number to the nearest thousandth, halves to the even one. Takes what a naval architect has in hand, a numpy array (which numpy
-    turns over at once), or any numbers. A number that is none, or too large for 32 bits, raises OverflowError."""
+    turns over at once), or any numbers, in one dimension. A number that is none, or too large for 32 bits, raises
+    OverflowError."""
+    view = _view("degrees", degrees)
+    # of a memoryview Python reads these forms, in the processor's own order of bytes
+    foreign = isinstance(degrees, memoryview) and view.format not in _WHOLE | set("fd")
+    if view is not None and (foreign or _form(view) not in _WHOLE | set("efdg")):
+        raise _other("degrees", f"{_kind(degrees)} given")
     try:
         import numpy
     except ImportError:
         numpy = None
     if numpy is not None and isinstance(degrees, numpy.ndarray):
-        thousandths = numpy.rint(degrees.astype(numpy.float64).ravel() * 1000)
+        thousandths = numpy.rint(degrees.astype(numpy.float64) * 1000)
         if not (numpy.abs(thousandths) < 1 << 31).all():
             raise OverflowError("a number of degrees is no 32-bit number of thousandths")
         return array("i", thousandths.astype(numpy.int32).tobytes())
     try:
-        return array("i", [round(x * 1000) for x in degrees])
+        return array("i", [_thousandths(x) for x in _listed("degrees", degrees, _real)])
     except ValueError as error:
         raise OverflowError(str(error)) from None
 
 
 def upper_row(n):
     """Upper row n in millionths of an expected failure, from 1 to 64; 0 for any other n."""
-    return _lib.chim_upper_row(_number(n))
+    return _lib.chim_upper_row(*_items(n=n))
 
 
 def lower_row(n):
     """Lower row n in millionths of an expected failure, from 1 to 64; 0 for any other n."""
-    return _lib.chim_lower_row(_number(n))
+    return _lib.chim_lower_row(*_items(n=n))

@@ -1,5 +1,8 @@
 """python3 -m unittest test_chimenickel, after bin/build-lib."""
 
+import ctypes
+import decimal
+import fractions
 import math
 import pathlib
 import subprocess
@@ -406,6 +409,170 @@ class Records(unittest.TestCase):
         for script in (SCHEDULES, THREADS, THREADS):
             done = subprocess.run([sys.executable, "-c", script], cwd=HERE, capture_output=True, text=True, timeout=300)
             self.assertEqual((done.returncode, done.stderr), (0, ""))
+
+    # every function that takes a row of whole numbers, by the name that it has for it
+    ROWS = (
+        ("roll", lambda row: Record(*ITEMS).feed(row)),
+        ("roll", lambda row: Record(*ITEMS).feed(row, [0, 0])),
+        ("acceleration", lambda row: Record(*ITEMS).feed(None, row)),
+        ("acceleration", lambda row: Record(*ITEMS).feed([0, 0], row)),
+        ("roll", lambda row: counted_times(*ITEMS, row)),
+        ("acceleration", lambda row: counted_times(*ITEMS, None, row)),
+        ("roll", lambda row: first_crossing(row, None, 0, 1, 1)),
+        ("acceleration", lambda row: first_crossing(None, row, 0, 1, 1)),
+        ("samples", lambda row: envelope_peaks(500, 0, 0, row)),
+        ("peaks", lambda row: fit_tail(row, 2)),
+        ("samples", lambda row: write_comma(row, 500)),
+        ("records", lambda row: write_sheet(7_200_000, row)),
+    )
+
+    def not_taken(self, rows, tables):
+        """No function takes any of these; from_degrees takes the rows, of which some are degrees."""
+        for name, call in self.ROWS + (("degrees", from_degrees),):
+            sentence = f"^{name} (is|are) .*, in one dimension: .* given( at place [01])?$"
+            for row in tables if name == "degrees" else tables + rows:
+                with self.assertRaisesRegex((TypeError, ValueError), sentence, msg=repr(row)):
+                    call(row)
+
+    def taken(self, rows, wanted):
+        """Each row, which is made anew for each call, reads as the wanted numbers wherever it is taken."""
+        for make in rows:
+            self.assertEqual(write_comma(make(), 500), write_comma(wanted, 500))
+            self.assertEqual(write_sheet(1, make()), write_sheet(1, wanted))
+            self.assertEqual(fit_tail(make(), 2), fit_tail(wanted, 2))
+            self.assertEqual(fed(make()).numbers, fed(wanted).numbers)
+            self.assertEqual(fed(wanted, make()).numbers, fed(wanted, wanted).numbers)
+            self.assertEqual(list(from_degrees(make())), [1_000 * x for x in wanted])
+
+    def test_rows_that_are_none(self):
+        class Yields:
+            def __iter__(self):
+                return iter((1, [2]))
+
+        row = array("i", [1, 2, 3, 4])
+        tables = [[[1, 2], [3, 4]], [(1, 2), (3, 4)], ([1], [2]), [row, row], [[]], Yields(), [1, [2]]]
+        tables += [memoryview(row).cast("B").cast("i", (2, 2)), ((ctypes.c_int32 * 2) * 2)(), (ctypes.c_bool * 2)()]
+        tables += [5, b"12", bytearray(b"12"), memoryview(b"12"), "12", ["1", "2"], {1: 2, 3: 4}, {1, 2}, object()]
+        tables += [[1, True], [1, None], [1, 2j], [1, b"2"]]
+        rows = [[1, 2.0], (1, 2.0), [1, math.nan], [1, decimal.Decimal(2)], [1, fractions.Fraction(2)]]
+        rows += [array(code, [1, 2]) for code in "dfbB"] + [memoryview(array("d", [1, 2])), (ctypes.c_double * 2)(1, 2)]
+        self.not_taken(rows, tables)
+
+    def test_rows_of_any_form(self):
+        wanted = [1, 700, 3, 999, 5, 6]
+        beside = array("i", [x for y in wanted for x in (y, 7)])
+        rows = [lambda form=form: form(wanted) for form in (list, tuple, iter, lambda row: (x for x in row))]
+        rows += [lambda code=code: array(code, wanted) for code in "hHiIlLqQ"]
+        rows += [lambda: memoryview(array("h", wanted)), lambda: memoryview(beside)[::2]]
+        rows += [lambda: memoryview(array("i", wanted[::-1]))[::-1], lambda: (ctypes.c_int32 * 6)(*wanted)]
+        rows += [lambda: (ctypes.c_int32.__ctype_be__ * 6)(*wanted), lambda: (ctypes.c_uint16 * 6)(*wanted)]
+        self.taken(rows, wanted)
+        self.taken([lambda: range(1, 5)], [1, 2, 3, 4])
+        self.assertEqual(fed(memoryview(array("q", ROLL))).numbers, fed(ROLL).numbers)
+        numbers = (1, 2.5, fractions.Fraction(1, 2_000), decimal.Decimal("1.0015"))
+        self.assertEqual(list(from_degrees(x for x in numbers)), [1_000, 2_500, 0, 1_002])
+        for code, strange in (("q", 1 << 31), ("q", -(1 << 31) - 1), ("Q", (1 << 64) - 1), ("I", 1 << 31)):
+            self.assertRaises(OverflowError, fed, array(code, [strange]))
+        self.assertRaises(OverflowError, fit_tail, array("i", [1, -1]), 2)
+        self.assertRaises(OverflowError, fit_tail, [1, 1 << 32], 2)
+        for empty in ([], (), array("i"), array("q"), iter(())):
+            self.assertEqual(write_comma(empty, 500), b"")
+
+    @unittest.skipUnless(numpy, "numpy is not there")
+    def test_rows_of_numpy(self):
+        wanted = [1, 700, 3, 999, 5, 6]
+        forms = [order + form for order in "<>" for form in ("i2", "i4", "i8", "u2", "u4", "u8")]
+        table = numpy.array([[x, -x] for x in wanted], dtype="i4")
+        column = table[:, 0]
+        rows = [lambda form=form: numpy.array(wanted, dtype=form) for form in forms]
+        rows += [lambda: column, lambda: numpy.asfortranarray(table)[:, 0], lambda: column[::-1][::-1]]
+        rows += [lambda: table.astype(">i8")[:, 0], lambda: memoryview(column), lambda: memoryview(column.copy())]
+        rows += [lambda: list(column), lambda: [*wanted[:3], *column[3:].astype("u2")]]
+        self.taken(rows, wanted)
+        # 1,000 quiet rows of time and roll, of which 199 failures were counted once
+        times = numpy.array([[500 * i, 0] for i in range(1_000)], dtype="i4")
+        tables = [times, table, table[:0], table.T, table[None], numpy.array(5), list(table), list(table[:, :1])]
+        strange = ["?", "O", "c8", "c16", "M8[s]", "m8[s]", "S1", "U1", [("a", "i4")]]
+        tables += [numpy.zeros(2, dtype=form) for form in strange]
+        tables += [[1, x] for x in (numpy.bool_(True), numpy.timedelta64(2), numpy.array([2]))]
+        tables += [numpy.ma.array([1, 2], mask=mask, dtype="i4") for mask in (False, [0, 1])]
+        floats = [numpy.zeros(2, dtype=form) for form in ("f2", "f4", "f8", "g", ">f8")] + [[1, numpy.float32(2)]]
+        self.not_taken(floats, tables + [numpy.zeros(2, dtype=form) for form in ("i1", "u1")])
+        self.assertEqual(list(from_degrees(numpy.array([1.5, -2], dtype=">f8"))), [1_500, -2_000])
+        self.assertEqual(fed(memoryview(numpy.array(ROLL, dtype=">i4"))).numbers, fed(ROLL).numbers)
+        for form in (">f8", "f2", "g", ">i4"):
+            foreign = memoryview(numpy.array([1, -2], dtype=form))
+            self.assertRaisesRegex(TypeError, "^degrees are .*: memoryview given$", from_degrees, foreign)
+        self.assertEqual(list(from_degrees(numpy.array([[1.5, 9], [-2, 9]])[:, 0])), [1_500, -2_000])
+        # in 32 bits some of these times 1,000 are halves
+        near = numpy.linspace(-999, 999, 9_999, dtype="f4")
+        self.assertEqual(from_degrees(list(near)), from_degrees(near))
+
+    def test_items_that_are_not_whole(self):
+        bench, campaign = Bench(), Campaign(7_200_000)
+        items = dict(step=500, ramp=0, level=40_000, decorrelation=2_000, acceleration_level=9_810)
+        ms, whole = "is in whole ms", "is a whole number"
+        units = dict(step=ms, ramp="is in whole samples", level="is in whole thousandths of a degree", decorrelation=ms)
+        units.update(acceleration_level="is in whole mm/s2")
+        calls = []
+        for name, unit in units.items():
+            calls.append((name, unit, lambda x, name=name: Record(**dict(items, **{name: x}))))
+            calls.append((name, unit, lambda x, name=name: counted_times(**dict(items, **{name: x}), roll=ROLL)))
+        calls += [
+            ("ramp", units["ramp"], lambda x: first_crossing(ROLL, None, x, 1, 1)),
+            ("level", units["level"], lambda x: first_crossing(ROLL, None, 0, x, 1)),
+            ("acceleration_level", units["acceleration_level"], lambda x: first_crossing(ROLL, None, 0, 1, x)),
+            ("step", ms, lambda x: envelope_peaks(x, 0, 0, ROLL)),
+            ("ramp", units["ramp"], lambda x: envelope_peaks(500, x, 0, ROLL)),
+            ("decorrelation", ms, lambda x: envelope_peaks(500, 0, x, ROLL)),
+            ("standard", ms, Campaign),
+            ("standard", ms, lambda x: write_sheet(x, [1])),
+            ("exposure", ms, lambda x: campaign.enter(False, x)),
+            ("step", ms, Sum),
+            ("step", ms, lambda x: read_comma(b"", x)),
+            ("step", ms, lambda x: write_comma([], x)),
+            ("k", "is a whole number of peaks", lambda x: fit_tail([1, 2], x)),
+            ("bureau", whole, lambda x: bench.take(x, 1)),
+            ("standard", ms, lambda x: bench.take(1, x)),
+            ("bureau", whole, lambda x: bench.enter(x, 0, False, 1)),
+            ("place", whole, lambda x: bench.enter(1, x, False, 1)),
+            ("exposure", ms, lambda x: bench.enter(1, 0, False, x)),
+            ("place", whole, lambda x: bench.verdict(1, x)),
+            ("place", whole, lambda x: bench.rates(1, x)),
+            ("place", whole, lambda x: bench.give_back(1, x)),
+            ("n", whole, upper_row),
+            ("n", whole, lower_row),
+            ("state", "is stored in whole numbers", lambda x: Campaign.from_numbers([7_200_000, 0, 0, 0, x])),
+            ("state", "is stored in whole numbers", lambda x: Bench.from_numbers([[0, 0, 0, 0, 0, x]] * 32)),
+        ]
+        strange = [9.81, 500.0, True, False, None, "500", 5j, [500], decimal.Decimal(500)]
+        if numpy:
+            strange += [numpy.float64(9.81), numpy.bool_(True), numpy.array([500]), numpy.timedelta64(500)]
+        for name, unit, call in calls:
+            for x in strange:
+                with self.assertRaises(TypeError, msg=(name, x)) as caught:
+                    call(x)
+                self.assertEqual(str(caught.exception), f"{name} {unit}: {x!r} given")
+            for x in (-1, 1 << 64):
+                with self.assertRaises(OverflowError, msg=(name, x)) as caught:
+                    call(x)
+                self.assertEqual(str(caught.exception), f"{name} is no 64-bit number: {x} given")
+        if numpy:
+            self.assertEqual(Record(*map(numpy.int32, ITEMS)).numbers, Record(*ITEMS).numbers)
+            self.assertEqual(fit_tail([1, 2], numpy.uint8(2)), fit_tail([1, 2], 2))
+
+    def test_texts(self):
+        sheet, comma = b"standard\t7200000\n1\t0\t1800000\n", b"0,0\n500,41\n"
+        for form in (bytearray, memoryview, lambda text: array("B", text)):
+            self.assertEqual(Campaign.read_sheet(form(sheet)).numbers, Campaign.read_sheet(sheet).numbers)
+            self.assertEqual(read_records(form(sheet)), read_records(sheet))
+            self.assertEqual(read_comma(form(comma), 500), read_comma(comma, 500))
+        strange = ["0,0\n", 5, None, [48, 44, 48, 10], array("i", [0]), memoryview(b"0,0\n").cast("B", (2, 2))]
+        if numpy:
+            strange += [numpy.zeros((2, 2), dtype="u1"), numpy.zeros(2, dtype="i4")]
+        for text in strange:
+            for call in (Campaign.read_sheet, read_records, lambda text: read_comma(text, 500)):
+                self.assertRaisesRegex(TypeError, "^a file's text is bytes, in one dimension: .* given$", call, text)
 
     def test_rows(self):
         self.assertEqual((upper_row(1), lower_row(1), upper_row(0), lower_row(65)), (3_688_880, 25_317, 0, 0))

@@ -28,7 +28,16 @@ from array import array
 from typing import NamedTuple, Optional
 
 _folder = os.environ.get("CHIMENICKEL_LIB") or pathlib.Path(__file__).resolve().parents[2] / "target" / "lib"
-_lib = ctypes.CDLL(str(pathlib.Path(_folder) / "libchimenickel.so"))
+_path = pathlib.Path(_folder).absolute() / "libchimenickel.so"
+try:
+    _lib = ctypes.CDLL(str(_path))
+except OSError as _error:
+    _why = f"{_path} cannot be loaded ({_error})" if _path.exists() else f"there is no {_path}"
+    raise ImportError(
+        f"{_why}: bin/build-lib writes the library to target/lib, and CHIMENICKEL_LIB may name another folder",
+        name=__name__,
+        path=str(_path),
+    ) from None
 
 _u64 = ctypes.c_uint64
 _numbers = ctypes.POINTER(ctypes.c_uint64)
@@ -73,7 +82,14 @@ for _name, _result, _parameters in [
     ("chim_upper_row", ctypes.c_uint32, [_u64]),
     ("chim_lower_row", ctypes.c_uint32, [_u64]),
 ]:
-    _function = getattr(_lib, _name)
+    try:
+        _function = getattr(_lib, _name)
+    except AttributeError:
+        raise ImportError(
+            f"{_path} has no {_name}: it is older than this module, and bin/build-lib writes it anew",
+            name=__name__,
+            path=str(_path),
+        ) from None
     _function.restype, _function.argtypes = _result, _parameters
 
 

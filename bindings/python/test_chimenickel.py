@@ -4,9 +4,11 @@ import ctypes
 import decimal
 import fractions
 import math
+import os
 import pathlib
 import subprocess
 import sys
+import tempfile
 import unittest
 from array import array
 
@@ -409,6 +411,26 @@ class Records(unittest.TestCase):
         for script in (SCHEDULES, THREADS, THREADS):
             done = subprocess.run([sys.executable, "-c", script], cwd=HERE, capture_output=True, text=True, timeout=300)
             self.assertEqual((done.returncode, done.stderr), (0, ""))
+
+    def test_a_library_that_is_not_there(self):
+        """An ImportError of one line says where it looked and what writes the library; of a bad or an old one too."""
+        with tempfile.TemporaryDirectory() as folder:
+            library = pathlib.Path(folder) / "libchimenickel.so"
+            environment = dict(os.environ, CHIMENICKEL_LIB=folder)
+
+            def said():
+                words = [sys.executable, "-c", "import chimenickel"]
+                done = subprocess.run(words, cwd=HERE, env=environment, capture_output=True, text=True)
+                self.assertEqual((done.returncode, done.stdout), (1, ""))
+                return done.stderr.splitlines()[-1]
+
+            advice = ": bin/build-lib writes the library to target/lib, and CHIMENICKEL_LIB may name another folder"
+            self.assertEqual(said(), f"ImportError: there is no {library}{advice}")
+            library.write_bytes(b"no library")
+            self.assertRegex(said(), f"^ImportError: {library} cannot be loaded \\(.*\\){advice}$")
+            subprocess.run(["gcc", "-shared", "-x", "c", "/dev/null", "-o", library], check=True)
+            older = "it is older than this module, and bin/build-lib writes it anew"
+            self.assertEqual(said(), f"ImportError: {library} has no chim_record_open: {older}")
 
     # every function that takes a row of whole numbers, by the name that it has for it
     ROWS = (

@@ -791,10 +791,18 @@ impl Bench {
     }
 }
 
+const USAGE: &str =
+    "oracle LIBRARY ROWS [N]: the library that is tried; what the program `rows` writes; one history of bureaus in N";
+
+/// What was linked, to the byte: the run is about the library that it is told of, and no older one nor another tree's.
+const LINKED: &[u8] = include_bytes!(concat!(env!("OUT_DIR"), "/libchimenickel.a"));
+
 fn main() {
-    let rows = std::env::args().nth(1).expect("oracle ROWS [N]: the file that the program `rows` writes; one history of bureaus in N");
+    let [library, rows] = [1, 2].map(|i| std::env::args().nth(i).expect(USAGE));
+    let own = std::fs::read(&library).expect("the library") == LINKED;
+    assert!(own, "this program has another library than {library} in it");
     let rows = Rows::read(&std::fs::read_to_string(rows).expect("the rows"));
-    let share: usize = std::env::args().nth(2).map_or(1, |n| n.parse().expect("one history in so many"));
+    let share: usize = std::env::args().nth(3).map_or(1, |n| n.parse().expect("one history in so many"));
     let often = OFTEN / share as u64;
     let mut b = Bench { random: Random::new(1980), rows, cases: 0, met: BTreeMap::new(), verdicts: BTreeMap::new() };
     b.table();

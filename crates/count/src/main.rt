@@ -5,8 +5,10 @@
 // carried. Behind the items may stand the lengths in bytes of several files, which then come one behind the other: each is counted and added to a sum (document 02, [7]), and
 // the line has N, P, the estimate and its bounds in thousandths of a failure, and P·D; or refused, the file's number, and the rest as for one file. How it ended goes as a
 // digit to a descriptor of its own, where bin/program waits for it.
+ghost use mathlib.Core.Path.{_≡_};
 ghost use Prim.Native.Nat.{_≤_, _<_};
-ghost use lib.ListN.{length};
+ghost use lib.IntN.{pos};
+ghost use lib.ListN.{length, replicate};
 ghost use Rattle.count.specs.Kept.{keptBy};
 use channels::Levels;
 use follow::Follow;
@@ -68,9 +70,11 @@ struct Reached {
     at: usize,
 }
 
-// The samples of the lines up to `f`; behind one out of range nothing is fed any more. A file has one channel. The other's level is the highest, which no sample is
-// above: any samples do for it, so the same are lent.
-fn fed(c: Count, f: Follow, samples: &[i32]) -> Count {
+// The samples of the lines up to `f`; behind one out of range nothing is fed any more. A file has one channel: as many
+// zeros are lent for the other.
+fn fed(c: Count, f: Follow, samples: &[i32], zeros: &[i32]) -> Count
+    requires { ⌜ now zeros ≡ replicate (length (now samples)) (pos 0) ⌝ }
+{
     let r = c.record;
     if f.outside != 0 {
         return Count {
@@ -80,7 +84,7 @@ fn fed(c: Count, f: Follow, samples: &[i32]) -> Count {
             coming: c.coming,
         };
     }
-    match feeding::feed(r, samples, samples) {
+    match feeding::feed(r, samples, zeros) {
         record::Answer::Taken(s) => Count {
             record: s,
             follow: f,
@@ -99,9 +103,10 @@ fn fed(c: Count, f: Follow, samples: &[i32]) -> Count {
 // The right lines that `text` starts with, and where they end.
 fn lines(c: Count, text: &[u8]) -> Reached {
     let mut samples = [0i32; LINES];
+    let zeros = [0i32; LINES];
     match follow::take(c.follow, text, &mut samples) {
         Followed::Taken(f, at, n) => Reached {
-            count: fed(c, f, &samples[..n]),
+            count: fed(c, f, &samples[..n], &zeros[..n]),
             at: at,
         },
         Followed::Refused(_) => Reached { count: c, at: 0 },

@@ -185,12 +185,22 @@ fn answered(out: &[u8], n: usize, end: u8) -> u8 {
     end
 }
 
+// Writes the refused line to standard output. Whoever waits at the other descriptor learns it too, behind what the
+// refusal carries, so that a command can say it in words.
+fn declined(out: &[u8], n: usize, r: Refusal) -> u8 {
+    let mut carried = [0u8; 32];
+    let m = decimal::write_field(refusal::carried(r), LF, &mut carried, 0);
+    say(END_FILENO, &carried, m);
+    say(END_FILENO, out, n);
+    answered(out, n, REFUSED)
+}
+
 fn refused(line: u64, r: Refusal) -> u8 {
     let mut out = [0u8; 64];
     let word = text::write_bytes(b"refused\t", &mut out, 0);
     let number = decimal::write_field(line, TAB, &mut out, word);
     let n = decimal::write_field(refusal::number(r), LF, &mut out, number);
-    answered(&out, n, REFUSED)
+    declined(&out, n, r)
 }
 
 // Samples, crossings, groups, largest set, time of the first failure or a dash, exposure. A failed record's exposure is the time of its first failure.
@@ -304,7 +314,7 @@ fn refused_in(file: u64, line: u64, r: Refusal) -> u8 {
     let first = decimal::write_field(file, TAB, &mut out, word);
     let second = decimal::write_field(line, TAB, &mut out, first);
     let n = decimal::write_field(refusal::number(r), LF, &mut out, second);
-    answered(&out, n, REFUSED)
+    declined(&out, n, r)
 }
 
 // The file's record added to the sum; or 4, 11.

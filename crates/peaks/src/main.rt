@@ -153,12 +153,22 @@ fn answered(out: &[u8], n: usize, end: u8) -> u8 {
     end
 }
 
+// Writes the refused line to standard output. Whoever waits at the other descriptor learns it too, behind what the
+// refusal carries, so that a command can say it in words.
+fn turned_down(out: &[u8], n: usize, r: Refusal) -> u8 {
+    let mut carried = [0u8; 32];
+    let m = decimal::write_field(refusal::carried(r), LF, &mut carried, 0);
+    say(END_FILENO, &carried, m);
+    say(END_FILENO, out, n);
+    answered(out, n, REFUSED)
+}
+
 fn refused(line: u64, r: Refusal) -> u8 {
     let mut out = [0u8; 64];
     let word = text::write_bytes(b"refused\t", &mut out, 0);
     let number = decimal::write_field(line, TAB, &mut out, word);
     let n = decimal::write_field(refusal::number(r), LF, &mut out, number);
-    answered(&out, n, REFUSED)
+    turned_down(&out, n, r)
 }
 
 // One peak's line.

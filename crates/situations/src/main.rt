@@ -114,16 +114,31 @@ fn one(size: u64, text: &mut [u8]) -> Reading
     sheet::read(sheet, &text[..kept], false)
 }
 
-// Writes the first `n` bytes of `out` to standard output, and answers how the program ends.
-fn say(out: &[u8], n: usize, end: u8) -> u8 {
+// Writes the first `n` bytes of `out`; answers whether it could.
+fn say(to: i32, out: &[u8], n: usize) -> bool {
     if out.len() < n {
-        return FAILED;
+        return false;
     }
-    if !io::write_all(STDOUT_FILENO, &out[..n]) {
+    io::write_all(to, &out[..n])
+}
+
+// Writes them to standard output, and answers how the program ends.
+fn answered(out: &[u8], n: usize, end: u8) -> u8 {
+    if !say(STDOUT_FILENO, out, n) {
         os::fail(b"standard output");
         return FAILED;
     }
     end
+}
+
+// Writes the refused line to standard output. Whoever waits at the other descriptor learns it too, behind what the
+// refusal carries, so that a command can say it in words.
+fn declined(out: &[u8], n: usize, r: Refusal) -> u8 {
+    let mut carried = [0u8; 32];
+    let m = decimal::write_field(refusal::carried(r), LF, &mut carried, 0);
+    say(END_FILENO, &carried, m);
+    say(END_FILENO, out, n);
+    answered(out, n, REFUSED)
 }
 
 fn refused(situation: u64, line: u64, column: u64, r: Refusal) -> u8 {
@@ -135,17 +150,17 @@ fn refused(situation: u64, line: u64, column: u64, r: Refusal) -> u8 {
     if number == MALFORMED {
         let fourth = decimal::write_field(number, TAB, &mut out, third);
         let n = decimal::write_field(column, LF, &mut out, fourth);
-        return say(&out, n, REFUSED);
+        return declined(&out, n, r);
     }
     let n = decimal::write_field(number, LF, &mut out, third);
-    say(&out, n, REFUSED)
+    declined(&out, n, r)
 }
 
 // The report. `out` has room for the longest: 40 bytes and 28 for each situation, as `report` shows.
 fn told(campaigns: [Campaign; 64], number: usize) -> u8 {
     let mut out = [0u8; 1832];
     match report::write(campaigns, number, &mut out) {
-        Writing::Bytes(n) => say(&out, n as usize, READ),
+        Writing::Bytes(n) => answered(&out, n as usize, READ),
         Writing::Refused(r) => refused(0, 0, 0, r),
     }
 }

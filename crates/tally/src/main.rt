@@ -9,6 +9,7 @@ ghost use Rattle.tally.specs.Kept.{keptBy};
 use libc::STDIN_FILENO;
 use libc::STDOUT_FILENO;
 use line::Sheet;
+use refusal::Refusal;
 use sheet::Ran;
 use sheet::Reading;
 
@@ -21,17 +22,89 @@ const REFUSED: u8 = b'1';
 
 const FAILED: u8 = b'2';
 
+const TAB: u8 = 9;
+
+const LF: u8 = 10;
+
+// The refusal of a malformed line.
+const MALFORMED: u64 = 9;
+
 // What a turn of the loop comes to: where the reading stands, with the bytes of a line begun; or how it ended.
 enum After {
     On(Sheet, usize),
     Over(u8),
 }
 
-// How a reading that does not wait ended.
-fn ended(reading: Reading) -> u8 {
+// Where the line of `text` behind so many others starts.
+fn start_of(text: &[u8], lines: u64) -> usize
+    ensures { λ r. ⌜ r ≤ length (now (text .entry)) ⌝ }
+{
+    let mut at = 0;
+    let mut left = lines;
+    while at < text.len() {
+        if left == 0 {
+            return at;
+        }
+        if text[at] == LF {
+            left -= 1;
+        }
+        at += 1;
+    }
+    at
+}
+
+// The lines that were taken before.
+fn taken(s: Sheet) -> u64 {
+    match s {
+        Sheet::Fresh => 0,
+        Sheet::Open(c) => std::num::wrapping_add_u64(c.records, 1),
+    }
+}
+
+// Whether the line of that number, in `text` behind the lines taken before, is one by which a command refused.
+fn is_refused(s: Sheet, text: &[u8], line: u64) -> bool {
+    let before = std::num::wrapping_add_u64(taken(s), 1);
+    let at = start_of(text, std::num::wrapping_sub_u64(line, before));
+    form::begins(&text[at..], b"refused\t")
+}
+
+// What a command needs beside the refused line to say it in words: for a malformed line whether it is a refused line
+// itself, else what the refusal carries.
+fn beside(handed: bool, r: Refusal) -> u64 {
+    if refusal::number(r) != MALFORMED {
+        return refusal::carried(r);
+    }
+    if handed {
+        return 1;
+    }
+    0
+}
+
+// Writes the first `n` bytes of `out`; answers whether it could.
+fn say(to: i32, out: &[u8], n: usize) -> bool {
+    if out.len() < n {
+        return false;
+    }
+    io::write_all(to, &out[..n])
+}
+
+// Tells it to whoever waits for how the program ends, and the refused line's fields with it.
+fn told(line: u64, column: u64, r: Refusal, handed: bool) -> u8 {
+    let mut out = [0u8; 128];
+    let first = decimal::write_field(beside(handed, r), LF, &mut out, 0);
+    let second = text::write_bytes(b"refused\t", &mut out, first);
+    let third = decimal::write_field(line, TAB, &mut out, second);
+    let fourth = decimal::write_field(refusal::number(r), TAB, &mut out, third);
+    let n = decimal::write_field(column, LF, &mut out, fourth);
+    say(END_FILENO, &out, n);
+    REFUSED
+}
+
+// How a reading that does not wait ended, from where it stood before `text`.
+fn ended(s: Sheet, text: &[u8], reading: Reading) -> u8 {
     match reading {
         Reading::Read(_) => READ,
-        Reading::Stopped(_, _, _) => REFUSED,
+        Reading::Stopped(line, column, r) => told(line, column, r, is_refused(s, text, line)),
         Reading::Waiting(_, _) => FAILED,
     }
 }
@@ -49,7 +122,7 @@ fn work(s: Sheet, text: &mut [u8], end: usize, more: bool, out: &mut [u8]) -> Af
         return After::Over(FAILED);
     }
     let Reading::Waiting(t, left) = reading else {
-        return After::Over(ended(reading));
+        return After::Over(ended(s, &text[..end], reading));
     };
     front::keep(text, end - left, left);
     After::On(t, left)

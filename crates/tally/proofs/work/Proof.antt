@@ -72,6 +72,12 @@ returns-2 c = search needs
 enum-known-reading-2 : tie.Need-enum-known-reading-2
 enum-known-reading-2 c = search needs
 
+slice-reshare-prefix-ended : tie.Need-slice-reshare-prefix-ended
+slice-reshare-prefix-ended c = search needs
+
+slice-aggregate-ended : tie.Need-slice-aggregate-ended
+slice-aggregate-ended c = sym (length-take-le _ _ (slice-reshare-prefix-ended (c .before)))
+
 ended-requires : tie.Need-ended-requires
 ended-requires c κs = search needs
 
@@ -120,6 +126,8 @@ work-spec =
     same-length-4
     returns-2
     enum-known-reading-2
+    slice-reshare-prefix-ended
+    slice-aggregate-ended
     ended-requires
     same-length-5
     same-length-6

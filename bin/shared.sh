@@ -1,0 +1,199 @@
+# What the commands of bin/ have in common; each reads this file first, with its own place in `self`, which is known
+# also where it was called through a link. Needs bash.
+set -u
+unset CDPATH # or `cd` would look elsewhere, and say where it went
+here=${self%/*}
+root=${here%/*}
+me=${self##*/}
+# bin/sheet lets bin/count speak in its place
+speaker=${CHIMENICKEL_SPEAKER:-$me}
+lf=$'\n' tab=$'\t'
+
+# stop WORDS: ends with 2, and says why.
+stop() {
+    echo "$speaker: $1" >&2
+    exit 2
+}
+
+# wrong: the words are none of the command's.
+wrong() {
+    usage >&2
+    exit 2
+}
+
+# whole WORD: whether it is a whole number as the sheet has them, without a sign or a zero before other digits.
+whole() {
+    case $1 in
+    '' | *[!0-9]* | 0?*) return 1 ;;
+    esac
+}
+
+# --- files by their names
+
+# no_options NAME..: what starts with a minus is no file's name.
+no_options() {
+    local file
+    for file; do
+        case $file in
+        -*) wrong ;;
+        esac
+    done
+}
+
+# are_there NAME..: ends where one is not there, or is no file. It is asked of all names before anything is opened,
+# since a name may stand for a descriptor that is then taken.
+are_there() {
+    local file
+    for file; do
+        [ -e "$file" ] || stop "${file:-''}: no such file"
+        [ ! -d "$file" ] || stop "$file is a directory"
+        [ -r "$file" ] || stop "$file: may not be read"
+    done
+}
+
+# descriptor_of NAME: the number of the descriptor that it stands for, or nothing, goes to `descriptor`.
+descriptor_of() {
+    case $1 in
+    /dev/stdin) descriptor=0 ;;
+    /dev/fd/* | /proc/self/fd/*) descriptor=${1##*/} ;;
+    *) descriptor= ;;
+    esac
+}
+
+# flows NAME: whether it is a pipe, a socket or a terminal, where what one has read is gone for the other.
+flows() {
+    [ -p "$1" ] || [ -S "$1" ] || { [ -c "$1" ] && [ -t 0 ] <"$1"; }
+}
+
+# are_apart NAME..: ends where two names stand for one descriptor, pipe or terminal: neither would get the whole of it.
+are_apart() {
+    local file other number seen=()
+    for file; do
+        descriptor_of "$file"
+        [ -n "$descriptor" ] || flows "$file" || continue
+        number=$descriptor
+        for other in ${seen[@]+"${seen[@]}"}; do
+            [ "$file" -ef "$other" ] || continue
+            descriptor_of "$other"
+            [ -f "$file" ] && [ "$descriptor" != "$number" ] ||
+                stop "$other and $file are one input, which can be read only once"
+        done
+        seen+=("$file")
+    done
+}
+
+# opens NAME: opens it on a descriptor that nobody has, whose number goes to `opened`.
+opens() {
+    { command exec {opened}<"$1"; } 2>/dev/null || stop "$1: cannot be opened"
+}
+
+# --- refusals in words
+
+# meaning NUMBER PLACE: what a refusal means, as the Python module has it (Refusal.MEANINGS); tests/commands compares
+# them.
+meaning() {
+    case $1 in
+    1) echo "opening item $2 is outside its range" ;;
+    2) echo "the sample at place $2 is outside its range" ;;
+    3)
+        echo "the timed length, or a sheet's exposure, would pass 10,000,000 ms," \
+            "or a comma file's last time 12 digits"
+        ;;
+    4) echo "there are fewer than two timed samples, or a sheet's exposure is 0" ;;
+    5) echo "the campaign has 100,000 records" ;;
+    6) echo "the campaign has 64 failures" ;;
+    7) echo "$2 places are needed" ;;
+    8) echo "the numbers are no state, or no result" ;;
+    9) echo "line $2 is malformed" ;;
+    10) echo "line $2 of the comma file is malformed or has a wrong time" ;;
+    11) echo "the sum would have more than 10,000 failures or 100,000,000 samples" ;;
+    12) echo "roll and acceleration have unequal lengths" ;;
+    13) echo "there is no such bureau" ;;
+    14) echo "the bureau has 16 jobs" ;;
+    15) echo "the place is not the bureau's own" ;;
+    16) echo "there are more than 4,096 peaks, or k is outside 2 to their number" ;;
+    17) echo "the peak at place $2 is 0 or above 1,000,000" ;;
+    18) echo "there is no campaign, or there are more than 64" ;;
+    esac
+}
+
+# explain WHERE LINE NUMBER CARRIED [MORE]: the sentence of a refusal, on standard error, or in the file that bin/sheet
+# names, which may know an earlier one. A line of 0 is none. Places of samples are counted from 0, lines from 1.
+explain() {
+    local where=$1 place=$2 items=('' 'the step' 'the ramp' 'a level' 'the decorrelation time' 'the standard')
+    case $3 in
+    1) place=$4 where=${items[$4]-$1} ;;
+    2) place=$(($2 - 1)) ;;
+    esac
+    [ "$2" = 0 ] || where="$where, line $2"
+    where="$speaker: ${where:+$where: }refusal $3: $(meaning "$3" "$place")${5-}"
+    if [ -n "${CHIMENICKEL_WHY-}" ]; then
+        echo "$where" >"$CHIMENICKEL_WHY"
+    else
+        echo "$where" >&2
+    fi
+}
+
+# Behind the sentence of a malformed line that is itself a refused line.
+handed_on="; it is the line by which another command refused, and no line of a sheet"
+
+# --- what is proved and built
+
+# needs_kit: ends where there is no Rattle kit; else `tools` is where its tools are.
+needs_kit() {
+    local rt
+    rt=$(command -v rt) || stop "the Rattle kit is not there (no command rt)"
+    tools=$(dirname -- "$(readlink -f -- "$rt")")/../on/$(uname -m)/toolchain
+}
+
+# is_built NAME: whether the program stands as the sources have it.
+is_built() {
+    [ -x "$root/target/bin/$1" ] &&
+        [ -z "$(find "$root/crates" "$root/crates.txt" -newer "$root/target/bin/$1" -type f -print -quit)" ]
+}
+
+# build NAME WAIT: proves and builds the program.
+build() {
+    local log=$root/target/log/$1.build
+    echo "$1: proving and building what it stands on, which takes about $2 ($log)" >&2
+    mkdir -p "$root/target/log" || stop "cannot write to $root/target"
+    [ -x "$root/target/bin/$1" ] || rm -f "$root/target/stamp/$1" # or it would pass for built
+    if ! (cd -- "$root" && rt check "$1" </dev/null >"$log" 2>&1); then
+        cat "$log" >&2
+        stop "it is not proved"
+    fi
+    touch "$root/target/bin/$1"
+}
+
+# run NAME WAIT [ARGUMENT..]: runs the program NAME of crates/ with the arguments, from standard input to standard
+# output, once it is proved and built. A program of the kit has no exit status. It says how it ended by a digit on
+# descriptor 3, which goes to `status`: 0 done, 1 refused, 2 something could not be read or written. Before a 1 stand
+# what the refusal carries, for `carried`, and the refused line, for `refused`. What it writes goes straight to standard
+# output, so nothing on the way holds it back. Descriptor 4 is handed on as it is, for a second file.
+run() {
+    local name=$1 wait=$2 out emulator end IFS
+    shift 2
+    needs_kit
+    is_built "$name" || build "$name" "$wait"
+    # the program is for x86-64; elsewhere the kit has an emulator
+    emulator=$tools/bin/qemu-x86_64
+    [ -x "$emulator" ] || emulator=
+    # with nobody to read the answer a write fails, and the program says why; else it would be ended without a word
+    trap '' PIPE
+    # and a descriptor that is closed would be taken by the pipe from the program itself
+    [ -e /dev/fd/0 ] || stop "standard input is closed"
+    { command exec {out}>&1; } 2>/dev/null || stop "standard output is closed"
+    end=$(${emulator:+"$emulator"} "$tools/lib/ld-linux-x86-64.so.2" --library-path "$tools/lib" \
+        "$root/target/bin/$name" "$@" 3>&1 >&"$out" {out}>&-)
+    exec {out}>&-
+    status=${end##*"$lf"}
+    case $status in
+    [02]) ;;
+    1)
+        carried=${end%%"$lf"*} end=${end#*"$lf"}
+        IFS=$tab
+        refused=(${end%%"$lf"*})
+        ;;
+    *) stop "it was ended from outside" ;;
+    esac
+}

@@ -146,23 +146,44 @@ needs_kit() {
     tools=$(dirname -- "$(readlink -f -- "$rt")")/../on/$(uname -m)/toolchain
 }
 
-# is_built NAME: whether the program stands as the sources have it.
-is_built() {
-    [ -x "$root/target/bin/$1" ] &&
-        [ -z "$(find "$root/crates" "$root/crates.txt" -newer "$root/target/bin/$1" -type f -print -quit)" ]
+# lock_builds: waits until nobody else proves or builds in this tree. What is started from here does so under the same
+# lock.
+lock_builds() {
+    [ -z "${CHIMENICKEL_BUILDS-}" ] || return 0
+    mkdir -p "$root/target/log" || stop "cannot write to $root/target"
+    { command exec {builds}>"$root/target/build.lock"; } 2>/dev/null || stop "cannot write to $root/target"
+    if ! flock -n "$builds"; then
+        echo "$me: waiting for another command that proves and builds here" >&2
+        flock "$builds"
+    fi
+    export CHIMENICKEL_BUILDS=1
 }
 
-# build NAME WAIT: proves and builds the program.
+unlock_builds() {
+    exec {builds}>&-
+    unset CHIMENICKEL_BUILDS
+}
+
+# is_built NAME: whether the program stands as the sources have it. rt takes its stamp away first and puts it back last.
+is_built() {
+    [ -x "$root/target/bin/$1" ] && [ -e "$root/target/stamp/$1" ] &&
+        [ -z "$(find "$root/crates" "$root/crates.txt" -newer "$root/target/stamp/$1" -type f -print -quit)" ]
+}
+
+# build NAME WAIT: proves and builds the program, unless another has done so while this one waited.
 build() {
     local log=$root/target/log/$1.build
-    echo "$1: proving and building what it stands on, which takes about $2 ($log)" >&2
-    mkdir -p "$root/target/log" || stop "cannot write to $root/target"
-    [ -x "$root/target/bin/$1" ] || rm -f "$root/target/stamp/$1" # or it would pass for built
-    if ! (cd -- "$root" && rt check "$1" </dev/null >"$log" 2>&1); then
-        cat "$log" >&2
-        stop "it is not proved"
+    lock_builds
+    if ! is_built "$1"; then
+        echo "$1: proving and building what it stands on, which takes about $2 ($log)" >&2
+        [ -x "$root/target/bin/$1" ] || rm -f "$root/target/stamp/$1" # or it would pass for built
+        if ! (cd -- "$root" && rt check "$1" </dev/null >"$log" 2>&1); then
+            cat "$log" >&2
+            stop "it is not proved"
+        fi
+        touch "$root/target/stamp/$1"
     fi
-    touch "$root/target/bin/$1"
+    unlock_builds
 }
 
 # run NAME WAIT [ARGUMENT..]: runs the program NAME of crates/ with the arguments, from standard input to standard

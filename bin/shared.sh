@@ -118,11 +118,16 @@ meaning() {
 }
 
 # explain WHERE LINE NUMBER CARRIED [MORE]: the sentence of a refusal, on standard error, or in the file that bin/sheet
-# names, which may know an earlier one. A line of 0 is none. Places of samples are counted from 0, lines from 1.
+# names, which may know an earlier one. A line of 0 is none; an item without a line came with the command. Places of
+# samples are counted from 0, lines from 1.
 explain() {
-    local where=$1 place=$2 items=('' 'the step' 'the ramp' 'a level' 'the decorrelation time' 'the standard')
+    local where=$1 place=$2 items
+    items=('' 'the step' 'the ramp' 'the level' 'the decorrelation time' 'the standard' 'the level of the acceleration')
     case $3 in
-    1) place=$4 where=${items[$4]-$1} ;;
+    1)
+        place=$4
+        [ "$2" != 0 ] || where=${items[$4]}
+        ;;
     2) place=$(($2 - 1)) ;;
     esac
     [ "$2" = 0 ] || where="$where, line $2"

@@ -65,12 +65,14 @@ flows() {
     [ -p "$1" ] || [ -S "$1" ] || { [ -c "$1" ] && [ -t 0 ] <"$1"; }
 }
 
-# are_apart NAME..: ends where two names stand for one descriptor, pipe or terminal: neither would get the whole of it.
+# are_apart NAME..: ends where two names stand for one descriptor, pipe or terminal: neither would get the whole of it;
+# and where one stands for a descriptor that is not open, since a later pipe might take its number.
 are_apart() {
     local file other number seen=()
     for file; do
         descriptor_of "$file"
         [ -n "$descriptor" ] || flows "$file" || continue
+        [ -e "$file" ] || stop "$file: no such file"
         number=$descriptor
         for other in ${seen[@]+"${seen[@]}"}; do
             [ "$file" -ef "$other" ] || continue

@@ -1,22 +1,24 @@
--- Two channels without a bad sample are in range moment by moment; the parts of such a list are; and the ends of two blocks say whether one has a bad sample. Assumes nothing.
+-- Two channels without a bad sample are in range moment by moment; the parts of such a list are; the ends of two blocks
+-- say whether one has a bad sample; and what a look says. Assumes nothing.
 use Prim.Native.Nat.{ℕ}
 use mathlib.Core.Path.{_≡_, refl, sym}
-use mathlib.Core.Bool.{Bool, true, false, cond, _||_}
+use mathlib.Core.Bool.{Bool, true, false, cond, not, _||_}
 use mathlib.Core.List.{List, [], _∷_, _++_}
 use native.Mathlib.Omega.{arith}
 use lib.Dec.{ltb}
 use lib.IntN.{ℤ}
 use lib.ListN.{length}
-use borrow.Author.Tests.{lt-ltb, le-ltb, ltb-false}
+use borrow.Author.Tests.{lt-ltb, le-ltb, ltb-true, ltb-false, le-leb, lt-leb}
 use Rattle.refusal.specs.declared.Refusal.{Refusal}
-use Rattle.truth.proofs.Laws.{both-true}
+use Rattle.refusal.specs.declared.Refusal.the-variants.{Sample, Acceleration}
+use Rattle.truth.proofs.Laws.{both-true, true≢false}
 use Rattle.block.specs.declared.Ends.{Ends}
 use Rattle.block.specs.Block as one-channel
 use Rattle.range.specs.Range.{sampleLimit, firstBad}
 use Rattle.range.proofs.Bad.{good-head, bad-within, quiet-good, loud-bad, ends-bad}
 use Rattle.channels.specs.declared.Moment.{Moment}
 use Rattle.channels.specs.declared.Look.the-variants.{Good, Bad}
-use Rattle.channels.specs.Channels.{moments, AllInRange, outsideEnds, anyBad, badSample, looked}
+use Rattle.channels.specs.Channels.{moments, AllInRange, outsideEnds, hasBad, anyBad, badSample, badOf, looked}
 use Rattle.channels.proofs.Quiet.{neither}
 
 pub all-in : (xs ys : List ℤ) → firstBad xs ≡ length xs → firstBad ys ≡ length ys → AllInRange (moments xs ys)
@@ -60,11 +62,11 @@ ends-tell xs ys e f p q = rw (p .0, p .1, q .0, q .1, ends-bad xs, ends-bad ys, 
 
 -- back from what a look says
 module _ (xs ys : List ℤ) where
-  pub looked-bad : (f : Refusal) → looked xs ys ≡ Bad f → (anyBad xs ys ≡ true) × (badSample (firstBad xs) (firstBad ys) ≡ f)
+  pub looked-bad : (f : Refusal) → looked xs ys ≡ Bad f → (anyBad xs ys ≡ true) × (badOf xs ys ≡ f)
   unfolding looked
   looked-bad f = go (anyBad xs ys)
     where
-      go : (b : Bool) → cond b (Bad (badSample (firstBad xs) (firstBad ys))) Good ≡ Bad f → (b ≡ true) × (badSample (firstBad xs) (firstBad ys) ≡ f)
+      go : (b : Bool) → cond b (Bad (badOf xs ys)) Good ≡ Bad f → (b ≡ true) × (badOf xs ys ≡ f)
       go true e = (refl, cc)
       go false e = let z : _≡_ {A = ℕ} 0 1 = cc in absurd (omega arith)
 
@@ -72,6 +74,25 @@ module _ (xs ys : List ℤ) where
   unfolding looked
   looked-good = go (anyBad xs ys)
     where
-      go : (b : Bool) → cond b (Bad (badSample (firstBad xs) (firstBad ys))) Good ≡ Good → b ≡ false
+      go : (b : Bool) → cond b (Bad (badOf xs ys)) Good ≡ Good → b ≡ false
       go true e = let z : _≡_ {A = ℕ} 0 1 = cc in absurd (omega arith)
       go false e = refl
+
+  -- the one at the lower of the two first bad places
+  abbrev pub lowest : Refusal
+  lowest = badSample (firstBad xs) (firstBad ys)
+
+  -- slices of one length: where a channel has no bad sample, its first bad place is past those of the other
+  pub equally-long : length xs ≡ length ys → anyBad xs ys ≡ true → badOf xs ys ≡ lowest
+  equally-long same = go (hasBad xs) refl (hasBad ys) refl
+    where
+      go : (b : Bool) → hasBad xs ≡ b → (c : Bool) → hasBad ys ≡ c → (b || c) ≡ true
+          → cond (not c) (Sample (firstBad xs)) (cond (not b) (Acceleration (firstBad ys)) lowest) ≡ lowest
+      go true e true f h = refl
+      go true e false f h =
+          let l = ltb-true (firstBad xs) (length xs) e in
+          rw (le-leb (firstBad xs) (firstBad ys) (omega (arith, ltb-false (firstBad ys) (length ys) f)))
+      go false e true f h =
+          let l = ltb-true (firstBad ys) (length ys) f in
+          rw (lt-leb (firstBad xs) (firstBad ys) (omega (arith, ltb-false (firstBad xs) (length xs) e)))
+      go false e false f h = absurd (true≢false (sym h))

@@ -56,14 +56,25 @@ moments [] ys = []
 moments (x ∷ xs) [] = []
 moments (x ∷ xs) (y ∷ ys) = moment x y ∷ moments xs ys
 
--- what 2 names, the first bad roll standing at p and the first bad acceleration at q: the lower place and its channel, roll first on a tie
+-- a sample of the channel is out of range
+abbrev pub hasBad : List ℤ → Bool
+hasBad xs = ltb (firstBad xs) (length xs)
+
+-- of either channel
+abbrev pub anyBad : List ℤ → List ℤ → Bool
+anyBad xs ys = hasBad xs || hasBad ys
+
+-- of a bad roll at p and a bad acceleration at q, 2 names the one at the lower place, roll first on a tie
 abbrev pub badSample : ℕ → ℕ → Refusal
 badSample p q = cond (leb p q) (Sample p) (Acceleration q)
 
--- a sample of the roll is out of range, or one of the acceleration
-abbrev pub anyBad : List ℤ → List ℤ → Bool
-anyBad xs ys = ltb (firstBad xs) (length xs) || ltb (firstBad ys) (length ys)
+-- what 2 names, where a sample is bad: the first bad one of the only channel that has one, or the lower one of both
+abbrev pub badOf : List ℤ → List ℤ → Refusal
+badOf xs ys =
+    cond (not (hasBad ys)) (Sample (firstBad xs))
+    (cond (not (hasBad xs)) (Acceleration (firstBad ys))
+    (badSample (firstBad xs) (firstBad ys)))
 
 -- 2, if one is
 unfoldable pub looked : List ℤ → List ℤ → Look
-looked xs ys = cond (anyBad xs ys) (Bad (badSample (firstBad xs) (firstBad ys))) Good
+looked xs ys = cond (anyBad xs ys) (Bad (badOf xs ys)) Good

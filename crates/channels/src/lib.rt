@@ -1,12 +1,13 @@
 // Roll and acceleration watched together: the levels of the two channels, what both show at one sample, whether that is above, whether anything of a block is, and which bad sample refusal 2
 // names. The slices of the two channels are looked at side by side, as far as both go.
 ghost use mathlib.Core.Path.{_≡_};
-ghost use mathlib.Core.Bool.{_||_};
+ghost use mathlib.Core.Bool.{cond, not, _||_};
 ghost use mathlib.Core.List.{map};
 ghost use Prim.Native.Nat.{_<_, min};
 ghost use lib.ListN.{getD, length};
 ghost use lib.Seq.{paste};
 ghost use Rattle.channels.specs.Channels.{still, above, moments, pastEnds, outsideEnds, anyAbove, badSample, looked};
+ghost use Rattle.refusal.specs.declared.Refusal.the-variants.{Sample, Acceleration};
 use block::Ends;
 use refusal::Refusal;
 
@@ -108,7 +109,7 @@ pub fn mark(levels: Levels, roll: &[i32], acceleration: &[i32], ups: &mut [bool]
     }
 }
 
-// Refusal 2, from the places of the first bad sample of each channel.
+// Refusal 2, from the places of the first bad sample of each channel, where both have one.
 fn bad_sample(roll: u64, acceleration: u64) -> Refusal
     ensures { λ f. ⌜ f ≡ badSample roll acceleration ⌝ }
 {
@@ -119,14 +120,31 @@ fn bad_sample(roll: u64, acceleration: u64) -> Refusal
     }
 }
 
-// A look for a sample out of range in both channels.
+// The same, where it is known which channel has one.
+fn bad_of(rolls: bool, accelerations: bool, roll: u64, acceleration: u64) -> Refusal
+    ensures { λ f. ⌜ f ≡ cond (not accelerations) (Sample roll)
+        (cond (not rolls) (Acceleration acceleration)
+        (badSample roll acceleration)) ⌝ }
+{
+    if !accelerations {
+        return Refusal::Sample(roll);
+    }
+    if !rolls {
+        return Refusal::Acceleration(acceleration);
+    }
+    bad_sample(roll, acceleration)
+}
+
+// A look for a sample out of range in both channels, each to its end, whichever is the longer.
 pub fn look_over(roll: &[i32], acceleration: &[i32]) -> Look
     ensures { λ l. ⌜ l ≡ looked (now (roll .entry)) (now (acceleration .entry)) ⌝ }
 {
     let p = range::first_bad(roll);
     let q = range::first_bad(acceleration);
-    if truth::either(p < roll.len(), q < acceleration.len()) {
-        return Look::Bad(bad_sample(p as u64, q as u64));
+    let rolls = p < roll.len();
+    let accelerations = q < acceleration.len();
+    if truth::either(rolls, accelerations) {
+        return Look::Bad(bad_of(rolls, accelerations, p as u64, q as u64));
     }
     Look::Good
 }

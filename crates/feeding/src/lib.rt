@@ -212,6 +212,7 @@ fn advance(r: Record, loud: bool, roll: &[i32], acceleration: &[i32]) -> Record
 
 // The answer to a piece that is not taken: a bad sample of it goes before its length.
 fn fault(roll: &[i32], acceleration: &[i32]) -> Answer
+    requires { ⌜ length (now roll) ≡ length (now acceleration) ⌝ }
     ensures { λ a. ⌜ a ≡ cond (anyBad (now (roll .entry)) (now (acceleration .entry))) (Refused (badSample (firstBad (now (roll .entry))) (firstBad (now (acceleration .entry))))) (Refused TooLong) ⌝ }
 {
     let look = channels::look_over(roll, acceleration);

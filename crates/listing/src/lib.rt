@@ -390,6 +390,7 @@ fn list_timed(
 
 // Refusal 2 of a record that has a bad sample, which is looked for from its start.
 fn fault(roll: &[i32], acceleration: &[i32]) -> Listed
+    requires { ⌜ length (now roll) ≡ length (now acceleration) ⌝ }
     ensures { λ r. ⌜ (anyBad (now (roll .entry)) (now (acceleration .entry)) ≡ true → r ≡ Refused (badSample (firstBad (now (roll .entry))) (firstBad (now (acceleration .entry))))) ⌝ }
 {
     let look = channels::look_over(roll, acceleration);

@@ -1,6 +1,7 @@
 // A whole record at once: the tests 1, 12, 2, 3 and 4 that stand before anything is counted in it.
 ghost use mathlib.Core.Path.{_≡_};
 ghost use mathlib.Core.Bool.{cond};
+ghost use lib.ListN.{length};
 ghost use Rattle.refusal.specs.declared.Refusal.the-variants.{TooLong, TooShort};
 ghost use Rattle.range.specs.Range.{firstBad};
 ghost use Rattle.channels.specs.Channels.{anyBad, badSample};
@@ -17,6 +18,7 @@ pub enum Size {
 
 // 2 for a record with a bad sample; else what its length is refused by.
 fn fault(roll: &[i32], acceleration: &[i32], long: bool) -> Size
+    requires { ⌜ length (now roll) ≡ length (now acceleration) ⌝ }
     ensures { λ r. ⌜ r ≡ cond (anyBad (now (roll .entry)) (now (acceleration .entry))) (Refused (badSample (firstBad (now (roll .entry))) (firstBad (now (acceleration .entry))))) (cond long (Refused TooLong) (Refused TooShort)) ⌝ }
 {
     let look = channels::look_over(roll, acceleration);

@@ -14,15 +14,18 @@ first-bad-requires-2 c κs = search needs
 either-requires : tie.Need-either-requires
 either-requires c κs = search needs
 
-bad-sample-requires : tie.Need-bad-sample-requires
-bad-sample-requires c κs = search needs
+bad-of-requires : tie.Need-bad-of-requires
+bad-of-requires c κs = search needs
 
 tested : (c : tie.After-either) → c .either .result ≡ anyBad (c .before .before .before .args .roll .now) (c .before .before .before .args .acceleration .now)
 tested c = rw (c .either .ensures, c .before .before .first-bad .ensures, c .before .first-bad2 .ensures)
 
 returns : tie.Need-returns
 unfolding looked
-returns c = rw (sym (tested (c .before .before)) ∙ c .before .if1 .taken, c .bad-sample .ensures, c .before .before .before .before .first-bad .ensures, c .before .before .before .first-bad2 .ensures)
+returns c =
+    let p = c .before .before .before .before .first-bad .ensures in
+    let q = c .before .before .before .first-bad2 .ensures in
+    rw (sym (tested (c .before .before)) ∙ c .before .if1 .taken, c .bad-of .ensures, p, q)
 
 returns-2 : tie.Need-returns-2
 unfolding looked
@@ -35,6 +38,6 @@ look-over-spec =
     first-bad-requires
     first-bad-requires-2
     either-requires
-    bad-sample-requires
+    bad-of-requires
     returns
     returns-2)

@@ -2,7 +2,7 @@
 use borrow.Author.Needs.{needs}
 use mathlib.Core.Path.{sym, ap, _∙_}
 use Rattle.truth.proofs.Laws.{true≢false}
-use Rattle.channels.proofs.Range.{looked-bad, looked-good}
+use Rattle.channels.proofs.Range.{looked-bad, looked-good, equally-long}
 use Rattle.listing.specs.declared.Listed.the-variants.{Refused}
 use Rattle.listing.proofs.fault.Statement.{statement}
 use Rattle.listing.proofs.fault.Tie as tie
@@ -14,7 +14,10 @@ enum-known-look : tie.Need-enum-known-look
 enum-known-look c = search needs
 
 returns : tie.Need-returns
-returns c = λ h. let l = looked-bad _ _ (c .before .look .given .0 .0) (sym (c .before .before .before .look-over .ensures) ∙ c .before .look .given .1) in ap Refused (sym (l .1))
+returns c = λ h.
+    let e = sym (c .before .before .before .look-over .ensures) ∙ c .before .look .given .1 in
+    let l = looked-bad _ _ (c .before .look .given .0 .0) e in
+    ap Refused (sym (l .1) ∙ equally-long _ _ (c .before .before .before .before .pre) h)
 
 enum-told : tie.Need-enum-told
 enum-told c = search needs

@@ -44,7 +44,7 @@ enum-told-2 : tie.Need-enum-told-2
 enum-told-2 c = search needs
 
 fault-requires : tie.Need-fault-requires
-fault-requires c κs = search needs
+fault-requires c κs = fit (c .before .before .before .before .before) .equal
 
 returns-2 : tie.Need-returns-2
 returns-2 c =
@@ -103,7 +103,7 @@ enum-told-4 : tie.Need-enum-told-4
 enum-told-4 c = search needs
 
 fault-requires-2 : tie.Need-fault-requires-2
-fault-requires-2 c κs = search needs
+fault-requires-2 c κs = fit (c .before .before .before .before .before .before .before .before .before .before .before .before .before) .equal
 
 same-length : tie.Need-same-length
 same-length c = search needs

@@ -4,7 +4,9 @@ import re
 
 # What only follows from an earlier error.
 FOLLOWS = re.compile(r"was not admitted")
-# Errors of form. The proof of a function ends in a declaration `NAME-spec` that puts the answers to its needs together: if these no longer fit there, the needs are others.
+# Errors of form. The proof of a function ends in a declaration `NAME-spec` that puts the answers to its needs together:
+# if these no longer fit there, the needs are others. An invariant or a measure (`Inv-loop`, `μ-loop`) that is refused
+# is one for other locals: it is a definition, and states no fact.
 SHAPE = re.compile(
     r"has no `[^`]*` that can be named"
     r"|has no field `"
@@ -16,6 +18,7 @@ SHAPE = re.compile(
     r"|: error: (?!`)"
     r"|: error\["
     r"|: error: `[^`]*-spec`:"
+    r"|: error: `(?:Inv|μ)-[^`]*`:"
 )
 FACT = re.compile(r": error: `|^note: .*(it is not proved that|is out of bounds of)")
 

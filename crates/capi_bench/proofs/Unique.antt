@@ -4,12 +4,11 @@ use mathlib.Core.Path.{_≡_}
 use mathlib.Core.List.{List}
 use Prim.Native.Nat.{ℕ}
 use lib.Ieee.{Float}
-use Rattle.verdict.specs.declared.Rates.{Rates}
 use Rattle.bench.specs.declared.Ask.{Ask}
 use Rattle.bench.specs.declared.Ask.the-variants.{On, Take}
 use Rattle.bench.specs.declared.Work.the-variants.{Enter, GiveBack, Judge, Rate}
 use Rattle.bench.specs.Calls.{called}
-use Rattle.capi_verdict.specs.Told.{Count, Judgement, Rating}
+use Rattle.capi_verdict.specs.Told.{Count, Judgement, Rating, rates}
 use Rattle.truth.proofs.Unique.{settled}
 use Rattle.capi_bench.specs.Rows.{outcomeOf, placesOf, rowsLeft}
 use Rattle.capi_bench.specs.Told.{judged, plain, rated}
@@ -40,8 +39,8 @@ module _ (rows : List (List ℕ)) (b : ℕ) where
       → (x ≡ y) × (u ≡ v)
   bench-verdict-unique i l h x y u v = both-settled (On i Judge)
 
-  pub bench-rates-unique : (i : ℕ) (r : Rates) (x y : Rating) (u v : List (List ℕ))
-      → Says rows b (On i Rate) (rated (called (placesOf rows) b (On i Rate) .answer) r) x u
-      → Says rows b (On i Rate) (rated (called (placesOf rows) b (On i Rate) .answer) r) y v
+  pub bench-rates-unique : (i : ℕ) (e l h : Float) (x y : Rating) (u v : List (List ℕ))
+      → Says rows b (On i Rate) (rated (called (placesOf rows) b (On i Rate) .answer) (rates e l h)) x u
+      → Says rows b (On i Rate) (rated (called (placesOf rows) b (On i Rate) .answer) (rates e l h)) y v
       → (x ≡ y) × (u ≡ v)
-  bench-rates-unique i r x y u v = both-settled (On i Rate)
+  bench-rates-unique i e l h x y u v = both-settled (On i Rate)

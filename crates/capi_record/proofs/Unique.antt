@@ -5,14 +5,17 @@ use mathlib.Core.List.{List}
 use lib.IntN.{ℤ}
 use lib.ListN.{length}
 use Rattle.truth.proofs.Unique.{settled}
-use Rattle.channels.specs.declared.Levels.{Levels}
 use Rattle.channels.specs.Channels.{moments}
 use Rattle.reading.specs.Reading.{firstCrossing}
 use Rattle.capi.specs.Told.{Told}
-use Rattle.capi_record.specs.Told.{channelFed, channelListed, recordEnded, recordFed, recordListed, recordOpened}
+use Rattle.capi_record.specs.Told.{channelFed, channelListed, levelsOf, recordEnded, recordFed, recordListed, recordOpened}
 
-pub record-open-unique : (D R : ℕ) (a : Levels) (τ : ℕ) (s : List ℕ) (x y : Told) → x ≡ recordOpened D R a τ s → y ≡ recordOpened D R a τ s → x ≡ y
-record-open-unique D R a τ s x y = settled
+pub record-open-unique :
+    (D R level lateral τ : ℕ) (s : List ℕ) (x y : Told)
+    → x ≡ recordOpened D R (levelsOf level lateral) τ s
+    → y ≡ recordOpened D R (levelsOf level lateral) τ s
+    → x ≡ y
+record-open-unique D R level lateral τ s x y = settled
 
 -- what is told, and the channel
 pub record-feed-unique : (s : List ℕ) (xs ys : List ℤ) (x y : Told) (j k : ℕ) → (x ≡ recordFed s xs ys) × (j ≡ channelFed s xs ys) → (y ≡ recordFed s xs ys) × (k ≡ channelFed s xs ys) → (x ≡ y) × (j ≡ k)
@@ -21,9 +24,18 @@ record-feed-unique s xs ys x y j k p q = (settled (p .0) (q .0), settled (p .1) 
 pub record-end-unique : (s x : List ℕ) (a b : Told) → a ≡ recordEnded s x → b ≡ recordEnded s x → a ≡ b
 record-end-unique s x a b = settled
 
-pub record-list-unique : (D R : ℕ) (a : Levels) (τ : ℕ) (xs ys : List ℤ) (s : List ℕ) (x y : Told) (j k : ℕ)
-    → (x ≡ recordListed D R a τ xs ys s) × (j ≡ channelListed D R a τ xs ys s) → (y ≡ recordListed D R a τ xs ys s) × (k ≡ channelListed D R a τ xs ys s) → (x ≡ y) × (j ≡ k)
-record-list-unique D R a τ xs ys s x y j k p q = (settled (p .0) (q .0), settled (p .1) (q .1))
+module _ (D R level lateral τ : ℕ) (xs ys : List ℤ) (s : List ℕ) where
+  -- what listing tells, and the channel
+  abbrev Lists : Told → ℕ → Type 0
+  Lists x j =
+      (x ≡ recordListed D R (levelsOf level lateral) τ xs ys s) × (j ≡ channelListed D R (levelsOf level lateral) τ xs ys s)
 
-pub record-first-crossing-unique : (R : ℕ) (a : Levels) (xs ys : List ℤ) (x y : ℕ) → x ≡ firstCrossing (length (moments xs ys)) R a (moments xs ys) → y ≡ firstCrossing (length (moments xs ys)) R a (moments xs ys) → x ≡ y
-record-first-crossing-unique R a xs ys x y = settled
+  pub record-list-unique : (x y : Told) (j k : ℕ) → Lists x j → Lists y k → (x ≡ y) × (j ≡ k)
+  record-list-unique x y j k p q = (settled (p .0) (q .0), settled (p .1) (q .1))
+
+pub record-first-crossing-unique :
+    (R level lateral : ℕ) (xs ys : List ℤ) (x y : ℕ)
+    → x ≡ firstCrossing (length (moments xs ys)) R (levelsOf level lateral) (moments xs ys)
+    → y ≡ firstCrossing (length (moments xs ys)) R (levelsOf level lateral) (moments xs ys)
+    → x ≡ y
+record-first-crossing-unique R level lateral xs ys x y = settled

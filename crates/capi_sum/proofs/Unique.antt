@@ -2,10 +2,10 @@
 use Prim.Native.Nat.{ℕ}
 use mathlib.Core.Path.{_≡_}
 use mathlib.Core.List.{List}
+use lib.Ieee.{Float}
 use Rattle.truth.proofs.Unique.{settled}
-use Rattle.verdict.specs.declared.Rates.{Rates}
 use Rattle.capi.specs.Told.{Told}
-use Rattle.capi_verdict.specs.Told.{Rating}
+use Rattle.capi_verdict.specs.Told.{Rating, rates}
 use Rattle.capi_sum.specs.Told.{sumAdded, sumBounded, sumOpened, sumRated}
 
 pub sum-open-unique : (D : ℕ) (s : List ℕ) (x y : Told) → x ≡ sumOpened D s → y ≡ sumOpened D s → x ≡ y
@@ -17,5 +17,6 @@ sum-add-unique s r x y = settled
 pub sum-bounds-unique : (s out : List ℕ) (x y : Told) → x ≡ sumBounded s out → y ≡ sumBounded s out → x ≡ y
 sum-bounds-unique s out x y = settled
 
-pub sum-rates-unique : (s : List ℕ) (r : Rates) (x y : Rating) → x ≡ sumRated s r → y ≡ sumRated s r → x ≡ y
-sum-rates-unique s r x y = settled
+pub sum-rates-unique :
+    (s : List ℕ) (e l u : Float) (x y : Rating) → x ≡ sumRated s (rates e l u) → y ≡ sumRated s (rates e l u) → x ≡ y
+sum-rates-unique s e l u x y = settled

@@ -6,9 +6,8 @@ use lib.Ieee.{Float}
 use Rattle.truth.proofs.Unique.{settled}
 use Rattle.poisson.proofs.Unique as poisson
 use Rattle.poisson.specs.Rows.{LowerRow, UpperRow}
-use Rattle.verdict.specs.declared.Rates.{Rates}
 use Rattle.verdict.specs.declared.Verdict.{Verdict}
-use Rattle.capi_verdict.specs.Told.{Count, Judgement, Rating, campaignCensored, campaignJudged, campaignRated, verdictTold}
+use Rattle.capi_verdict.specs.Told.{Count, Judgement, Rating, campaignCensored, campaignJudged, campaignRated, rates, verdictTold}
 
 pub campaign-censored-unique : (s : List ℕ) (x y : Count) → x ≡ campaignCensored s → y ≡ campaignCensored s → x ≡ y
 campaign-censored-unique s x y = settled
@@ -19,8 +18,9 @@ tell-unique v x y = settled
 pub campaign-verdict-unique : (s : List ℕ) (l u : Float) (x y : Judgement) → x ≡ campaignJudged s l u → y ≡ campaignJudged s l u → x ≡ y
 campaign-verdict-unique s l u x y = settled
 
-pub campaign-rates-unique : (s : List ℕ) (r : Rates) (x y : Rating) → x ≡ campaignRated s r → y ≡ campaignRated s r → x ≡ y
-campaign-rates-unique s r x y = settled
+pub campaign-rates-unique :
+    (s : List ℕ) (e l u : Float) (x y : Rating) → x ≡ campaignRated s (rates e l u) → y ≡ campaignRated s (rates e l u) → x ≡ y
+campaign-rates-unique s e l u x y = settled
 
 pub upper-row-unique : (n r s : ℕ) → UpperRow n r → UpperRow n s → r ≡ s
 upper-row-unique = poisson.upper-row-unique

@@ -4,3 +4,4 @@ pub mod Looking
 pub mod Theorems
 pub mod Unique
 pub mod Whole
+pub mod Exactly

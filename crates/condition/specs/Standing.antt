@@ -1,4 +1,5 @@
 -- Document 02 [13]: where a loading condition stands, from the verdicts on its campaigns, one for each design situation. Assumes nothing.
+use mathlib.Core.Path.{_≡_}
 use mathlib.Core.Bool.{Bool, cond, false, true, _&&_, _||_}
 use mathlib.Core.List.{List, [], _∷_}
 use Rattle.campaign.specs.declared.Campaign.{Campaign}
@@ -47,3 +48,14 @@ allAccepted (c ∷ cs) = accepted c && allAccepted cs
 -- THE STANDING: rejected if at least one is rejected; accepted if all are accepted; else open
 unfoldable pub standing : List Campaign → Standing
 standing cs = cond (oneRejected cs) Rejected (cond (allAccepted cs) Accepted Open)
+
+-- ---- in words, for the statements
+-- at least one of the campaigns is so
+pub data One (is : Campaign → Bool) : List Campaign → Type 0 where
+  this : {c : Campaign} {cs : List Campaign} → is c ≡ true → One is (c ∷ cs)
+  another : {c : Campaign} {cs : List Campaign} → One is cs → One is (c ∷ cs)
+
+-- all of them are
+pub data All (is : Campaign → Bool) : List Campaign → Type 0 where
+  done : All is []
+  next : {c : Campaign} {cs : List Campaign} → is c ≡ true → All is cs → All is (c ∷ cs)

@@ -11,23 +11,15 @@ use Rattle.refusal.specs.Numbers.{numberOf}
 use Rattle.text.specs.Write.{fits, written}
 use Rattle.decimal.specs.Field.{tab, lineFeed, fieldText}
 use Rattle.campaign.specs.declared.Campaign.{Campaign}
-use Rattle.verdict.specs.declared.Verdict.{Verdict}
-use Rattle.verdict.specs.declared.Verdict.the-variants.{Accept, Reject, Continue, NoRecord}
 use Rattle.campaign.specs.State.{censored, sound}
 use Rattle.verdict.specs.Figures.{verdictOf}
+use Rattle.verdict.specs.Letters.{letterOf}
 use Rattle.reply.specs.declared.Written.{Written}
 use Rattle.reply.specs.declared.Written.the-variants.{Upto, Refused}
 
--- A, R or C; no record has no letter
-abbrev pub letterOf : Verdict → ℕ
-letterOf (Accept upper) = 65
-letterOf (Reject lower) = 82
-letterOf (Continue lower upper) = 67
-letterOf NoRecord = 0
-
--- the letter of a campaign's verdict
+-- the letter of a campaign's verdict; no record has none
 unfoldable pub letterFor : Campaign → ℕ
-letterFor c = letterOf (verdictOf c)
+letterFor c = letterOf 0 (verdictOf c)
 
 -- for each record: number, N, N*, T and the letter
 unfoldable pub figures : Campaign → ℕ → List ℕ

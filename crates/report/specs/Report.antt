@@ -5,8 +5,8 @@ use mathlib.Core.List.{List, [], _∷_, _++_}
 use Rattle.campaign.specs.declared.Campaign.{Campaign}
 use Rattle.campaign.specs.State.{censored}
 use Rattle.verdict.specs.declared.Verdict.{Verdict}
-use Rattle.verdict.specs.declared.Verdict.the-variants.{Accept, Continue, NoRecord, Reject}
 use Rattle.verdict.specs.Figures.{verdictOf}
+use Rattle.verdict.specs.Letters.{letterA, letterE, letterOf, letterR}
 use Rattle.decimal.specs.Field.{fieldText, lineFeed, tab}
 use Rattle.condition.specs.Standing.{standing}
 use Rattle.condition.specs.declared.Standing.{Standing}
@@ -19,18 +19,15 @@ blocks n = (n + 4) / 5
 
 -- A, R or C; E where no record
 abbrev pub verdictLetter : Verdict → ℕ
-verdictLetter (Accept upper) = 65
-verdictLetter (Reject lower) = 82
-verdictLetter (Continue lower upper) = 67
-verdictLetter NoRecord = 69
+verdictLetter v = letterOf letterE v
 
 unfoldable pub letterFor : Campaign → ℕ
 letterFor c = verdictLetter (verdictOf c)
 
 -- A, R or O
 abbrev pub standingLetter : Standing → ℕ
-standingLetter Accepted = 65
-standingLetter Rejected = 82
+standingLetter Accepted = letterA
+standingLetter Rejected = letterR
 standingLetter Open = 79
 
 -- ---- a situation's line: number, N, N*, T, letter, blocks

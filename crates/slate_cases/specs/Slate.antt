@@ -10,9 +10,8 @@ use Rattle.campaign.specs.declared.Answer.{Answer}
 use Rattle.campaign.specs.declared.Answer.the-variants.{Refused, Taken}
 use Rattle.campaign.specs.declared.Campaign.{Campaign}
 use Rattle.campaign.specs.Answers.{entering}
-use Rattle.verdict.specs.declared.Verdict.{Verdict}
-use Rattle.verdict.specs.declared.Verdict.the-variants.{Accept, Continue, NoRecord, Reject}
 use Rattle.verdict.specs.Figures.{verdictOf}
+use Rattle.verdict.specs.Letters.{letterE, letterOf}
 use Rattle.channels.specs.declared.Levels.{Levels}
 use Rattle.channels.specs.declared.Moment.{Moment}
 use Rattle.channels.specs.Channels.{moments}
@@ -38,16 +37,9 @@ same [] (y ∷ ys) = false
 same (x ∷ xs) [] = false
 same (x ∷ xs) (y ∷ ys) = eqb x y && same xs ys
 
--- A, R or C; E where there is no record
-abbrev pub letterOf : Verdict → ℕ
-letterOf (Accept r) = 65
-letterOf (Reject r) = 82
-letterOf (Continue r s) = 67
-letterOf NoRecord = 69
-
 -- 0 where the record was refused
 abbrev pub letterAfter : Answer → ℕ
-letterAfter (Taken c) = letterOf (verdictOf c)
+letterAfter (Taken c) = letterOf letterE (verdictOf c)
 letterAfter (Refused r) = 0
 
 -- a one-channel job lends zeros for the other
@@ -75,7 +67,7 @@ right (reading D R a τ xs crossed count counted largest set full) =
 right (watching D R a b τ xs ys crossed count) =
     same (map (timeAt D R) (crossings R (levels a b) (moments xs ys))) crossed && eqb (length (groups D R (levels a b) τ (moments xs ys))) count
 right (bounds n upper lower) = eqb (u n) upper && eqb (l n) lower
-right (weighing c letter) = eqb (letterOf (verdictOf c)) letter
+right (weighing c letter) = eqb (letterOf letterE (verdictOf c)) letter
 right (weighingLater c t letter) = eqb (letterAfter (entering c (record { failed = false; exposure = t }))) letter
 
 unfoldable pub allRight : List Row → Bool

@@ -1,3 +1,4 @@
 pub mod Given
+pub mod Letters
 pub mod Only
 pub mod Unique

@@ -45,12 +45,12 @@ use Rattle.verdict.specs.Answers as verdicts
 use Rattle.verdict.specs.Figures.{ratesOf, verdictOf}
 use Rattle.campaign.specs.State.{censored, empty, entered, mostRecords, standardInRange}
 use Rattle.campaign.specs.State as campaigning
+use Rattle.form.specs.Texts.{entryText}
 use Rattle.line.specs.declared.Sheet.the-variants.{Fresh, Open}
 use Rattle.line.specs.Line.{lineAfter, outcome, stepping, telling, told}
 use Rattle.sheet.specs.Before.{WithoutColumns, meaningBefore}
 use Rattle.sheet.specs.Pieces.{feeding, joined}
 use Rattle.sheet.specs.Sheet.{meaning}
-use Rattle.line.proofs.Entries.{recordBytes}
 use Rattle.sheet.proofs.Before.{columns-aside}
 use Rattle.sheet.proofs.Pieces.{cut-anywhere}
 use Rattle.line.proofs.Theorems.{result-line}
@@ -156,7 +156,8 @@ pub record Demand1 : Type 0 where
       (r : Record) (x : Result) (c : Campaign)
       → campaigning.sound c ≡ true
       → ending r ≡ ended.Given x
-      → stepping (Open c) (recordBytes (c .records + 1) (cond (outcomeOf x .failed) 1 0) (x .exposure)) ≡ outcome (lineAfter c) (entering c (outcomeOf x))
+      → stepping (Open c) (entryText (c .records + 1) (cond (outcomeOf x .failed) 1 0) (x .exposure))
+      ≡ outcome (lineAfter c) (entering c (outcomeOf x))
 
 -- ---- the proof
 -- what the tests decide, computed
@@ -238,7 +239,7 @@ some : (n : ℕ) → ¬ (n ≡ 0) → 1 ≤ n
 some n h = omega arith
 
 -- a line's own tests, then those of entering, of which 8 is settled
-tells : (c : Campaign) (f : Bool) (t : ℕ) → campaigning.sound c ≡ true
+pub tells : (c : Campaign) (f : Bool) (t : ℕ) → campaigning.sound c ≡ true
     → telling c f t ≡ cond (eqb t 0) (campaigned.Refused TooShort) (cond (ltb longestTime t) (campaigned.Refused TooLong) (taken c f t))
 unfolding telling entering
 tells c f t g = go (eqb t 0) refl (ltb longestTime t) refl

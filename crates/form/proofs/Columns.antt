@@ -14,7 +14,7 @@ use Rattle.fields.specs.declared.Field.the-variants.{Number, Empty, Strange, Le
 use Rattle.fields.specs.Field.{fieldAt}
 use Rattle.fields.proofs.Back.{read-only}
 use Rattle.fields.proofs.Faults.{strangePlace, strange-within}
-use Rattle.form.specs.Form.{longestLine, begins, endsLine, isLine, standardWord}
+use Rattle.form.specs.Form.{longestLine, begins, endsLine, isLine, standardStart}
 use Rattle.form.specs.Column.{behind, columnIn, firstOf, isParted, mostNumber, recordColumn, recordFields, standardColumn, standardFields}
 
 pub line-short : (line : List ℕ) → isLine line ≡ true → length line ≤ longestLine
@@ -74,7 +74,7 @@ unfolding standardColumn standardFields
 standard-few line =
     by-test (isLine line)
     (λ l. by-test (isParted 1 line)
-    (λ p. rw (l, p) (by-test (begins standardWord line) (λ w. rw w (look-few line (line-short line l) 0 mostNumber 9 (omega arith))) (λ w. rw w (omega arith))))
+    (λ p. rw (l, p) (by-test (begins standardStart line) (λ w. rw w (look-few line (line-short line l) 0 mostNumber 9 (omega arith))) (λ w. rw w (omega arith))))
     (λ p. rw (l, p) (omega arith)))
     (λ l. rw l (omega arith))
 

@@ -1,15 +1,16 @@
 -- Document 02, request 10: the column of what is wrong with a line, in bytes, 1 for the first. Where the line as a whole is at fault it is 0, and that is
 -- judged first; else it is that of the first bad field from the left. Assumes nothing.
-use Prim.Native.Nat.{ℕ, suc, _+_}
+use Prim.Native.Nat.{ℕ, suc, _+_, _-_, _^_}
 use mathlib.Core.Bool.{Bool, cond, _&&_}
 use mathlib.Core.List.{List, [], _∷_}
 use lib.ListN.{length}
 use lib.Dec.{eqb, leb}
 use Rattle.fields.specs.declared.Field.{Field}
 use Rattle.fields.specs.declared.Field.the-variants.{Number, Empty, Strange, LeadingZero, TooLong}
+use Rattle.decimal.specs.Decimal.{longest}
 use Rattle.decimal.specs.Field.{tab, lineFeed}
 use Rattle.fields.specs.Field.{fieldAt}
-use Rattle.form.specs.Form.{isLine, begins, standardWord}
+use Rattle.form.specs.Form.{isLine, begins, standardStart}
 
 -- ---- the line as a whole
 -- how often a byte stands in a text
@@ -44,7 +45,7 @@ behind TooLong = 0
 
 -- the largest number of 12 digits
 abbrev pub mostNumber : ℕ
-mostNumber = 999999999999
+mostNumber = 10 ^ longest - 1
 
 -- ---- the first bad field from the left
 abbrev pub firstOf : ℕ → ℕ → ℕ
@@ -52,7 +53,7 @@ firstOf column others = cond (eqb column 0) others column
 
 -- line 1: the word standard, then a number
 unfoldable pub standardFields : List ℕ → ℕ
-standardFields line = cond (begins standardWord line) (columnIn 0 mostNumber (length standardWord) (fieldAt line (length standardWord))) 1
+standardFields line = cond (begins standardStart line) (columnIn 0 mostNumber (length standardStart) (fieldAt line (length standardStart))) 1
 
 -- later lines: the record number that is due, 1 or 0, a number
 unfoldable pub recordFields : ℕ → List ℕ → ℕ

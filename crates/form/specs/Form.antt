@@ -1,7 +1,7 @@
 -- Document 01, "The job sheet": the form of a line, the LF with it. Assumes nothing.
 use Prim.Native.Nat.{ℕ, _-_}
 use mathlib.Core.Bool.{Bool, true, false, _&&_}
-use mathlib.Core.List.{List, [], _∷_}
+use mathlib.Core.List.{List, [], _∷_, _++_}
 use lib.ListN.{length, getD}
 use lib.Dec.{eqb, leb}
 use Rattle.decimal.specs.Field.{tab, lineFeed}
@@ -23,6 +23,9 @@ begins [] text = true
 begins (w ∷ word) [] = false
 begins (w ∷ word) (b ∷ text) = eqb b w && begins word text
 
--- the word standard, and the tab behind it
+-- the word standard; line 1 starts with it and a tab
 abbrev pub standardWord : List ℕ
-standardWord = 115 ∷ 116 ∷ 97 ∷ 110 ∷ 100 ∷ 97 ∷ 114 ∷ 100 ∷ tab ∷ []
+standardWord = 115 ∷ 116 ∷ 97 ∷ 110 ∷ 100 ∷ 97 ∷ 114 ∷ 100 ∷ []
+
+abbrev pub standardStart : List ℕ
+standardStart = standardWord ++ (tab ∷ [])

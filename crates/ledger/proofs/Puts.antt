@@ -23,7 +23,8 @@ use Rattle.campaign.specs.declared.Campaign.{Campaign}
 use Rattle.ledger.proofs.Judging.{judged-clean, judged-fault}
 use Rattle.ledger.specs.declared.Judged.the-variants.{Clean, Fault}
 use Rattle.ledger.specs.declared.Writing.the-variants.{Bytes, Refused as Declined}
-use Rattle.ledger.specs.Ledger.{entryText, exposureIn, failedIn, headText, lineText, linesFrom, sheetText}
+use Rattle.form.specs.Texts.{entryText, headText}
+use Rattle.ledger.specs.Ledger.{exposureIn, failedIn, lineText, linesFrom, sheetText}
 use Rattle.ledger.specs.Answers.{afterJudging, judged, judgedAs, laidBy, writing}
 
 -- a record failed if its number is below zero

@@ -4,8 +4,7 @@ use mathlib.Core.Bool.{Bool, true, false, cond}
 use mathlib.Core.List.{List, [], _∷_, _++_}
 use lib.IntN.{ℤ, pos, negsuc, natAbs}
 use Rattle.result.specs.declared.Outcome.{Outcome}
-use Rattle.decimal.specs.Field.{tab, lineFeed, fieldText}
-use Rattle.form.specs.Form.{standardWord}
+use Rattle.form.specs.Texts.{entryText, headText}
 use Rattle.line.specs.Line.{told}
 
 -- ---- a record as one number: its exposure in ms, with a minus if it failed
@@ -20,14 +19,7 @@ abbrev pub outcomeIn : ℤ → Outcome
 outcomeIn x = told (failedIn x) (exposureIn x)
 
 -- ---- the sheet of a standard and its records
--- line 1: the word standard, then q
-abbrev pub headText : ℕ → List ℕ
-headText q = standardWord ++ fieldText q lineFeed
-
--- a later line: record number, 1 for failed or 0, exposure in ms
-abbrev pub entryText : ℕ → ℕ → ℕ → List ℕ
-entryText number flag exposure = fieldText number tab ++ (fieldText flag tab ++ fieldText exposure lineFeed)
-
+-- a record's line
 abbrev pub lineText : ℕ → ℤ → List ℕ
 lineText number x = entryText number (cond (failedIn x) 1 0) (exposureIn x)
 

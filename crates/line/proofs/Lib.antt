@@ -1,4 +1,5 @@
-pub mod Entries
 pub mod Fields
+pub mod Forms
+pub mod Entries
 pub mod Theorems
 pub mod Unique

@@ -35,10 +35,11 @@ use Rattle.campaign.proofs.Relations.{kept-from}
 use Rattle.line.specs.declared.Sheet.{Sheet}
 use Rattle.line.specs.declared.Sheet.the-variants.{Fresh, Open}
 use Rattle.line.specs.declared.Step.the-variants.{Next}
-use Rattle.form.specs.Form.{begins, longestLine, endsLine, isLine, standardWord}
+use Rattle.form.specs.Form.{begins, longestLine, endsLine, isLine, standardStart}
+use Rattle.form.specs.Texts.{entryText, headText}
 use Rattle.form.proofs.Columns.{record-few}
 use Rattle.line.specs.Line.{endedBy, fieldThen, lineAfter, outcome, recordLine, standardLine, startsWith, stepping, telling, told}
-use Rattle.line.proofs.Entries.{Entry, recordBytes, record-says, says-next}
+use Rattle.line.proofs.Entries.{Entry, record-says, says-next}
 
 -- what a line that is taken says
 pub line-enters : (c : Campaign) (line : List ℕ) (s : Sheet) → sound c ≡ true → stepping (Open c) line ≡ Next s → Entry c line s
@@ -90,7 +91,7 @@ module _ (n f t : ℕ) (hn : n < 10 ^ longest) (hf : f < 10 ^ longest) (ht : t <
   b = fieldText f tab
 
   bytes : List ℕ
-  bytes = recordBytes n f t
+  bytes = entryText n f t
 
   size : length bytes ≡ length a + length b + length (fieldText t lineFeed)
   unfolding a b bytes
@@ -127,7 +128,8 @@ module _ (n f t : ℕ) (hn : n < 10 ^ longest) (hf : f < 10 ^ longest) (ht : t <
   line-is = rw (le-leb (length bytes) longestLine short) ends
 
 pub line-back : (c : Campaign) (flag exposure : ℕ) → sound c ≡ true → flag ≤ 1 → exposure < 10 ^ longest
-    → stepping (Open c) (recordBytes (c .records + 1) flag exposure) ≡ outcome (lineAfter c) (telling c (eqb flag 1) exposure)
+    → stepping (Open c) (entryText (c .records + 1) flag exposure)
+    ≡ outcome (lineAfter c) (telling c (eqb flag 1) exposure)
 unfolding stepping recordLine bytes a b
 line-back c flag exposure g h k =
     let n = c .records + 1 in
@@ -141,7 +143,7 @@ line-back c flag exposure g h k =
       third n flag exposure hn hf k,
       eq-eqb n n refl,
       le-leb flag 1 h,
-      eq-eqb (length (recordBytes n flag exposure)) (length (recordBytes n flag exposure)) refl,
+      eq-eqb (length (entryText n flag exposure)) (length (entryText n flag exposure)) refl,
     )
 
 -- ---- line 1 of a standard
@@ -150,15 +152,15 @@ unfolding begins
 begins-itself [] rest = refl
 begins-itself (w ∷ word) rest = rw (eq-eqb w w refl, begins-itself word rest)
 
-pub standard-back : (q : ℕ) → q < 10 ^ longest → stepping Fresh (standardWord ++ fieldText q lineFeed) ≡ outcome 1 (opened q)
+pub standard-back : (q : ℕ) → q < 10 ^ longest → stepping Fresh (headText q) ≡ outcome 1 (opened q)
 unfolding stepping standardLine fieldText
 standard-back q h =
-    let text = standardWord ++ fieldText q lineFeed in
-    let size : length text ≡ length standardWord + length (fieldText q lineFeed) = length-append standardWord (fieldText q lineFeed) in
-    let field : fieldThen lineFeed text (length standardWord) ≡ Number q (length text) = rw (append-nil (fieldText q lineFeed), ← size) at (field-back standardWord q lineFeed [] h refl) in
+    let text = headText q in
+    let size : length text ≡ length standardStart + length (fieldText q lineFeed) = length-append standardStart (fieldText q lineFeed) in
+    let field : fieldThen lineFeed text (length standardStart) ≡ Number q (length text) = rw (append-nil (fieldText q lineFeed), ← size) at (field-back standardStart q lineFeed [] h refl) in
     let short : length text ≤ longestLine = omega (arith, size, field-few q lineFeed 11 h) in
-    let ended : endsLine text ≡ true = rw (← append-assoc standardWord (digitsOf q) (lineFeed ∷ [])) (last-byte (standardWord ++ digitsOf q)) in
-    rw (le-leb (length text) longestLine short, ended, begins-itself standardWord (fieldText q lineFeed), field, eq-eqb (length text) (length text) refl)
+    let ended : endsLine text ≡ true = rw (← append-assoc standardStart (digitsOf q) (lineFeed ∷ [])) (last-byte (standardStart ++ digitsOf q)) in
+    rw (le-leb (length text) longestLine short, ended, begins-itself standardStart (fieldText q lineFeed), field, eq-eqb (length text) (length text) refl)
 
 -- a flag is 1 for failed, else 0
 pub flag-of : (b : Bool) → (eqb (cond b 1 0) 1 ≡ b) × (cond b 1 0 ≤ 1)
@@ -166,7 +168,8 @@ flag-of true = (refl, omega arith)
 flag-of false = (refl, omega arith)
 
 pub result-line : (r : Record) (x : Result) (c : Campaign) → sound c ≡ true → ending r ≡ Given x
-    → stepping (Open c) (recordBytes (c .records + 1) (cond (outcomeOf x .failed) 1 0) (x .exposure)) ≡ outcome (lineAfter c) (entering c (outcomeOf x))
+    → stepping (Open c) (entryText (c .records + 1) (cond (outcomeOf x .failed) 1 0) (x .exposure))
+    ≡ outcome (lineAfter c) (entering c (outcomeOf x))
 result-line r x c g e =
     let f = outcomeOf x .failed in
     let b = given-bounds r x e in

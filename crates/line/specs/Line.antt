@@ -11,7 +11,7 @@ use Rattle.fields.specs.declared.Field.{Field}
 use Rattle.fields.specs.declared.Field.the-variants.{Number, Empty, Strange, LeadingZero, TooLong}
 use Rattle.decimal.specs.Field.{tab, lineFeed}
 use Rattle.fields.specs.Field.{fieldAt}
-use Rattle.form.specs.Form.{isLine, begins, standardWord}
+use Rattle.form.specs.Form.{isLine, begins, standardStart}
 use Rattle.form.specs.Column.{standardColumn, recordColumn}
 use Rattle.campaign.specs.declared.Answer.{Answer}
 use Rattle.campaign.specs.declared.Answer.the-variants.{Taken, Refused}
@@ -65,8 +65,8 @@ ofLine bad line step = cond (isLine line) step bad
 unfoldable pub standardLine : ℕ → List ℕ → Step
 standardLine column line =
     ofLine (malformed 1 column) line
-    (cond (begins standardWord line)
-    (withNumber (malformed 1 column) (fieldThen lineFeed line (length standardWord)) (λ q end.
+    (cond (begins standardStart line)
+    (withNumber (malformed 1 column) (fieldThen lineFeed line (length standardStart)) (λ q end.
     cond (eqb end (length line)) (outcome 1 (opened q)) (malformed 1 column)))
     (malformed 1 column))
 

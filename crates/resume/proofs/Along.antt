@@ -30,7 +30,7 @@ use Rattle.line.proofs.Theorems.{told-entered}
 use Rattle.sheet.specs.declared.Reading.the-variants.{Read}
 use Rattle.sheet.specs.Pieces.{joined}
 use Rattle.sheet.specs.Sheet.{Account, afterStep, meaning, reading}
-use Rattle.ledger.specs.Ledger.{entryText, headText}
+use Rattle.form.specs.Texts.{entryText, headText}
 use Rattle.ledger.proofs.Enough.{in-range}
 use Rattle.ledger.proofs.Judging.{told-taken}
 use Rattle.resume.specs.declared.Entry.the-variants.{Other}

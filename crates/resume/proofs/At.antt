@@ -19,10 +19,10 @@ use Rattle.decimal.specs.Field.{fieldText, lineFeed, tab}
 use Rattle.decimal.specs.Leading.{behind, leading, leadingAt, standsAt}
 use Rattle.decimal.proofs.Leading.{leading-is, leads-number, led}
 use Rattle.decimal.proofs.Text.{all-digits, digits-value, number-digits, value-digits}
-use Rattle.form.specs.Form.{begins, standardWord}
+use Rattle.form.specs.Form.{begins, standardStart}
 use Rattle.line.proofs.Fields.{begins-with}
 use Rattle.line.proofs.Theorems.{begins-itself}
-use Rattle.ledger.specs.Ledger.{entryText, headText}
+use Rattle.form.specs.Texts.{entryText, headText}
 use Rattle.ledger.proofs.Puts.{line-parts}
 use Rattle.resume.specs.declared.Exposure.the-variants.{Other as Nought}
 use Rattle.resume.specs.declared.Head.the-variants.{Standard}
@@ -162,23 +162,23 @@ module _ (s : List ℕ) (at due : ℕ) where
 module _ (s : List ℕ) where
   record Opens (q : ℕ) : Type 0 where
     feed : ℕ
-    word : begins standardWord s ≡ true
+    word : begins standardStart s ≡ true
     number : leadingAt s 9 ≡ Number q feed
     last : standsAt s feed lineFeed ≡ true
 
   opens : (q : ℕ) (rest : List ℕ) → q < 10 ^ longest → s ≡ headText q ++ rest → Opens q
   unfolding fieldText
   opens q rest small e =
-      let parts : s ≡ standardWord ++ (digitsOf q ++ (lineFeed ∷ rest)) = e ∙ simp append-assoc in
+      let parts : s ≡ standardStart ++ (digitsOf q ++ (lineFeed ∷ rest)) = e ∙ simp append-assoc in
       let behind : drop 9 s ≡ digitsOf q ++ (lineFeed ∷ rest) = ap (drop 9) parts in
       let (number, feeds) = lead-back s 9 q lineFeed rest small refl behind in
       let (last, _) = stand-back s (9 + length (digitsOf q)) lineFeed rest _ refl feeds in
-      record { feed = 9 + length (digitsOf q); word = rw parts (begins-itself standardWord (digitsOf q ++ (lineFeed ∷ rest))); number = number; last = last }
+      record { feed = 9 + length (digitsOf q); word = rw parts (begins-itself standardStart (digitsOf q ++ (lineFeed ∷ rest))); number = number; last = last }
 
   abbrev NoHead : Type 0
   NoHead = (q : ℕ) (rest : List ℕ) → q < 10 ^ longest → ¬ (s ≡ headText q ++ rest)
 
-  pub no-word : begins standardWord s ≡ false → NoHead
+  pub no-word : begins standardStart s ≡ false → NoHead
   no-word e q rest small h = true≢false (sym (opens q rest small h .word) ∙ e)
 
   pub no-standard : leadingAt s 9 ≡ Nothing → NoHead
@@ -192,12 +192,12 @@ module _ (s : List ℕ) where
         let place : o .feed ≡ feed = cc (same) in
         true≢false (sym (rw place at (o .last)) ∙ e)
 
-    pub head-here : begins standardWord s ≡ true → standsAt s feed lineFeed ≡ true → HeadOf s (Standard v (feed + 1))
+    pub head-here : begins standardStart s ≡ true → standsAt s feed lineFeed ≡ true → HeadOf s (Standard v (feed + 1))
     unfolding HeadOf fieldText
     head-here word last =
-        let a = begins-with standardWord s word in
+        let a = begins-with standardStart s word in
         let b = lead-bytes s 9 v feed number in
         let (c, within) = stand-bytes s feed lineFeed last in
         let l = leads-number s 9 v feed number in
-        let whole : headText v ++ drop (feed + 1) s ≡ standardWord ++ (digitsOf v ++ (lineFeed ∷ drop (feed + 1) s)) = simp append-assoc in
-        (record { bytes = a ∙ ap (λ (t : List ℕ). standardWord ++ t) (b ∙ ap (λ (t : List ℕ). digitsOf v ++ t) c) ∙ sym whole; further = omega arith; within = omega (arith, within) }, l .small)
+        let whole : headText v ++ drop (feed + 1) s ≡ standardStart ++ (digitsOf v ++ (lineFeed ∷ drop (feed + 1) s)) = simp append-assoc in
+        (record { bytes = a ∙ ap (λ (t : List ℕ). standardStart ++ t) (b ∙ ap (λ (t : List ℕ). digitsOf v ++ t) c) ∙ sym whole; further = omega arith; within = omega (arith, within) }, l .small)

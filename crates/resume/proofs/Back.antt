@@ -23,7 +23,8 @@ use Rattle.sheet.specs.declared.Reading.the-variants.{Read}
 use Rattle.sheet.specs.Sheet.{Account, afterStep, meaning, reading}
 use Rattle.ledger.specs.Answers.{judged, judgedFrom}
 use Rattle.degrees.specs.Degrees.{signed}
-use Rattle.ledger.specs.Ledger.{entryText, exposureIn, failedIn, headText, lineText, linesFrom, sheetText}
+use Rattle.form.specs.Texts.{entryText, headText}
+use Rattle.ledger.specs.Ledger.{exposureIn, failedIn, lineText, linesFrom, sheetText}
 use Rattle.ledger.proofs.Enough.{in-range}
 use Rattle.ledger.proofs.Entered.{went-on}
 use Rattle.resume.specs.Records.{recordIn, recordsOf}

@@ -30,7 +30,8 @@ use Rattle.sheet.specs.Sheet.{Account, afterStep, meaning, reading}
 use Rattle.ledger.specs.Answers.{judged, judgedFrom}
 use Rattle.ledger.proofs.Entered.{judged-standard}
 use Rattle.degrees.specs.Degrees.{signed}
-use Rattle.ledger.specs.Ledger.{entryText, exposureIn, failedIn, headText, linesFrom, sheetText}
+use Rattle.form.specs.Texts.{entryText, headText}
+use Rattle.ledger.specs.Ledger.{exposureIn, failedIn, linesFrom, sheetText}
 use Rattle.resume.specs.Records.{recordIn, recordsOf}
 use Rattle.resume.proofs.Lines.{entry-says, lines-joined}
 

@@ -14,10 +14,10 @@ use Rattle.decimal.specs.Lines.{linesOf, startLine}
 use Rattle.decimal.proofs.Leading.{leading-is}
 use Rattle.decimal.proofs.Lines.{NoFeed, digits-none, lines-front, none-joined}
 use Rattle.decimal.proofs.Text.{all-digits, value-digits}
-use Rattle.form.specs.Form.{standardWord}
+use Rattle.form.specs.Form.{standardStart}
 use Rattle.sheet.specs.Pieces.{joined}
 use Rattle.degrees.specs.Degrees.{signed}
-use Rattle.ledger.specs.Ledger.{entryText, headText}
+use Rattle.form.specs.Texts.{entryText, headText}
 use Rattle.resume.specs.Records.{afterField, recordIn}
 
 -- ---- the lines of a text, joined
@@ -77,13 +77,13 @@ entry-says number flag exposure =
 
 -- ---- line 1
 module _ (q : ℕ) where
-  word-none : NoFeed standardWord
+  word-none : NoFeed standardStart
   unfolding NoFeed
   word-none = (refl, (refl, (refl, (refl, (refl, (refl, (refl, (refl, (refl, tt)))))))))
 
   pub head-lines : (rest : List ℕ) → linesOf (headText q ++ rest) ≡ headText q ∷ linesOf rest
   unfolding fieldText
   head-lines rest =
-      let whole : headText q ++ rest ≡ (standardWord ++ digitsOf q) ++ (lineFeed ∷ rest) = simp append-assoc in
-      let is : headText q ≡ (standardWord ++ digitsOf q) ++ (lineFeed ∷ []) = simp append-assoc in
-      ap linesOf whole ∙ lines-front (standardWord ++ digitsOf q) rest (none-joined standardWord (digitsOf q) word-none (digits-none _ (all-digits q))) ∙ ap (λ x. x ∷ linesOf rest) (sym is)
+      let whole : headText q ++ rest ≡ (standardStart ++ digitsOf q) ++ (lineFeed ∷ rest) = simp append-assoc in
+      let is : headText q ≡ (standardStart ++ digitsOf q) ++ (lineFeed ∷ []) = simp append-assoc in
+      ap linesOf whole ∙ lines-front (standardStart ++ digitsOf q) rest (none-joined standardStart (digitsOf q) word-none (digits-none _ (all-digits q))) ∙ ap (λ x. x ∷ linesOf rest) (sym is)

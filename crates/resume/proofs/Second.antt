@@ -30,7 +30,7 @@ use Rattle.line.proofs.Theorems.{flag-of}
 use Rattle.sheet.specs.declared.Reading.the-variants.{Read}
 use Rattle.sheet.specs.Pieces.{joined}
 use Rattle.sheet.specs.Sheet.{reading}
-use Rattle.ledger.specs.Ledger.{entryText}
+use Rattle.form.specs.Texts.{entryText}
 use Rattle.ledger.proofs.Puts.{line-parts}
 use Rattle.resume.specs.Pass.{CleanFrom, flagAt, runEnd, runValue}
 use Rattle.resume.specs.Records.{recordIn, recordsOf}

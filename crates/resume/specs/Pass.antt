@@ -17,7 +17,7 @@ use Rattle.campaign.specs.declared.Campaign.{Campaign}
 use Rattle.sheet.specs.declared.Reading.{Reading}
 use Rattle.sheet.specs.declared.Reading.the-variants.{Read, Stopped, Waiting}
 use Rattle.sheet.specs.Sheet.{meaning, reading}
-use Rattle.ledger.specs.Ledger.{entryText, headText}
+use Rattle.form.specs.Texts.{entryText, headText}
 use Rattle.resume.specs.declared.Entry.{Entry}
 use Rattle.resume.specs.declared.Entry.the-variants.{Says, Other}
 use Rattle.resume.specs.declared.Exposure.{Exposure}

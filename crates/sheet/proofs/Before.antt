@@ -16,7 +16,7 @@ use Rattle.campaign.specs.declared.Answer.the-variants.{Taken, Refused}
 use Rattle.campaign.specs.declared.Campaign.{Campaign}
 use Rattle.campaign.specs.Answers.{opened}
 use Rattle.campaign.specs.State.{sound}
-use Rattle.form.specs.Form.{begins, isLine, standardWord}
+use Rattle.form.specs.Form.{begins, isLine, standardStart}
 use Rattle.line.specs.declared.Sheet.{Sheet}
 use Rattle.line.specs.declared.Sheet.the-variants.{Fresh, Open}
 use Rattle.line.specs.declared.Step.{Step}
@@ -51,8 +51,8 @@ same-standard : (column : ℕ) (line : List ℕ) → Same (standardLine column l
 unfolding standardLine
 same-standard column line =
     same-if (isLine line)
-    (same-if (begins standardWord line)
-    (same-number (fieldThen lineFeed line (length standardWord)) stops (λ q end. same-if (eqb end (length line)) (same-outcome 1 (opened q)) stops))
+    (same-if (begins standardStart line)
+    (same-number (fieldThen lineFeed line (length standardStart)) stops (λ q end. same-if (eqb end (length line)) (same-outcome 1 (opened q)) stops))
     stops)
     stops
 

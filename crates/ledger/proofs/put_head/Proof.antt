@@ -6,8 +6,8 @@ use borrow.Author.Needs.{needs}
 use Rattle.text.proofs.Parts.{Left, left-all, left-next, left-last}
 use Rattle.decimal.specs.Decimal.{digitsOf}
 use Rattle.decimal.specs.Field.{lineFeed, fieldText}
-use Rattle.form.specs.Form.{standardWord}
-use Rattle.ledger.specs.Ledger.{headText}
+use Rattle.form.specs.Form.{standardStart}
+use Rattle.form.specs.Texts.{headText}
 use Rattle.ledger.proofs.put_head.Statement.{statement}
 use Rattle.ledger.proofs.put_head.Tie as tie
 
@@ -17,7 +17,7 @@ module _ (c : tie.After-write-bytes) where
   start = c .before .before .before .before
 
   left1 : Left (now (start .args .out)) 0 (headText (start .args .q)) (fieldText (start .args .q) lineFeed) (c .write-bytes .last .1 .0) (c .write-bytes .result)
-  left1 = left-next standardWord (fieldText (start .args .q) lineFeed) (left-all _ 0 (headText (start .args .q)) (omega (arith, start .pre))) (c .write-bytes .ensures)
+  left1 = left-next standardStart (fieldText (start .args .q) lineFeed) (left-all _ 0 (headText (start .args .q)) (omega (arith, start .pre))) (c .write-bytes .ensures)
 
 module _ (c : tie.After-write-number) where
   abbrev word : tie.After-write-bytes

@@ -3,7 +3,8 @@ use native.Mathlib.Omega.{arith}
 use denote.Ref.{now}
 use borrow.Author.Needs.{needs}
 use Rattle.text.proofs.Parts.{Left, left-all, left-fits, left-next, left-last}
-use Rattle.ledger.specs.Ledger.{headText, linesFrom, sheetText}
+use Rattle.form.specs.Texts.{headText}
+use Rattle.ledger.specs.Ledger.{linesFrom, sheetText}
 use Rattle.ledger.proofs.Puts.{sheet-bytes}
 use Rattle.ledger.proofs.put_sheet.Statement.{statement}
 use Rattle.ledger.proofs.put_sheet.Tie as tie

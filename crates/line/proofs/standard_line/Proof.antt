@@ -7,7 +7,7 @@ use denote.Ref.{now}
 use Rattle.decimal.specs.Field.{lineFeed}
 use Rattle.fields.specs.declared.Field.the-variants.{Number}
 use Rattle.truth.proofs.Laws.{said-no, said-yes}
-use Rattle.form.specs.Form.{standardWord, begins, isLine}
+use Rattle.form.specs.Form.{standardStart, begins, isLine}
 use Rattle.line.specs.Line.{fieldThen, outcome, standardLine}
 use Rattle.line.proofs.Fields.{other-field}
 use borrow.Author.Needs.{needs}
@@ -18,13 +18,14 @@ use Rattle.line.proofs.standard_line.Tie as tie
 within : (c : tie.Else1) → isLine (now (c .before .before .before .args .text)) ≡ true
 within c = said-yes (c .before .is-line .ensures) (c .if1 .left)
 
-worded : (c : tie.Else2) → begins standardWord (now (c .before .before .before .before .before .before .args .text)) ≡ true
+worded : (c : tie.Else2)
+    → begins standardStart (now (c .before .before .before .before .before .before .args .text)) ≡ true
 worded c = said-yes (c .before .begins .ensures) (c .if2 .left)
 
 abbrev word-at : tie.After-known-told → tie.Else2
 word-at c = c .before .before .before .before
 
-number : (c : tie.After-known-told) → fieldThen lineFeed (now (c .before .before .before .before .before .before .before .before .before .before .args .text)) (length standardWord) ≡ Number (c .before .q .given .0 .0) (c .before .q .given .0 .1 .0)
+number : (c : tie.After-known-told) → fieldThen lineFeed (now (c .before .before .before .before .before .before .before .before .before .before .args .text)) (length standardStart) ≡ Number (c .before .q .given .0 .0) (c .before .q .given .0 .1 .0)
 number c = sym (c .before .before .before .field-then .ensures) ∙ c .before .q .given .1
 
 is-line-requires : tie.Need-is-line-requires

@@ -9,7 +9,7 @@ use Rattle.truth.proofs.Laws.{said-no, said-yes}
 use Rattle.decimal.specs.declared.Lead.the-variants.{Number}
 use Rattle.decimal.specs.Leading.{leadingAt}
 use Rattle.decimal.proofs.Leading.{leads-number}
-use Rattle.form.specs.Form.{begins, standardWord}
+use Rattle.form.specs.Form.{begins, standardStart}
 use Rattle.resume.specs.Pass.{HeadOf}
 use Rattle.resume.proofs.At.{head-here, no-end, no-standard, no-word}
 use borrow.Author.Needs.{needs}
@@ -33,7 +33,7 @@ module _ (c : tie.After-known-told) where
   number : leadingAt (Text word) 9 ≡ Number Q Feed
   number = sym (c .before .before .before .leading-at .ensures) ∙ c .before .q .given .1
 
-  begun : begins standardWord (Text word) ≡ true
+  begun : begins standardStart (Text word) ≡ true
   begun = said-yes (word .begins .ensures) (c .before .before .before .before .if1 .left)
 
 slice-aggregate-begins : tie.Need-slice-aggregate-begins

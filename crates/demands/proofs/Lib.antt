@@ -13,3 +13,4 @@ pub mod Request9
 pub mod Request11
 pub mod Request13
 pub mod Tail
+pub mod Refusal9

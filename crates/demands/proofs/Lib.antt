@@ -14,3 +14,4 @@ pub mod Request11
 pub mod Request13
 pub mod Tail
 pub mod Refusal9
+pub mod Request10

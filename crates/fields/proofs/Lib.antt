@@ -3,3 +3,4 @@ pub mod Faults
 pub mod Back
 pub mod Unique
 pub mod Examples
+pub mod Told

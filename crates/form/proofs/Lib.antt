@@ -1,2 +1,4 @@
 pub mod Columns
+pub mod Fault
+pub mod Parts
 pub mod Unique

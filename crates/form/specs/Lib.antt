@@ -1,3 +1,5 @@
 pub mod Form
 pub mod Texts
+pub mod Parts
+pub mod Fault
 pub mod Column

@@ -15,3 +15,4 @@ pub mod Request13
 pub mod Tail
 pub mod Refusal9
 pub mod Request10
+pub mod Figures

@@ -1,13 +1,26 @@
 -- Document 02, [4]: closing is two steps. Where neither state is broken, ending a record and then entering its result is the old closing, whose definition stays here
 -- for this statement alone; a result that ending gives is never refused as broken; entering reads only the exposure and whether there is a first failure. Demand 1
 -- has the order of refusals of each step, and demand 2 the campaign that results build. Assumes nothing.
-use mathlib.Core.Path.{_≡_, refl}
+use mathlib.Core.Path.{_≡_, ap, refl}
 use mathlib.Core.Bool.{Bool, cond, false, not, true}
-use borrow.Author.Tests.{le-leb}
-use lib.Dec.{eqb}
+use mathlib.Core.List.{List, [], _∷_}
+use Prim.Native.Nat.{ℕ, zero, suc, _+_, _-_, _*_, _<_}
+use native.Mathlib.Omega.{arith}
+use borrow.Author.Tests.{le-leb, ltb-true, ne-eqb}
+use lib.ListN.{length}
+use lib.Dec.{eqb, ltb}
+use Rattle.truth.proofs.Cases.{by-test}
+use Rattle.truth.proofs.Laws.{and-true}
 use Rattle.refusal.specs.declared.Refusal.the-variants.{BrokenState, TooShort}
 use Rattle.limits.specs.Limits.{longestTime}
-use Rattle.record.specs.State.{failed, tooShort}
+use Rattle.channels.specs.declared.Levels.{Levels}
+use Rattle.channels.specs.declared.Moment.{Moment}
+use Rattle.reading.specs.Reading.{crossesAt, crossings, firstOf, groups, largestSet, passing}
+use Rattle.record.specs.Answers.{opened}
+use Rattle.record.specs.declared.Answer.the-variants.{Taken}
+use Rattle.feeding.specs.Pieces.{AllTaken, Piece, joined, samplesOf}
+use Rattle.feeding.proofs.Theorems.{pieces-whole}
+use Rattle.record.specs.State.{failed, stateOf, tooShort}
 use Rattle.record.specs.State as reading
 use Rattle.record.specs.declared.Record.{Record}
 use Rattle.result.specs.Result.{ending, exposureOf, outcomeOf, resultOf}
@@ -36,7 +49,21 @@ abbrev onward : Campaign → Ended → Answer
 onward c (Given x) = entering c (outcomeOf x)
 onward c (ended.Refused f) = Refused f
 
+-- the result of an ended record is that of its samples xs: the number of crossings, that of the groups, that of the
+-- largest set, and the first crossing with its time, or no place and the full time
+pub record EndsAs (D R : ℕ) (a : Levels) (τ : ℕ) (xs : List Moment) (x : Result) : Type 0 where
+  pub crossed : x .crossings ≡ length (crossings R a xs)
+  pub counted : x .counted ≡ length (groups D R a τ xs)
+  pub largest : x .largest ≡ length (largestSet D R a τ xs)
+  pub failed : (i : ℕ) (later : List ℕ) → crossings R a xs ≡ i ∷ later
+      → (x .first ≡ i) × (R < i) × (x .exposure ≡ (i - R) * D)
+  pub lasted : crossings R a xs ≡ [] → (x .first ≡ 0) × (x .exposure ≡ (length xs - 1 - R) * D)
+
 pub record Request4 : Type 0 where
+  -- what the clerk sees of a record that was opened and fed, however it was cut
+  pub of-samples : (D R : ℕ) (a : Levels) (τ : ℕ) (s t : Record) (ps : List Piece) (x : Result)
+      → opened D R a τ ≡ Taken s → AllTaken s ps t → ending t ≡ Given x
+      → EndsAs D R a τ (samplesOf (joined ps)) x
   pub in-two : (r : Record) (c : Campaign) → reading.sound r ≡ true → sound c ≡ true → onward c (ending r) ≡ closing r c
   pub unbroken : (r : Record) (x : Result) → ending r ≡ Given x → outcomeKept (outcomeOf x) ≡ true
   pub alike : (c : Campaign) (x y : Result) → x .exposure ≡ y .exposure → eqb (x .first) 0 ≡ eqb (y .first) 0 → entering c (outcomeOf x) ≡ entering c (outcomeOf y)
@@ -52,9 +79,34 @@ two r c s k = rw (s, k) (go (tooShort r) refl)
     go true e = refl
     go false e = let t = exposure-bounds r s e in rw (k, le-leb 1 (exposureOf r) (t .0), le-leb (exposureOf r) longestTime (t .1))
 
+-- the first number that passes a test passes it
+passes : (f : ℕ → Bool) (k n i : ℕ) (later : List ℕ) → passing f k n ≡ i ∷ later → f i ≡ true
+unfolding passing firstOf
+passes f k zero i later e = let z : 0 ≡ length (i ∷ later) = ap (λ (l : List ℕ). length l) e in absurd (omega arith)
+passes f k (suc n) i later e =
+    by-test (f k)
+    (λ t. let same : k ≡ i = ap (firstOf 0) (rw t at e) in rw (← same) t)
+    (λ t. passes f (k + 1) n i later (rw t at e))
+
+module _ (D R : ℕ) (a : Levels) (τ : ℕ) (xs : List Moment) where
+  crossed-above : (i : ℕ) (later : List ℕ) → crossings R a xs ≡ i ∷ later → R < i
+  crossed-above i later e = ltb-true R i (and-true (ltb R i) _ (passes (crossesAt R a xs) 0 (length xs) i later e) .0)
+
+  ends-as : EndsAs D R a τ xs (resultOf (stateOf D R a τ xs))
+  unfolding stateOf firstOf
+  ends-as =
+      record {
+        crossed = refl;
+        counted = refl;
+        largest = refl;
+        failed = λ i later e. let up = crossed-above i later e in rw (e, ne-eqb i 0 (λ z. omega arith)) (refl, up, refl);
+        lasted = λ e. rw e (refl, refl);
+      }
+
 pub request-4 : Request4
 request-4 =
     record {
+      of-samples = λ D R a τ s t ps x o f e. rw (given t x e .is, pieces-whole D R a τ s o f) (ends-as D R a τ (samplesOf (joined ps)));
       in-two = two;
       unbroken = λ r x e. let t = given-bounds r x e in rw (le-leb 1 (x .exposure) (t .0), le-leb (x .exposure) longestTime (t .1));
       alike = λ c x y t f. rw (t, f);

@@ -15,4 +15,5 @@ pub mod Request13
 pub mod Tail
 pub mod Refusal9
 pub mod Request10
+pub mod JobSheet
 pub mod Figures

@@ -27,9 +27,6 @@ use Rattle.line.specs.declared.Step.the-variants.{Next, Stop}
 use Rattle.line.specs.Line.{lineAfter, malformed, outcome, stepping}
 use Rattle.line.proofs.Theorems.{line-back, standard-back}
 use Rattle.form.specs.Texts.{RecordText, StandardText, entryText, headText}
-use Rattle.sheet.specs.declared.Reading.the-variants.{Stopped}
-use Rattle.sheet.specs.Sheet.{meaning, reading}
-use Rattle.decimal.specs.Lines.{linesOf}
 use Rattle.demands.proofs.Exactly.{Exactly}
 use Rattle.line.proofs.Forms.{Reads, Told, ToldStandard, good, ill, record-reads, standard-reads}
 use Rattle.demands.proofs.Demand1.{Decides, Test, _gives_, decide, decided, roomTests, tells}
@@ -41,7 +38,7 @@ pub record Nine (number : ℕ) (answer : Step) : Type 0 where
   pub is : answer ≡ Stop number column (Line number)
 
 -- of a standard: 1 with item 5
-abbrev standardTests : ℕ → List Test
+abbrev pub standardTests : ℕ → List Test
 standardTests q = not (standardInRange q) gives Item 5 ∷ []
 
 -- of a record that a line tells: 4, 3, 5, 6
@@ -62,8 +59,6 @@ pub record Refusal9 : Type 0 where
   pub line-then : (c : Campaign) (flag exposure : ℕ) → sound c ≡ true → flag ≤ 1 → exposure < 10 ^ longest
       → Decides (Stop (c .records + 2) 0) (tellTests c exposure) (Next (Open (entered c (eqb flag 1) exposure)))
       (stepping (Open c) (entryText (c .records + 1) flag exposure))
-  -- an absent line 1
-  pub absent : meaning [] .end ≡ Stopped 1 0 (Line 1)
 
 -- ---- the proof
 no : _≡_ {A = ℕ} 0 1 → ⊥
@@ -188,10 +183,6 @@ module _ (line : List ℕ) where
       from bad (inl t) = absurd (bad t)
       from bad (inr n) = n
 
-nothing : meaning [] .end ≡ Stopped 1 0 (Line 1)
-unfolding meaning reading linesOf
-nothing = refl
-
 pub refusal-9 : Refusal9
 refusal-9 =
     record {
@@ -201,5 +192,4 @@ refusal-9 =
       line = λ c line kept. exactly c kept line;
       line-either = λ c line kept. either c kept line;
       line-then = λ c flag exposure kept f s. told-decides c kept flag exposure f s;
-      absent = nothing;
     }

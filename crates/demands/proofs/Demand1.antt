@@ -1,10 +1,17 @@
--- Demand 1: whatever is handed in, each public entry answers or refuses by a number of document 01, under exactly the stated condition, and a refusal
--- leaves everything as it stood.
+-- Demand 1: whatever is handed in, each public entry answers or refuses by a number of document 01, under exactly the
+-- stated condition, and a refusal leaves everything as it stood.
 --
--- Each entry has its tests in document 01's order, a test being a condition and the refusal that it gives. The statement is that the entry's answer is
--- what the tests decide: the refusal of the first test that holds, or the answer proper if none does (`Decides`, which says so without the definition).
--- A record or a campaign goes in by value and a refusal hands none out, so the caller's stays; of the one slice that is lent, a refusal leaves every
--- place as it was (`kept`). The proof goes through the cases of the tests. Assumes nothing.
+-- Each entry has its tests in document 01's order, a test being a condition and the refusal that it gives. The statement
+-- is that the entry's answer is what the tests decide: the refusal of the first test that holds, or the answer proper if
+-- none does (`Decides`, which says so without the definition). A record or a campaign goes in by value and a refusal
+-- hands none out, so the caller's stays; of the one slice that is lent, a refusal leaves every place as it was (`kept`).
+-- The proof goes through the cases of the tests.
+--
+-- Here stand the entries of a record (open, feed, end, list), of a campaign (open, enter) and of its verdict (judge, rate,
+-- censored). The same form is used for a sheet's line in Refusal9, for read, run and the writers of replies in JobSheet,
+-- and for what document 02 added in Request1 (comma files), Request2 (the sheet written and resumed), Request7 (sums),
+-- Request9 (the table of two bureaus), Request11 (envelope peaks), Request13 (conditions and reports) and Tail.
+-- tests/statements fails where a public entry that can refuse has no such statement. Assumes nothing.
 use mathlib.Core.Path.{_≡_, refl, sym, _∙_}
 use mathlib.Core.Bool.{Bool, cond, false, not, true}
 use mathlib.Core.List.{List, [], _∷_, foldl}
@@ -48,10 +55,8 @@ use Rattle.campaign.specs.State as campaigning
 use Rattle.form.specs.Texts.{entryText}
 use Rattle.line.specs.declared.Sheet.the-variants.{Fresh, Open}
 use Rattle.line.specs.Line.{lineAfter, outcome, stepping, telling, told}
-use Rattle.sheet.specs.Before.{WithoutColumns, meaningBefore}
 use Rattle.sheet.specs.Pieces.{feeding, joined}
 use Rattle.sheet.specs.Sheet.{meaning}
-use Rattle.sheet.proofs.Before.{columns-aside}
 use Rattle.sheet.proofs.Pieces.{cut-anywhere}
 use Rattle.line.proofs.Theorems.{result-line}
 
@@ -142,12 +147,10 @@ pub record Demand1 : Type 0 where
       (c : Campaign)
       → Decides rating.Refused (not (campaigning.sound c) gives BrokenState ∷ []) (rating.Given (not (eqb (c .records) 0)) (ratesOf c)) (verdicts.rating c)
   pub censored : (c : Campaign) → Decides counting.Refused (not (campaigning.sound c) gives BrokenState ∷ []) (counting.Count (censored c)) (verdicts.counting c)
-  -- a job sheet: reading a line after what came before decides it, and however the text is cut into pieces, what is written and what the reading ends in
-  -- are those of its meaning; of a record that a line tells of, exposure 0 gives 4, above 10,000,000 gives 3, then 5, 6; and the line of a record that was ended
-  -- comes to what entering its result answers, refusals and all
+  -- a job sheet: however the text is cut into pieces, what is written and what the reading ends in are those of its
+  -- meaning; of a record that a line tells of, exposure 0 gives 4, above 10,000,000 gives 3, then 5, 6; and the line of a
+  -- record that was ended comes to what entering its result answers, refusals and all
   pub sheet : (pieces : List (List ℕ)) → feeding pieces Fresh [] ≡ meaning (joined pieces)
-  -- the columns of document 02, request 10, are all that it changed: without them the meaning of a text is document 01's
-  pub sheet-columns : (text : List ℕ) → WithoutColumns (meaning text) (meaningBefore text)
   pub sheet-record :
       (c : Campaign) (f : Bool) (t : ℕ)
       → campaigning.sound c ≡ true
@@ -270,7 +273,6 @@ demand-1 =
       verdict = λ c. decided judging.Refused (judging.Given (verdictOf c)) own-verdict (λ r e. no (cc)) _ (verdicts.judging c) (swapped (campaigning.sound c) _ _);
       rates = λ c. decided rating.Refused (rating.Given (not (eqb (c .records) 0)) (ratesOf c)) own-rates (λ r e. no (cc)) _ (verdicts.rating c) (swapped (campaigning.sound c) _ _);
       sheet = cut-anywhere;
-      sheet-columns = columns-aside;
       sheet-record = λ c f t g. decided campaigned.Refused (campaigned.Taken (entered c f t)) own-campaign (λ r e. no (cc)) _ (telling c f t) (tells c f t g);
       sheet-line = result-line;
       censored = λ c. decided counting.Refused (counting.Count (censored c)) own-count (λ r e. no (cc)) _ (verdicts.counting c) (swapped (campaigning.sound c) _ _);

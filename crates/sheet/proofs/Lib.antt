@@ -1,5 +1,4 @@
 pub mod Along
-pub mod Before
 pub mod Promised
 pub mod Put
 pub mod Enough

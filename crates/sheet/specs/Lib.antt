@@ -1,4 +1,3 @@
 pub mod Sheet
-pub mod Before
 pub mod Cut
 pub mod Pieces

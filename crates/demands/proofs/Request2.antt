@@ -66,7 +66,8 @@ pub record Request2 : Type 0 where
   -- the sheet's own refusals with their line and column; then 7 with the places needed, on no line; else the standard and the number of records
   pub refused-sheet : (text : List ℕ) (places line column : ℕ) (r : Refusal) → meaning text .end ≡ Stopped line column r → resuming text places ≡ Bad line column r
   pub clean-sheet : (text : List ℕ) (places : ℕ) (c : Campaign) → meaning text .end ≡ Read c
-      → resuming text places ≡ cond (ltb places (c .records)) (Bad 0 0 (Room (c .records))) (Records (c .standard) (c .records))
+      → Decides (Bad 0 0) (ltb places (c .records) gives Room (c .records) ∷ []) (Records (c .standard) (c .records))
+      (resuming text places)
   -- a refusal leaves what was lent as it stood
   pub bytes-kept : (r : Refusal) (text out : List ℕ) → laidBy (Declined r) text out ≡ out
   pub records-kept : (line column : ℕ) (r : Refusal) (xs slice : List ℤ) → filledBy (Bad line column r) xs slice ≡ slice
@@ -84,6 +85,9 @@ pub record Request2 : Type 0 where
 module _ (r s : Refusal) where
   own : Declined r ≡ Declined s → r ≡ s
   own e = cc
+
+  own-sheet : Bad 0 0 r ≡ Bad 0 0 s → r ≡ s
+  own-sheet e = cc
 
 no : _≡_ {A = ℕ} 0 1 → ⊥
 no e = omega arith
@@ -134,6 +138,13 @@ front : (text out : List ℕ) (n : ℕ) → n ≡ length text → take n (laidBy
 unfolding laidBy
 front text out n e = rw e (take-append-seam text _)
 
+-- a sheet that reads cleanly: room for its records
+rooms : (text : List ℕ) (places : ℕ) (c : Campaign) → meaning text .end ≡ Read c
+    → resuming text places
+    ≡ decide (Bad 0 0) (ltb places (c .records) gives Room (c .records) ∷ []) (Records (c .standard) (c .records))
+unfolding resuming decide
+rooms text places c e = rw e
+
 pub request-2 : Request2
 unfolding laidBy filledBy resuming campaignOf
 request-2 =
@@ -142,7 +153,8 @@ request-2 =
       enough = λ q xs out n e. let w = wrote q xs out n e in omega (arith, w .bytes, enough q xs (w .end) (w .clean));
       least = (refl, refl);
       refused-sheet = λ text places line column r e. rw e;
-      clean-sheet = λ text places c e. rw e;
+      clean-sheet = λ text places c e.
+          decided (Bad 0 0) (Records (c .standard) (c .records)) own-sheet (λ r z. no (cc)) _ (resuming text places) (rooms text places c e);
       bytes-kept = λ r text out. refl;
       records-kept = λ line column r xs slice. refl;
       back = λ q xs out n e.

@@ -1,9 +1,9 @@
--- Document 01, "The job sheet", as a whole. How a sheet's reading ends is told by its lines alone, as they are written: the
--- campaign of its records if all are taken; else the first line at fault stops it, with 9 exactly if it is absent or not the
--- text that is due there, else with 1, or 4, 3, 5, 6 (`ends`, `only`, `nine`). Then demand 1 for the entries of a sheet: a
--- line, a text read, a text run, and the writers of replies; a refusal leaves lent bytes as they stood.
--- The proof goes along the lines: those before lead to where the reading stands (`Leads`), and Refusal9 decides the next.
--- Assumes nothing.
+-- Document 01, "The job sheet", as a whole. What is written for a sheet and how its reading ends are told by its lines
+-- alone, as they stand there: a line for each record that is taken, and the campaign of all if all are; else the first
+-- line at fault stops it, with 9 exactly if it is absent or not the text that is due there, else with 1, or 4, 3, 5, 6,
+-- and the refused line is written last (`ends`, `only`, `nine`). Then demand 1 for the entries of a sheet: a line, a
+-- text read, a text run, and the writers of replies; a refusal leaves lent bytes as they stood. The proof goes along
+-- the lines: those before lead to where the reading stands (`Leads`), and Refusal9 decides the next. Assumes nothing.
 use mathlib.Core.Path.{_≡_, ap, refl, sym, _∙_}
 use mathlib.Core.Bool.{Bool, cond, false, not, true}
 use mathlib.Core.List.{List, [], _∷_, _++_, append-assoc, append-nil}
@@ -35,7 +35,7 @@ use Rattle.reply.specs.Written.{recordLeft, recordText, recordWriting, refusedT
 use Rattle.sheet.specs.declared.Ran.the-variants.{Came, Refused as Declined}
 use Rattle.sheet.specs.declared.Reading.{Reading}
 use Rattle.sheet.specs.declared.Reading.the-variants.{Read, Stopped, Waiting}
-use Rattle.sheet.specs.Sheet.{Account, afterStep, meaning, reading, readingEnd, runLeft, running, waits}
+use Rattle.sheet.specs.Sheet.{Account, afterStep, meaning, prefixed, reading, readingEnd, runLeft, running, textOf, waits}
 use Rattle.sheet.proofs.Steps.{step-led}
 use Rattle.demands.proofs.Exactly.{Exactly}
 use Rattle.demands.proofs.Demand1.{Decides, First, None, Test, _gives_, decide, decided, end, here, later, not-it}
@@ -50,11 +50,12 @@ pub data Says : Sheet → List ℕ → List Test → Sheet → Type 0 where
       → Says (Open c) (entryText (c .records + 1) flag exposure) (tellTests c exposure)
       (Open (entered c (eqb flag 1) exposure))
 
--- the lines so far were all taken, and the reading stands here
-pub data Leads : List (List ℕ) → Sheet → Type 0 where
-  start : Leads [] Fresh
-  on : {before : List (List ℕ)} {s : Sheet} {line : List ℕ} {ts : List Test} {t : Sheet}
-      → Leads before s → Says s line ts t → None ts → Leads (before ++ (line ∷ [])) t
+-- the lines so far were all taken, the reading stands here, and this was written: a line for each record that was
+-- entered
+pub data Leads : List (List ℕ) → Sheet → List ℕ → Type 0 where
+  start : Leads [] Fresh []
+  on : {before : List (List ℕ)} {s : Sheet} {text line : List ℕ} {ts : List Test} {t : Sheet}
+      → Leads before s text → Says s line ts t → None ts → Leads (before ++ (line ∷ [])) t (text ++ textOf t)
 
 -- the line is a text that is due here
 abbrev pub Due : Sheet → List ℕ → Type 0
@@ -66,22 +67,26 @@ abbrev pub columnAt : Sheet → List ℕ → ℕ
 columnAt Fresh line = standardColumn line
 columnAt (Open c) line = recordColumn (c .records + 1) line
 
--- how the reading of a sheet with these lines ends
-pub data Ends (lines : List (List ℕ)) : Reading → Type 0 where
-  clean : {c : Campaign} → Leads lines (Open c) → Ends lines (Read c)
-  absent : lines ≡ [] → Ends lines (Stopped 1 0 (Line 1))
-  malformed : (before : List (List ℕ)) (s : Sheet) (line : List ℕ) (after : List (List ℕ))
-      → lines ≡ before ++ (line ∷ after) → Leads before s → ¬ Due s line
-      → Ends lines (Stopped (length before + 1) (columnAt s line) (Line (length before + 1)))
-  refused : (before : List (List ℕ)) (s : Sheet) (line : List ℕ) (after : List (List ℕ)) (ts : List Test) (t : Sheet)
-      (r : Refusal) → lines ≡ before ++ (line ∷ after) → Leads before s → Says s line ts t → First ts r
-      → Ends lines (Stopped (length before + 1) 0 r)
+-- what was written, then the refused line
+abbrev pub stopped : List ℕ → ℕ → ℕ → Refusal → Account
+stopped text n k r = record { text = text ++ refusedText n k r; end = Stopped n k r }
+
+-- what is written for a sheet with these lines, and how its reading ends
+pub data Ends (lines : List (List ℕ)) : Account → Type 0 where
+  clean : (text : List ℕ) (c : Campaign) → Leads lines (Open c) text → Ends lines (record { text = text; end = Read c })
+  absent : lines ≡ [] → Ends lines (stopped [] 1 0 (Line 1))
+  malformed : (before : List (List ℕ)) (s : Sheet) (text line : List ℕ) (after : List (List ℕ))
+      → lines ≡ before ++ (line ∷ after) → Leads before s text → ¬ Due s line
+      → Ends lines (stopped text (length before + 1) (columnAt s line) (Line (length before + 1)))
+  refused : (before : List (List ℕ)) (s : Sheet) (text line : List ℕ) (after : List (List ℕ)) (ts : List Test) (t : Sheet)
+      (r : Refusal) → lines ≡ before ++ (line ∷ after) → Leads before s text → Says s line ts t → First ts r
+      → Ends lines (stopped text (length before + 1) 0 r)
 
 -- line n is absent, or is not the text that is due there, those before it being taken
 pub data Malformed (lines : List (List ℕ)) : ℕ → Type 0 where
   no-line : lines ≡ [] → Malformed lines 1
-  not-due : (before : List (List ℕ)) (s : Sheet) (line : List ℕ) (after : List (List ℕ))
-      → lines ≡ before ++ (line ∷ after) → Leads before s → ¬ Due s line → Malformed lines (length before + 1)
+  not-due : (before : List (List ℕ)) (s : Sheet) (text line : List ℕ) (after : List (List ℕ))
+      → lines ≡ before ++ (line ∷ after) → Leads before s text → ¬ Due s line → Malformed lines (length before + 1)
 
 -- the reading stops with 9 at line n
 pub record StopsByNine (n : ℕ) (r : Reading) : Type 0 where
@@ -105,8 +110,8 @@ roomTests out at text = not (fits out at text) gives Room (length text) ∷ []
 
 pub record JobSheet : Type 0 where
   -- the sheet as a whole
-  pub ends : (text : List ℕ) → Ends (linesOf text) (meaning text .end)
-  pub only : (text : List ℕ) (r : Reading) → Ends (linesOf text) r → meaning text .end ≡ r
+  pub ends : (text : List ℕ) → Ends (linesOf text) (meaning text)
+  pub only : (text : List ℕ) (a : Account) → Ends (linesOf text) a → meaning text ≡ a
   pub nine : (text : List ℕ) (n : ℕ) → Exactly (StopsByNine n (meaning text .end)) (Malformed (linesOf text) n)
   -- a line: 8 exactly if the campaign is broken, then Refusal9; nothing is lent but the text
   pub line-eight : (s : Sheet) (line : List ℕ) → Exactly (StepEight (stepping s line)) (soundSheet s ≡ false)
@@ -193,19 +198,22 @@ due-or-bad (Open c) line g = go (refusal-9 .line-either c line g)
 
 -- ---- the reading, line by line
 one-on : (line : List ℕ) (lines : List (List ℕ)) (s t : Sheet) → stepping s line ≡ Next t
-    → reading false (line ∷ lines) s .end ≡ reading false lines t .end
+    → reading false (line ∷ lines) s ≡ prefixed (textOf t) (reading false lines t)
 unfolding reading
-one-on line lines s t e = ap (λ (x : Step). afterStep x (reading false lines) .end) e
+one-on line lines s t e = ap (λ (x : Step). afterStep x (reading false lines)) e
 
 one-stop : (line : List ℕ) (lines : List (List ℕ)) (s : Sheet) {n k : ℕ} {r : Refusal} → stepping s line ≡ Stop n k r
-    → reading false (line ∷ lines) s .end ≡ Stopped n k r
+    → reading false (line ∷ lines) s ≡ stopped [] n k r
 unfolding reading
-one-stop line lines s e = ap (λ (x : Step). afterStep x (reading false lines) .end) e
+one-stop line lines s e = ap (λ (x : Step). afterStep x (reading false lines)) e
+
+prefixed-twice : (x y : List ℕ) (a : Account) → prefixed x (prefixed y a) ≡ prefixed (x ++ y) a
+prefixed-twice x y a = ap (λ (text : List ℕ). record { text = text; end = a .end }) (sym (append-assoc x y (a .text)))
 
 -- ---- where lines that were taken lead
-leads-sound : {lines : List (List ℕ)} {s : Sheet} → Leads lines s → soundSheet s ≡ true
+leads-sound : {lines : List (List ℕ)} {s : Sheet} {text : List ℕ} → Leads lines s text → soundSheet s ≡ true
 leads-sound start = refl
-leads-sound (on {before} {s} {line} {ts} {t} l y n) =
+leads-sound (on {before} {s} {text} {line} {ts} {t} l y n) =
     let g = leads-sound l in
     step-led s line g (says-decides g y .answers n) .sound
 
@@ -213,56 +221,69 @@ says-next : {s : Sheet} {line : List ℕ} {ts : List Test} {t : Sheet} → Says 
 says-next (standard q few) = refl
 says-next (record-of c flag exposure f few) = omega arith
 
-leads-number : {lines : List (List ℕ)} {s : Sheet} → Leads lines s → length lines + 1 ≡ lineAt s
+leads-number : {lines : List (List ℕ)} {s : Sheet} {text : List ℕ} → Leads lines s text → length lines + 1 ≡ lineAt s
 leads-number start = refl
-leads-number (on {before} {s} {line} {ts} {t} l y n) = simp length-append (omega (arith, leads-number l, says-next y))
+leads-number (on l y n) = simp length-append (omega (arith, leads-number l, says-next y))
 
-leads-end : {before : List (List ℕ)} {s : Sheet} → Leads before s → (lines : List (List ℕ))
-    → reading false (before ++ lines) Fresh .end ≡ reading false lines s .end
+leads-end : {before : List (List ℕ)} {s : Sheet} {text : List ℕ} → Leads before s text → (lines : List (List ℕ))
+    → reading false (before ++ lines) Fresh ≡ prefixed text (reading false lines s)
 leads-end start lines = refl
-leads-end (on {before} {s} {line} {ts} {t} l y n) lines =
-    ap (λ (ls : List (List ℕ)). reading false ls Fresh .end) (append-assoc before (line ∷ []) lines)
+leads-end (on {before} {s} {text} {line} {ts} {t} l y n) lines =
+    ap (λ (ls : List (List ℕ)). reading false ls Fresh) (append-assoc before (line ∷ []) lines)
     ∙ leads-end l (line ∷ lines)
-    ∙ one-on line lines s t (says-decides (leads-sound l) y .answers n)
+    ∙ ap (prefixed text) (one-on line lines s t (says-decides (leads-sound l) y .answers n))
+    ∙ prefixed-twice text (textOf t) (reading false lines t)
 
-fresh-none : {before : List (List ℕ)} {s : Sheet} → Leads before s → s ≡ Fresh → before ≡ []
-fresh-none start e = refl
+fresh-none : {before : List (List ℕ)} {s : Sheet} {text : List ℕ} → Leads before s text → s ≡ Fresh
+    → (before ≡ []) × (text ≡ [])
+fresh-none start e = (refl, refl)
 fresh-none (on l (standard q few) n) e = absurd (no (cc))
 fresh-none (on l (record-of c flag exposure f few) n) e = absurd (no (cc))
 
 -- ---- how it ends
 module _ (all : List (List ℕ)) where
-  ends-from : (before lines : List (List ℕ)) (s : Sheet) → Leads before s → all ≡ before ++ lines → Ends all (reading false lines s .end)
+  ends-from : (before lines : List (List ℕ)) (s : Sheet) (text : List ℕ) → Leads before s text → all ≡ before ++ lines
+      → Ends all (prefixed text (reading false lines s))
   unfolding reading
-  ends-from before [] Fresh l e = absent (e ∙ append-nil before ∙ fresh-none l refl)
-  ends-from before [] (Open c) l e = clean {c = c} (rw (e ∙ append-nil before) l)
-  ends-from before (line ∷ lines) s l e =
-      go (λ t on′. ends-from (before ++ (line ∷ [])) lines t on′ (e ∙ sym (append-assoc before (line ∷ []) lines))) (due-or-bad s line g)
+  ends-from before [] Fresh text l e =
+      let (none, nothing) = fresh-none l refl in
+      rw nothing (absent (e ∙ append-nil before ∙ none))
+  ends-from before [] (Open c) text l e = rw (append-nil text) (clean text c (rw (e ∙ append-nil before) l))
+  ends-from before (line ∷ lines) s text l e =
+      go
+      (λ t more w. ends-from (before ++ (line ∷ [])) lines t more w (e ∙ sym (append-assoc before (line ∷ []) lines)))
+      (due-or-bad s line g)
     where
       g : soundSheet s ≡ true
       g = leads-sound l
 
-      tested : ((t : Sheet) → Leads (before ++ (line ∷ [])) t → Ends all (reading false lines t .end))
+      tested : ((t : Sheet) (more : List ℕ) → Leads (before ++ (line ∷ [])) t more → Ends all (prefixed more (reading false lines t)))
           → (ts : List Test) (t : Sheet) → Says s line ts t → None ts ⊎ ((r : Refusal) × First ts r)
-          → Ends all (reading false (line ∷ lines) s .end)
-      tested rest ts t y (inl n) = rw (one-on line lines s t (says-decides g y .answers n)) (rest t (on l y n))
+          → Ends all (prefixed text (reading false (line ∷ lines) s))
+      tested rest ts t y (inl n) =
+          rw (one-on line lines s t (says-decides g y .answers n), prefixed-twice text (textOf t) (reading false lines t))
+          (rest t (text ++ textOf t) (on l y n))
       tested rest ts t y (inr (r, f)) =
           rw (one-stop line lines s (says-decides g y .refuses r f), ← leads-number l)
-          (refused before s line lines ts t r e l y f)
+          (refused before s text line lines ts t r e l y f)
 
-      go : ((t : Sheet) → Leads (before ++ (line ∷ [])) t → Ends all (reading false lines t .end))
-          → ((ts : List Test) × (t : Sheet) × Says s line ts t) ⊎ (¬ Due s line) → Ends all (reading false (line ∷ lines) s .end)
+      go : ((t : Sheet) (more : List ℕ) → Leads (before ++ (line ∷ [])) t more → Ends all (prefixed more (reading false lines t)))
+          → ((ts : List Test) × (t : Sheet) × Says s line ts t) ⊎ (¬ Due s line)
+          → Ends all (prefixed text (reading false (line ∷ lines) s))
       go rest (inl (ts, t, y)) = tested rest ts t y (none-or-first ts)
       go rest (inr bad) =
-          rw (one-stop line lines s (bad-step s line g bad), ← leads-number l) (malformed before s line lines e l bad)
+          rw (one-stop line lines s (bad-step s line g bad), ← leads-number l) (malformed before s text line lines e l bad)
 
-  only-end : {r : Reading} → Ends all r → reading false all Fresh .end ≡ r
+  only-end : {a : Account} → Ends all a → reading false all Fresh ≡ a
   unfolding reading
-  only-end (clean l) = ap (λ (ls : List (List ℕ)). reading false ls Fresh .end) (sym (append-nil all)) ∙ leads-end l []
+  only-end (clean text c l) =
+      ap (λ (ls : List (List ℕ)). reading false ls Fresh) (sym (append-nil all))
+      ∙ leads-end l []
+      ∙ ap (λ (x : List ℕ). record { text = x; end = Read c }) (append-nil text)
   only-end (absent e) = rw e
-  only-end (malformed before s line after e l bad) =
+  only-end (malformed before s text line after e l bad) =
       rw (e, leads-end l (line ∷ after), one-stop line after s (bad-step s line (leads-sound l) bad), ← leads-number l)
-  only-end (refused before s line after ts t r e l y f) =
+  only-end (refused before s text line after ts t r e l y f) =
       rw (e, leads-end l (line ∷ after), one-stop line after s (says-decides (leads-sound l) y .refuses r f), ← leads-number l)
 
 -- the refusals that tests give are never 9, nor 8
@@ -279,19 +300,23 @@ says-small (record-of c flag exposure f few) r (later a (later b (later d (here 
 same-stop : {n k m j : ℕ} {r q : Refusal} → Stopped n k r ≡ Stopped m j q → (n ≡ m) × (r ≡ q)
 same-stop e = (cc, cc)
 
-is-nine : (lines : List (List ℕ)) (n k : ℕ) {r : Reading} → Ends lines r → r ≡ Stopped n k (Line n) → Malformed lines n
-is-nine lines n k (clean l) e = absurd (no (cc))
+is-nine : (lines : List (List ℕ)) (n k : ℕ) {a : Account} → Ends lines a → a .end ≡ Stopped n k (Line n)
+    → Malformed lines n
+is-nine lines n k (clean text c l) e = absurd (no (cc))
 is-nine lines n k (absent a) e = let same = same-stop e .0 in rw (← same) (no-line a)
-is-nine lines n k (malformed before s line after a l bad) e =
+is-nine lines n k (malformed before s text line after a l bad) e =
     let same = same-stop e .0 in
-    rw (← same) (not-due before s line after a l bad)
-is-nine lines n k (refused before s line after ts t r a l y f) e =
+    rw (← same) (not-due before s text line after a l bad)
+is-nine lines n k (refused before s text line after ts t r a l y f) e =
     absurd (says-small y r f .0 (ap numberOf (same-stop e .1)))
 
 nine-is : (lines : List (List ℕ)) {n : ℕ} → Malformed lines n → StopsByNine n (reading false lines Fresh .end)
-nine-is lines (no-line a) = record { column = 0; is = only-end lines (absent a) }
-nine-is lines (not-due before s line after a l bad) =
-    record { column = columnAt s line; is = only-end lines (malformed before s line after a l bad) }
+nine-is lines (no-line a) = record { column = 0; is = ap (λ (x : Account). x .end) (only-end lines (absent a)) }
+nine-is lines (not-due before s text line after a l bad) =
+    record {
+      column = columnAt s line;
+      is = ap (λ (x : Account). x .end) (only-end lines (malformed before s text line after a l bad));
+    }
 
 -- ---- 8
 abbrev numberIn : Step → ℕ
@@ -408,10 +433,10 @@ pub job-sheet : JobSheet
 unfolding meaning readingEnd
 job-sheet =
     record {
-      ends = λ text. ends-from (linesOf text) [] (linesOf text) Fresh start refl;
-      only = λ text r e. only-end (linesOf text) e;
+      ends = λ text. ends-from (linesOf text) [] (linesOf text) Fresh [] start refl;
+      only = λ text a e. only-end (linesOf text) e;
       nine = λ text n. record {
-        only-if = λ z. is-nine (linesOf text) n (z .column) (ends-from (linesOf text) [] (linesOf text) Fresh start refl) (z .is);
+        only-if = λ z. is-nine (linesOf text) n (z .column) (ends-from (linesOf text) [] (linesOf text) Fresh [] start refl) (z .is);
         when = λ m. nine-is (linesOf text) m;
       };
       line-eight = λ s line. record {

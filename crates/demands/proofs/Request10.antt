@@ -55,6 +55,7 @@ at n k = Stop n k (Line n)
 pub record First (line : List ℕ) : Type 0 where
   -- the line as a whole
   pub as-a-whole : ¬ OfTwo line → stepping Fresh line ≡ at 1 0
+  pub over : 64 < length line → stepping Fresh line ≡ at 1 0
   -- another word; then what is no number
   pub word : (a b : List ℕ) → Two line a b → ¬ (a ≡ standardWord) → stepping Fresh line ≡ at 1 1
   pub standard : (b : List ℕ) (k : ℕ) → Two line standardWord b → Bad 0 mostNumber b k
@@ -67,6 +68,7 @@ pub record First (line : List ℕ) : Type 0 where
 -- a later line: the number that is due, 1 or 0, an exposure
 pub record Later (c : Campaign) (line : List ℕ) : Type 0 where
   pub as-a-whole : ¬ OfThree line → stepping (Open c) line ≡ at (c .records + 2) 0
+  pub over : 64 < length line → stepping (Open c) line ≡ at (c .records + 2) 0
   pub number : (a b d : List ℕ) (k : ℕ) → Three line a b d → Bad (c .records + 1) (c .records + 1) a k
       → stepping (Open c) line ≡ at (c .records + 2) k
   pub flag : (a b d : List ℕ) (k : ℕ) → Three line a b d → Good (c .records + 1) (c .records + 1) a → Bad 0 1 b k
@@ -287,6 +289,7 @@ module _ (c : Campaign) (line : List ℕ) (kept : sound c ≡ true) where
   later =
       record {
         as-a-whole = whole-fault;
+        over = λ long. whole-fault (λ o. omega (arith, o .parts .short));
         number = λ a b d k w x. at-column k (bad-first due line a b d w x) (bad-some x);
         flag = λ a b d k w g x. at-column (length a + 1 + k) (bad-second due line a b d w g x) (omega (arith, bad-some x));
         exposure = λ a b d k w g h x. at-column (length a + 1 + length b + 1 + k) (bad-third due line a b d w g h x) (omega (arith, bad-some x));
@@ -398,6 +401,7 @@ module _ (line : List ℕ) where
   first-line =
       record {
         as-a-whole = standard-whole;
+        over = λ long. standard-whole (λ o. omega (arith, o .parts .short));
         word = λ a b w bad. at-standard 1 (other-word a b w bad) (omega arith);
         standard = λ b k w x. at-standard (9 + k) (standard-fields b w ∙ bad-column 0 mostNumber 9 b x) (omega (arith, bad-some x));
         nothing = λ b w g. is-standard b w g;

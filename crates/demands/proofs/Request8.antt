@@ -1,4 +1,4 @@
--- Document 02, [8]: roll and acceleration watched together. What a crossing is, of the two slices; that a one-channel job, which lends zeros for the acceleration, is read as document 01 reads it; what
+-- Document 02, [8]: roll and acceleration watched together. What a crossing is, of the two slices; that a one-channel job, of roll or of acceleration, which lends zeros for the other, is read as document 01 reads it; what
 -- refusal 8 asks of a record's levels and last samples; which sample refusal 2 names; that pieces which are all taken are cut at the same places in both channels. The order of the
 -- refusals is `Demand1 .feed`, `.list` and `.open-record`; what pieces come to is `Demand2`. a are the two levels, xs the samples of the roll, ys those of the acceleration. Assumes nothing.
 use Prim.Native.Nat.{ℕ, zero, suc, _-_, _≤_, _<_, min}
@@ -58,6 +58,11 @@ pub record Request8 : Type 0 where
   pub crossing : (R : ℕ) (a : Levels) (xs ys : List ℤ) (i : ℕ) → i < length xs → i < length ys → Crossing R a xs ys i → crossesAt R a (moments xs ys) i ≡ true
   -- with zeros for the acceleration, a crossing is document 01's, of the roll alone
   pub alone : (R : ℕ) (a : Levels) (xs : List ℤ) (i : ℕ) → crossesAt R a (moments xs (zeros xs)) i ≡ (ltb R i && (not (above (a .roll) (at xs (i - 1))) && above (a .roll) (at xs i)))
+  -- with zeros for the roll it is document 01's too, of the acceleration alone
+  pub alone-acceleration :
+      (R : ℕ) (a : Levels) (ys : List ℤ) (i : ℕ)
+      → crossesAt R a (moments (zeros ys) ys) i
+      ≡ (ltb R i && (not (above (a .acceleration) (at ys (i - 1))) && above (a .acceleration) (at ys i)))
   -- both levels and both last samples are in range in a state that is taken, and before the first sample both last samples are 0
   pub both : (r : Record) → sound r ≡ true → Both r
   -- refusal 2 names the lower place and its channel, roll first on a tie
@@ -113,6 +118,13 @@ quiet a [] k = rw (le-ltb (a .acceleration) 0 (omega arith)) (or-false (above (a
 quiet a (x ∷ xs) zero = rw (le-ltb (a .acceleration) 0 (omega arith)) (or-false (above (a .roll) x))
 quiet a (x ∷ xs) (suc k) = quiet a xs k
 
+quiet-roll : (a : Levels) (ys : List ℤ) (k : ℕ)
+    → channels.above a (sampleAt (moments (zeros ys) ys) k) ≡ above (a .acceleration) (at ys k)
+unfolding moments
+quiet-roll a [] k = rw (le-ltb (a .roll) 0 (omega arith))
+quiet-roll a (y ∷ ys) zero = rw (le-ltb (a .roll) 0 (omega arith))
+quiet-roll a (y ∷ ys) (suc k) = quiet-roll a ys k
+
 levels : (D R : ℕ) (a : Levels) (τ : ℕ) → itemOutside D R a τ ≡ 0 → (levelInRange (a .roll) ≡ true) × (levelInRange (a .acceleration) ≡ true)
 unfolding itemOutside
 levels D R a τ = go (stepInRange D) (rampInRange R) (levelInRange (a .roll)) (decorrelationInRange τ) (levelInRange (a .acceleration))
@@ -157,6 +169,7 @@ request-8 =
       crosses = crosses;
       crossing = crossing;
       alone = λ R a xs i. rw (quiet a xs (i - 1), quiet a xs i);
+      alone-acceleration = λ R a ys i. rw (quiet-roll a ys (i - 1), quiet-roll a ys i);
       both = both;
       lower = lower;
       roll-first = λ p q h. rw (le-leb p q h);

@@ -1,12 +1,15 @@
 -- Document 02, [5]: a record keeps its last crossing's place and its groups, and refusal 8 asks about them what the request says, in addition to document 01's
 -- relations; whatever is handed out keeps them. Demand 2 has what groups are, that they never exceed the largest set, and how they are listed. Assumes nothing.
 use Prim.Native.Nat.{ℕ, _≤_, _<_}
-use mathlib.Core.Path.{_≡_, refl}
-use mathlib.Core.Bool.{Bool, cond, false, true, _&&_}
+use mathlib.Core.Path.{_≡_, refl, _∙_}
+use mathlib.Core.Bool.{Bool, cond, false, not, true, _&&_}
 use mathlib.Core.List.{List}
 use mathlib.Core.Logic.{_⊎_, inl, inr}
 use native.Mathlib.Omega.{arith}
+use borrow.Author.Tests.{leb-true, ne-eqb}
+use lib.Dec.{eqb, leb}
 use lib.IntN.{ℤ}
+use Rattle.truth.proofs.Laws.{and-true}
 use Rattle.refusal.specs.declared.Refusal.the-variants.{BrokenState}
 use Rattle.record.specs.Answers.{opened}
 use Rattle.channels.specs.declared.Levels.{Levels}
@@ -32,9 +35,15 @@ pub record Grouped (r : Record) : Type 0 where
   pub some : 1 ≤ r .groups
   pub within : r .groups ≤ r .largest
 
+-- there is any crossing
+abbrev pub anyCrossing : Record → Bool
+anyCrossing r = not (eqb (r .crossings) 0)
+
 pub record Request5 : Type 0 where
-  -- the relations are document 01's and these, no other
-  pub exactly : (r : Record) → sound r ≡ (before r && cond (failed r) (groupsKept r) (noGroups r))
+  -- the relations are document 01's and these, no other: "with any crossing .. else"
+  pub exactly : (r : Record) → sound r ≡ (before r && cond (anyCrossing r) (groupsKept r) (noGroups r))
+  -- in a state that keeps document 01's relations there is a crossing exactly if there is a first failure, of which the definition speaks
+  pub same : (r : Record) → before r ≡ true → anyCrossing r ≡ failed r
   pub crossed : (r : Record) → sound r ≡ true → ¬ (r .crossings ≡ 0) → Grouped r
   pub none : (r : Record) → sound r ≡ true → r .crossings ≡ 0 → (r .recent ≡ 0) × (r .groups ≡ 0)
   -- a state without them is refused by 8, whatever piece comes with it
@@ -52,9 +61,31 @@ parted true true true false f x y g h = refl
 parted true true true true true x y g h = refl
 parted true true true true false x y g h = refl
 
-relations : (r : Record) → sound r ≡ (before r && cond (failed r) (groupsKept r) (noGroups r))
+by-failure : (r : Record) → sound r ≡ (before r && cond (failed r) (groupsKept r) (noGroups r))
 unfolding sound
-relations r = parted (itemsKept r) (lastKept r) (lengthKept r) (countsKept r) (failed r) (failureKept r) (noneKept r) (groupsKept r) (noGroups r)
+by-failure r = parted (itemsKept r) (lastKept r) (lengthKept r) (countsKept r) (failed r) (failureKept r) (noneKept r) (groupsKept r) (noGroups r)
+
+-- a first failure has a largest set of 1 at least, within the crossings; without one there is no crossing
+counts : (r : Record) → (f : Bool) → countsKept r ≡ true → cond f (failureKept r) (noneKept r) ≡ true → anyCrossing r ≡ f
+counts r true c e =
+    let l = leb-true 1 (r .largest) (and-true (leb 1 (r .largest)) _ e .0) in
+    rw (ne-eqb (r .crossings) 0 (λ z. omega (arith, l, leb-true (r .largest) (r .crossings) c)))
+counts r false c e = rw (and-true (eqb (r .crossings) 0) _ e .0)
+
+same : (r : Record) → before r ≡ true → anyCrossing r ≡ failed r
+same r e =
+    let e₁ = and-true (itemsKept r) _ e in
+    let e₂ = and-true (lastKept r) _ (e₁ .1) in
+    let e₃ = and-true (lengthKept r) _ (e₂ .1) in
+    let e₄ = and-true (countsKept r) _ (e₃ .1) in
+    counts r (failed r) (e₄ .0) (e₄ .1)
+
+alike : (b c d g h : Bool) → (b ≡ true → c ≡ d) → (b && cond d g h) ≡ (b && cond c g h)
+alike false c d g h e = refl
+alike true c d g h e = rw (e refl)
+
+relations : (r : Record) → sound r ≡ (before r && cond (anyCrossing r) (groupsKept r) (noGroups r))
+relations r = by-failure r ∙ alike (before r) (anyCrossing r) (failed r) (groupsKept r) (noGroups r) (same r)
 
 grouped : (r : Record) → sound r ≡ true → ¬ (r .crossings ≡ 0) → Grouped r
 grouped r s h =
@@ -72,6 +103,7 @@ pub request-5 : Request5
 request-5 =
     record {
       exactly = relations;
+      same = same;
       crossed = grouped;
       none = empty;
       refused = fed-broken;

@@ -1,15 +1,20 @@
 -- Demand 2, read with document 02's [5] and [8]: a record's figures are those of its whole list of samples of both channels, however it was cut into pieces; the counted failures are
 -- the groups of crossings, each listed by its first; they never exceed the largest set of crossings pairwise at least the decorrelation time apart; and a
--- campaign's figures are document 000's over its list of records.
+-- campaign's figures are document 000's over its list of records. So is a record's time; and pieces are cut anywhere
+-- from any sound state on, an empty one changing nothing.
 --
 -- D is the step, R the ramp, a the levels and τ the decorrelation time. The proof gathers what the crates `feeding`, `listing` and `campaign` show. Assumes
 -- nothing.
 use mathlib.Core.Path.{_≡_, ap, _∙_}
 use mathlib.Core.Bool.{false, true}
-use mathlib.Core.List.{List, map, _++_}
+use mathlib.Core.List.{List, [], _∷_, map, _++_}
 use Prim.Native.Nat.{ℕ, _≤_, _<_}
+use native.Mathlib.Omega.{arith}
+use borrow.Author.Tests.{ltb-true, ne-eqb}
+use lib.Dec.{ltb}
 use lib.IntN.{ℤ}
 use lib.ListN.{length, drop}
+use Rattle.truth.proofs.Laws.{and-true}
 use Rattle.refusal.specs.declared.Refusal.the-variants.{BrokenState}
 use Rattle.largest.specs.Choice.{Apart, LargestSet}
 use Rattle.groups.specs.Groups.{firsts, near}
@@ -18,7 +23,9 @@ use Rattle.groups.proofs.Parting.{as-many, groups-only}
 use Rattle.channels.specs.declared.Levels.{Levels}
 use Rattle.channels.specs.declared.Moment.{Moment}
 use Rattle.channels.specs.Channels.{moments}
-use Rattle.reading.specs.Reading.{countedTimes, crossings, firstCrossing, groups, largestSet, timeAt}
+use Rattle.reading.specs.Reading.{countedTimes, crossesAt, crossings, firstCrossing, firstOf}
+use Rattle.reading.specs.Reading.{fullTime, groups, largestSet, timeAt}
+use Rattle.reading.proofs.First.{head-passes}
 use Rattle.reading.proofs.Places.{itself}
 use Rattle.listing.specs.Answers.{ListsTo, written}
 use Rattle.listing.specs.declared.Listed.the-variants.{Times}
@@ -28,8 +35,10 @@ use Rattle.record.specs.declared.Record.{Record}
 use Rattle.record.specs.Answers.{opened}
 use Rattle.feeding.specs.Answers.{fed}
 use Rattle.feeding.specs.Pieces.{AllTaken, Even, Piece, joined, samplesOf}
-use Rattle.record.specs.State.{failed, stateOf}
+use Rattle.record.specs.State.{failed, sound, stateOf, wholeTime}
+use Rattle.result.specs.Result.{exposureOf}
 use Rattle.record.proofs.Opening.{opened-sound}
+use Rattle.feeding.proofs.Theorems.{all-sound, empty-taken}
 use Rattle.feeding.proofs.Theorems.{every-cutting, groups-fewer, groups-parted, join-taken, never-broken, pieces-whole, search-found, search-none, set-largest, times-apart}
 use Rattle.campaign.specs.declared.Campaign.{Campaign}
 use Rattle.campaign.specs.Answers as campaigns
@@ -53,13 +62,29 @@ pub record ReadsWhole (D R : ℕ) (a : Levels) (τ : ℕ) (s t : Record) (p : Pi
   pub set : t .largest ≡ length (largestSet D R a τ xs)
   -- which is never below that of the groups
   pub fewer : t .groups ≤ t .largest
+  -- its time: the full time is that of the joined record, its exposure the time of the first crossing, or the full time
+  -- if there is none
+  pub full-time : wholeTime t ≡ fullTime D R (length xs)
+  pub exposed : (k : ℕ) (ks : List ℕ) → crossings R a xs ≡ k ∷ ks → exposureOf t ≡ timeAt D R k
+  pub unfailing : crossings R a xs ≡ [] → exposureOf t ≡ fullTime D R (length xs)
   -- any other cutting of the joined record, of both channels at the same places, is taken too, and ends in the same state
   pub cuttings : (qs : List Piece) → Even qs → joined qs ≡ p → AllTaken s qs t
   -- the state is never refused as broken
   pub unbroken : (us vs : List ℤ) → ¬ (fed t us vs ≡ Refused BrokenState)
 
+-- a record in the state r fed pieces, each taken, up to the state t
+pub record Resumed (r : Record) (ps : List Piece) (t : Record) : Type 0 where
+  pub as-one : fed r (joined ps .roll) (joined ps .acceleration) ≡ Taken t
+  pub cut : (qs : List Piece) → Even qs → joined qs ≡ joined ps → AllTaken r qs t
+  pub keeps : sound t ≡ true
+
 pub record Demand2 : Type 0 where
   pub pieces : (D R : ℕ) (a : Levels) (τ : ℕ) (s t : Record) (ps : List Piece) → opened D R a τ ≡ Taken s → AllTaken s ps t → ReadsWhole D R a τ s t (joined ps) (samplesOf (joined ps))
+  -- from any state that keeps the relations, opened here or not: an empty piece is taken and changes nothing; pieces
+  -- that are all taken are taken as one, and in any other cutting of both channels at the same places, and end in the same
+  -- state, which keeps them
+  pub nothing : (r : Record) → sound r ≡ true → fed r [] [] ≡ Taken r
+  pub resumed : (r t : Record) (ps : List Piece) → sound r ≡ true → AllTaken r ps t → Resumed r ps t
   -- the listed times are those of the groups' first crossings, as many as there are groups, and pairwise τ apart
   pub listed : (D R : ℕ) (a : Levels) (τ : ℕ) (xs ys : List ℤ) (before after : List ℕ) (k : ℕ) → ListsTo D R a τ xs ys before (Times k) after
       → (k ≡ length (groups D R a τ (moments xs ys))) × (after ≡ map (timeAt D R) (firsts (groups D R a τ (moments xs ys))) ++ drop k before)
@@ -80,6 +105,30 @@ set : (D R : ℕ) (a : Levels) (τ : ℕ) (xs : List Moment) {t : Record} → t 
 unfolding stateOf
 set D R a τ xs e = ap (λ (r : Record). r .largest) e
 
+-- no place of a crossing is 0, by which a state says that there is none
+exposed : (D R : ℕ) (a : Levels) (τ : ℕ) (xs : List Moment) {t : Record} → t ≡ stateOf D R a τ xs
+    → (k : ℕ) (ks : List ℕ) → crossings R a xs ≡ k ∷ ks → exposureOf t ≡ timeAt D R k
+unfolding stateOf firstOf
+exposed D R a τ xs e k ks c =
+    let h = head-passes (crossesAt R a xs) 0 (length xs) k ks c in
+    let l : R < k = ltb-true R k (and-true (ltb R k) _ (h .0) .0) in
+    rw (e, c, ne-eqb k 0 (λ z. omega arith))
+
+unfailing : (D R : ℕ) (a : Levels) (τ : ℕ) (xs : List Moment) {t : Record} → t ≡ stateOf D R a τ xs
+    → crossings R a xs ≡ [] → exposureOf t ≡ fullTime D R (length xs)
+unfolding stateOf firstOf
+unfailing D R a τ xs e c = rw (e, c)
+
+full-time : (D R : ℕ) (a : Levels) (τ : ℕ) (xs : List Moment) {t : Record} → t ≡ stateOf D R a τ xs
+    → wholeTime t ≡ fullTime D R (length xs)
+unfolding stateOf
+full-time D R a τ xs e = rw e
+
+resumed : (r t : Record) (ps : List Piece) → sound r ≡ true → AllTaken r ps t → Resumed r ps t
+resumed r t ps s f =
+    let one = join-taken s f in
+    record { as-one = one; cut = λ qs v j. every-cutting r qs t v (rw j one); keeps = all-sound s f }
+
 lists : (D R : ℕ) (a : Levels) (τ : ℕ) (xs ys : List ℤ) (before after : List ℕ) (k : ℕ) → ListsTo D R a τ xs ys before (Times k) after
     → (k ≡ length (groups D R a τ (moments xs ys))) × (after ≡ map (timeAt D R) (firsts (groups D R a τ (moments xs ys))) ++ drop k before)
 unfolding written
@@ -97,6 +146,9 @@ whole D R a τ s t ps e f =
       largest = set-largest D R a τ (samplesOf (joined ps));
       set = set D R a τ (samplesOf (joined ps)) figures;
       fewer = rw (number D R a τ (samplesOf (joined ps)) figures, set D R a τ (samplesOf (joined ps)) figures) (groups-fewer D R a τ (samplesOf (joined ps)));
+      full-time = full-time D R a τ (samplesOf (joined ps)) figures;
+      exposed = exposed D R a τ (samplesOf (joined ps)) figures;
+      unfailing = unfailing D R a τ (samplesOf (joined ps)) figures;
       cuttings = λ qs v j. every-cutting s qs t v (rw j (join-taken (opened-sound D R a τ s e) f));
       unbroken = never-broken D R a τ s e f;
     }
@@ -105,6 +157,8 @@ pub demand-2 : Demand2
 demand-2 =
     record {
       pieces = whole;
+      nothing = empty-taken;
+      resumed = resumed;
       listed = lists;
       times = times-apart;
       found = search-found;

@@ -42,7 +42,8 @@ anyCrossing r = not (eqb (r .crossings) 0)
 pub record Request5 : Type 0 where
   -- the relations are document 01's and these, no other: "with any crossing .. else"
   pub exactly : (r : Record) → sound r ≡ (before r && cond (anyCrossing r) (groupsKept r) (noGroups r))
-  -- in a state that keeps document 01's relations there is a crossing exactly if there is a first failure, of which the definition speaks
+  -- in a state that keeps document 01's relations there is a crossing exactly if there is a first failure, of which the
+  -- definition speaks
   pub same : (r : Record) → before r ≡ true → anyCrossing r ≡ failed r
   pub crossed : (r : Record) → sound r ≡ true → ¬ (r .crossings ≡ 0) → Grouped r
   pub none : (r : Record) → sound r ≡ true → r .crossings ≡ 0 → (r .recent ≡ 0) × (r .groups ≡ 0)
@@ -66,7 +67,7 @@ unfolding sound
 by-failure r = parted (itemsKept r) (lastKept r) (lengthKept r) (countsKept r) (failed r) (failureKept r) (noneKept r) (groupsKept r) (noGroups r)
 
 -- a first failure has a largest set of 1 at least, within the crossings; without one there is no crossing
-counts : (r : Record) → (f : Bool) → countsKept r ≡ true → cond f (failureKept r) (noneKept r) ≡ true → anyCrossing r ≡ f
+counts : (r : Record) (f : Bool) → countsKept r ≡ true → cond f (failureKept r) (noneKept r) ≡ true → anyCrossing r ≡ f
 counts r true c e =
     let l = leb-true 1 (r .largest) (and-true (leb 1 (r .largest)) _ e .0) in
     rw (ne-eqb (r .crossings) 0 (λ z. omega (arith, l, leb-true (r .largest) (r .crossings) c)))

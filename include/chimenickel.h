@@ -267,8 +267,8 @@ uint64_t chim_envelope_find(uint64_t step, uint64_t ramp, uint64_t decorrelation
 /* ---- the tail of a list of peaks, thousandths of a degree or mm/s2 */
 
 /* Writes the peaks sorted downwards, Y(1), Y(2), .., to the start of `sorted`, whose other places stay; *carried is the Hill sum over the k largest: the
- * logarithms to base 2 of Y(i) / Y(k), i from 1 to k, added up in units of 1/65,536. Each is never above the exact figure and at most 1 below, so the sum
- * is at most k - 1 below. Document 001's shape of the tail (11) is xi = sum * ln 2 / (65,536 * k). Refuses 16, 17, 7. */
+ * logarithms to base 2 of Y(i) / Y(k), i from 1 to k, added up in units of 1/65,536. Each is never above the exact figure and at most 1 below, and
+ * 0 for a peak that is Y(k), so the sum is at most k - 1 below. Document 001's shape of the tail (11) is xi = sum * ln 2 / (65,536 * k). Refuses 16, 17, 7. */
 uint64_t chim_tail_fit(const uint32_t *peaks, size_t peaks_len, uint64_t k, uint32_t *sorted, size_t sorted_len, uint64_t *carried);
 
 /* ---- a simulator's comma file: one sample a line, ended by LF: time in ms, comma, roll in degrees with at most three decimals; times start at 0 and

@@ -6,10 +6,11 @@ use native.Mathlib.Nat.{le-refl, lt-of-not-le, mul-le-mul-right, one-le-pow, pow
 use native.Mathlib.Decide.{decLe}
 use native.Mathlib.Numerals.{add-one}
 use native.Mathlib.Omega.{arith}
+use borrow.Author.Tests.{le-leb, ne-eqb}
 use lib.Dec.{lit<, lit≤}
 use lib.Pow.{pow-mono, pow-pos}
 use Rattle.logarithm.specs.Logarithm.{ExactFigure, Near, Reaches, units}
-use Rattle.logarithm.specs.Steps.{one}
+use Rattle.logarithm.specs.Ours.{one, ourFigure}
 use Rattle.logarithm.proofs.Squaring.{State, not-reached, reached}
 
 -- what is reached is at most m where m + 1 is not
@@ -32,11 +33,24 @@ pub equal-exact : (b : ℕ) → 1 ≤ b → ExactFigure b b 0
 equal-exact b unit =
     record { reached = one-times (b ^ units); greatest = λ n h. none-of-one (b ^ units) n (one-le-pow units b unit) h }
 
+-- and so is ours
+pub equal-ours : (b : ℕ) → 1 ≤ b → 0 ≡ ourFigure b b
+unfolding ourFigure
+equal-ours b unit = rw (ne-eqb b 0 (λ z. omega arith), le-leb b b (le-refl b))
+
 pub equal-near : (a b : ℕ) → 1 ≤ b → a ≡ b → Near a b 0
 equal-near a b unit e =
-    rw e (record { exact = 0; is-exact = equal-exact b unit; never-above = le-refl 0; one-below = zero-le; equal = λ _. refl })
+    rw e
+    (record {
+      exact = 0;
+      is-exact = equal-exact b unit;
+      never-above = le-refl 0;
+      one-below = zero-le;
+      equal = λ _. refl;
+      ours = equal-ours b unit;
+    })
 
-module _ (a b r : ℕ) (low : Reaches a b r) (high : a ^ units < 2 ^ (r + 2) * b ^ units) (apart : b < a) where
+module _ (a b r : ℕ) (low : Reaches a b r) (high : a ^ units < 2 ^ (r + 2) * b ^ units) (apart : b < a) (is : r ≡ ourFigure a b) where
   near : Dec (Reaches a b (r + 1)) → Near a b r
   near (yes l) =
       let e : suc (r + 1) ≡ r + 2 = omega arith in
@@ -46,6 +60,7 @@ module _ (a b r : ℕ) (low : Reaches a b r) (high : a ^ units < 2 ^ (r + 2) * b
         never-above = omega arith;
         one-below = le-refl (r + 1);
         equal = λ e. absurd (omega arith);
+        ours = is;
       }
   near (no l) =
       record {
@@ -54,9 +69,10 @@ module _ (a b r : ℕ) (low : Reaches a b r) (high : a ^ units < 2 ^ (r + 2) * b
         never-above = le-refl r;
         one-below = omega arith;
         equal = λ e. absurd (omega arith);
+        ours = is;
       }
 
 -- the state after all squarings
-pub figure : (a b r x : ℕ) → b < a → one ≤ x → x < 2 * one → State one a b units r x → Near a b r
-figure a b r x apart lo hi s =
-    near a b r (reached one a b units r x (lit< tt) s lo) (not-reached one a b units r x (lit< tt) s (lit≤ tt) hi (omega arith)) apart (decLe _ _)
+pub figure : (a b r x : ℕ) → b < a → r ≡ ourFigure a b → one ≤ x → x < 2 * one → State one a b units r x → Near a b r
+figure a b r x apart is lo hi s =
+    near a b r (reached one a b units r x (lit< tt) s lo) (not-reached one a b units r x (lit< tt) s (lit≤ tt) hi (omega arith)) apart is (decLe _ _)

@@ -1,4 +1,5 @@
 pub mod Bad
 pub mod Order
+pub mod Slack
 pub mod Summing
 pub mod Unique

@@ -10,7 +10,7 @@ use Rattle.refusal.specs.declared.Refusal.the-variants.{Tail, Peak, Room}
 use Rattle.sorting.specs.Sorting.{Sorted}
 use Rattle.tail.specs.declared.Fitted.{Fitted}
 use Rattle.tail.specs.declared.Fitted.the-variants.{Sum, Refused}
-use Rattle.tail.specs.Hill.{NearSum}
+use Rattle.tail.specs.Hill.{HillSum}
 
 -- the longest list of peaks
 abbrev pub longestList : ℕ
@@ -37,12 +37,12 @@ fitted peaks k places sum =
     (cond (ltb places (length peaks)) (Refused (Room (length peaks)))
     (Sum sum)))
 
--- what a sum comes with: the slice starts with the peaks sorted downwards and its rest stays, and the sum is near theirs
+-- what a sum comes with: the slice starts with the peaks sorted downwards and its rest stays, and the sum is theirs
 pub record Summed (peaks : List ℕ) (k : ℕ) (before : List ℕ) (sum : ℕ) (after : List ℕ) : Type 0 where
   pub ys : List ℕ
   pub sorted : Sorted peaks ys
   pub leaves : after ≡ ys ++ drop (length peaks) before
-  pub near : NearSum ys k sum
+  pub sums : HillSum ys k sum
 
 -- the slice afterwards: on a refusal it is as it stood
 abbrev pub Leaves : List ℕ → ℕ → List ℕ → Fitted → List ℕ → Type 0

@@ -6,7 +6,7 @@ ghost use Prim.Native.Nat.{_≤_};
 ghost use lib.ListN.{drop, length};
 ghost use Rattle.sorting.specs.Sorting.{Downwards, Sorted, count};
 ghost use Rattle.tail.specs.Fitting.{FitsTo, firstBad, peakInRange, tailOutside};
-ghost use Rattle.tail.specs.Hill.{NearSum, kth};
+ghost use Rattle.tail.specs.Hill.{HillSum, kth};
 use refusal::Refusal;
 
 pub const LONGEST_LIST: u64 = 4_096;
@@ -59,7 +59,7 @@ fn copy(peaks: &[u32], to: &mut [u32])
 // The logarithms of Y(i) / Y(k) added up, for values that lie downwards. The last, of Y(k) / Y(k), is 0.
 fn hill_sum(y: &[u32], k: usize) -> u64
     requires { ⌜ Downwards (now y) × (2 ≤ k) × (k ≤ length (now y)) × (k ≤ 4096) × (1 ≤ kth (now y) k) ⌝ }
-    ensures { λ r. ⌜ NearSum (now (y .entry)) k r ⌝ }
+    ensures { λ r. ⌜ HillSum (now (y .entry)) k r ⌝ }
 {
     let last = k - 1;
     let least = y[last];
@@ -75,7 +75,7 @@ fn hill_sum(y: &[u32], k: usize) -> u64
 // Sorts the values, none of which is 0, and sums over the k largest.
 fn sum_of_largest(y: &mut [u32], k: usize) -> u64
     requires { ⌜ (2 ≤ k) × (k ≤ length (now y)) × (k ≤ 4096) × (count 0 (now y) ≡ 0) ⌝ }
-    ensures { λ r. ⌜ Sorted (now (y .entry)) (now (y .exit)) × NearSum (now (y .exit)) k r ⌝ }
+    ensures { λ r. ⌜ Sorted (now (y .entry)) (now (y .exit)) × HillSum (now (y .exit)) k r ⌝ }
 {
     sorting::sort(y);
     hill_sum(y, k)

@@ -26,7 +26,7 @@ scale-requires : tie.Need-scale-requires Inv-loop μ-loop
 scale-requires c κs = search needs
 
 loop-holds : tie.Need-loop-holds Inv-loop μ-loop
-loop-holds c = starts _ _ _ _ (c .scale .ensures)
+loop-holds c = starts _ _ _ _ (omega arith) (omega arith) (omega arith) (c .scale .ensures)
 
 mul-square : tie.Need-mul-square Inv-loop μ-loop
 mul-square c = record { fits = square-fits _ _ _ _ _ (c .before .loop .inv) }

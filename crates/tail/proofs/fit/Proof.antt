@@ -80,7 +80,7 @@ returns-4 c =
       ys = s .last .0;
       sorted = rw (copied-start (now (a .peaks)) (now (a .sorted)) _ (y .ensures)) at (s .ensures .0);
       leaves = ap (_++_ (s .last .0)) (copied-rest (now (a .peaks)) (now (a .sorted)) _ (y .ensures));
-      near = s .ensures .1;
+      sums = s .ensures .1;
     })
 
 pub fit-spec : {M : Type 1} → statement M

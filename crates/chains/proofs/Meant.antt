@@ -1,14 +1,17 @@
--- `largest` is the first of the largest. Assumes nothing.
+-- `largest` is the first of the largest, of which there is one; `tops` has that of each group. Assumes nothing.
 use Prim.Native.Nat.{ℕ, _≤_, _<_}
-use mathlib.Core.Path.{_≡_, refl, ap, _∙_}
+use mathlib.Core.Path.{_≡_, refl, ap, sym, _∙_}
 use mathlib.Core.Bool.{Bool, true, false, cond}
-use mathlib.Core.List.{List, [], _∷_, _++_, foldl, append-assoc, append-nil}
+use mathlib.Core.List.{List, [], _∷_, _++_, foldl, map, append-assoc, append-nil}
 use native.Mathlib.Omega.{arith}
 use lib.Dec.{ltb}
 use borrow.Author.Tests.{ltb-true, ltb-false}
 use Rattle.chains.specs.declared.Peak.{Peak}
-use Rattle.chains.specs.Groups.{larger, largest}
-use Rattle.chains.specs.Meaning.{All, Top}
+use Rattle.groups.specs.Groups.{groups}
+use Rattle.groups.specs.Parting.{Runs}
+use Rattle.groups.proofs.Parting.{groups-runs}
+use Rattle.chains.specs.Groups.{larger, largest, tops}
+use Rattle.chains.specs.Meaning.{All, Top, Tops, next, none}
 
 all-append : (P : Peak → Type 0) (a b : List Peak) → All P a → All P b → All P (a ++ b)
 all-append P [] b h k = k
@@ -52,3 +55,38 @@ tops-on p l (y ∷ m) t = rw append-assoc at (tops-on (larger p y) (l ++ (y ∷ 
 pub largest-top : (p : Peak) (l : List Peak) → Top (largest (p ∷ l)) (p ∷ l)
 unfolding largest
 largest-top p l = tops-on p (p ∷ []) l (record { before = []; after = []; is = refl; smaller = tt; no-larger = tt })
+
+-- a member after others is no larger where they are not
+last-no-larger : (m : ℕ) (a : List Peak) (q : Peak) (b : List Peak) → All (λ x. x .size ≤ m) (a ++ (q ∷ b)) → q .size ≤ m
+last-no-larger m [] q b h = h .0
+last-no-larger m (x ∷ a) q b h = last-no-larger m a q b (h .1)
+
+meet : (p q : Peak) (a b c d : List Peak) → a ++ (p ∷ b) ≡ c ++ (q ∷ d)
+    → All (λ x. x .size < p .size) a → All (λ x. x .size ≤ p .size) b
+    → All (λ x. x .size < q .size) c → All (λ x. x .size ≤ q .size) d → p ≡ q
+meet p q [] b [] d e s l t m = cc
+meet p q [] b (y ∷ c) d e s l t m =
+    let head : p ≡ y = cc in
+    let rest : b ≡ c ++ (q ∷ d) = cc in
+    absurd (omega (arith, ap (λ (x : Peak). x .size) head, t .0, last-no-larger (p .size) c q d (rw rest at l)))
+meet p q (x ∷ a) b [] d e s l t m =
+    let head : x ≡ q = cc in
+    let rest : a ++ (p ∷ b) ≡ d = cc in
+    absurd (omega (arith, ap (λ (y : Peak). y .size) head, s .0, last-no-larger (q .size) a p b (rw (← rest) at m)))
+meet p q (x ∷ a) b (y ∷ c) d e s l t m =
+    let rest : a ++ (p ∷ b) ≡ c ++ (q ∷ d) = cc in
+    meet p q a b c d rest (s .1) l (t .1) m
+
+-- there is one
+pub top-unique : (p q : Peak) (l : List Peak) → Top p l → Top q l → p ≡ q
+top-unique p q l x y =
+    meet p q (x .before) (x .after) (y .before) (y .after) (sym (x .is) ∙ y .is) (x .smaller) (x .no-larger) (y .smaller) (y .no-larger)
+
+largest-tops : (joins : Peak → Peak → Bool) (gs : List (List Peak)) → Runs joins gs → Tops (map largest gs) gs
+largest-tops joins [] r = none
+largest-tops joins ([] ∷ gs) r = absurd r
+largest-tops joins ((p ∷ g) ∷ gs) r = next (largest-top p g) (largest-tops joins gs (r .2))
+
+pub tops-top : (joins : Peak → Peak → Bool) (l : List Peak) → Tops (tops joins l) (groups joins l)
+unfolding tops
+tops-top joins l = largest-tops joins (groups joins l) (groups-runs joins l)

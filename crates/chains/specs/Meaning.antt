@@ -17,6 +17,11 @@ pub record Top (p : Peak) (l : List Peak) : Type 0 where
   pub smaller : All (λ q. q .size < p .size) before
   pub no-larger : All (λ q. q .size ≤ p .size) after
 
+-- each of the peaks is the top of the group at its place
+pub data Tops : List Peak → List (List Peak) → Type 0 where
+  none : Tops [] []
+  next : {p : Peak} {g ps : List Peak} {gs : List (List Peak)} → Top p g → Tops ps gs → Tops (p ∷ ps) (g ∷ gs)
+
 -- none before t ms, and each at least d ms after the one before
 abbrev pub Spaced : ℕ → ℕ → List Peak → Type 0
 Spaced d t [] = Unit {0}

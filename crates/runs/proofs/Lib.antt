@@ -1,4 +1,5 @@
 pub mod Sides
 pub mod Ahead
 pub mod Due
+pub mod OneSign
 pub mod Unique

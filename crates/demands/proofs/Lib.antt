@@ -17,3 +17,4 @@ pub mod Refusal9
 pub mod Request10
 pub mod JobSheet
 pub mod Figures
+pub mod Relations

@@ -18,3 +18,4 @@ pub mod Request10
 pub mod JobSheet
 pub mod Figures
 pub mod Relations
+pub mod Ends

@@ -36,7 +36,7 @@ use Rattle.sum.proofs.Records.{any-order, grown-by-adding, none-timed}
 use Rattle.verdict.specs.declared.Rated.the-variants as rated
 use Rattle.spread.specs.Answers.{bounding, rating, recorded}
 use Rattle.spread.specs.Bounds.{boundsOf, ratesOf}
-use Rattle.spread.specs.HalfWidth.{HalfWidth, halfWidth}
+use Rattle.spread.specs.HalfWidth.{HalfWidth, firstFrom, halfWidth}
 use Rattle.spread.specs.declared.Bounded.the-variants as bounded
 use Rattle.spread.proofs.HalfWidth.{all-failures, half-width, least-unique, no-failure}
 use Rattle.spread.proofs.Order.{ordered}
@@ -74,6 +74,8 @@ pub record Request7 : Type 0 where
   -- the half-width is the least such number, and the only one; it is 0 without a failure and where every sample failed
   pub least : (N P : ℕ) → HalfWidth N P (halfWidth N P)
   pub only : (N P m n : ℕ) → HalfWidth N P m → HalfWidth N P n → m ≡ n
+  -- 1,960² by cases: 1 failure in 2 samples, 1 in 10,000, 4 in 100
+  pub widths : halfWidth 1 2 ∷ halfWidth 1 10000 ∷ halfWidth 4 100 ∷ [] ≡ 1386 ∷ 1960 ∷ 3841 ∷ []
   pub no-failure : (P : ℕ) → halfWidth 0 P ≡ 0
   pub all-failures : (N : ℕ) → halfWidth N N ≡ 0
   pub in-order : (s : Sum) → (boundsOf s .lower ≤ boundsOf s .estimate) × (boundsOf s .estimate ≤ boundsOf s .upper)
@@ -110,6 +112,10 @@ some-record s t r rs a = rw (ne-eqb (t .samples) 0 (λ z. let e = none-timed a z
     kind [] = 0
     kind (r ∷ rs) = 1
 
+widths : halfWidth 1 2 ∷ halfWidth 1 10000 ∷ halfWidth 4 100 ∷ [] ≡ 1386 ∷ 1960 ∷ 3841 ∷ []
+unfolding halfWidth firstFrom
+widths = refl
+
 pub request-7 : Request7
 unfolding decide adding bounding rating
 request-7 =
@@ -126,6 +132,7 @@ request-7 =
       adds = joined-adds;
       least = half-width;
       only = λ N P m n. least-unique;
+      widths = widths;
       no-failure = no-failure;
       all-failures = all-failures;
       in-order = ordered;

@@ -1,0 +1,279 @@
+-- The two ends of every range that documents 01 and 02 print, of the entries' answers: just inside is taken, one past
+-- is refused with its number and what it returns. Every list of a table is computed (`refl`), so that a range that is
+-- empty, or off by one, or judged by another number, breaks a line of it. A refusal is its number and what it
+-- returns; what is taken is 0, 0. Assumes nothing.
+use mathlib.Core.Path.{_≡_, refl}
+use mathlib.Core.Bool.{false, true}
+use mathlib.Core.List.{List, [], _∷_}
+use Prim.Native.Nat.{ℕ}
+use lib.IntN.{ℤ, negsuc, pos}
+use lib.ListN.{replicate}
+use Rattle.refusal.specs.declared.Refusal.{Refusal}
+use Rattle.refusal.specs.Numbers.{numberOf, valueOf}
+use Rattle.channels.specs.declared.Levels.{Levels}
+use Rattle.channels.specs.Channels.{still}
+use Rattle.range.specs.Range.{firstBad}
+use Rattle.limits.specs.Limits.{itemOutside}
+use Rattle.record.specs.declared.Answer.{Answer as OfRecord}
+use Rattle.record.specs.declared.Answer.the-variants as recorded
+use Rattle.record.specs.declared.Record.{Record}
+use Rattle.record.specs.Answers as records
+use Rattle.record.specs.State as recording
+use Rattle.feeding.specs.Answers.{fed}
+use Rattle.result.specs.declared.Ended.{Ended}
+use Rattle.result.specs.declared.Ended.the-variants as ended
+use Rattle.result.specs.declared.Outcome.{Outcome}
+use Rattle.result.specs.Result.{ending}
+use Rattle.campaign.specs.declared.Answer.{Answer as OfCampaign}
+use Rattle.campaign.specs.declared.Answer.the-variants as campaigned
+use Rattle.campaign.specs.declared.Campaign.{Campaign}
+use Rattle.campaign.specs.Answers as campaigns
+use Rattle.campaign.specs.State as campaigning
+use Rattle.line.specs.Line.{telling}
+use Rattle.sum.specs.declared.Answer.{Answer as OfSum}
+use Rattle.sum.specs.declared.Answer.the-variants as summed
+use Rattle.sum.specs.declared.Sum.{Sum}
+use Rattle.sum.specs.Answers as sums
+use Rattle.sum.specs.State as summing
+use Rattle.tail.specs.declared.Fitted.{Fitted}
+use Rattle.tail.specs.declared.Fitted.the-variants as fitting
+use Rattle.tail.specs.Fitting as tails
+use Rattle.condition.specs.declared.Answer.{Answer as OfCondition}
+use Rattle.condition.specs.declared.Answer.the-variants as conditioned
+use Rattle.condition.specs.Answers as conditions
+
+-- ---- the statement
+abbrev pub refused : Refusal → ℕ × ℕ
+refused f = (numberOf f, valueOf f)
+
+abbrev pub taken : ℕ × ℕ
+taken = (0, 0)
+
+-- what each kind of answer comes to
+abbrev pub ofRecord : OfRecord → ℕ × ℕ
+ofRecord (recorded.Taken r) = taken
+ofRecord (recorded.Refused f) = refused f
+
+abbrev pub ofEnded : Ended → ℕ × ℕ
+ofEnded (ended.Given x) = taken
+ofEnded (ended.Refused f) = refused f
+
+abbrev pub ofCampaign : OfCampaign → ℕ × ℕ
+ofCampaign (campaigned.Taken c) = taken
+ofCampaign (campaigned.Refused f) = refused f
+
+abbrev pub ofSum : OfSum → ℕ × ℕ
+ofSum (summed.Taken s) = taken
+ofSum (summed.Refused f) = refused f
+
+abbrev pub ofTail : Fitted → ℕ × ℕ
+ofTail (fitting.Sum s) = taken
+ofTail (fitting.Refused f) = refused f
+
+abbrev pub ofCondition : OfCondition → ℕ × ℕ
+ofCondition (conditioned.Given s) = taken
+ofCondition (conditioned.Refused f) = refused f
+
+-- opening a record: step, ramp, levels of roll and acceleration, decorrelation time
+abbrev pub opens : ℕ → ℕ → ℕ → ℕ → ℕ → ℕ × ℕ
+opens D R roll acceleration τ = ofRecord (records.opened D R (record { roll = roll; acceleration = acceleration }) τ)
+
+-- a record of n samples without a crossing, R = 5
+abbrev pub quiet : ℕ → ℕ → Record
+quiet D n =
+    record {
+      step = D;
+      ramp = 5;
+      levels = record { roll = 40000; acceleration = 9810 };
+      decorrelation = 0;
+      n = n;
+      last = still;
+      crossings = 0;
+      largest = 0;
+      first = 0;
+      latest = 0;
+      recent = 0;
+      groups = 0;
+    }
+
+-- the same with one failure, and one group, at place 6
+abbrev pub failing : ℕ → ℕ → Record
+failing D n =
+    record {
+      step = D;
+      ramp = 5;
+      levels = record { roll = 40000; acceleration = 9810 };
+      decorrelation = 0;
+      n = n;
+      last = still;
+      crossings = 1;
+      largest = 1;
+      first = 6;
+      latest = 6;
+      recent = 6;
+      groups = 1;
+    }
+
+abbrev pub start : ℕ → ℕ × ℕ
+start q = ofCampaign (campaigns.opened q)
+
+abbrev pub feed : Record → List ℤ → List ℤ → ℕ × ℕ
+feed r xs ys = ofRecord (fed r xs ys)
+
+abbrev pub campaign : ℕ → ℕ → ℕ → Campaign
+campaign m n t = record { standard = 7200000; records = m; failures = n; exposure = t; failed = true }
+
+abbrev pub enter : Campaign → ℕ → ℕ × ℕ
+enter c t = ofCampaign (campaigns.entering c (record { failed = true; exposure = t }))
+
+abbrev pub line : Campaign → ℕ → ℕ × ℕ
+line c t = ofCampaign (telling c true t)
+
+abbrev pub sum : ℕ → ℕ → Sum
+sum n p = record { step = 500; failures = n; samples = p }
+
+abbrev pub total : ℕ → ℕ × ℕ
+total D = ofSum (sums.opened D)
+
+abbrev pub add : Sum → Record → ℕ × ℕ
+add s r = ofSum (sums.adding s r)
+
+-- a list of n peaks of 7 with one more, into so many places
+abbrev pub fit : ℕ → ℕ → ℕ → ℕ → ℕ × ℕ
+fit n peak k places = ofTail (tails.fitted (peak ∷ replicate n 7) k places 0)
+
+abbrev pub judge : ℕ → ℕ × ℕ
+judge n = ofCondition (conditions.judging n (replicate n (campaigning.empty 7200000)))
+
+pub record Ends : Type 0 where
+  -- item 1, the step: 1 to 10,000
+  pub step :
+      opens 0 0 1 1 0 ∷ opens 1 0 1 1 0 ∷ opens 10000 0 1 1 0 ∷ opens 10001 0 1 1 0 ∷ []
+      ≡ (1, 1) ∷ taken ∷ taken ∷ (1, 1) ∷ []
+  -- item 2, the ramp: 0 to 1,000,000
+  pub ramp : opens 1 0 1 1 0 ∷ opens 1 1000000 1 1 0 ∷ opens 1 1000001 1 1 0 ∷ [] ≡ taken ∷ taken ∷ (1, 2) ∷ []
+  -- item 3, the roll's level, and item 6, the acceleration's: 1 to 1,000,000
+  pub roll :
+      opens 1 0 0 1 0 ∷ opens 1 0 1 1 0 ∷ opens 1 0 1000000 1 0 ∷ opens 1 0 1000001 1 0 ∷ []
+      ≡ (1, 3) ∷ taken ∷ taken ∷ (1, 3) ∷ []
+  pub acceleration :
+      opens 1 0 1 0 0 ∷ opens 1 0 1 1 0 ∷ opens 1 0 1 1000000 0 ∷ opens 1 0 1 1000001 0 ∷ []
+      ≡ (1, 6) ∷ taken ∷ taken ∷ (1, 6) ∷ []
+  -- item 4, the decorrelation time: 0 to 10,000,000
+  pub decorrelation :
+      opens 1 0 1 1 0 ∷ opens 1 0 1 1 10000000 ∷ opens 1 0 1 1 10000001 ∷ []
+      ≡ taken ∷ taken ∷ (1, 4) ∷ []
+  -- item 5, the standard: 1 to 100,000,000,000
+  pub standard :
+      start 0 ∷ start 1 ∷ start 100000000000 ∷ start 100000000001 ∷ []
+      ≡ (1, 5) ∷ taken ∷ taken ∷ (1, 5) ∷ []
+  -- a sample: -1,000,000 to 1,000,000, of either channel, with its place; and both slices of one length
+  pub sample :
+      feed (quiet 500 7) (pos 1000000 ∷ negsuc 999999 ∷ []) (pos 0 ∷ pos 0 ∷ [])
+      ∷ feed (quiet 500 7) (pos 0 ∷ pos 1000001 ∷ []) (pos 0 ∷ pos 0 ∷ [])
+      ∷ feed (quiet 500 7) (pos 0 ∷ negsuc 1000000 ∷ []) (pos 0 ∷ pos 0 ∷ [])
+      ∷ feed (quiet 500 7) (pos 0 ∷ pos 0 ∷ []) (negsuc 999999 ∷ pos 1000000 ∷ [])
+      ∷ feed (quiet 500 7) (pos 0 ∷ pos 0 ∷ []) (negsuc 1000000 ∷ pos 0 ∷ [])
+      ∷ feed (quiet 500 7) (pos 0 ∷ pos 0 ∷ []) (pos 0 ∷ [])
+      ∷ []
+      ≡ taken ∷ (2, 1) ∷ (2, 1) ∷ taken ∷ (2, 0) ∷ (12, 0) ∷ []
+  -- the timed length, 10,000,000 ms: with R = 5 and a step of 10,000 so many as 1,006 samples, of 3 so many as
+  -- 3,333,339; past it 8
+  pub length :
+      feed (quiet 10000 1005) (pos 0 ∷ []) (pos 0 ∷ [])
+      ∷ feed (quiet 10000 1006) (pos 0 ∷ []) (pos 0 ∷ [])
+      ∷ feed (quiet 10000 1007) [] []
+      ∷ feed (quiet 3 3333338) (pos 0 ∷ []) (pos 0 ∷ [])
+      ∷ feed (quiet 3 3333339) (pos 0 ∷ []) (pos 0 ∷ [])
+      ∷ []
+      ≡ taken ∷ (3, 0) ∷ (8, 0) ∷ taken ∷ (3, 0) ∷ []
+  -- n of at least R + 2
+  pub ended : ofEnded (ending (quiet 500 6)) ∷ ofEnded (ending (quiet 500 7)) ∷ [] ≡ (4, 0) ∷ taken ∷ []
+  -- 100,000 records and 64 failures; past them 8
+  pub records :
+      enter (campaign 99999 1 99999) 1 ∷ enter (campaign 100000 1 100000) 1 ∷ enter (campaign 100001 1 100001) 1 ∷ []
+      ≡ taken ∷ (5, 0) ∷ (8, 0) ∷ []
+  pub failures :
+      enter (campaign 99 63 99) 1 ∷ enter (campaign 99 64 99) 1 ∷ enter (campaign 99 65 99) 1 ∷ []
+      ≡ taken ∷ (6, 0) ∷ (8, 0) ∷ []
+  -- a result's exposure, 1 to 10,000,000; on a sheet
+  pub exposure :
+      enter (campaign 1 1 1) 0
+      ∷ enter (campaign 1 1 1) 1
+      ∷ enter (campaign 1 1 1) 10000000
+      ∷ enter (campaign 1 1 1) 10000001
+      ∷ []
+      ≡ (8, 0) ∷ taken ∷ taken ∷ (8, 0) ∷ []
+  pub on-a-sheet :
+      line (campaign 1 1 1) 0
+      ∷ line (campaign 1 1 1) 1
+      ∷ line (campaign 1 1 1) 10000000
+      ∷ line (campaign 1 1 1) 10000001
+      ∷ []
+      ≡ (4, 0) ∷ taken ∷ taken ∷ (3, 0) ∷ []
+  -- a sum's step, its N of at most 10,000 and its P of at most 100,000,000; the record has one group and two
+  -- timed samples
+  pub sum-step :
+      total 0 ∷ total 1 ∷ total 10000 ∷ total 10001 ∷ add (sum 0 0) (failing 501 7) ∷ []
+      ≡ (1, 1) ∷ taken ∷ taken ∷ (1, 1) ∷ (1, 1) ∷ []
+  pub groups :
+      add (sum 9999 50000) (failing 500 7)
+      ∷ add (sum 10000 50000) (failing 500 7)
+      ∷ add (sum 10001 50000) (failing 500 7)
+      ∷ []
+      ≡ taken ∷ (11, 0) ∷ (8, 0) ∷ []
+  pub timed :
+      add (sum 1 99999998) (failing 500 7)
+      ∷ add (sum 1 99999999) (failing 500 7)
+      ∷ add (sum 1 100000001) (failing 500 7)
+      ∷ []
+      ≡ taken ∷ (11, 0) ∷ (8, 0) ∷ []
+  -- a list of at most 4,096 peaks, k from 2 to its length, a peak of 1 to 1,000,000, room for all
+  pub peaks : fit 4095 7 2 4096 ∷ fit 4096 7 2 4097 ∷ [] ≡ taken ∷ (16, 0) ∷ []
+  pub k : fit 3 7 1 4 ∷ fit 3 7 2 4 ∷ fit 3 7 4 4 ∷ fit 3 7 5 4 ∷ [] ≡ (16, 0) ∷ taken ∷ taken ∷ (16, 0) ∷ []
+  pub peak :
+      fit 3 0 2 4
+      ∷ fit 3 1 2 4
+      ∷ fit 3 1000000 2 4
+      ∷ fit 3 1000001 2 4
+      ∷ ofTail (tails.fitted (7 ∷ 0 ∷ []) 2 2 0)
+      ∷ []
+      ≡ (17, 0) ∷ taken ∷ taken ∷ (17, 0) ∷ (17, 1) ∷ []
+  pub room : fit 3 7 2 3 ∷ fit 3 7 2 4 ∷ [] ≡ (7, 4) ∷ taken ∷ []
+  -- 1 to 64 campaigns of a loading condition, none of them broken
+  pub situations :
+      judge 0
+      ∷ judge 1
+      ∷ judge 64
+      ∷ judge 65
+      ∷ ofCondition (conditions.judging 2 (campaigning.empty 1 ∷ campaigning.empty 0 ∷ []))
+      ∷ []
+      ≡ (18, 0) ∷ taken ∷ taken ∷ (18, 0) ∷ (8, 2) ∷ []
+
+-- ---- the proof
+pub ends : Ends
+unfolding records.opened fed ending campaigns.entering telling sums.adding tails.fitted conditions.judging recording.sound campaigning.sound summing.sound itemOutside firstBad tails.firstBad conditions.brokenFrom
+ends =
+    record {
+      step = refl;
+      ramp = refl;
+      roll = refl;
+      acceleration = refl;
+      decorrelation = refl;
+      standard = refl;
+      sample = refl;
+      length = refl;
+      ended = refl;
+      records = refl;
+      failures = refl;
+      exposure = refl;
+      on-a-sheet = refl;
+      sum-step = refl;
+      groups = refl;
+      timed = refl;
+      peaks = refl;
+      k = refl;
+      peak = refl;
+      room = refl;
+      situations = refl;
+    }

@@ -1,13 +1,14 @@
--- The two tables meet document 01's rule in every row. The checker computes one test over each table; `Turn` carries a test to the rule, and
--- `met` a table of rows to what is promised of an answer for any number. Assumes nothing.
+-- The two tables meet document 01's rule in every row. The checker computes one test over the rows of both; `carried` takes it to
+-- the rule of either, by `Turn`, and `met` a table of rows to what is promised of an answer for any number. Assumes nothing.
 use mathlib.Core.Path.{_≡_, ap, refl}
-use mathlib.Core.Bool.{Bool, false}
+use mathlib.Core.Bool.{Bool, false, _&&_}
 use mathlib.Core.List.{List}
 use Prim.Native.Nat.{ℕ, zero, suc, _-_, _≤_, _<_, zero-le}
 use native.Mathlib.Nat.{le-refl, lt-suc-self, not-le-of-lt, not-suc-le-zero}
 use native.Mathlib.Decide.{decLt}
 use native.Mathlib.Omega.{arith}
 use lib.Dec.{T, leb, leb→le, lit≤}
+use lib.Ieee.Fits.{and-l, and-r}
 use lib.ListN.{List·getD-eq-default, getD, length}
 use Rattle.poisson.specs.Fractions.{times, Less}
 use Rattle.poisson.specs.Series.{S}
@@ -48,13 +49,22 @@ lower-rule i v t =
       none-above = λ w h all. not-le-of-lt (some-above 40 39 i v (lit≤ tt) t w h) (all terms);
     }
 
-upper-passes : T (every upper-test 0 upperRows)
-unfolding upperRows upper-test turns numer denom
-upper-passes = tt
+-- row i + 1 of both tables
+unfoldable row-test : ℕ → ℕ → Bool
+row-test i r = upper-test i r && lower-test i (getD lowerRows i 0)
 
-lower-passes : T (every lower-test 0 lowerRows)
-unfolding lowerRows lower-test turns numer denom
-lower-passes = tt
+rows-pass : T (every row-test 0 upperRows)
+unfolding upperRows lowerRows row-test upper-test lower-test turns numer denom
+rows-pass = tt
+
+carried : (i : ℕ) → i < length upperRows
+    → IsUpperRow (suc i) (getD upperRows i 0) × IsLowerRow (suc i) (getD lowerRows i 0)
+unfolding row-test
+carried i h =
+    let t = at row-test upperRows rows-pass i h in
+    let a = upper-test i (getD upperRows i 0) in
+    let b = lower-test i (getD lowerRows i 0) in
+    (upper-rule i (getD upperRows i 0) (and-l a b t), lower-rule i (getD lowerRows i 0) (and-r a b t))
 
 -- a table of 64 rows that meets a rule answers it for any number
 module _ (IsRow : ℕ → ℕ → Type 0) (last : ℕ) (xs : List ℕ) (long : length xs ≡ rows) (small : T (every (λ i x. leb x last) 0 xs))
@@ -77,11 +87,11 @@ module _ (IsRow : ℕ → ℕ → Type 0) (last : ℕ) (xs : List ℕ) (long : l
 
 pub upper-met : (n : ℕ) → UpperRow n (u n)
 unfolding u upperRows
-upper-met n = met IsUpperRow 80604368 upperRows refl tt (λ i h. upper-rule i (getD upperRows i 0) (at upper-test upperRows upper-passes i h)) n
+upper-met n = met IsUpperRow 80604368 upperRows refl tt (λ i h. carried i h .0) n
 
 pub lower-met : (n : ℕ) → LowerRow n (l n)
-unfolding l lowerRows
-lower-met n = met IsLowerRow 49287798 lowerRows refl tt (λ i h. lower-rule i (getD lowerRows i 0) (at lower-test lowerRows lower-passes i h)) n
+unfolding l lowerRows upperRows
+lower-met n = met IsLowerRow 49287798 lowerRows refl tt (λ i h. carried i h .1) n
 
 -- document 01's rule, of the tables by name
 pub upper-rows : (n : ℕ) → 1 ≤ n → n ≤ rows → IsUpperRow n (u n)

@@ -1,15 +1,15 @@
 -- Rows and the places that they stand for. A call stores in one place at most; so the rows that it leaves (`rowsLeft`) are the rows, with that one's set if it
--- changed. Assumes nothing.
+-- changed. And they stand for the places that it left, so that the next call finds these. Assumes nothing.
 use mathlib.Core.Path.{_≡_, refl, sym, ap, _∙_}
-use mathlib.Core.Bool.{cond, true, false}
+use mathlib.Core.Bool.{Bool, cond, true, false}
 use mathlib.Core.List.{List, [], _∷_}
 use Prim.Native.Nat.{ℕ, zero, suc, _+_, _≤_, _<_}
 use native.Mathlib.Omega.{arith}
-use lib.Dec.{ltb}
+use lib.Dec.{eqb, ltb}
 use lib.ListN.{drop, getD, length, set}
-use borrow.Author.Tests.{eq-eqb, le-ltb, lt-ltb}
+use borrow.Author.Tests.{eq-eqb, eqb-true, le-ltb, lt-ltb}
 use Rattle.truth.proofs.Cases.{by-test}
-use Rattle.truth.proofs.Laws.{both-true}
+use Rattle.truth.proofs.Laws.{and-true, both-true}
 use Rattle.bench.specs.declared.Answer.{Answer}
 use Rattle.bench.specs.declared.Call.{Call}
 use Rattle.bench.specs.declared.Place.{Place}
@@ -43,7 +43,7 @@ row-at (r ∷ rs) zero d l = refl
 row-at (r ∷ rs) (suc i) d l = row-at rs i d (omega arith)
 
 -- no place changed
-rows-stay : (rows : List (List ℕ)) → rowsLeft rows (placesOf rows) ≡ rows
+pub rows-stay : (rows : List (List ℕ)) → rowsLeft rows (placesOf rows) ≡ rows
 unfolding rowsLeft
 rows-stay [] = refl
 rows-stay (r ∷ rs) = rw (same-self (placeOf r)) (ap (λ (l : List (List ℕ)). r ∷ l) (rows-stay rs))
@@ -56,6 +56,62 @@ rows-set (r ∷ rs) zero d p l = by-test (samePlace (placeOf r) p) (λ h. rw (h,
 rows-set (r ∷ rs) (suc i) d p l =
     rw (same-self (placeOf r), rows-set rs i d p (omega arith))
     (by-test (samePlace (placeOf (getD rs i d)) p) (λ h. rw h) (λ h. rw h))
+
+-- ---- rows that are left stand for the places that they are left for
+same-flag : (a b : Bool) → flag a ≡ flag b → a ≡ b
+same-flag true true e = refl
+same-flag true false e = absurd (omega arith)
+same-flag false true e = absurd (omega arith)
+same-flag false false e = refl
+
+place : ℕ → ℕ → ℕ → ℕ → ℕ → Bool → Place
+place o q m n t f =
+    record { owner = o; campaign = record { standard = q; records = m; failures = n; exposure = t; failed = f } }
+
+alike : {o o′ q q′ m m′ n n′ t t′ : ℕ} {f f′ : Bool} → o ≡ o′ → q ≡ q′ → m ≡ m′ → n ≡ n′ → t ≡ t′ → f ≡ f′
+    → place o q m n t f ≡ place o′ q′ m′ n′ t′ f′
+alike eo eq em en et ef = cc
+
+pub same-place : (p q : Place) → samePlace p q ≡ true → p ≡ q
+unfolding place
+same-place p q e =
+    let c = p .campaign in
+    let d = q .campaign in
+    let o = and-true (eqb (p .owner) (q .owner)) _ e in
+    let s = and-true (eqb (c .standard) (d .standard)) _ (o .1) in
+    let m = and-true (eqb (c .records) (d .records)) _ (s .1) in
+    let n = and-true (eqb (c .failures) (d .failures)) _ (m .1) in
+    let t = and-true (eqb (c .exposure) (d .exposure)) _ (n .1) in
+    alike (eqb-true _ _ (o .0)) (eqb-true _ _ (s .0)) (eqb-true _ _ (m .0)) (eqb-true _ _ (n .0)) (eqb-true _ _ (t .0))
+    (same-flag _ _ (eqb-true _ _ (t .1)))
+
+place-back : (p : Place) → placeOf (ofPlace p) ≡ p
+place-back p = go p (p .campaign .failed) refl
+  where
+    go : (p : Place) (b : Bool) → p .campaign .failed ≡ b → placeOf (ofPlace p) ≡ p
+    go p true e = rw e refl
+    go p false e = rw e refl
+
+pub rows-stand : (rows : List (List ℕ)) (ps : List Place) → length ps ≡ length rows → placesOf (rowsLeft rows ps) ≡ ps
+unfolding rowsLeft
+rows-stand [] [] e = refl
+rows-stand [] (p ∷ ps) e = absurd (omega arith)
+rows-stand (r ∷ rs) [] e = absurd (omega arith)
+rows-stand (r ∷ rs) (p ∷ ps) e =
+    by-test (samePlace (placeOf r) p)
+    (λ h. rw (h, rows-stand rs ps (omega arith)) (ap (λ (x : Place). x ∷ ps) (same-place (placeOf r) p h)))
+    (λ h. rw (h, rows-stand rs ps (omega arith)) (ap (λ (x : Place). x ∷ ps) (place-back p)))
+
+-- and a row whose place is left as it was keeps its numbers
+pub row-stays : (rows : List (List ℕ)) (ps : List Place) (j : ℕ) (d : List ℕ) → length ps ≡ length rows → j < length rows
+    → at ps j ≡ at (placesOf rows) j → getD (rowsLeft rows ps) j d ≡ getD rows j d
+unfolding rowsLeft
+row-stays [] ps j d e l h = absurd (omega arith)
+row-stays (r ∷ rs) [] j d e l h = absurd (omega arith)
+row-stays (r ∷ rs) (p ∷ ps) zero d e l h =
+    let g : samePlace (placeOf r) p ≡ true = rw h (same-self (placeOf r)) in
+    rw g
+row-stays (r ∷ rs) (p ∷ ps) (suc j) d e l h = row-stays rs ps j d (omega arith) (omega arith) h
 
 -- ---- the survey, row by row
 pub look-row : (s : Seen) (i : ℕ) (rows : List (List ℕ)) (d : List ℕ) → i < length rows

@@ -25,7 +25,7 @@ result = record.end()
 print(
     f"crossings {result.crossings}, counted {result.counted}, largest set {result.largest_set}, first failure at sample {result.first}, exposure {result.exposure} ms"
 )
-campaign.enter(result.failed, result.exposure)
+campaign.enter_result(result)
 show(campaign)
 for i in range(25):
     campaign.enter(False, 1_800_000)

@@ -58,6 +58,7 @@ for _name, _result, _parameters in [
     ("chim_record_list", _u64, [_u64, _u64, _u64, _u64, _u64, _samples, _size, _samples, _size, _times, _size, _numbers, _numbers]),
     ("chim_campaign_open", _u64, [_u64, _numbers, _size, _numbers]),
     ("chim_campaign_enter", _u64, [_numbers, _size, _u64, _u64, _numbers]),
+    ("chim_campaign_enter_result", _u64, [_numbers, _size, _numbers, _size, _numbers]),
     ("chim_campaign_censored", _u64, [_numbers, _size, _numbers]),
     ("chim_campaign_verdict", _u64, [_numbers, _size, _rate, _rate, _numbers]),
     ("chim_campaign_rates", _u64, [_numbers, _size, _rate, _rate, _rate, _numbers]),
@@ -487,6 +488,12 @@ class Campaign(_State):
     def enter(self, failed, exposure):
         """Enters a result by what a campaign takes of it: whether there is a first failure, and the exposure, 1 to 10,000,000 ms."""
         _ask(_lib.chim_campaign_enter, self._state, self.LENGTH, int(bool(failed)), *_items(exposure=exposure))
+
+    def enter_result(self, result):
+        """Enters a record's Result, of which a campaign takes the first failure and the exposure."""
+        numbers = (result.crossings, result.counted, result.first or 0, result.exposure, result.largest_set)
+        lent = (_u64 * len(numbers))(*map(_number, numbers))
+        _ask(_lib.chim_campaign_enter_result, self._state, self.LENGTH, lent, len(lent))
 
     @property
     def records(self):

@@ -274,6 +274,21 @@ class Records(unittest.TestCase):
         self.refused(8, 0, campaign.enter, False, 0)
         self.refused(8, 0, campaign.enter, False, 10_000_001)
 
+    def test_a_result_enters_by_what_it_is(self):
+        ended = fed(ROLL).end()
+        whole, taken = Campaign(7_200_000), Campaign(7_200_000)
+        whole.enter_result(ended)
+        taken.enter(ended.failed, ended.exposure)
+        self.assertEqual(whole.numbers, taken.numbers)
+        # counted twice or not at all, with another largest set: a campaign does not look at it
+        whole.enter_result(ended._replace(crossings=9, counted=2, first=None, exposure=1_000, largest_set=0))
+        self.assertEqual((whole.records, whole.failures, whole.exposure), (2, 1, ended.exposure + 1_000))
+        before = whole.numbers
+        self.refused(8, 0, whole.enter_result, ended._replace(exposure=0))
+        self.refused(8, 0, whole.enter_result, ended._replace(exposure=10_000_001))
+        self.refused(6, 0, Campaign.from_numbers([7_200_000, 64, 64, 64_000, 1]).enter_result, ended)
+        self.assertEqual(whole.numbers, before)
+
     def test_what_a_customer_may_rely_on(self):
         """The numbers of docs/RELY.md."""
 

@@ -29,7 +29,7 @@ int main(void) {
     chim_record_end(record, CHIM_RECORD_NUMBERS, result, CHIM_RESULT_NUMBERS, &carried);
     printf("crossings %" PRIu64 ", counted %" PRIu64 ", largest set %" PRIu64 ", first failure at sample %" PRIu64 ", exposure %" PRIu64 " ms\n",
            result[CHIM_CROSSINGS], result[CHIM_COUNTED], result[CHIM_LARGEST_SET], result[CHIM_FIRST], result[CHIM_EXPOSURE]);
-    chim_campaign_enter(campaign, CHIM_CAMPAIGN_NUMBERS, result[CHIM_FIRST] != 0, result[CHIM_EXPOSURE], &carried);
+    chim_campaign_enter_result(campaign, CHIM_CAMPAIGN_NUMBERS, result, CHIM_RESULT_NUMBERS, &carried);
     verdict(campaign);
 
     for (int i = 0; i < 25; i++) {

@@ -31,7 +31,7 @@ fn main() -> Result<(), Refusal> {
         ended.first.unwrap_or(0),
         ended.exposure
     );
-    campaign.enter(ended.failed(), ended.exposure)?;
+    campaign.enter_result(&ended)?;
     show(&campaign)?;
     for i in 0..25 {
         campaign.enter(false, 1_800_000)?;

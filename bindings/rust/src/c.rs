@@ -48,6 +48,13 @@ extern "C" {
     ) -> u64;
     pub fn chim_campaign_open(standard: u64, state: *mut u64, state_len: usize, carried: *mut u64) -> u64;
     pub fn chim_campaign_enter(state: *mut u64, state_len: usize, failed: u64, exposure: u64, carried: *mut u64) -> u64;
+    pub fn chim_campaign_enter_result(
+        state: *mut u64,
+        state_len: usize,
+        result: *const u64,
+        result_len: usize,
+        carried: *mut u64,
+    ) -> u64;
     pub fn chim_campaign_censored(state: *const u64, state_len: usize, carried: *mut u64) -> u64;
     pub fn chim_campaign_verdict(state: *const u64, state_len: usize, lower: *mut f64, upper: *mut f64, carried: *mut u64) -> u64;
     pub fn chim_campaign_rates(

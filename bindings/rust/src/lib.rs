@@ -18,7 +18,7 @@
 //! let mut campaign = Campaign::open(7_200_000)?;
 //! let ended = record.end()?;
 //! assert_eq!((ended.counted, ended.largest_set, ended.exposure), (1, 2, 500));
-//! campaign.enter(ended.failed(), ended.exposure)?;
+//! campaign.enter_result(&ended)?;
 //! assert!(matches!(campaign.verdict()?, Verdict::Reject { .. }));
 //! # Ok(())
 //! # }
@@ -440,6 +440,16 @@ impl Campaign {
     pub fn enter(&mut self, failed: bool, exposure: u64) -> Result<(), Refusal> {
         let s = &mut self.numbers;
         answer(|carried| unsafe { c::chim_campaign_enter(s.as_mut_ptr(), s.len(), u64::from(failed), exposure, carried) })?;
+        Ok(())
+    }
+
+    /// Enters a record's result, of which a campaign takes the first failure and the exposure.
+    pub fn enter_result(&mut self, result: &Ended) -> Result<(), Refusal> {
+        let s = &mut self.numbers;
+        let x = [result.crossings, result.counted, result.first.unwrap_or(0), result.exposure, result.largest_set];
+        answer(|carried| unsafe {
+            c::chim_campaign_enter_result(s.as_mut_ptr(), s.len(), x.as_ptr(), x.len(), carried)
+        })?;
         Ok(())
     }
 
@@ -916,6 +926,24 @@ mod tests {
         assert_eq!(c.rates().unwrap().unwrap().lower, 0.0);
         assert_eq!(c.enter(false, 0), Err(Refusal::BrokenState));
         assert_eq!(c.enter(false, 10_000_001), Err(Refusal::BrokenState));
+    }
+
+    #[test]
+    fn a_result_enters_by_what_it_is() {
+        let ended = fed(&ROLL).end().unwrap();
+        let (mut whole, mut taken) = (Campaign::open(7_200_000).unwrap(), Campaign::open(7_200_000).unwrap());
+        whole.enter_result(&ended).unwrap();
+        taken.enter(ended.failed(), ended.exposure).unwrap();
+        assert_eq!(whole, taken);
+        // counted twice or not at all, with another largest set: a campaign does not look at it
+        whole.enter_result(&Ended { crossings: 9, counted: 2, first: None, exposure: 1_000, largest_set: 0 }).unwrap();
+        assert_eq!((whole.records(), whole.failures(), whole.exposure()), (2, 1, ended.exposure + 1_000));
+        let before = whole.clone();
+        assert_eq!(whole.enter_result(&Ended { exposure: 0, ..ended }), Err(Refusal::BrokenState));
+        assert_eq!(whole.enter_result(&Ended { exposure: 10_000_001, ..ended }), Err(Refusal::BrokenState));
+        let mut full = Campaign::from_numbers([7_200_000, 64, 64, 64_000, 1]);
+        assert_eq!(full.enter_result(&ended), Err(Refusal::RowsUsedUp));
+        assert_eq!(whole, before);
     }
 
     #[test]

@@ -14,11 +14,12 @@ use Rattle.record.specs.State as state
 use Rattle.record.specs.declared.Answer.{Answer as Reading}
 use Rattle.record.specs.declared.Answer.the-variants as read
 use Rattle.record.specs.declared.Record.{Record}
+use Rattle.result.specs.declared.Result.{Result}
 use Rattle.campaign.specs.State.{sound}
 use Rattle.campaign.specs.declared.Answer.{Answer}
 use Rattle.campaign.specs.declared.Answer.the-variants.{Taken}
 use Rattle.campaign.specs.declared.Campaign.{Campaign}
-use Rattle.capi.specs.Numbers.{campaignAt, campaignNumbers, campaignOf, codeOf, flag, highestCode, isCampaign, isRecord, noCampaign, ofCampaign, ofRecord, recordNumbers, recordOf}
+use Rattle.capi.specs.Numbers.{campaignAt, campaignNumbers, campaignOf, codeOf, flag, highestCode, isCampaign, isRecord, noCampaign, ofCampaign, ofRecord, ofResult, recordNumbers, recordOf, resultOf}
 use Rattle.capi.specs.Told.{campaignKept, campaignTold, recordKept, recordTold}
 use Rattle.capi.proofs.Codes.{code-high, read-back}
 
@@ -47,6 +48,11 @@ campaign-back c = go c (c .failed) refl
     go : (c : Campaign) (b : Bool) → c .failed ≡ b → cond (leb (flag (c .failed)) 1) (campaignAt (ofCampaign c)) noCampaign ≡ c
     go c true e = rw e refl
     go c false e = rw e refl
+
+-- and that of any result the result
+pub result-back : (x : Result) → resultOf (ofResult x) ≡ x
+unfolding resultOf
+result-back x = refl
 
 -- so what an entry leaves in an array is the state that it answers
 pub record-left : (a : Reading) (s : List ℕ) (r : Record) → length s ≡ recordNumbers → a ≡ read.Taken r → state.sound r ≡ true → recordOf (recordKept a s .lent) ≡ r

@@ -82,6 +82,23 @@ resultNumbers = 5
 abbrev pub ofResult : Result → List ℕ
 ofResult x = x .crossings ∷ x .counted ∷ x .first ∷ x .exposure ∷ x .largest ∷ []
 
+-- exposure 0, which no result has
+abbrev pub noResult : Result
+noResult = record { crossings = 0; counted = 0; first = 0; exposure = 0; largest = 0 }
+
+abbrev pub resultAt : List ℕ → Result
+resultAt s =
+    record {
+      crossings = numberAt s 0;
+      counted = numberAt s 1;
+      first = numberAt s 2;
+      exposure = numberAt s 3;
+      largest = numberAt s 4;
+    }
+
+unfoldable pub resultOf : List ℕ → Result
+resultOf s = cond (eqb (length s) resultNumbers) (resultAt s) noResult
+
 -- ---- a campaign: five numbers, of which number 4 is 1 if the last record failed, else 0
 abbrev pub campaignNumbers : ℕ
 campaignNumbers = 5

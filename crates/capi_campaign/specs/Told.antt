@@ -6,7 +6,8 @@ use lib.Dec.{eqb, leb}
 use Rattle.refusal.specs.declared.Refusal.the-variants.{BrokenState}
 use Rattle.result.specs.declared.Outcome.{Outcome}
 use Rattle.campaign.specs.Answers.{entering, opened}
-use Rattle.capi.specs.Numbers.{campaignOf}
+use Rattle.result.specs.Result.{outcomeOf}
+use Rattle.capi.specs.Numbers.{campaignOf, resultOf}
 use Rattle.capi.specs.Told.{Told, campaignKept, refused}
 
 abbrev pub campaignOpened : ℕ → List ℕ → Told
@@ -18,3 +19,7 @@ outcome f t = record { failed = eqb f 1; exposure = t }
 
 unfoldable pub campaignEntered : List ℕ → ℕ → ℕ → Told
 campaignEntered s f t = cond (leb f 1) (campaignKept (entering (campaignOf s) (outcome f t)) s) (refused BrokenState s)
+
+-- document 02, [4]: of a result's five numbers whether there is a first failure, and the exposure
+abbrev pub campaignResultEntered : List ℕ → List ℕ → Told
+campaignResultEntered s x = campaignKept (entering (campaignOf s) (outcomeOf (resultOf x))) s

@@ -1,10 +1,13 @@
-// A campaign for C: opening, and entering what a campaign takes of a result. Each function answers 0 or document 01's refusal number and writes what goes with it to `carried`; a refusal
-// leaves the lent array as it stood.
+// A campaign for C: opening, and entering a result, by what a campaign takes of it or by its five numbers. Each function
+// answers 0 or document 01's refusal number and writes what goes with it to `carried`; a refusal leaves the lent array as it
+// stood.
 ghost use mathlib.Core.Path.{_≡_};
 ghost use Rattle.capi.specs.Told.{told};
-ghost use Rattle.capi_campaign.specs.Told.{campaignEntered, campaignOpened};
+ghost use Rattle.capi.specs.Numbers.{noResult, resultOf};
+ghost use Rattle.capi_campaign.specs.Told.{campaignEntered, campaignOpened, campaignResultEntered};
 use refusal::Refusal;
 use result::Outcome;
+use result::Result;
 
 // A campaign without a record in `state`; or refusal 8 for an array of another length, 1 with item 5.
 #[no_mangle]
@@ -33,5 +36,50 @@ pub extern "C" fn chim_campaign_enter(
         failed: failed == 1,
         exposure: exposure,
     };
+    capi::keep_campaign(c.enter(o), state, carried)
+}
+
+// A result that no record has.
+fn no_result() -> Result
+    ensures { λ x. ⌜ x ≡ noResult ⌝ }
+{
+    Result {
+        crossings: 0,
+        counted: 0,
+        first: 0,
+        exposure: 0,
+        largest: 0,
+    }
+}
+
+// The result that an array holds.
+fn result_of(s: &[u64]) -> Result
+    ensures { λ x. ⌜ x ≡ resultOf (now (s .entry)) ⌝ }
+{
+    if s.len() != capi::RESULT_NUMBERS {
+        return no_result();
+    }
+    Result {
+        crossings: s[0],
+        counted: s[1],
+        first: s[2],
+        exposure: s[3],
+        largest: s[4],
+    }
+}
+
+// The campaign in `state` with the result in `result` entered, of which only the first failure and the exposure are read; or
+// refusal 8, for an array of another length or an exposure that is not from 1 to 10,000,000 too, 5, 6.
+#[no_mangle]
+pub extern "C" fn chim_campaign_enter_result(
+    state: &mut [u64],
+    result: &[u64],
+    carried: &mut u64,
+) -> u64
+    ensures { λ n. ⌜ told n (now (carried .exit)) (now (state .exit)) ≡ campaignResultEntered (now (state .entry)) (now (result .entry)) ⌝ }
+{
+    let c = capi::campaign_of(state);
+    let x = result_of(result);
+    let o = x.outcome();
     capi::keep_campaign(c.enter(o), state, carried)
 }

@@ -13,6 +13,8 @@ mod c {
         pub fn chim_campaign_open(standard: u64, state: *mut u64, state_len: usize, carried: *mut u64) -> u64;
         pub fn chim_record_end(state: *const u64, state_len: usize, result: *mut u64, result_len: usize, carried: *mut u64) -> u64;
         pub fn chim_campaign_enter(state: *mut u64, state_len: usize, failed: u64, exposure: u64, carried: *mut u64) -> u64;
+        #[rustfmt::skip]
+        pub fn chim_campaign_enter_result(state: *mut u64, state_len: usize, result: *const u64, result_len: usize, carried: *mut u64) -> u64;
         pub fn chim_campaign_censored(state: *const u64, state_len: usize, carried: *mut u64) -> u64;
         pub fn chim_campaign_verdict(state: *const u64, state_len: usize, lower: *mut f64, upper: *mut f64, carried: *mut u64) -> u64;
         pub fn chim_campaign_rates(state: *const u64, state_len: usize, estimate: *mut f64, lower: *mut f64, upper: *mut f64, carried: *mut u64) -> u64;
@@ -85,6 +87,12 @@ pub fn record_end(record: &[u64], result: &mut [u64]) -> Told {
 
 pub fn campaign_enter(state: &mut [u64], failed: u64, exposure: u64) -> Told {
     told(|carried| unsafe { c::chim_campaign_enter(state.as_mut_ptr(), state.len(), failed, exposure, carried) })
+}
+
+pub fn campaign_enter_result(state: &mut [u64], result: &[u64]) -> Told {
+    told(|carried| unsafe {
+        c::chim_campaign_enter_result(state.as_mut_ptr(), state.len(), result.as_ptr(), result.len(), carried)
+    })
 }
 
 pub fn campaign_censored(state: &[u64]) -> Told {

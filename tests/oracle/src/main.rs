@@ -12,7 +12,7 @@ use std::collections::BTreeMap;
 use std::fmt::Debug;
 
 /// What each entry may answer (include/chimenickel.h); each has to be met at least this often. Where refusal 2 names the acceleration it stands in a row of its own.
-const EXPECTED: [(&str, &[u64]); 16] = [
+const EXPECTED: [(&str, &[u64]); 17] = [
     ("record_open", &[0, 1, 8]),
     ("record_feed", &[0, 2, 3, 8, 12]),
     (FED_ACCELERATION, &[2]),
@@ -21,6 +21,7 @@ const EXPECTED: [(&str, &[u64]); 16] = [
     ("campaign_open", &[0, 1, 8]),
     ("record_end", &[0, 4, 8]),
     ("campaign_enter", &[0, 5, 6, 8]),
+    ("campaign_enter_result", &[0, 5, 6, 8]),
     ("campaign_censored", &[0, 8]),
     ("campaign_verdict", &[0, 8]),
     ("campaign_rates", &[0, 8]),
@@ -209,7 +210,20 @@ impl Bench {
         self.same("record_end", number, &(record, places), expected, (number, carried, result.clone()));
         if number == 0 {
             self.campaign_enter(&mut campaign.to_vec(), u64::from(result[2] != 0), result[3]);
+            self.campaign_enter_result(&mut campaign.to_vec(), &result);
         }
+    }
+
+    /// A result entered by its numbers, any of them and of any length.
+    fn campaign_enter_result(&mut self, state: &mut Vec<u64>, result: &[u64]) {
+        let before = state.clone();
+        let answer = match campaign_in(state) {
+            Some(c) if result.len() == RESULT_NUMBERS => paper::entered(&c, result[2] != 0, result[3]),
+            _ => Err((8, 0)),
+        };
+        let expected = told(answer, campaign_numbers, state);
+        let (number, carried) = library::campaign_enter_result(state, result);
+        self.same("campaign_enter_result", number, &(before, result), expected, (number, carried, state.clone()));
     }
 
     fn campaign_enter(&mut self, state: &mut Vec<u64>, failed: u64, exposure: u64) {
@@ -588,10 +602,17 @@ impl Bench {
             let exposure = if self.random.one_in(3) { self.random.of(&[0, 1, LONGEST, LONGEST + 1]) } else { self.item(1, LONGEST) };
             self.campaign_read(&state);
             self.campaign_enter(&mut state.clone(), failed, exposure);
+            // crossings, count and largest set are anything: only the first failure and the exposure are read
+            let mut result = [0, 1, u64::MAX].map(|other| self.random.of(&[other, failed, exposure])).to_vec();
+            result.splice(2..2, [failed, exposure]);
+            let long = self.random.of(&[4, 5, 5, 5, 5, 6]) as usize;
+            result.resize(long, 1);
+            self.campaign_enter_result(&mut state.clone(), &result);
             for place in 0..=state.len() {
                 let mut broken = self.damaged(&state, place);
                 self.campaign_read(&broken);
-                self.campaign_enter(&mut broken, failed, exposure);
+                self.campaign_enter(&mut broken.clone(), failed, exposure);
+                self.campaign_enter_result(&mut broken, &result);
             }
         }
     }

@@ -36,7 +36,7 @@ use Rattle.demands.proofs.Demand1.{Decides, Test, _gives_, decide, deci
 
 -- ---- the statement
 -- reading 1, 10 with the line's number, 2 with the sample's place, 7 with the number of samples
-abbrev readTests : ℕ → List (List ℕ) → ℕ → List Test
+abbrev pub readTests : ℕ → List (List ℕ) → ℕ → List Test
 readTests D lines places =
     not (stepInRange D) gives Item 1
     ∷ (ltb (firstWrong D 0 lines) (length lines) gives CommaLine (firstWrong D 0 lines + 1)
@@ -45,7 +45,7 @@ readTests D lines places =
     ∷ [])))
 
 -- writing 1, 2, 3 where the last time needs more than 12 digits, 7 with the bytes needed
-abbrev writeTests : ℕ → List ℤ → ℕ → List Test
+abbrev pub writeTests : ℕ → List ℤ → ℕ → List Test
 writeTests D xs room =
     not (stepInRange D) gives Item 1
     ∷ (ltb (firstBad xs) (length xs) gives Sample (firstBad xs)

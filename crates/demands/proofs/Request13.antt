@@ -43,11 +43,11 @@ use Rattle.demands.proofs.Demand1.{Decides, Test, _gives_, decide, deci
 
 -- ---- the statement
 -- 18, then 8 with the lowest situation; then what is tested behind them
-abbrev tests : ℕ → List Campaign → List Test → List Test
+abbrev pub tests : ℕ → List Campaign → List Test → List Test
 tests number cs ts = not (situationsInRange number) gives Situations ∷ (not (eqb (lowestBroken cs) 0) gives Situation (lowestBroken cs) ∷ ts)
 
 -- the report: then 7 with the bytes needed
-abbrev writeTests : ℕ → List Campaign → ℕ → List Test
+abbrev pub writeTests : ℕ → List Campaign → ℕ → List Test
 writeTests number cs room = tests number cs (ltb room (length (reportText cs)) gives Room (length (reportText cs)) ∷ [])
 
 -- the letter of a campaign with a record: A exactly if accept holds, R exactly if reject does, C exactly if neither

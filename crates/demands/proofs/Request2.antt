@@ -52,7 +52,7 @@ recordTests m n (x ∷ xs) ts =
     ∷ recordTests (m + 1) (cond (failedIn x) (n + 1) n) xs ts)))
 
 -- writing 1 with item 5, the records, 7 with the bytes needed
-abbrev writeTests : ℕ → List ℤ → ℕ → List Test
+abbrev pub writeTests : ℕ → List ℤ → ℕ → List Test
 writeTests q xs room =
     not (standardInRange q) gives Item 5
     ∷ recordTests 0 0 xs (ltb room (length (sheetText q xs)) gives Room (length (sheetText q xs)) ∷ [])

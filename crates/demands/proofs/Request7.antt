@@ -44,7 +44,7 @@ use Rattle.demands.proofs.Demand1.{Decides, Test, _gives_, decide, deci
 
 -- ---- the statement
 -- 8 for the sum and for the record, 4, 1 with item 1 for another step, 11
-abbrev addTests : Sum → Record → List Test
+abbrev pub addTests : Sum → Record → List Test
 addTests s r =
     not (sound s) gives BrokenState
     ∷ (not (recording.sound r) gives BrokenState
@@ -53,7 +53,7 @@ addTests s r =
     ∷ (wouldPass s (r .groups) (timed r) gives SumFull
     ∷ []))))
 
-abbrev brokenTest : Sum → List Test
+abbrev pub brokenTest : Sum → List Test
 brokenTest s = not (sound s) gives BrokenState ∷ []
 
 pub record Request7 : Type 0 where

@@ -1,0 +1,4 @@
+pub mod Telling
+pub mod Entries
+pub mod Header
+pub mod Request9

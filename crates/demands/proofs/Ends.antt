@@ -18,7 +18,7 @@ use Rattle.record.specs.declared.Answer.{Answer as OfRecord}
 use Rattle.record.specs.declared.Answer.the-variants as recorded
 use Rattle.record.specs.declared.Record.{Record}
 use Rattle.record.specs.Answers as records
-use Rattle.record.specs.State as recording
+use Rattle.record.specs.State.{sound as recordSound}
 use Rattle.feeding.specs.Answers.{fed}
 use Rattle.result.specs.declared.Ended.{Ended}
 use Rattle.result.specs.declared.Ended.the-variants as ended
@@ -40,7 +40,7 @@ use Rattle.tail.specs.declared.Fitted.the-variants as fitting
 use Rattle.tail.specs.Fitting as tails
 use Rattle.condition.specs.declared.Answer.{Answer as OfCondition}
 use Rattle.condition.specs.declared.Answer.the-variants as conditioned
-use Rattle.condition.specs.Answers as conditions
+use Rattle.condition.specs.Answers.{brokenFrom, judging}
 
 -- ---- the statement
 abbrev pub refused : Refusal → ℕ × ℕ
@@ -78,9 +78,9 @@ ofCondition (conditioned.Refused f) = refused f
 abbrev pub opens : ℕ → ℕ → ℕ → ℕ → ℕ → ℕ × ℕ
 opens D R roll acceleration τ = ofRecord (records.opened D R (record { roll = roll; acceleration = acceleration }) τ)
 
--- a record of n samples without a crossing, R = 5
-abbrev pub quiet : ℕ → ℕ → Record
-quiet D n =
+-- a record of n samples with k crossings at one place, R = 5
+abbrev pub read : ℕ → ℕ → ℕ → ℕ → Record
+read D n k place =
     record {
       step = D;
       ramp = 5;
@@ -88,31 +88,19 @@ quiet D n =
       decorrelation = 0;
       n = n;
       last = still;
-      crossings = 0;
-      largest = 0;
-      first = 0;
-      latest = 0;
-      recent = 0;
-      groups = 0;
+      crossings = k;
+      largest = k;
+      first = place;
+      latest = place;
+      recent = place;
+      groups = k;
     }
 
--- the same with one failure, and one group, at place 6
+abbrev pub quiet : ℕ → ℕ → Record
+quiet D n = read D n 0 0
+
 abbrev pub failing : ℕ → ℕ → Record
-failing D n =
-    record {
-      step = D;
-      ramp = 5;
-      levels = record { roll = 40000; acceleration = 9810 };
-      decorrelation = 0;
-      n = n;
-      last = still;
-      crossings = 1;
-      largest = 1;
-      first = 6;
-      latest = 6;
-      recent = 6;
-      groups = 1;
-    }
+failing D n = read D n 1 6
 
 abbrev pub start : ℕ → ℕ × ℕ
 start q = ofCampaign (campaigns.opened q)
@@ -143,7 +131,7 @@ abbrev pub fit : ℕ → ℕ → ℕ → ℕ → ℕ × ℕ
 fit n peak k places = ofTail (tails.fitted (peak ∷ replicate n 7) k places 0)
 
 abbrev pub judge : ℕ → ℕ × ℕ
-judge n = ofCondition (conditions.judging n (replicate n (campaigning.empty 7200000)))
+judge n = ofCondition (judging n (replicate n (campaigning.empty 7200000)))
 
 pub record Ends : Type 0 where
   -- item 1, the step: 1 to 10,000
@@ -246,13 +234,13 @@ pub record Ends : Type 0 where
       ∷ judge 1
       ∷ judge 64
       ∷ judge 65
-      ∷ ofCondition (conditions.judging 2 (campaigning.empty 1 ∷ campaigning.empty 0 ∷ []))
+      ∷ ofCondition (judging 2 (campaigning.empty 1 ∷ campaigning.empty 0 ∷ []))
       ∷ []
       ≡ (18, 0) ∷ taken ∷ taken ∷ (18, 0) ∷ (8, 2) ∷ []
 
 -- ---- the proof
 pub ends : Ends
-unfolding records.opened fed ending campaigns.entering telling sums.adding tails.fitted conditions.judging recording.sound campaigning.sound summing.sound itemOutside firstBad tails.firstBad conditions.brokenFrom
+unfolding records.opened fed ending campaigns.entering telling sums.adding tails.fitted judging recordSound campaigning.sound summing.sound itemOutside firstBad tails.firstBad brokenFrom
 ends =
     record {
       step = refl;

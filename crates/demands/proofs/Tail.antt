@@ -22,7 +22,7 @@ use Rattle.tail.specs.declared.Fitted.{Fitted}
 use Rattle.tail.specs.declared.Fitted.the-variants.{Refused, Sum}
 use Rattle.tail.specs.Fitting.{FitsTo, Summed, firstBad, fitted, tailOutside}
 use Rattle.tail.specs.Hill.{ExactSum, HillSum, NearSum, kth, plus, start}
-use Rattle.tail.proofs.Slack.{hill-slack}
+use Rattle.tail.proofs.Slack.{exact-sum, hill-slack}
 use Rattle.tail.proofs.Unique.{fit-unique}
 use Rattle.demands.proofs.Demand1.{Decides, Test, _gives_, decide, decided, no}
 
@@ -40,8 +40,9 @@ pub record TailFitted : Type 0 where
   pub order : (peaks : List ℕ) (k places sum : ℕ) → Decides Refused (tailTests peaks k places) (Sum sum) (fitted peaks k places sum)
   pub kept : (peaks : List ℕ) (k : ℕ) (before after : List ℕ) (r : Refusal) → FitsTo peaks k before (Refused r) after → after ≡ before
   pub summed : (peaks : List ℕ) (k : ℕ) (before after : List ℕ) (s : ℕ) → FitsTo peaks k before (Sum s) after → Summed peaks k before s after
-  -- a figure of a ratio of at least 1, in the request's words; and the sum of k of them
+  -- a figure of a ratio of at least 1, in the request's words; and the sum of k of them, which has an exact one
   pub figure : (a b r m : ℕ) → Near a b r → ExactFigure a b m → (r ≤ m) × (m ≤ r + 1) × (a ≡ b → r ≡ 0)
+  pub exact : (ys : List ℕ) (k s : ℕ) → HillSum ys k s → (e : ℕ) × ExactSum ys (kth ys k) k e
   pub slack : (ys : List ℕ) (k s e : ℕ) → HillSum ys k s → ExactSum ys (kth ys k) k e → (s ≤ e) × (e ≤ s + (k - 1))
   -- peaks 2, 1, 1, 1 with k = 4 have one logarithm that is not 0
   pub twice : (before after : List ℕ) (s : ℕ) → FitsTo twoAndOnes 4 before (Sum s) after → s ≡ 65536
@@ -99,6 +100,7 @@ tail-fitted =
       kept = λ peaks k before after r p. p .leaves;
       summed = λ peaks k before after s p. p .leaves;
       figure = figure;
+      exact = λ ys k s a. exact-sum a;
       slack = λ ys k s e a b. hill-slack a b;
       twice = twice;
       grows = log2-grows;

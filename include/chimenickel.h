@@ -61,7 +61,7 @@
  * A record had 10 numbers and a result 4 before groups were counted, and a record 12 while it had one channel; arrays of those lengths are refused by 8.
  *
  * A result, 5 numbers, is what a record comes to when it is ended: crossings, counted failures (the groups), the first failure's place (0 for none), exposure
- * in ms, largest set. A campaign takes of it whether there is a first failure and the exposure, and nothing else; no result has exposure 0.
+ * in ms, largest set. A campaign takes of it whether there is a first failure and the exposure, and nothing else.
  *
  * A sum, 3 numbers, adds up records by the binomial method: the step of them all in ms (0), the counted failures N (1), 0 to 10,000, and the timed samples P (2), 0 to
  * 100,000,000, N at most P.
@@ -168,8 +168,8 @@ uint64_t chim_campaign_open(uint64_t standard, uint64_t *state, size_t state_len
  * 10,000,000 ms. Refuses 8 (the state, the flag, the exposure), 5, 6. */
 uint64_t chim_campaign_enter(uint64_t *state, size_t state_len, uint64_t failed, uint64_t exposure, uint64_t *carried);
 
-/* Enters a result by its five numbers, as chim_record_end left them; only the first failure's place and the exposure are read,
- * and the result is not changed. Refuses 8 (the state, the result's length, its exposure), 5, 6. */
+/* Enters a result by its five numbers, as chim_record_end left them; only the first failure's place and the exposure are
+ * read, and the result is not changed. Refuses 8 (the state, the result's length, its exposure), 5, 6. */
 uint64_t chim_campaign_enter_result(uint64_t *state, size_t state_len, const uint64_t *result, size_t result_len,
                                     uint64_t *carried);
 

@@ -213,11 +213,11 @@ static void record(void) {
     hold(result[CHIM_COUNTED] <= result[CHIM_LARGEST_SET] && result[CHIM_LARGEST_SET] <= result[CHIM_CROSSINGS]);
     hold((result[CHIM_COUNTED] == 0) == (result[CHIM_FIRST] == 0));
     hold(chim_campaign_open(7200000, campaign, CHIM_CAMPAIGN_NUMBERS, &carried) == CHIM_TAKEN);
-    uint64_t other[CHIM_CAMPAIGN_NUMBERS];
-    memcpy(other, campaign, sizeof other);
+    uint64_t again[CHIM_CAMPAIGN_NUMBERS];
+    memcpy(again, campaign, sizeof again);
     hold(chim_campaign_enter(campaign, CHIM_CAMPAIGN_NUMBERS, result[CHIM_FIRST] != 0, result[CHIM_EXPOSURE], &carried) == CHIM_TAKEN);
-    hold(chim_campaign_enter_result(other, CHIM_CAMPAIGN_NUMBERS, result, CHIM_RESULT_NUMBERS, &carried) == CHIM_TAKEN);
-    hold(memcmp(campaign, other, sizeof other) == 0);
+    hold(chim_campaign_enter_result(again, CHIM_CAMPAIGN_NUMBERS, result, CHIM_RESULT_NUMBERS, &carried) == CHIM_TAKEN);
+    hold(memcmp(campaign, again, sizeof again) == 0);
 }
 
 /* the groups of a whole record, by their first crossings' times: a run of crossings, each less than `decorrelation` after the one just before it */

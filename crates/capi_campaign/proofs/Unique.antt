@@ -12,6 +12,6 @@ campaign-open-unique q s x y = settled
 pub campaign-enter-unique : (s : List ℕ) (f t : ℕ) (x y : Told) → x ≡ campaignEntered s f t → y ≡ campaignEntered s f t → x ≡ y
 campaign-enter-unique s f t x y = settled
 
-pub campaign-enter-result-unique : (s r : List ℕ) (x y : Told) → x ≡ campaignResultEntered s r → y ≡ campaignResultEntered s r
-    → x ≡ y
+pub campaign-enter-result-unique : (s r : List ℕ) (x y : Told) → x ≡ campaignResultEntered s r
+    → y ≡ campaignResultEntered s r → x ≡ y
 campaign-enter-result-unique s r x y = settled

@@ -1,6 +1,6 @@
-// A campaign for C: opening, and entering a result, by what a campaign takes of it or by its five numbers. Each function
-// answers 0 or document 01's refusal number and writes what goes with it to `carried`; a refusal leaves the lent array as it
-// stood.
+// A campaign for C: opening, and entering a result, by what a campaign takes of it or by its five numbers. Each
+// function answers 0 or document 01's refusal number and writes what goes with it to `carried`; a refusal leaves the
+// lent array as it stood.
 ghost use mathlib.Core.Path.{_≡_};
 ghost use Rattle.capi.specs.Told.{told};
 ghost use Rattle.capi.specs.Numbers.{noResult, resultOf};
@@ -68,8 +68,8 @@ fn result_of(s: &[u64]) -> Result
     }
 }
 
-// The campaign in `state` with the result in `result` entered, of which only the first failure and the exposure are read; or
-// refusal 8, for an array of another length or an exposure that is not from 1 to 10,000,000 too, 5, 6.
+// The campaign in `state` with the result in `result` entered, of which only the first failure and the exposure are
+// read; or refusal 8, for an array of another length or an exposure that is not from 1 to 10,000,000 too, 5, 6.
 #[no_mangle]
 pub extern "C" fn chim_campaign_enter_result(
     state: &mut [u64],

@@ -1,5 +1,5 @@
--- `capi_campaign::chim_campaign_enter_result` meets its contract: what entering answered the campaign of the one array, of the
--- other's result, is kept. Assumes nothing.
+-- `capi_campaign::chim_campaign_enter_result` meets its contract: what entering answered the campaign of the one array,
+-- of the other's result, is kept. Assumes nothing.
 use borrow.Author.Needs.{needs}
 use Rattle.capi_campaign.proofs.chim_campaign_enter_result.Statement.{statement}
 use Rattle.capi_campaign.proofs.chim_campaign_enter_result.Tie as tie

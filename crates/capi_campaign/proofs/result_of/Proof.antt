@@ -1,4 +1,5 @@
--- `capi_campaign::result_of` meets its contract: each answer is the case of `resultOf` whose test held. Assumes nothing.
+-- `capi_campaign::result_of` meets its contract: each answer is the case of `resultOf` whose test held.
+-- Assumes nothing.
 use borrow.Author.Needs.{needs}
 use borrow.Author.Tests.{eq-eqb, ne-eqb}
 use Rattle.capi.specs.Numbers.{resultNumbers, resultOf}

@@ -19,3 +19,8 @@ pub mod JobSheet
 pub mod Figures
 pub mod Relations
 pub mod Ends
+pub mod Orders
+pub mod RelationCases
+pub mod Verdicts
+pub mod Readings
+pub mod Sheets

@@ -21,8 +21,10 @@ use Rattle.campaign.specs.State as campaigning
 use Rattle.line.specs.Line.{telling}
 use Rattle.demands.proofs.Ends.{campaign, enter, feed, line, ofEnded, ofListed, opens, quiet}
 
--- opening: the lowest item
-pub opening : opens 1 1000001 0 1 10000001 ≡ (1, 2)
+-- opening: the lowest item, of each two neighbours
+pub opening :
+    opens 0 1000001 1 1 0 ∷ opens 1 1000001 0 1 0 ∷ opens 1 0 0 1 10000001 ∷ opens 1 0 1 0 10000001 ∷ []
+    ≡ (1, 1) ∷ (1, 2) ∷ (1, 3) ∷ (1, 4) ∷ []
 unfolding opened itemOutside
 opening = refl
 

@@ -24,3 +24,8 @@ pub mod RelationCases
 pub mod Verdicts
 pub mod Readings
 pub mod Sheets
+pub mod TextCases
+pub mod RecordCases
+pub mod BenchCases
+pub mod TailCases
+pub mod ReportCases

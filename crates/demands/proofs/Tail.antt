@@ -76,11 +76,11 @@ down : Downwards twoAndOnes
 down i j l h = le-trans (high j h (omega arith)) (low i (omega arith))
 
 -- the figures as a definition that computes
-unfoldable figures : List ℕ → ℕ → ℕ → ℕ
+unfoldable pub figures : List ℕ → ℕ → ℕ → ℕ
 figures ys y zero = 0
 figures ys y (suc n) = figures ys y n + ourFigure (getD ys n 0) y
 
-sum-of-figures : {ys : List ℕ} {y n s : ℕ} → NearSum ys y n s → s ≡ figures ys y n
+pub sum-of-figures : {ys : List ℕ} {y n s : ℕ} → NearSum ys y n s → s ≡ figures ys y n
 unfolding figures
 sum-of-figures start = refl
 sum-of-figures (plus a f) = let e = sum-of-figures a in let d = f .ours in cc

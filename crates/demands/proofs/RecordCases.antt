@@ -258,29 +258,42 @@ sum-opened : map (λ (D : ℕ). ofSum (summing.opened D)) (0 ∷ 1 ∷ 10000 ∷
 sum-opened = refl
 
 -- D, N and P in range, N at most P
-sum-relations :
-    map state.sound
-    (sum 1 0 0 ∷ sum 10000 10000 10000 ∷ sum 1 0 100000000
-    ∷ sum 0 0 0 ∷ sum 10001 0 0 ∷ sum 1 10001 10001 ∷ sum 1 0 100000001 ∷ sum 1 2 1 ∷ [])
-    ≡ true ∷ true ∷ true ∷ false ∷ false ∷ false ∷ false ∷ false ∷ []
+sum-step : map (λ (D : ℕ). state.sound (sum D 0 0)) (0 ∷ 1 ∷ 10000 ∷ 10001 ∷ []) ≡ false ∷ true ∷ true ∷ false ∷ []
 unfolding state.sound
-sum-relations = refl
+sum-step = refl
 
--- the groups and n - R are added; 8 for either before 4, 4 before 1 with item 1, that before 11
-sum-added :
-    ofSum (adding (sum 500 6 90) (with 5 2))
-    ∷ ofSum (adding (sum 500 2 1) (with 5 2)) ∷ ofSum (adding (sum 500 6 90) (with 4 2))
-    ∷ ofSum (adding (sum 1 6 90) (still 2 (levels 1 1) (moment (pos 0) (pos 0)) 0 0))
-    ∷ ofSum (adding (sum 1 9999 100000000) (with 5 2))
-    ∷ ofSum (adding (sum 500 9999 99999) (with 5 2)) ∷ ofSum (adding (sum 500 0 99999993) (with 5 2))
-    ∷ ofSum (adding (sum 500 9998 99999992) (with 5 2))
-    ∷ []
-    ≡ (500 ∷ 8 ∷ 98 ∷ [])
-    ∷ (8 ∷ 0 ∷ []) ∷ (8 ∷ 0 ∷ [])
-    ∷ (4 ∷ 0 ∷ [])
-    ∷ (1 ∷ 1 ∷ [])
-    ∷ (11 ∷ 0 ∷ []) ∷ (11 ∷ 0 ∷ [])
-    ∷ (500 ∷ 10000 ∷ 100000000 ∷ [])
-    ∷ []
+sum-failures : map (λ (N : ℕ). state.sound (sum 1 N 99999)) (0 ∷ 10000 ∷ 10001 ∷ []) ≡ true ∷ true ∷ false ∷ []
+unfolding state.sound
+sum-failures = refl
+
+sum-samples : map (λ (P : ℕ). state.sound (sum 1 0 P)) (0 ∷ 100000000 ∷ 100000001 ∷ []) ≡ true ∷ true ∷ false ∷ []
+unfolding state.sound
+sum-samples = refl
+
+sum-within : map (λ (N : ℕ). state.sound (sum 1 N 7)) (6 ∷ 7 ∷ 8 ∷ []) ≡ true ∷ true ∷ false ∷ []
+unfolding state.sound
+sum-within = refl
+
+-- the groups and n - R are added
+sum-added : ofSum (adding (sum 500 6 90) (with 5 2)) ≡ 500 ∷ 8 ∷ 98 ∷ []
 unfolding adding state.sound sound itemOutside
 sum-added = refl
+
+-- 11 if N would pass 10,000 or P 100,000,000
+sum-full :
+    ofSum (adding (sum 500 9999 99999) (with 5 2)) ∷ ofSum (adding (sum 500 0 99999993) (with 5 2))
+    ∷ ofSum (adding (sum 500 9998 99999992) (with 5 2))
+    ∷ []
+    ≡ (11 ∷ 0 ∷ []) ∷ (11 ∷ 0 ∷ []) ∷ (500 ∷ 10000 ∷ 100000000 ∷ []) ∷ []
+unfolding adding state.sound sound itemOutside
+sum-full = refl
+
+-- 8 for either before 4, 4 before 1 with item 1, that before 11
+sum-refused :
+    ofSum (adding (sum 500 2 1) (with 5 2)) ∷ ofSum (adding (sum 500 6 90) (with 4 2))
+    ∷ ofSum (adding (sum 1 6 90) (still 2 (levels 1 1) (moment (pos 0) (pos 0)) 0 0))
+    ∷ ofSum (adding (sum 1 9999 100000000) (with 5 2))
+    ∷ []
+    ≡ (8 ∷ 0 ∷ []) ∷ (8 ∷ 0 ∷ []) ∷ (4 ∷ 0 ∷ []) ∷ (1 ∷ 1 ∷ []) ∷ []
+unfolding adding state.sound sound itemOutside
+sum-refused = refl

@@ -2,6 +2,7 @@
 -- and its largest, the refusals of both, figures of ratios, and the sum over the first k of a list that is sorted.
 -- `stretch` has one more example, worked by hand. Each declaration has the name of its sentence. Assumes nothing.
 use mathlib.Core.Path.{_≡_, refl}
+use mathlib.Core.Bool.{false, true}
 use mathlib.Core.List.{List, [], _∷_, _++_, map}
 use Prim.Native.Nat.{ℕ, zero, suc, _<_, _≤_}
 use native.Mathlib.Omega.{arith}
@@ -24,7 +25,7 @@ use Rattle.sorting.specs.Sorting.{Downwards, SameValues, count}
 use Rattle.sorting.proofs.Unique.{sort-unique}
 use Rattle.tail.specs.declared.Fitted.{Fitted}
 use Rattle.tail.specs.declared.Fitted.the-variants.{Refused, Sum}
-use Rattle.tail.specs.Fitting.{FitsTo, firstBad, fitted}
+use Rattle.tail.specs.Fitting.{FitsTo, firstBad, fitted, peakInRange, tailOutside}
 use Rattle.demands.proofs.Tail.{figures, sum-of-figures}
 
 -- ---- [11] envelope peaks
@@ -101,6 +102,16 @@ tail-refused :
     ≡ (16 ∷ 0 ∷ []) ∷ (16 ∷ 0 ∷ []) ∷ (17 ∷ 2 ∷ []) ∷ (17 ∷ 1 ∷ []) ∷ (7 ∷ 3 ∷ []) ∷ (9 ∷ []) ∷ []
 unfolding fitted firstBad
 tail-refused = refl
+
+-- a list of up to 4,096, k from 2 to its length, a peak from 1 to 1,000,000
+tail-list : map (λ (n : ℕ). tailOutside n 2) (4096 ∷ 4097 ∷ []) ≡ false ∷ true ∷ []
+tail-list = refl
+
+tail-k : map (tailOutside 7) (1 ∷ 2 ∷ 7 ∷ 8 ∷ []) ≡ true ∷ false ∷ false ∷ true ∷ []
+tail-k = refl
+
+tail-peak : map peakInRange (0 ∷ 1 ∷ 1000000 ∷ 1000001 ∷ []) ≡ false ∷ true ∷ true ∷ false ∷ []
+tail-peak = refl
 
 abbrev unsorted : List ℕ
 unsorted = 1 ∷ 4 ∷ 2 ∷ []

@@ -48,6 +48,11 @@ no-chain : map at (handed 500 0 999 swaying) ≡ (5, 1000) ∷ (7, 2000) ∷ (6,
 unfolding peaks points started attach groups those larger largest tops sum
 no-chain = refl
 
+-- high is above the mean: of the peaks 1 2 1 4, four with the sum 8, the 2 is not, though both beside it are lower
+at-the-mean : map at (handed 500 0 0 (pos 9 ∷ negsuc 0 ∷ pos 2 ∷ negsuc 0 ∷ pos 4 ∷ negsuc 8 ∷ [])) ≡ []
+unfolding peaks points started attach groups those larger largest tops sum
+at-the-mean = refl
+
 -- zeros at the start are no run, so the first run that is dropped is 2; a zero later does not part a run; times count
 -- from the ramp's end on
 zeros-in-runs :

@@ -100,7 +100,7 @@ use Rattle.tail.specs.declared.Fitted.{Fitted}
 use Rattle.tail.specs.declared.Fitted.the-variants as fitted
 use Rattle.tail.specs.Fitting.{Leaves, Summed}
 use Rattle.demands.proofs.Demand1.{Decides, Test, demand-1, itemTests, listTests, resultTests}
-use Rattle.demands.proofs.Demand1.{_gives_}
+use Rattle.demands.proofs.Demand1.{_gives_, end, here, not-it}
 use Rattle.demands.proofs.Request1 as request1
 use Rattle.demands.proofs.Request2 as request2
 use Rattle.demands.proofs.Request5.{request-5}
@@ -826,11 +826,13 @@ sheets-told =
       records-room =
           λ text slice c e l.
           records-refused text slice 0 0 (Room (c .records))
-          (request2.request-2 .clean-sheet text (length slice) c e ∙ rw (lt-ltb (length slice) (c .records) l));
+          (request2.request-2 .clean-sheet text (length slice) c e .refuses (Room (c .records))
+          (here (lt-ltb (length slice) (c .records) l)));
       records-read =
           λ text slice c e l.
           records-read text slice (c .standard) (c .records)
-          (request2.request-2 .clean-sheet text (length slice) c e ∙ rw (le-ltb (length slice) (c .records) l));
+          (request2.request-2 .clean-sheet text (length slice) c e .answers
+          (not-it (le-ltb (length slice) (c .records) l) end));
     }
 
 -- ---- comma files

@@ -33,6 +33,7 @@ use Rattle.bench.specs.declared.Work.{Work}
 use Rattle.bench.specs.declared.Work.the-variants.{Enter, GiveBack, Judge, Rate}
 use Rattle.bench.specs.Table.{at, free, isBureau, jobs, kept, lowestFree, owned}
 use Rattle.bench.specs.Calls.{Done, asked, called, entry, ratesAnswer, refused, stored, verdictAnswer, worked}
+use Rattle.bench.specs.Taken.{Room}
 
 -- a verdict or rates
 pub data Reading : Answer → Type 0 where
@@ -45,12 +46,6 @@ pub record Own (t : List Place) (b i : ℕ) : Type 0 where
   pub bureau : isBureau b ≡ true
   pub inside : i < length t
   pub owner : at t i .owner ≡ b
-
-pub record Room (t : List Place) (b q : ℕ) : Type 0 where
-  pub kept : kept t ≡ true
-  pub bureau : isBureau b ≡ true
-  pub under : jobs b t < 16
-  pub standard : standardInRange q ≡ true
 
 pub data Made (t : List Place) (b : ℕ) : Ask → Done → Type 0 where
   refuses : (a : Ask) (r : Refusal) → Made t b a (refused t r)

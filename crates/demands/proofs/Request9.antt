@@ -34,11 +34,12 @@ use Rattle.bench.specs.declared.Work.{Work}
 use Rattle.bench.specs.declared.Work.the-variants.{Enter, GiveBack, Judge, Rate}
 use Rattle.bench.specs.Table.{at, bare, free, isBureau, jobs, kept, lowestFree, mostJobs, owned}
 use Rattle.bench.specs.Calls.{called, entry, worked}
+use Rattle.bench.specs.Taken.{TakenAt}
 use Rattle.bench.specs.History.{Move, after, alone, answersFrom, deskAnswers, entriesAt, freedAt, ownJobs, script}
 use Rattle.bench.proofs.Places.{all-at}
 use Rattle.bench.proofs.Relations.{kept-from, owned-sound}
 use Rattle.bench.proofs.Keeping.{bare-kept, calls-keep, others-kept, rates-leave, refusal-leaves, verdict-leaves}
-use Rattle.bench.proofs.Taking.{TakenAt, always-placed, freed-at, taken-at}
+use Rattle.bench.proofs.Taking.{always-placed, freed-at, taken-at}
 use Rattle.bench.proofs.Alone.{as-alone, its-own-desk, same-answers}
 use Rattle.bench.proofs.Life.{Reads, from-taking-to-return}
 use Rattle.demands.proofs.Demand1.{Decides, Test, decide, decided, _gives_}

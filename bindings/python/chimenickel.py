@@ -150,6 +150,7 @@ _TAKEN = {
     "place": "is a whole number",
     "n": "is a whole number",
     "state": "is stored in whole numbers",
+    "result": "is five whole numbers",
     "roll": "is in whole thousandths of a degree, in one dimension",
     "acceleration": "is in whole mm/s2, in one dimension",
     "samples": "are whole thousandths, in one dimension",
@@ -492,7 +493,7 @@ class Campaign(_State):
     def enter_result(self, result):
         """Enters a record's Result, of which a campaign takes the first failure and the exposure."""
         numbers = (result.crossings, result.counted, result.first or 0, result.exposure, result.largest_set)
-        lent = (_u64 * len(numbers))(*map(_number, numbers))
+        lent = (_u64 * len(numbers))(*(_number("result", x) for x in numbers))
         _ask(_lib.chim_campaign_enter_result, self._state, self.LENGTH, lent, len(lent))
 
     @property

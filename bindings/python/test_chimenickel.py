@@ -287,6 +287,8 @@ class Records(unittest.TestCase):
         self.refused(8, 0, whole.enter_result, ended._replace(exposure=0))
         self.refused(8, 0, whole.enter_result, ended._replace(exposure=10_000_001))
         self.refused(6, 0, Campaign.from_numbers([7_200_000, 64, 64, 64_000, 1]).enter_result, ended)
+        with self.assertRaisesRegex(TypeError, "^result is five whole numbers: 0.5 given$"):
+            whole.enter_result(ended._replace(exposure=0.5))
         self.assertEqual(whole.numbers, before)
 
     def test_what_a_customer_may_rely_on(self):

@@ -1,4 +1,4 @@
-# The job of `tally` in awk, for comparison; `rows` names the table, as crates/rows/stdout has it.
+# The job of `tally` in awk, for comparison; `rows` names the table, as crates/run_rows/stdout has it.
 function refused(why) { printf "refused\t%d\t%d\n", NR, why; exit }
 function number(s) { return s ~ /^(0|[1-9][0-9]*)$/ && length(s) <= 12 }
 BEGIN { FS = "\t"; while ((getline row < rows) > 0) { split(row, part, "\t"); table[part[1], part[2]] = part[3] } table["lower", 0] = 0 }

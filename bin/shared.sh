@@ -182,7 +182,7 @@ build() {
     local log=$root/target/log/$1.build
     lock_builds
     if ! is_built "$1"; then
-        echo "$1: proving and building what it stands on, which takes about $2 ($log)" >&2
+        echo "$speaker: proving and building what it stands on, which takes about $2 ($log)" >&2
         [ -x "$root/target/bin/$1" ] || rm -f "$root/target/stamp/$1" # or it would pass for built
         if ! (cd -- "$root" && rt check "$1" </dev/null >"$log" 2>&1); then
             cat "$log" >&2

@@ -7,18 +7,18 @@ use borrow.Author.Tests.{eq-eqb, le-leb, leb-true}
 use lib.Dec.{leb}
 use lib.ListN.{length}
 use Rattle.truth.proofs.Laws.{and-true}
-use Rattle.range.specs.Range.{sampleInRange}
-use Rattle.record.proofs.Relations.{kept-from}
-use Rattle.limits.specs.Limits.{itemOutside}
-use Rattle.record.specs.State as state
-use Rattle.record.specs.declared.Answer.{Answer as Reading}
-use Rattle.record.specs.declared.Answer.the-variants as read
-use Rattle.record.specs.declared.Record.{Record}
-use Rattle.result.specs.declared.Result.{Result}
-use Rattle.campaign.specs.State.{sound}
-use Rattle.campaign.specs.declared.Answer.{Answer}
-use Rattle.campaign.specs.declared.Answer.the-variants.{Taken}
-use Rattle.campaign.specs.declared.Campaign.{Campaign}
+use Rattle.sample_range.specs.Range.{sampleInRange}
+use Rattle.record_state.proofs.Relations.{kept-from}
+use Rattle.sample_items.specs.Limits.{itemOutside}
+use Rattle.record_state.specs.State as state
+use Rattle.record_state.specs.declared.Answer.{Answer as Reading}
+use Rattle.record_state.specs.declared.Answer.the-variants as read
+use Rattle.record_state.specs.declared.Record.{Record}
+use Rattle.record_end.specs.declared.Result.{Result}
+use Rattle.campaign_state.specs.State.{sound}
+use Rattle.campaign_state.specs.declared.Answer.{Answer}
+use Rattle.campaign_state.specs.declared.Answer.the-variants.{Taken}
+use Rattle.campaign_state.specs.declared.Campaign.{Campaign}
 use Rattle.capi.specs.Numbers.{campaignAt, campaignNumbers, campaignOf, codeOf, flag, highestCode, isCampaign, isRecord, noCampaign, ofCampaign, ofRecord, ofResult, recordNumbers, recordOf, resultOf}
 use Rattle.capi.specs.Told.{campaignKept, campaignTold, recordKept, recordTold}
 use Rattle.capi.proofs.Codes.{code-high, read-back}

@@ -7,11 +7,11 @@ use mathlib.Core.List.{List}
 use Rattle.truth.proofs.Unique.{settled}
 use Rattle.refusal.specs.Numbers.{numberOf, valueOf}
 use Rattle.refusal.specs.declared.Refusal.{Refusal}
-use Rattle.record.specs.declared.Answer.{Answer as Reading}
-use Rattle.record.specs.declared.Record.{Record}
-use Rattle.result.specs.declared.Ended.{Ended}
-use Rattle.campaign.specs.declared.Answer.{Answer}
-use Rattle.campaign.specs.declared.Campaign.{Campaign}
+use Rattle.record_state.specs.declared.Answer.{Answer as Reading}
+use Rattle.record_state.specs.declared.Record.{Record}
+use Rattle.record_end.specs.declared.Ended.{Ended}
+use Rattle.campaign_state.specs.declared.Answer.{Answer}
+use Rattle.campaign_state.specs.declared.Campaign.{Campaign}
 use Rattle.capi.specs.Numbers.{campaignOf, flag, recordOf}
 use Rattle.capi.specs.Told.{Told, campaignKept, channelIn, placed, recordKept, resultKept, told}
 

@@ -6,10 +6,10 @@ use mathlib.Core.List.{List, [], _∷_}
 use lib.Dec.{eqb, leb}
 use lib.IntN.{ℤ, pos, negsuc}
 use lib.ListN.{length, getD}
-use Rattle.campaign.specs.declared.Campaign.{Campaign}
-use Rattle.channels.specs.Channels.{moment, still}
-use Rattle.record.specs.declared.Record.{Record}
-use Rattle.result.specs.declared.Result.{Result}
+use Rattle.campaign_state.specs.declared.Campaign.{Campaign}
+use Rattle.sample_channels.specs.Channels.{moment, still}
+use Rattle.record_state.specs.declared.Record.{Record}
+use Rattle.record_end.specs.declared.Result.{Result}
 
 abbrev pub numberAt : List ℕ → ℕ → ℕ
 numberAt s i = getD s i 0

@@ -8,12 +8,12 @@ use lib.ListN.{length}
 use Rattle.refusal.specs.Numbers.{numberOf, valueOf, channelOf}
 use Rattle.refusal.specs.declared.Refusal.{Refusal}
 use Rattle.refusal.specs.declared.Refusal.the-variants.{BrokenState}
-use Rattle.record.specs.declared.Answer.{Answer as Reading}
-use Rattle.record.specs.declared.Answer.the-variants as read
-use Rattle.result.specs.declared.Ended.{Ended}
-use Rattle.result.specs.declared.Ended.the-variants as ended
-use Rattle.campaign.specs.declared.Answer.{Answer}
-use Rattle.campaign.specs.declared.Answer.the-variants.{Taken, Refused}
+use Rattle.record_state.specs.declared.Answer.{Answer as Reading}
+use Rattle.record_state.specs.declared.Answer.the-variants as read
+use Rattle.record_end.specs.declared.Ended.{Ended}
+use Rattle.record_end.specs.declared.Ended.the-variants as ended
+use Rattle.campaign_state.specs.declared.Answer.{Answer}
+use Rattle.campaign_state.specs.declared.Answer.the-variants.{Taken, Refused}
 use Rattle.capi.specs.Numbers.{recordNumbers, ofRecord, resultNumbers, ofResult, campaignNumbers, ofCampaign}
 
 -- the number, what it carries, and a lent array afterwards

@@ -6,13 +6,13 @@ ghost use Prim.Native.Nat.{_≤_};
 ghost use Rattle.refusal.specs.Numbers.{numberOf, valueOf};
 ghost use Rattle.capi.specs.Numbers.{codeOf, sampleOf, highestCode, noRecord, recordOf, ofRecord, ofResult, noCampaign, campaignOf, ofCampaign, flag};
 ghost use Rattle.capi.specs.Told.{told, placed, channelIn, recordKept, resultKept, campaignKept};
-use campaign::Campaign;
-use channels::Levels;
-use channels::Moment;
-use record::Record;
+use campaign_state::Campaign;
+use record_end::Ended;
+use record_end::Result;
+use record_state::Record;
 use refusal::Refusal;
-use result::Ended;
-use result::Result;
+use sample_channels::Levels;
+use sample_channels::Moment;
 
 // How many numbers a state has.
 pub const RECORD_NUMBERS: usize = 14;
@@ -30,7 +30,7 @@ const HIGHEST_CODE: u64 = 2_000_000;
 fn code_of(x: i32) -> u64
     ensures { λ k. ⌜ k ≡ codeOf x ⌝ }
 {
-    let m = magnitude::magnitude(x) as u64;
+    let m = sample_size::magnitude(x) as u64;
     if x < 0 { m + m - 1 } else { m + m }
 }
 
@@ -216,29 +216,29 @@ pub fn refuse(f: Refusal, carried: &mut u64) -> u64
 }
 
 // The record of an answer in `state`; or refusal 8 for an array of another length, else the answer's.
-pub fn keep_record(a: record::Answer, state: &mut [u64], carried: &mut u64) -> u64
+pub fn keep_record(a: record_state::Answer, state: &mut [u64], carried: &mut u64) -> u64
     ensures { λ n. ⌜ told n (now (carried .exit)) (now (state .exit)) ≡ recordKept a (now (state .entry)) ⌝ }
 {
     if state.len() != RECORD_NUMBERS {
         return refuse(Refusal::BrokenState, carried);
     }
     match a {
-        record::Answer::Taken(s) => {
+        record_state::Answer::Taken(s) => {
             let numbers = of_record(s);
             put(&numbers, state);
             give(0, carried)
         }
-        record::Answer::Refused(f) => refuse(f, carried),
+        record_state::Answer::Refused(f) => refuse(f, carried),
     }
 }
 
 // The channel that an answer names.
-pub fn channel_in(a: record::Answer) -> u64
+pub fn channel_in(a: record_state::Answer) -> u64
     ensures { λ k. ⌜ k ≡ channelIn a ⌝ }
 {
     match a {
-        record::Answer::Taken(_) => 0,
-        record::Answer::Refused(f) => refusal::channel(f),
+        record_state::Answer::Taken(_) => 0,
+        record_state::Answer::Refused(f) => refusal::channel(f),
     }
 }
 
@@ -260,18 +260,18 @@ pub fn keep_result(a: Ended, result: &mut [u64], carried: &mut u64) -> u64
 }
 
 // The campaign of an answer in `state`; or refusal 8 for an array of another length, else the answer's.
-pub fn keep_campaign(a: campaign::Answer, state: &mut [u64], carried: &mut u64) -> u64
+pub fn keep_campaign(a: campaign_state::Answer, state: &mut [u64], carried: &mut u64) -> u64
     ensures { λ n. ⌜ told n (now (carried .exit)) (now (state .exit)) ≡ campaignKept a (now (state .entry)) ⌝ }
 {
     if state.len() != CAMPAIGN_NUMBERS {
         return refuse(Refusal::BrokenState, carried);
     }
     match a {
-        campaign::Answer::Taken(s) => {
+        campaign_state::Answer::Taken(s) => {
             let numbers = of_campaign(s);
             put(&numbers, state);
             give(0, carried)
         }
-        campaign::Answer::Refused(f) => refuse(f, carried),
+        campaign_state::Answer::Refused(f) => refuse(f, carried),
     }
 }

@@ -4,9 +4,9 @@ use mathlib.Core.Bool.{cond}
 use mathlib.Core.List.{List}
 use lib.Dec.{eqb, leb}
 use Rattle.refusal.specs.declared.Refusal.the-variants.{BrokenState}
-use Rattle.result.specs.declared.Outcome.{Outcome}
-use Rattle.campaign.specs.Answers.{entering, opened}
-use Rattle.result.specs.Result.{outcomeOf}
+use Rattle.record_end.specs.declared.Outcome.{Outcome}
+use Rattle.campaign_state.specs.Answers.{entering, opened}
+use Rattle.record_end.specs.Result.{outcomeOf}
 use Rattle.capi.specs.Numbers.{campaignOf, resultOf}
 use Rattle.capi.specs.Told.{Told, campaignKept, refused}
 

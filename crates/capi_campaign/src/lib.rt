@@ -5,16 +5,16 @@ ghost use mathlib.Core.Path.{_≡_};
 ghost use Rattle.capi.specs.Told.{told};
 ghost use Rattle.capi.specs.Numbers.{noResult, resultOf};
 ghost use Rattle.capi_campaign.specs.Told.{campaignEntered, campaignOpened, campaignResultEntered};
+use record_end::Outcome;
+use record_end::Result;
 use refusal::Refusal;
-use result::Outcome;
-use result::Result;
 
 // A campaign without a record in `state`; or refusal 8 for an array of another length, 1 with item 5.
 #[no_mangle]
 pub extern "C" fn chim_campaign_open(standard: u64, state: &mut [u64], carried: &mut u64) -> u64
     ensures { λ n. ⌜ told n (now (carried .exit)) (now (state .exit)) ≡ campaignOpened standard (now (state .entry)) ⌝ }
 {
-    capi::keep_campaign(campaign::open(standard), state, carried)
+    capi::keep_campaign(campaign_state::open(standard), state, carried)
 }
 
 // The campaign in `state` with a result entered: whether there is a first failure (1) or not (0), and the exposure; or refusal 8, for another flag or an

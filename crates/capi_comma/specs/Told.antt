@@ -1,17 +1,17 @@
--- What each C function of a comma file leaves, from the answers that `intake` and `scribe` give. The number of samples or bytes is carried. Assumes nothing.
+-- What each C function of a comma file leaves, from the answers that `comma_read` and `comma_write` give. The number of samples or bytes is carried. Assumes nothing.
 use Prim.Native.Nat.{ℕ}
 use mathlib.Core.List.{List, []}
 use lib.IntN.{ℤ}
 use lib.ListN.{length}
 use Rattle.capi.specs.Told.{Told, refused, told}
 use Rattle.decimal.specs.Lines.{linesOf}
-use Rattle.comma.specs.Text.{samplesOf, textOf}
-use Rattle.intake.specs.declared.Reading.{Reading}
-use Rattle.intake.specs.declared.Reading.the-variants.{Samples, Refused}
-use Rattle.intake.specs.Answers.{reading, filledBy}
-use Rattle.scribe.specs.declared.Writing.{Writing}
-use Rattle.scribe.specs.declared.Writing.the-variants.{Bytes, Refused as Declined}
-use Rattle.scribe.specs.Answers.{writing, laidBy}
+use Rattle.comma_line.specs.Text.{samplesOf, textOf}
+use Rattle.comma_read.specs.declared.Reading.{Reading}
+use Rattle.comma_read.specs.declared.Reading.the-variants.{Samples, Refused}
+use Rattle.comma_read.specs.Answers.{reading, filledBy}
+use Rattle.comma_write.specs.declared.Writing.{Writing}
+use Rattle.comma_write.specs.declared.Writing.the-variants.{Bytes, Refused as Declined}
+use Rattle.comma_write.specs.Answers.{writing, laidBy}
 
 -- the number and what it carries
 unfoldable pub readTold : Reading → Told

@@ -16,9 +16,9 @@ pub extern "C" fn chim_comma_read(
     ensures { λ n. ⌜ told n (now (carried .exit)) [] ≡ commaRead step (now (text .entry)) (now (samples .entry)) ⌝ }
     ensures { λ _. ⌜ now (samples .exit) ≡ commaSamples step (now (text .entry)) (now (samples .entry)) ⌝ }
 {
-    match intake::read(text, step, samples) {
-        intake::Reading::Samples(n) => capi::give(n, carried),
-        intake::Reading::Refused(f) => capi::refuse(f, carried),
+    match comma_read::read(text, step, samples) {
+        comma_read::Reading::Samples(n) => capi::give(n, carried),
+        comma_read::Reading::Refused(f) => capi::refuse(f, carried),
     }
 }
 
@@ -33,8 +33,8 @@ pub extern "C" fn chim_comma_write(
 ) -> u64
     ensures { λ n. ⌜ told n (now (carried .exit)) (now (out .exit)) ≡ commaWritten step (now (samples .entry)) (now (out .entry)) ⌝ }
 {
-    match scribe::write(samples, step, out) {
-        scribe::Writing::Bytes(n) => capi::give(n, carried),
-        scribe::Writing::Refused(f) => capi::refuse(f, carried),
+    match comma_write::write(samples, step, out) {
+        comma_write::Writing::Bytes(n) => capi::give(n, carried),
+        comma_write::Writing::Refused(f) => capi::refuse(f, carried),
     }
 }

@@ -10,11 +10,11 @@ use lib.Seq.{take-suc, take-suc-set}
 use borrow.Author.Tests.{lt-leb}
 use Rattle.truth.proofs.Cases.{by-test}
 use Rattle.refusal.specs.declared.Refusal.the-variants.{Situations}
-use Rattle.campaign.specs.declared.Campaign.{Campaign}
-use Rattle.condition.specs.Answers.{judging}
-use Rattle.condition.specs.declared.Answer.the-variants.{Refused}
-use Rattle.report.specs.Answers.{writing}
-use Rattle.report.specs.declared.Writing.the-variants.{Refused as Declined}
+use Rattle.campaign_state.specs.declared.Campaign.{Campaign}
+use Rattle.campaign_condition.specs.Answers.{judging}
+use Rattle.campaign_condition.specs.declared.Answer.the-variants.{Refused}
+use Rattle.campaign_report.specs.Answers.{writing}
+use Rattle.campaign_report.specs.declared.Writing.the-variants.{Refused as Declined}
 use Rattle.capi.specs.Numbers.{campaignOf}
 use Rattle.capi_condition.specs.Told.{campaignsOf}
 

@@ -1,17 +1,17 @@
--- What each C function leaves, from the answers that `condition` and `report` give of the campaigns in the rows. Assumes nothing.
+-- What each C function leaves, from the answers that `campaign_condition` and `campaign_report` give of the campaigns in the rows. Assumes nothing.
 use Prim.Native.Nat.{ℕ}
 use mathlib.Core.List.{List, [], map}
 use lib.ListN.{length}
-use Rattle.campaign.specs.declared.Campaign.{Campaign}
-use Rattle.condition.specs.Answers.{judging}
-use Rattle.condition.specs.declared.Answer.{Answer}
-use Rattle.condition.specs.declared.Answer.the-variants.{Given, Refused}
-use Rattle.condition.specs.declared.Standing.{Standing}
-use Rattle.condition.specs.declared.Standing.the-variants.{Accepted, Open, Rejected}
-use Rattle.report.specs.Answers.{laidBy, writing}
-use Rattle.report.specs.Report.{reportText}
-use Rattle.report.specs.declared.Writing.{Writing}
-use Rattle.report.specs.declared.Writing.the-variants.{Bytes, Refused as Declined}
+use Rattle.campaign_state.specs.declared.Campaign.{Campaign}
+use Rattle.campaign_condition.specs.Answers.{judging}
+use Rattle.campaign_condition.specs.declared.Answer.{Answer}
+use Rattle.campaign_condition.specs.declared.Answer.the-variants.{Given, Refused}
+use Rattle.campaign_condition.specs.declared.Standing.{Standing}
+use Rattle.campaign_condition.specs.declared.Standing.the-variants.{Accepted, Open, Rejected}
+use Rattle.campaign_report.specs.Answers.{laidBy, writing}
+use Rattle.campaign_report.specs.Report.{reportText}
+use Rattle.campaign_report.specs.declared.Writing.{Writing}
+use Rattle.campaign_report.specs.declared.Writing.the-variants.{Bytes, Refused as Declined}
 use Rattle.capi.specs.Numbers.{campaignOf}
 use Rattle.capi.specs.Told.{Told, refused, told}
 

@@ -8,11 +8,11 @@ ghost use lib.ListN.{length, take};
 ghost use Rattle.capi.specs.Numbers.{campaignOf};
 ghost use Rattle.capi.specs.Told.{told};
 ghost use Rattle.capi_condition.specs.Told.{campaignsOf, conditionJudged, conditionReported, standingCode};
-use campaign::Campaign;
-use condition::Answer;
-use condition::Standing;
+use campaign_condition::Answer;
+use campaign_condition::Standing;
+use campaign_report::Writing;
+use campaign_state::Campaign;
 use refusal::Refusal;
-use report::Writing;
 
 fn standing_code(s: Standing) -> u64
     ensures { λ n. ⌜ n ≡ standingCode s ⌝ }
@@ -58,10 +58,10 @@ fn campaigns_of(rows: &[[u64; 5]]) -> [Campaign; 64]
 pub extern "C" fn chim_condition_judge(campaigns: &[[u64; 5]], carried: &mut u64) -> u64
     ensures { λ n. ⌜ told n (now (carried .exit)) [] ≡ conditionJudged (now (campaigns .entry)) ⌝ }
 {
-    if campaigns.len() > condition::MOST_SITUATIONS {
+    if campaigns.len() > campaign_condition::MOST_SITUATIONS {
         return capi::refuse(Refusal::Situations, carried);
     }
-    match condition::judge(campaigns_of(campaigns), campaigns.len()) {
+    match campaign_condition::judge(campaigns_of(campaigns), campaigns.len()) {
         Answer::Given(s) => capi::give(standing_code(s), carried),
         Answer::Refused(f) => capi::refuse(f, carried),
     }
@@ -76,10 +76,10 @@ pub extern "C" fn chim_condition_report(
 ) -> u64
     ensures { λ n. ⌜ told n (now (carried .exit)) (now (out .exit)) ≡ conditionReported (now (campaigns .entry)) (now (out .entry)) ⌝ }
 {
-    if campaigns.len() > condition::MOST_SITUATIONS {
+    if campaigns.len() > campaign_condition::MOST_SITUATIONS {
         return capi::refuse(Refusal::Situations, carried);
     }
-    match report::write(campaigns_of(campaigns), campaigns.len(), out) {
+    match campaign_report::write(campaigns_of(campaigns), campaigns.len(), out) {
         Writing::Bytes(n) => capi::give(n, carried),
         Writing::Refused(f) => capi::refuse(f, carried),
     }

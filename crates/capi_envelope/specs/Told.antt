@@ -1,12 +1,12 @@
--- What the C function of envelope peaks leaves: the answer of `envelope::find`, told by a number and what it carries, and both lent arrays. Assumes nothing.
+-- What the C function of envelope peaks leaves: the answer of `peak_envelope::find`, told by a number and what it carries, and both lent arrays. Assumes nothing.
 use Prim.Native.Nat.{ℕ}
 use mathlib.Core.List.{List, map}
 use lib.ListN.{length}
 use lib.IntN.{ℤ}
-use Rattle.stretch.specs.Peaks.{handed}
-use Rattle.envelope.specs.declared.Found.{Found}
-use Rattle.envelope.specs.declared.Found.the-variants.{Peaks, Refused}
-use Rattle.envelope.specs.Answers.{sizeOf, momentOf, found, written}
+use Rattle.peak_groups.specs.Peaks.{handed}
+use Rattle.peak_envelope.specs.declared.Found.{Found}
+use Rattle.peak_envelope.specs.declared.Found.the-variants.{Peaks, Refused}
+use Rattle.peak_envelope.specs.Answers.{sizeOf, momentOf, found, written}
 use Rattle.capi.specs.Told.{Told, refused, told}
 
 -- the number of peaks is carried, and the lent array is that of the magnitudes

@@ -17,9 +17,9 @@ pub extern "C" fn chim_envelope_find(
 ) -> u64
     ensures { λ n. ⌜ (told n (now (carried .exit)) (now (sizes .exit)) ≡ envelopeFound step ramp decorrelation (now (samples .entry)) (now (sizes .entry)) (now (times .entry))) × (now (times .exit) ≡ envelopeTimes step ramp decorrelation (now (samples .entry)) (now (sizes .entry)) (now (times .entry))) ⌝ }
 {
-    let a = envelope::find(step, ramp, decorrelation, samples, sizes, times);
+    let a = peak_envelope::find(step, ramp, decorrelation, samples, sizes, times);
     match a {
-        envelope::Found::Peaks(k) => capi::give(k, carried),
-        envelope::Found::Refused(f) => capi::refuse(f, carried),
+        peak_envelope::Found::Peaks(k) => capi::give(k, carried),
+        peak_envelope::Found::Refused(f) => capi::refuse(f, carried),
     }
 }

@@ -8,16 +8,16 @@ use lib.Dec.{eqb}
 use lib.IntN.{ℤ}
 use lib.ListN.{length}
 use Rattle.truth.proofs.Laws.{and-true, true≢false}
-use Rattle.feeding.proofs.Fed.{fed-broken, taken}
-use Rattle.record.proofs.Opening.{opened-sound}
-use Rattle.feeding.proofs.Theorems.{fed-sound}
-use Rattle.record.specs.Answers.{opened}
-use Rattle.feeding.specs.Answers.{fed}
-use Rattle.record.specs.State.{sound}
-use Rattle.record.specs.declared.Answer.the-variants.{Refused, Taken}
-use Rattle.record.specs.declared.Record.{Record}
+use Rattle.record_feed.proofs.Fed.{fed-broken, taken}
+use Rattle.record_state.proofs.Opening.{opened-sound}
+use Rattle.record_feed.proofs.Theorems.{fed-sound}
+use Rattle.record_state.specs.Answers.{opened}
+use Rattle.record_feed.specs.Answers.{fed}
+use Rattle.record_state.specs.State.{sound}
+use Rattle.record_state.specs.declared.Answer.the-variants.{Refused, Taken}
+use Rattle.record_state.specs.declared.Record.{Record}
 use Rattle.refusal.specs.declared.Refusal.the-variants.{BrokenState}
-use Rattle.channels.specs.declared.Levels.{Levels}
+use Rattle.sample_channels.specs.declared.Levels.{Levels}
 use Rattle.capi.proofs.States.{other-record, record-left}
 use Rattle.capi.specs.Numbers.{isRecord, recordNumbers, recordOf}
 use Rattle.capi.specs.Told.{recordKept, recordTold, refused}

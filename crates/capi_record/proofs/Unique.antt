@@ -5,8 +5,8 @@ use mathlib.Core.List.{List}
 use lib.IntN.{ℤ}
 use lib.ListN.{length}
 use Rattle.truth.proofs.Unique.{settled}
-use Rattle.channels.specs.Channels.{moments}
-use Rattle.reading.specs.Reading.{firstCrossing}
+use Rattle.sample_channels.specs.Channels.{moments}
+use Rattle.crossing_places.specs.Reading.{firstCrossing}
 use Rattle.capi.specs.Told.{Told}
 use Rattle.capi_record.specs.Told.{channelFed, channelListed, levelsOf, recordEnded, recordFed, recordListed, recordOpened}
 

@@ -4,15 +4,15 @@ use mathlib.Core.List.{List}
 use lib.IntN.{ℤ}
 use lib.ListN.{length}
 use Rattle.refusal.specs.Numbers.{channelOf}
-use Rattle.channels.specs.declared.Levels.{Levels}
-use Rattle.channels.specs.Channels.{moments}
-use Rattle.listing.specs.Answers.{listed, written}
-use Rattle.record.specs.Answers.{opened}
-use Rattle.feeding.specs.Answers.{fed}
-use Rattle.reading.specs.Reading.{countedTimes}
-use Rattle.listing.specs.declared.Listed.{Listed}
-use Rattle.listing.specs.declared.Listed.the-variants.{Refused, Times}
-use Rattle.result.specs.Result.{ending}
+use Rattle.sample_channels.specs.declared.Levels.{Levels}
+use Rattle.sample_channels.specs.Channels.{moments}
+use Rattle.record_list.specs.Answers.{listed, written}
+use Rattle.record_state.specs.Answers.{opened}
+use Rattle.record_feed.specs.Answers.{fed}
+use Rattle.crossing_places.specs.Reading.{countedTimes}
+use Rattle.record_list.specs.declared.Listed.{Listed}
+use Rattle.record_list.specs.declared.Listed.the-variants.{Refused, Times}
+use Rattle.record_end.specs.Result.{ending}
 use Rattle.capi.specs.Numbers.{recordOf}
 use Rattle.capi.specs.Told.{Told, channelIn, recordKept, refused, resultKept, told}
 

@@ -2,11 +2,11 @@
 // writes what goes with it to `carried`, and the channel that refusal 2 names to `channel`; a refusal leaves every lent array as it stood. `level` is the roll's, `lateral` the acceleration's.
 ghost use mathlib.Core.Path.{_≡_};
 ghost use lib.ListN.{length};
-ghost use Rattle.channels.specs.Channels.{moments};
-ghost use Rattle.reading.specs.Reading.{firstCrossing};
+ghost use Rattle.sample_channels.specs.Channels.{moments};
+ghost use Rattle.crossing_places.specs.Reading.{firstCrossing};
 ghost use Rattle.capi.specs.Told.{told};
 ghost use Rattle.capi_record.specs.Told.{levelsOf, recordEnded, recordFed, channelFed, recordListed, channelListed, recordOpened};
-use channels::Levels;
+use sample_channels::Levels;
 
 // A fresh record in `state`; or refusal 8 for an array of another length, 1 with the lowest item outside its range.
 #[no_mangle]
@@ -26,7 +26,7 @@ pub extern "C" fn chim_record_open(
         acceleration: lateral,
     };
     capi::keep_record(
-        record::open(step, ramp, levels, decorrelation),
+        record_state::open(step, ramp, levels, decorrelation),
         state,
         carried,
     )
@@ -45,7 +45,7 @@ pub extern "C" fn chim_record_feed(
     ensures { λ n. ⌜ now (channel .exit) ≡ channelFed (now (state .entry)) (now (roll .entry)) (now (acceleration .entry)) ⌝ }
 {
     let r = capi::record_of(state);
-    let a = feeding::feed(r, roll, acceleration);
+    let a = record_feed::feed(r, roll, acceleration);
     *channel = capi::channel_in(a);
     capi::keep_record(a, state, carried)
 }
@@ -55,7 +55,7 @@ pub extern "C" fn chim_record_feed(
 pub extern "C" fn chim_record_end(state: &[u64], result: &mut [u64], carried: &mut u64) -> u64
     ensures { λ n. ⌜ told n (now (carried .exit)) (now (result .exit)) ≡ recordEnded (now (state .entry)) (now (result .entry)) ⌝ }
 {
-    capi::keep_result(result::end(capi::record_of(state)), result, carried)
+    capi::keep_result(record_end::end(capi::record_of(state)), result, carried)
 }
 
 // The place of the first crossing of a whole record; the number of samples that both channels have, which is no place, if there is none.
@@ -73,7 +73,7 @@ pub extern "C" fn chim_record_first_crossing(
         roll: level,
         acceleration: lateral,
     };
-    search::first_crossing(roll, acceleration, ramp, levels)
+    crossing_search::first_crossing(roll, acceleration, ramp, levels)
 }
 
 // The counted times of a whole record, in order, from the start of `times`, and their number; or refusal 1, 12, 2, 3, 4, 7 with the places needed.
@@ -97,13 +97,13 @@ pub extern "C" fn chim_record_list(
         roll: level,
         acceleration: lateral,
     };
-    let a = listing::list(step, ramp, levels, decorrelation, roll, acceleration, times);
+    let a = record_list::list(step, ramp, levels, decorrelation, roll, acceleration, times);
     match a {
-        listing::Listed::Times(k) => {
+        record_list::Listed::Times(k) => {
             *channel = 0;
             capi::give(k, carried)
         }
-        listing::Listed::Refused(f) => {
+        record_list::Listed::Refused(f) => {
             *channel = refusal::channel(f);
             capi::refuse(f, carried)
         }

@@ -6,11 +6,11 @@ use mathlib.Core.List.{List}
 use lib.Dec.{eqb}
 use lib.ListN.{length}
 use Rattle.refusal.specs.declared.Refusal.the-variants.{BrokenState}
-use Rattle.campaign.specs.declared.Answer.{Answer}
-use Rattle.campaign.specs.declared.Answer.the-variants.{Refused, Taken}
-use Rattle.sheet.specs.declared.Reading.{Reading}
-use Rattle.sheet.specs.declared.Reading.the-variants.{Read, Stopped, Waiting}
-use Rattle.sheet.specs.Sheet.{meaning}
+use Rattle.campaign_state.specs.declared.Answer.{Answer}
+use Rattle.campaign_state.specs.declared.Answer.the-variants.{Refused, Taken}
+use Rattle.sheet_text.specs.declared.Reading.{Reading}
+use Rattle.sheet_text.specs.declared.Reading.the-variants.{Read, Stopped, Waiting}
+use Rattle.sheet_text.specs.Sheet.{meaning}
 use Rattle.capi.specs.Numbers.{campaignNumbers}
 use Rattle.capi.specs.Told.{Told, campaignKept}
 

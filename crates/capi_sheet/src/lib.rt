@@ -2,18 +2,18 @@
 ghost use mathlib.Core.Path.{_≡_};
 ghost use Rattle.capi.specs.Told.{told};
 ghost use Rattle.capi_sheet.specs.Told.{answerOf, columnOf, lineOf, sheetColumn, sheetLine, sheetRead};
-use line::Sheet;
 use refusal::Refusal;
-use sheet::Reading;
+use sheet_line::Sheet;
+use sheet_text::Reading;
 
 // What the reading of a whole sheet answers.
-fn ended(end: Reading) -> campaign::Answer
+fn ended(end: Reading) -> campaign_state::Answer
     ensures { λ a. ⌜ a ≡ answerOf end ⌝ }
 {
     match end {
-        Reading::Read(c) => campaign::Answer::Taken(c),
-        Reading::Stopped(_, _, f) => campaign::Answer::Refused(f),
-        Reading::Waiting(_, _) => campaign::Answer::Refused(Refusal::BrokenState),
+        Reading::Read(c) => campaign_state::Answer::Taken(c),
+        Reading::Stopped(_, _, f) => campaign_state::Answer::Refused(f),
+        Reading::Waiting(_, _) => campaign_state::Answer::Refused(Refusal::BrokenState),
     }
 }
 
@@ -58,7 +58,7 @@ pub extern "C" fn chim_sheet_read(
         *column = 0;
         return capi::refuse(Refusal::BrokenState, carried);
     }
-    let end = sheet::read(Sheet::Fresh, text, false);
+    let end = sheet_text::read(Sheet::Fresh, text, false);
     *line = stopped_on(end);
     *column = column_of(end);
     capi::keep_campaign(ended(end), state, carried)

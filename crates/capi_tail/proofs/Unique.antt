@@ -1,8 +1,8 @@
--- The number, what it carries and the array are settled, as `tail::fit`'s answer and slice are. Assumes nothing.
+-- The number, what it carries and the array are settled, as `peak_tail::fit`'s answer and slice are. Assumes nothing.
 use Prim.Native.Nat.{ℕ}
 use mathlib.Core.Path.{_≡_, sym, _∙_}
 use mathlib.Core.List.{List}
-use Rattle.tail.proofs.Unique.{fit-unique}
+use Rattle.peak_tail.proofs.Unique.{fit-unique}
 use Rattle.capi.specs.Told.{Told, told}
 use Rattle.capi_tail.specs.Told.{FitTold, fitTold}
 

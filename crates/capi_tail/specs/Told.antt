@@ -1,10 +1,10 @@
--- What the C function of a tail leaves: an answer that `tail::fit` may give, told by a number and what it carries. Assumes nothing.
+-- What the C function of a tail leaves: an answer that `peak_tail::fit` may give, told by a number and what it carries. Assumes nothing.
 use Prim.Native.Nat.{ℕ}
 use mathlib.Core.Path.{_≡_}
 use mathlib.Core.List.{List}
-use Rattle.tail.specs.Fitting.{FitsTo}
-use Rattle.tail.specs.declared.Fitted.{Fitted}
-use Rattle.tail.specs.declared.Fitted.the-variants.{Refused, Sum}
+use Rattle.peak_tail.specs.Fitting.{FitsTo}
+use Rattle.peak_tail.specs.declared.Fitted.{Fitted}
+use Rattle.peak_tail.specs.declared.Fitted.the-variants.{Refused, Sum}
 use Rattle.capi.specs.Told.{Told, refused, told}
 
 -- the sum is carried, and the lent array is that of the sorted peaks

@@ -7,9 +7,9 @@ ghost use Rattle.capi_tail.specs.Told.{FitTold};
 pub extern "C" fn chim_tail_fit(peaks: &[u32], k: u64, sorted: &mut [u32], carried: &mut u64) -> u64
     ensures { λ n. ⌜ FitTold (now (peaks .entry)) k (now (sorted .entry)) n (now (carried .exit)) (now (sorted .exit)) ⌝ }
 {
-    let a = tail::fit(peaks, k, sorted);
+    let a = peak_tail::fit(peaks, k, sorted);
     match a {
-        tail::Fitted::Sum(s) => capi::give(s, carried),
-        tail::Fitted::Refused(f) => capi::refuse(f, carried),
+        peak_tail::Fitted::Sum(s) => capi::give(s, carried),
+        peak_tail::Fitted::Refused(f) => capi::refuse(f, carried),
     }
 }

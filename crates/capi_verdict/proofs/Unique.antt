@@ -6,7 +6,7 @@ use lib.Ieee.{Float}
 use Rattle.truth.proofs.Unique.{settled}
 use Rattle.poisson.proofs.Unique as poisson
 use Rattle.poisson.specs.Rows.{LowerRow, UpperRow}
-use Rattle.verdict.specs.declared.Verdict.{Verdict}
+use Rattle.campaign_verdict.specs.declared.Verdict.{Verdict}
 use Rattle.capi_verdict.specs.Told.{Count, Judgement, Rating, campaignCensored, campaignJudged, campaignRated, rates, verdictTold}
 
 pub campaign-censored-unique : (s : List ℕ) (x y : Count) → x ≡ campaignCensored s → y ≡ campaignCensored s → x ≡ y

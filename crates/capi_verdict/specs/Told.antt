@@ -4,17 +4,17 @@ use Prim.Native.Nat.{ℕ}
 use mathlib.Core.List.{List}
 use lib.Ieee.{Float}
 use Rattle.refusal.specs.Numbers.{numberOf, valueOf}
-use Rattle.verdict.specs.Answers.{counting, judging, rating}
-use Rattle.verdict.specs.Figures.{zero64}
-use Rattle.verdict.specs.declared.Counted.{Counted}
-use Rattle.verdict.specs.declared.Counted.the-variants as counted
-use Rattle.verdict.specs.declared.Judged.{Judged}
-use Rattle.verdict.specs.declared.Judged.the-variants as judged
-use Rattle.verdict.specs.declared.Rated.{Rated}
-use Rattle.verdict.specs.declared.Rated.the-variants as rated
-use Rattle.verdict.specs.declared.Rates.{Rates}
-use Rattle.verdict.specs.declared.Verdict.{Verdict}
-use Rattle.verdict.specs.declared.Verdict.the-variants.{Accept, Continue, NoRecord, Reject}
+use Rattle.campaign_verdict.specs.Answers.{counting, judging, rating}
+use Rattle.campaign_verdict.specs.Figures.{zero64}
+use Rattle.campaign_verdict.specs.declared.Counted.{Counted}
+use Rattle.campaign_verdict.specs.declared.Counted.the-variants as counted
+use Rattle.campaign_verdict.specs.declared.Judged.{Judged}
+use Rattle.campaign_verdict.specs.declared.Judged.the-variants as judged
+use Rattle.campaign_verdict.specs.declared.Rated.{Rated}
+use Rattle.campaign_verdict.specs.declared.Rated.the-variants as rated
+use Rattle.campaign_verdict.specs.declared.Rates.{Rates}
+use Rattle.campaign_verdict.specs.declared.Verdict.{Verdict}
+use Rattle.campaign_verdict.specs.declared.Verdict.the-variants.{Accept, Continue, NoRecord, Reject}
 use Rattle.capi.specs.Numbers.{campaignOf, flag}
 
 -- the censored count

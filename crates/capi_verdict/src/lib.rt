@@ -3,17 +3,17 @@
 ghost use mathlib.Core.Path.{_≡_};
 ghost use Rattle.poisson.specs.Rows.{LowerRow, UpperRow};
 ghost use Rattle.capi_verdict.specs.Told.{campaignCensored, campaignJudged, campaignRated, count, judgement, rates, ratings, verdictTold};
-use verdict::Verdict;
+use campaign_verdict::Verdict;
 
 // The censored count N* in `carried`; or refusal 8.
 #[no_mangle]
 pub extern "C" fn chim_campaign_censored(state: &[u64], carried: &mut u64) -> u64
     ensures { λ n. ⌜ count n (now (carried .exit)) ≡ campaignCensored (now (state .entry)) ⌝ }
 {
-    let a = verdict::censored(capi::campaign_of(state));
+    let a = campaign_verdict::censored(capi::campaign_of(state));
     match a {
-        verdict::Counted::Count(n) => capi::give(n, carried),
-        verdict::Counted::Refused(f) => capi::refuse(f, carried),
+        campaign_verdict::Counted::Count(n) => capi::give(n, carried),
+        campaign_verdict::Counted::Refused(f) => capi::refuse(f, carried),
     }
 }
 
@@ -55,10 +55,10 @@ pub extern "C" fn chim_campaign_verdict(
 ) -> u64
     ensures { λ n. ⌜ judgement n (now (carried .exit)) (now (lower .exit)) (now (upper .exit)) ≡ campaignJudged (now (state .entry)) (now (lower .entry)) (now (upper .entry)) ⌝ }
 {
-    let a = verdict::judge(capi::campaign_of(state));
+    let a = campaign_verdict::judge(capi::campaign_of(state));
     match a {
-        verdict::Judged::Given(v) => tell(v, lower, upper, carried),
-        verdict::Judged::Refused(f) => capi::refuse(f, carried),
+        campaign_verdict::Judged::Given(v) => tell(v, lower, upper, carried),
+        campaign_verdict::Judged::Refused(f) => capi::refuse(f, carried),
     }
 }
 
@@ -73,15 +73,15 @@ pub extern "C" fn chim_campaign_rates(
 ) -> u64
     ensures { λ n. ⌜ ratings n (now (carried .exit)) (rates (now (estimate .exit)) (now (lower .exit)) (now (upper .exit))) ≡ campaignRated (now (state .entry)) (rates (now (estimate .entry)) (now (lower .entry)) (now (upper .entry))) ⌝ }
 {
-    let a = verdict::rate(capi::campaign_of(state));
+    let a = campaign_verdict::rate(capi::campaign_of(state));
     match a {
-        verdict::Rated::Given(b, r) => {
+        campaign_verdict::Rated::Given(b, r) => {
             *estimate = r.estimate;
             *lower = r.lower;
             *upper = r.upper;
             capi::give(capi::flag(b), carried)
         }
-        verdict::Rated::Refused(f) => capi::refuse(f, carried),
+        campaign_verdict::Rated::Refused(f) => capi::refuse(f, carried),
     }
 }
 

@@ -106,7 +106,7 @@ pub fn degrees_length(x: i32) -> usize
     ensures { λ r. ⌜ r ≡ length (degreesText x) ⌝ }
     ensures { λ r. ⌜ r ≤ longestDegrees ⌝ }
 {
-    let whole = decimal::digits(magnitude::magnitude(x) as u64 / 1000);
+    let whole = decimal::digits(sample_size::magnitude(x) as u64 / 1000);
     if x < 0 {
         return whole + 5;
     }
@@ -122,7 +122,7 @@ pub fn write_degrees(x: i32, out: &mut [u8], at: usize) -> usize
     if !text::has_room(out.len(), at, degrees_length(x)) {
         return at;
     }
-    let size = magnitude::magnitude(x) as u64;
+    let size = sample_size::magnitude(x) as u64;
     let whole = put_sign(x, out, at);
     let point = decimal::write_number(size / 1000, out, whole);
     put_decimals(size, out, point)

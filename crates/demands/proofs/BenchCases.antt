@@ -7,19 +7,19 @@ use mathlib.Core.List.{List, [], _∷_, _++_, map}
 use Prim.Native.Nat.{ℕ}
 use lib.ListN.{getD, length, replicate, set}
 use Rattle.refusal.specs.Numbers.{numberOf, valueOf}
-use Rattle.campaign.specs.declared.Campaign.{Campaign}
-use Rattle.campaign.specs.Answers.{entering}
-use Rattle.campaign.specs.State.{sound}
-use Rattle.verdict.specs.Answers.{judging, rating}
-use Rattle.bench.specs.declared.Answer.{Answer}
-use Rattle.bench.specs.declared.Answer.the-variants.{Entered, Freed, Judged, Placed, Rated, Refused}
-use Rattle.bench.specs.declared.Ask.{Ask}
-use Rattle.bench.specs.declared.Ask.the-variants.{On, Take}
-use Rattle.bench.specs.declared.Place.{Place}
-use Rattle.bench.specs.declared.Work.{Work}
-use Rattle.bench.specs.declared.Work.the-variants.{Enter, GiveBack, Judge, Rate}
-use Rattle.bench.specs.Calls.{Done, called}
-use Rattle.bench.specs.Table.{allKept, at, isBureau, jobs, kept, lowestFree}
+use Rattle.campaign_state.specs.declared.Campaign.{Campaign}
+use Rattle.campaign_state.specs.Answers.{entering}
+use Rattle.campaign_state.specs.State.{sound}
+use Rattle.campaign_verdict.specs.Answers.{judging, rating}
+use Rattle.bureau_table.specs.declared.Answer.{Answer}
+use Rattle.bureau_table.specs.declared.Answer.the-variants.{Entered, Freed, Judged, Placed, Rated, Refused}
+use Rattle.bureau_table.specs.declared.Ask.{Ask}
+use Rattle.bureau_table.specs.declared.Ask.the-variants.{On, Take}
+use Rattle.bureau_table.specs.declared.Place.{Place}
+use Rattle.bureau_table.specs.declared.Work.{Work}
+use Rattle.bureau_table.specs.declared.Work.the-variants.{Enter, GiveBack, Judge, Rate}
+use Rattle.bureau_table.specs.Calls.{Done, called}
+use Rattle.bureau_table.specs.Table.{allKept, at, isBureau, jobs, kept, lowestFree}
 
 -- a place: its owner and its campaign
 abbrev place : ℕ → ℕ → ℕ → ℕ → ℕ → Bool → Place

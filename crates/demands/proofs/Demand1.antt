@@ -24,41 +24,41 @@ use lib.ListN.{length}
 use Rattle.refusal.specs.declared.Refusal.{Refusal}
 use Rattle.refusal.specs.declared.Refusal.the-variants.{BrokenState, CampaignFull, Item, Room, RowsUsedUp, TooLong, TooShort, Unequal}
 use Rattle.poisson.specs.Rows.{rows}
-use Rattle.record.specs.declared.Answer.the-variants.{Refused, Taken}
-use Rattle.record.specs.declared.Record.{Record}
-use Rattle.record.specs.Answers.{opened}
-use Rattle.feeding.specs.Answers.{fed}
-use Rattle.channels.specs.declared.Levels.{Levels}
-use Rattle.channels.specs.Channels.{anyBad, badSample, moments}
-use Rattle.limits.specs.Limits.{decorrelationInRange, itemOutside, levelInRange, longestTime, mostSamples, rampInRange, stepInRange}
-use Rattle.range.specs.Range.{firstBad}
-use Rattle.reading.specs.Reading.{counted, tooFew}
-use Rattle.listing.specs.declared.Listed.the-variants as listing
-use Rattle.listing.specs.Answers.{ListsTo, listed, written}
-use Rattle.record.specs.State.{sound, stateOf, tooShort}
-use Rattle.steps.specs.Step.{stepped}
-use Rattle.result.specs.declared.Ended.the-variants as ended
-use Rattle.result.specs.declared.Outcome.{Outcome}
-use Rattle.result.specs.declared.Result.{Result}
-use Rattle.result.specs.Result.{ending, outcomeOf, resultOf}
-use Rattle.campaign.specs.declared.Answer.the-variants as campaigned
-use Rattle.campaign.specs.declared.Campaign.{Campaign}
-use Rattle.verdict.specs.declared.Counted.the-variants as counting
-use Rattle.verdict.specs.declared.Judged.the-variants as judging
-use Rattle.verdict.specs.declared.Rated.the-variants as rating
-use Rattle.campaign.specs.Answers as campaigns
-use Rattle.campaign.specs.Answers.{entering, outcomeKept, taken}
-use Rattle.verdict.specs.Answers as verdicts
-use Rattle.verdict.specs.Figures.{ratesOf, verdictOf}
-use Rattle.campaign.specs.State.{censored, empty, entered, mostRecords, standardInRange}
-use Rattle.campaign.specs.State as campaigning
-use Rattle.form.specs.Texts.{entryText}
-use Rattle.line.specs.declared.Sheet.the-variants.{Fresh, Open}
-use Rattle.line.specs.Line.{lineAfter, outcome, stepping, telling, told}
-use Rattle.sheet.specs.Pieces.{feeding, joined}
-use Rattle.sheet.specs.Sheet.{meaning}
-use Rattle.sheet.proofs.Pieces.{cut-anywhere}
-use Rattle.line.proofs.Theorems.{result-line}
+use Rattle.record_state.specs.declared.Answer.the-variants.{Refused, Taken}
+use Rattle.record_state.specs.declared.Record.{Record}
+use Rattle.record_state.specs.Answers.{opened}
+use Rattle.record_feed.specs.Answers.{fed}
+use Rattle.sample_channels.specs.declared.Levels.{Levels}
+use Rattle.sample_channels.specs.Channels.{anyBad, badSample, moments}
+use Rattle.sample_items.specs.Limits.{decorrelationInRange, itemOutside, levelInRange, longestTime, mostSamples, rampInRange, stepInRange}
+use Rattle.sample_range.specs.Range.{firstBad}
+use Rattle.crossing_places.specs.Reading.{counted, tooFew}
+use Rattle.record_list.specs.declared.Listed.the-variants as listing
+use Rattle.record_list.specs.Answers.{ListsTo, listed, written}
+use Rattle.record_state.specs.State.{sound, stateOf, tooShort}
+use Rattle.record_step.specs.Step.{stepped}
+use Rattle.record_end.specs.declared.Ended.the-variants as ended
+use Rattle.record_end.specs.declared.Outcome.{Outcome}
+use Rattle.record_end.specs.declared.Result.{Result}
+use Rattle.record_end.specs.Result.{ending, outcomeOf, resultOf}
+use Rattle.campaign_state.specs.declared.Answer.the-variants as campaigned
+use Rattle.campaign_state.specs.declared.Campaign.{Campaign}
+use Rattle.campaign_verdict.specs.declared.Counted.the-variants as counting
+use Rattle.campaign_verdict.specs.declared.Judged.the-variants as judging
+use Rattle.campaign_verdict.specs.declared.Rated.the-variants as rating
+use Rattle.campaign_state.specs.Answers as campaigns
+use Rattle.campaign_state.specs.Answers.{entering, outcomeKept, taken}
+use Rattle.campaign_verdict.specs.Answers as verdicts
+use Rattle.campaign_verdict.specs.Figures.{ratesOf, verdictOf}
+use Rattle.campaign_state.specs.State.{censored, empty, entered, mostRecords, standardInRange}
+use Rattle.campaign_state.specs.State as campaigning
+use Rattle.sheet_line.specs.Texts.{entryText}
+use Rattle.sheet_line.specs.declared.Sheet.the-variants.{Fresh, Open}
+use Rattle.sheet_line.specs.Line.{lineAfter, outcome, stepping, telling, told}
+use Rattle.sheet_text.specs.Pieces.{feeding, joined}
+use Rattle.sheet_text.specs.Sheet.{meaning}
+use Rattle.sheet_text.proofs.Pieces.{cut-anywhere}
+use Rattle.sheet_line.proofs.Theorems.{result-line}
 
 -- ---- the statement
 -- a condition, and the refusal that it gives

@@ -3,7 +3,7 @@
 -- campaign's figures are document 000's over its list of records. So is a record's time; and pieces are cut anywhere
 -- from any sound state on, an empty one changing nothing.
 --
--- D is the step, R the ramp, a the levels and τ the decorrelation time. The proof gathers what the crates `feeding`, `listing` and `campaign` show. Assumes
+-- D is the step, R the ramp, a the levels and τ the decorrelation time. The proof gathers what the crates `record_feed`, `record_list` and `campaign_state` show. Assumes
 -- nothing.
 use mathlib.Core.Path.{_≡_, ap, _∙_}
 use mathlib.Core.Bool.{false, true}
@@ -16,36 +16,36 @@ use lib.IntN.{ℤ}
 use lib.ListN.{length, drop}
 use Rattle.truth.proofs.Laws.{and-true}
 use Rattle.refusal.specs.declared.Refusal.the-variants.{BrokenState}
-use Rattle.largest.specs.Choice.{Apart, LargestSet}
-use Rattle.groups.specs.Groups.{firsts, near}
-use Rattle.groups.specs.Parting.{Parting}
-use Rattle.groups.proofs.Parting.{as-many, groups-only}
-use Rattle.channels.specs.declared.Levels.{Levels}
-use Rattle.channels.specs.declared.Moment.{Moment}
-use Rattle.channels.specs.Channels.{moments}
-use Rattle.reading.specs.Reading.{countedTimes, crossesAt, crossings, firstCrossing, firstOf}
-use Rattle.reading.specs.Reading.{fullTime, groups, largestSet, timeAt}
-use Rattle.reading.proofs.First.{head-passes}
-use Rattle.reading.proofs.Places.{itself}
-use Rattle.listing.specs.Answers.{ListsTo, written}
-use Rattle.listing.specs.declared.Listed.the-variants.{Times}
-use Rattle.listing.proofs.Answered.{times-number}
-use Rattle.record.specs.declared.Answer.the-variants.{Refused, Taken}
-use Rattle.record.specs.declared.Record.{Record}
-use Rattle.record.specs.Answers.{opened}
-use Rattle.feeding.specs.Answers.{fed}
-use Rattle.feeding.specs.Pieces.{AllTaken, Even, Piece, joined, samplesOf}
-use Rattle.record.specs.State.{failed, sound, stateOf, wholeTime}
-use Rattle.result.specs.Result.{exposureOf}
-use Rattle.record.proofs.Opening.{opened-sound}
-use Rattle.feeding.proofs.Theorems.{all-sound, empty-taken}
-use Rattle.feeding.proofs.Theorems.{every-cutting, groups-fewer, groups-parted, join-taken, never-broken, pieces-whole, search-found, search-none, set-largest, times-apart}
-use Rattle.campaign.specs.declared.Campaign.{Campaign}
-use Rattle.campaign.specs.Answers as campaigns
-use Rattle.campaign.specs.declared.Answer.the-variants as campaigned
-use Rattle.campaign.specs.Records.{AllEnded, campaignOf, censoredIn, outcome}
-use Rattle.campaign.specs.State.{censored}
-use Rattle.campaign.proofs.Records.{censored-grown, grown-by-results}
+use Rattle.crossing_sets.specs.Choice.{Apart, LargestSet}
+use Rattle.crossing_sets.specs.Groups.{firsts, near}
+use Rattle.crossing_sets.specs.Parting.{Parting}
+use Rattle.crossing_sets.proofs.Parting.{as-many, groups-only}
+use Rattle.sample_channels.specs.declared.Levels.{Levels}
+use Rattle.sample_channels.specs.declared.Moment.{Moment}
+use Rattle.sample_channels.specs.Channels.{moments}
+use Rattle.crossing_places.specs.Reading.{countedTimes, crossesAt, crossings, firstCrossing, firstOf}
+use Rattle.crossing_places.specs.Reading.{fullTime, groups, largestSet, timeAt}
+use Rattle.crossing_places.proofs.First.{head-passes}
+use Rattle.crossing_places.proofs.Places.{itself}
+use Rattle.record_list.specs.Answers.{ListsTo, written}
+use Rattle.record_list.specs.declared.Listed.the-variants.{Times}
+use Rattle.record_list.proofs.Answered.{times-number}
+use Rattle.record_state.specs.declared.Answer.the-variants.{Refused, Taken}
+use Rattle.record_state.specs.declared.Record.{Record}
+use Rattle.record_state.specs.Answers.{opened}
+use Rattle.record_feed.specs.Answers.{fed}
+use Rattle.record_feed.specs.Pieces.{AllTaken, Even, Piece, joined, samplesOf}
+use Rattle.record_state.specs.State.{failed, sound, stateOf, wholeTime}
+use Rattle.record_end.specs.Result.{exposureOf}
+use Rattle.record_state.proofs.Opening.{opened-sound}
+use Rattle.record_feed.proofs.Theorems.{all-sound, empty-taken}
+use Rattle.record_feed.proofs.Theorems.{every-cutting, groups-fewer, groups-parted, join-taken, never-broken, pieces-whole, search-found, search-none, set-largest, times-apart}
+use Rattle.campaign_state.specs.declared.Campaign.{Campaign}
+use Rattle.campaign_state.specs.Answers as campaigns
+use Rattle.campaign_state.specs.declared.Answer.the-variants as campaigned
+use Rattle.campaign_state.specs.Records.{AllEnded, campaignOf, censoredIn, outcome}
+use Rattle.campaign_state.specs.State.{censored}
+use Rattle.campaign_state.proofs.Records.{censored-grown, grown-by-results}
 
 -- ---- the statement
 -- a record opened as s and fed pieces, each taken, up to the state t; p is the joined record, channel by channel, and xs its samples

@@ -16,18 +16,18 @@ use Rattle.poisson.specs.Fractions.{Fraction, over}
 use Rattle.poisson.specs.Rows.{million, millionthLess, millionthMore}
 use Rattle.poisson.specs.Tables.{l}
 use Rattle.poisson.proofs.Exposure.{accept-only-if, accept-whenever, none-or-more, reject-only-if, reject-whenever}
-use Rattle.campaign.specs.declared.Campaign.{Campaign}
-use Rattle.verdict.specs.declared.Judged.the-variants.{Given}
-use Rattle.verdict.specs.declared.Verdict.{Verdict}
-use Rattle.verdict.specs.declared.Verdict.the-variants.{Accept, Continue, NoRecord, Reject}
-use Rattle.verdict.specs.declared.Rates.{Rates}
-use Rattle.verdict.specs.declared.Rated.the-variants as rated
-use Rattle.verdict.specs.Answers.{judging, rating}
-use Rattle.verdict.specs.Figures.{IsVerdict, lowerRate, ratesOf, three, upperRate}
-use Rattle.verdict.proofs.Only.{given, gives}
-use Rattle.campaign.specs.State.{censored, sound}
+use Rattle.campaign_state.specs.declared.Campaign.{Campaign}
+use Rattle.campaign_verdict.specs.declared.Judged.the-variants.{Given}
+use Rattle.campaign_verdict.specs.declared.Verdict.{Verdict}
+use Rattle.campaign_verdict.specs.declared.Verdict.the-variants.{Accept, Continue, NoRecord, Reject}
+use Rattle.campaign_verdict.specs.declared.Rates.{Rates}
+use Rattle.campaign_verdict.specs.declared.Rated.the-variants as rated
+use Rattle.campaign_verdict.specs.Answers.{judging, rating}
+use Rattle.campaign_verdict.specs.Figures.{IsVerdict, lowerRate, ratesOf, three, upperRate}
+use Rattle.campaign_verdict.proofs.Only.{given, gives}
+use Rattle.campaign_state.specs.State.{censored, sound}
 use Rattle.truth.proofs.Laws.{holds}
-use Rattle.campaign.proofs.Relations.{censored-row, kept-from}
+use Rattle.campaign_state.proofs.Relations.{censored-row, kept-from}
 
 -- ---- the statement
 -- the failures that a stream at the standard rate expects over the campaign's exposure

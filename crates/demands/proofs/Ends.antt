@@ -10,42 +10,42 @@ use lib.IntN.{ℤ, negsuc, pos}
 use lib.ListN.{replicate}
 use Rattle.refusal.specs.declared.Refusal.{Refusal}
 use Rattle.refusal.specs.Numbers.{numberOf, valueOf}
-use Rattle.channels.specs.declared.Levels.{Levels}
-use Rattle.channels.specs.Channels.{moments, still}
-use Rattle.range.specs.Range.{firstBad}
-use Rattle.limits.specs.Limits.{itemOutside}
-use Rattle.record.specs.declared.Answer.{Answer as OfRecord}
-use Rattle.record.specs.declared.Answer.the-variants as recorded
-use Rattle.record.specs.declared.Record.{Record}
-use Rattle.record.specs.Answers as records
-use Rattle.record.specs.State as recording
-use Rattle.feeding.specs.Answers.{fed}
-use Rattle.groups.specs.Groups.{attach, firsts, groups as inGroups}
-use Rattle.reading.specs.Reading.{passing}
-use Rattle.listing.specs.declared.Listed.{Listed}
-use Rattle.listing.specs.declared.Listed.the-variants as listing
-use Rattle.listing.specs.Answers.{listed}
-use Rattle.result.specs.declared.Ended.{Ended}
-use Rattle.result.specs.declared.Ended.the-variants as ended
-use Rattle.result.specs.declared.Outcome.{Outcome}
-use Rattle.result.specs.Result.{ending}
-use Rattle.campaign.specs.declared.Answer.{Answer as OfCampaign}
-use Rattle.campaign.specs.declared.Answer.the-variants as campaigned
-use Rattle.campaign.specs.declared.Campaign.{Campaign}
-use Rattle.campaign.specs.Answers as campaigns
-use Rattle.campaign.specs.State as campaigning
-use Rattle.line.specs.Line.{telling}
-use Rattle.sum.specs.declared.Answer.{Answer as OfSum}
-use Rattle.sum.specs.declared.Answer.the-variants as summed
-use Rattle.sum.specs.declared.Sum.{Sum}
-use Rattle.sum.specs.Answers as sums
-use Rattle.sum.specs.State as summing
-use Rattle.tail.specs.declared.Fitted.{Fitted}
-use Rattle.tail.specs.declared.Fitted.the-variants as fitting
-use Rattle.tail.specs.Fitting as tails
-use Rattle.condition.specs.declared.Answer.{Answer as OfCondition}
-use Rattle.condition.specs.declared.Answer.the-variants as conditioned
-use Rattle.condition.specs.Answers as conditions
+use Rattle.sample_channels.specs.declared.Levels.{Levels}
+use Rattle.sample_channels.specs.Channels.{moments, still}
+use Rattle.sample_range.specs.Range.{firstBad}
+use Rattle.sample_items.specs.Limits.{itemOutside}
+use Rattle.record_state.specs.declared.Answer.{Answer as OfRecord}
+use Rattle.record_state.specs.declared.Answer.the-variants as recorded
+use Rattle.record_state.specs.declared.Record.{Record}
+use Rattle.record_state.specs.Answers as records
+use Rattle.record_state.specs.State as recording
+use Rattle.record_feed.specs.Answers.{fed}
+use Rattle.crossing_sets.specs.Groups.{attach, firsts, groups as inGroups}
+use Rattle.crossing_places.specs.Reading.{passing}
+use Rattle.record_list.specs.declared.Listed.{Listed}
+use Rattle.record_list.specs.declared.Listed.the-variants as listing
+use Rattle.record_list.specs.Answers.{listed}
+use Rattle.record_end.specs.declared.Ended.{Ended}
+use Rattle.record_end.specs.declared.Ended.the-variants as ended
+use Rattle.record_end.specs.declared.Outcome.{Outcome}
+use Rattle.record_end.specs.Result.{ending}
+use Rattle.campaign_state.specs.declared.Answer.{Answer as OfCampaign}
+use Rattle.campaign_state.specs.declared.Answer.the-variants as campaigned
+use Rattle.campaign_state.specs.declared.Campaign.{Campaign}
+use Rattle.campaign_state.specs.Answers as campaigns
+use Rattle.campaign_state.specs.State as campaigning
+use Rattle.sheet_line.specs.Line.{telling}
+use Rattle.binomial_sum.specs.declared.Answer.{Answer as OfSum}
+use Rattle.binomial_sum.specs.declared.Answer.the-variants as summed
+use Rattle.binomial_sum.specs.declared.Sum.{Sum}
+use Rattle.binomial_sum.specs.Answers as sums
+use Rattle.binomial_sum.specs.State as summing
+use Rattle.peak_tail.specs.declared.Fitted.{Fitted}
+use Rattle.peak_tail.specs.declared.Fitted.the-variants as fitting
+use Rattle.peak_tail.specs.Fitting as tails
+use Rattle.campaign_condition.specs.declared.Answer.{Answer as OfCondition}
+use Rattle.campaign_condition.specs.declared.Answer.the-variants as conditioned
+use Rattle.campaign_condition.specs.Answers as conditions
 
 abbrev pub refused : Refusal → ℕ × ℕ
 refused f = (numberOf f, valueOf f)

@@ -9,13 +9,13 @@ use Rattle.refusal.specs.declared.Refusal.the-variants.{Acceleration, BrokenSta
 use Rattle.refusal.specs.declared.Refusal.the-variants.{Line, NoBureau, NotItsOwn, Peak, Room, RowsUsedUp, Sample, Situation}
 use Rattle.refusal.specs.declared.Refusal.the-variants.{Situations, SumFull, Tail, TooLong, TooShort, Unequal}
 use Rattle.refusal.specs.Numbers.{channelOf, numberOf, valueOf}
-use Rattle.condition.specs.Answers.{situationsInRange}
+use Rattle.campaign_condition.specs.Answers.{situationsInRange}
 use Rattle.decimal.specs.Decimal.{longest}
-use Rattle.form.specs.Column.{mostNumber}
-use Rattle.form.specs.Form.{longestLine}
-use Rattle.sum.specs.State.{wouldPass}
-use Rattle.sum.specs.declared.Sum.{Sum}
-use Rattle.tail.specs.Fitting.{peakInRange, tailOutside}
+use Rattle.sheet_line.specs.Column.{mostNumber}
+use Rattle.sheet_line.specs.Form.{longestLine}
+use Rattle.binomial_sum.specs.State.{wouldPass}
+use Rattle.binomial_sum.specs.declared.Sum.{Sum}
+use Rattle.peak_tail.specs.Fitting.{peakInRange, tailOutside}
 
 -- ---- the statement
 -- what a refusal tells: number, value, channel

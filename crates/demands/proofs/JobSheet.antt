@@ -20,23 +20,23 @@ use Rattle.refusal.specs.declared.Refusal.the-variants.{BrokenState, CampaignFu
 use Rattle.refusal.specs.Numbers.{numberOf}
 use Rattle.decimal.specs.Decimal.{longest}
 use Rattle.decimal.specs.Lines.{linesOf}
-use Rattle.campaign.specs.declared.Campaign.{Campaign}
-use Rattle.campaign.specs.State.{empty, entered, sound}
-use Rattle.form.specs.Column.{recordColumn, standardColumn}
-use Rattle.form.specs.Texts.{RecordText, StandardText, entryText, headText}
-use Rattle.line.specs.declared.Sheet.{Sheet}
-use Rattle.line.specs.declared.Sheet.the-variants.{Fresh, Open}
-use Rattle.line.specs.declared.Step.{Step}
-use Rattle.line.specs.declared.Step.the-variants.{Next, Stop}
-use Rattle.line.specs.Line.{soundSheet, stepping}
+use Rattle.campaign_state.specs.declared.Campaign.{Campaign}
+use Rattle.campaign_state.specs.State.{empty, entered, sound}
+use Rattle.sheet_line.specs.Column.{recordColumn, standardColumn}
+use Rattle.sheet_line.specs.Texts.{RecordText, StandardText, entryText, headText}
+use Rattle.sheet_line.specs.declared.Sheet.{Sheet}
+use Rattle.sheet_line.specs.declared.Sheet.the-variants.{Fresh, Open}
+use Rattle.sheet_line.specs.declared.Step.{Step}
+use Rattle.sheet_line.specs.declared.Step.the-variants.{Next, Stop}
+use Rattle.sheet_line.specs.Line.{soundSheet, stepping}
 use Rattle.text.specs.Write.{fits, laid, written}
-use Rattle.reply.specs.declared.Written.the-variants.{Upto, Refused}
-use Rattle.reply.specs.Written.{recordLeft, recordText, recordWriting, refusedText, writing}
-use Rattle.sheet.specs.declared.Ran.the-variants.{Came, Refused as Declined}
-use Rattle.sheet.specs.declared.Reading.{Reading}
-use Rattle.sheet.specs.declared.Reading.the-variants.{Read, Stopped, Waiting}
-use Rattle.sheet.specs.Sheet.{Account, afterStep, meaning, prefixed, reading, readingEnd, runLeft, running, textOf, waits}
-use Rattle.sheet.proofs.Steps.{step-led}
+use Rattle.sheet_reply.specs.declared.Written.the-variants.{Upto, Refused}
+use Rattle.sheet_reply.specs.Written.{recordLeft, recordText, recordWriting, refusedText, writing}
+use Rattle.sheet_text.specs.declared.Ran.the-variants.{Came, Refused as Declined}
+use Rattle.sheet_text.specs.declared.Reading.{Reading}
+use Rattle.sheet_text.specs.declared.Reading.the-variants.{Read, Stopped, Waiting}
+use Rattle.sheet_text.specs.Sheet.{Account, afterStep, meaning, prefixed, reading, readingEnd, runLeft, running, textOf, waits}
+use Rattle.sheet_text.proofs.Steps.{step-led}
 use Rattle.demands.proofs.Exactly.{Exactly}
 use Rattle.demands.proofs.Demand1.{Decides, First, None, Test, _gives_, decide, decided, end, here, later, not-it}
 use Rattle.demands.proofs.Refusal9.{Nine, refusal-9, standardTests, tellTests}

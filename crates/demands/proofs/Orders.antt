@@ -6,19 +6,19 @@ use mathlib.Core.List.{List, [], _∷_, _++_}
 use Prim.Native.Nat.{ℕ}
 use lib.IntN.{ℤ, pos}
 use lib.ListN.{replicate}
-use Rattle.limits.specs.Limits.{itemOutside}
-use Rattle.range.specs.Range.{firstBad}
-use Rattle.record.specs.Answers.{opened}
-use Rattle.record.specs.State.{sound}
-use Rattle.feeding.specs.Answers.{fed}
-use Rattle.listing.specs.Answers.{listed}
-use Rattle.groups.specs.Groups.{attach, firsts, groups}
-use Rattle.channels.specs.Channels.{moments}
-use Rattle.reading.specs.Reading.{passing}
-use Rattle.result.specs.Result.{ending}
-use Rattle.campaign.specs.Answers.{entering}
-use Rattle.campaign.specs.State as campaigning
-use Rattle.line.specs.Line.{telling}
+use Rattle.sample_items.specs.Limits.{itemOutside}
+use Rattle.sample_range.specs.Range.{firstBad}
+use Rattle.record_state.specs.Answers.{opened}
+use Rattle.record_state.specs.State.{sound}
+use Rattle.record_feed.specs.Answers.{fed}
+use Rattle.record_list.specs.Answers.{listed}
+use Rattle.crossing_sets.specs.Groups.{attach, firsts, groups}
+use Rattle.sample_channels.specs.Channels.{moments}
+use Rattle.crossing_places.specs.Reading.{passing}
+use Rattle.record_end.specs.Result.{ending}
+use Rattle.campaign_state.specs.Answers.{entering}
+use Rattle.campaign_state.specs.State as campaigning
+use Rattle.sheet_line.specs.Line.{telling}
 use Rattle.demands.proofs.Ends.{campaign, enter, feed, line, ofEnded, ofListed, opens, quiet}
 
 -- opening: the lowest item, of each two neighbours

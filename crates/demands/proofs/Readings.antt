@@ -5,28 +5,28 @@ use mathlib.Core.Bool.{Bool, false, true}
 use mathlib.Core.List.{List, [], _∷_, foldl, map}
 use Prim.Native.Nat.{ℕ}
 use lib.IntN.{ℤ, pos, negsuc}
-use Rattle.channels.specs.declared.Levels.{Levels}
-use Rattle.channels.specs.declared.Moment.{Moment}
-use Rattle.channels.specs.Channels.{moments}
-use Rattle.largest.specs.Walk.{later, walk}
-use Rattle.limits.specs.Limits.{itemOutside}
-use Rattle.range.specs.Range.{firstBad}
-use Rattle.groups.specs.Groups.{attach, firsts, groups}
-use Rattle.reading.specs.Reading.{countedTimes, crossings, firstCrossing, firstOf, fullTime, lastOf, passing, timeAt}
+use Rattle.sample_channels.specs.declared.Levels.{Levels}
+use Rattle.sample_channels.specs.declared.Moment.{Moment}
+use Rattle.sample_channels.specs.Channels.{moments}
+use Rattle.crossing_sets.specs.Walk.{later, walk}
+use Rattle.sample_items.specs.Limits.{itemOutside}
+use Rattle.sample_range.specs.Range.{firstBad}
+use Rattle.crossing_sets.specs.Groups.{attach, firsts, groups}
+use Rattle.crossing_places.specs.Reading.{countedTimes, crossings, firstCrossing, firstOf, fullTime, lastOf, passing, timeAt}
 use Rattle.refusal.specs.declared.Refusal.the-variants.{Room}
-use Rattle.listing.specs.declared.Listed.the-variants.{Refused, Times}
-use Rattle.listing.specs.Answers.{listed, written}
-use Rattle.record.specs.declared.Answer.{Answer}
-use Rattle.record.specs.declared.Answer.the-variants as answered
-use Rattle.record.specs.declared.Record.{Record}
-use Rattle.record.specs.Answers.{opened}
-use Rattle.record.specs.State.{sound, stateOf}
-use Rattle.feeding.specs.Answers.{fed}
-use Rattle.steps.specs.Step.{stepped}
-use Rattle.result.specs.declared.Ended.{Ended}
-use Rattle.result.specs.declared.Ended.the-variants as ended
-use Rattle.result.specs.declared.Result.{Result}
-use Rattle.result.specs.Result.{ending, resultOf}
+use Rattle.record_list.specs.declared.Listed.the-variants.{Refused, Times}
+use Rattle.record_list.specs.Answers.{listed, written}
+use Rattle.record_state.specs.declared.Answer.{Answer}
+use Rattle.record_state.specs.declared.Answer.the-variants as answered
+use Rattle.record_state.specs.declared.Record.{Record}
+use Rattle.record_state.specs.Answers.{opened}
+use Rattle.record_state.specs.State.{sound, stateOf}
+use Rattle.record_feed.specs.Answers.{fed}
+use Rattle.record_step.specs.Step.{stepped}
+use Rattle.record_end.specs.declared.Ended.{Ended}
+use Rattle.record_end.specs.declared.Ended.the-variants as ended
+use Rattle.record_end.specs.declared.Result.{Result}
+use Rattle.record_end.specs.Result.{ending, resultOf}
 
 abbrev usual : Levels
 usual = record { roll = 40000; acceleration = 9810 }

@@ -9,41 +9,41 @@ use lib.IntN.{ℤ, pos, negsuc}
 use lib.ListN.{length}
 use Rattle.refusal.specs.declared.Refusal.{Refusal}
 use Rattle.refusal.specs.Numbers.{channelOf, numberOf, valueOf}
-use Rattle.limits.specs.Limits.{itemOutside}
-use Rattle.range.specs.Range.{firstBad}
-use Rattle.largest.specs.Walk.{later, walk}
-use Rattle.groups.specs.Groups as grouping
-use Rattle.channels.specs.declared.Levels.{Levels}
-use Rattle.channels.specs.declared.Moment.{Moment}
-use Rattle.channels.specs.Channels.{above, moment, moments}
-use Rattle.reading.specs.Reading.{countedTimes, firstOf, groups, lastOf, passing}
-use Rattle.record.specs.declared.Answer.{Answer as Fed}
-use Rattle.record.specs.declared.Answer.the-variants as fed
-use Rattle.record.specs.declared.Record.{Record}
-use Rattle.record.specs.State.{sound, stateOf}
-use Rattle.feeding.specs.Answers as feeding
-use Rattle.result.specs.declared.Ended.{Ended}
-use Rattle.result.specs.declared.Ended.the-variants as ended
-use Rattle.result.specs.declared.Outcome.{Outcome}
-use Rattle.result.specs.declared.Result.{Result}
-use Rattle.result.specs.Result.{ending, outcomeOf}
-use Rattle.campaign.specs.declared.Answer.{Answer as Entered}
-use Rattle.campaign.specs.declared.Answer.the-variants as entered
-use Rattle.campaign.specs.declared.Campaign.{Campaign}
-use Rattle.campaign.specs.Answers.{entering}
-use Rattle.campaign.specs.State as campaigning
-use Rattle.sum.specs.declared.Answer.{Answer as Summed}
-use Rattle.sum.specs.declared.Answer.the-variants as summed
-use Rattle.sum.specs.declared.Sum.{Sum}
-use Rattle.sum.specs.Answers as summing
-use Rattle.sum.specs.Answers.{adding}
-use Rattle.sum.specs.State as state
-use Rattle.verdict.specs.declared.Rates.{Rates}
-use Rattle.verdict.specs.Figures.{quotient, zero64}
-use Rattle.spread.specs.declared.Bounds.{Bounds}
-use Rattle.spread.specs.Answers.{recorded}
-use Rattle.spread.specs.Bounds.{boundsOf, ratesOf}
-use Rattle.spread.specs.HalfWidth.{firstFrom, halfWidth}
+use Rattle.sample_items.specs.Limits.{itemOutside}
+use Rattle.sample_range.specs.Range.{firstBad}
+use Rattle.crossing_sets.specs.Walk.{later, walk}
+use Rattle.crossing_sets.specs.Groups as grouping
+use Rattle.sample_channels.specs.declared.Levels.{Levels}
+use Rattle.sample_channels.specs.declared.Moment.{Moment}
+use Rattle.sample_channels.specs.Channels.{above, moment, moments}
+use Rattle.crossing_places.specs.Reading.{countedTimes, firstOf, groups, lastOf, passing}
+use Rattle.record_state.specs.declared.Answer.{Answer as Fed}
+use Rattle.record_state.specs.declared.Answer.the-variants as fed
+use Rattle.record_state.specs.declared.Record.{Record}
+use Rattle.record_state.specs.State.{sound, stateOf}
+use Rattle.record_feed.specs.Answers as feeding
+use Rattle.record_end.specs.declared.Ended.{Ended}
+use Rattle.record_end.specs.declared.Ended.the-variants as ended
+use Rattle.record_end.specs.declared.Outcome.{Outcome}
+use Rattle.record_end.specs.declared.Result.{Result}
+use Rattle.record_end.specs.Result.{ending, outcomeOf}
+use Rattle.campaign_state.specs.declared.Answer.{Answer as Entered}
+use Rattle.campaign_state.specs.declared.Answer.the-variants as entered
+use Rattle.campaign_state.specs.declared.Campaign.{Campaign}
+use Rattle.campaign_state.specs.Answers.{entering}
+use Rattle.campaign_state.specs.State as campaigning
+use Rattle.binomial_sum.specs.declared.Answer.{Answer as Summed}
+use Rattle.binomial_sum.specs.declared.Answer.the-variants as summed
+use Rattle.binomial_sum.specs.declared.Sum.{Sum}
+use Rattle.binomial_sum.specs.Answers as summing
+use Rattle.binomial_sum.specs.Answers.{adding}
+use Rattle.binomial_sum.specs.State as state
+use Rattle.campaign_verdict.specs.declared.Rates.{Rates}
+use Rattle.campaign_verdict.specs.Figures.{quotient, zero64}
+use Rattle.binomial_bounds.specs.declared.Bounds.{Bounds}
+use Rattle.binomial_bounds.specs.Answers.{recorded}
+use Rattle.binomial_bounds.specs.Bounds.{boundsOf, ratesOf}
+use Rattle.binomial_bounds.specs.HalfWidth.{firstFrom, halfWidth}
 
 -- ---- records
 abbrev levels : ℕ → ℕ → Levels

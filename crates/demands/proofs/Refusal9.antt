@@ -14,21 +14,21 @@ use Rattle.refusal.specs.declared.Refusal.{Refusal}
 use Rattle.refusal.specs.declared.Refusal.the-variants.{CampaignFull, Item, Line, RowsUsedUp, TooLong, TooShort}
 use Rattle.refusal.specs.Numbers.{numberOf}
 use Rattle.poisson.specs.Rows.{rows}
-use Rattle.limits.specs.Limits.{longestTime}
-use Rattle.campaign.specs.declared.Answer.the-variants.{Refused, Taken}
-use Rattle.campaign.specs.declared.Campaign.{Campaign}
-use Rattle.campaign.specs.State.{empty, entered, mostRecords, sound, standardInRange}
+use Rattle.sample_items.specs.Limits.{longestTime}
+use Rattle.campaign_state.specs.declared.Answer.the-variants.{Refused, Taken}
+use Rattle.campaign_state.specs.declared.Campaign.{Campaign}
+use Rattle.campaign_state.specs.State.{empty, entered, mostRecords, sound, standardInRange}
 use Rattle.decimal.specs.Decimal.{longest}
-use Rattle.form.specs.Column.{recordColumn, standardColumn}
-use Rattle.line.specs.declared.Sheet.{Sheet}
-use Rattle.line.specs.declared.Sheet.the-variants.{Fresh, Open}
-use Rattle.line.specs.declared.Step.{Step}
-use Rattle.line.specs.declared.Step.the-variants.{Next, Stop}
-use Rattle.line.specs.Line.{lineAfter, malformed, outcome, stepping}
-use Rattle.line.proofs.Theorems.{line-back, standard-back}
-use Rattle.form.specs.Texts.{RecordText, StandardText, entryText, headText}
+use Rattle.sheet_line.specs.Column.{recordColumn, standardColumn}
+use Rattle.sheet_line.specs.declared.Sheet.{Sheet}
+use Rattle.sheet_line.specs.declared.Sheet.the-variants.{Fresh, Open}
+use Rattle.sheet_line.specs.declared.Step.{Step}
+use Rattle.sheet_line.specs.declared.Step.the-variants.{Next, Stop}
+use Rattle.sheet_line.specs.Line.{lineAfter, malformed, outcome, stepping}
+use Rattle.sheet_line.proofs.Theorems.{line-back, standard-back}
+use Rattle.sheet_line.specs.Texts.{RecordText, StandardText, entryText, headText}
 use Rattle.demands.proofs.Exactly.{Exactly}
-use Rattle.line.proofs.Forms.{Reads, Told, ToldStandard, good, ill, record-reads, standard-reads}
+use Rattle.sheet_line.proofs.Forms.{Reads, Told, ToldStandard, good, ill, record-reads, standard-reads}
 use Rattle.demands.proofs.Demand1.{Decides, Test, _gives_, decide, decided, roomTests, tells}
 
 -- ---- the statement

@@ -6,12 +6,12 @@ use mathlib.Core.Bool.{Bool, false, true}
 use mathlib.Core.List.{List, [], _∷_, map}
 use Prim.Native.Nat.{ℕ}
 use lib.IntN.{ℤ, pos, negsuc}
-use Rattle.channels.specs.declared.Moment.{Moment}
-use Rattle.limits.specs.Limits.{itemOutside}
-use Rattle.record.specs.declared.Record.{Record}
-use Rattle.record.specs.State.{sound}
-use Rattle.campaign.specs.declared.Campaign.{Campaign}
-use Rattle.campaign.specs.State as campaigning
+use Rattle.sample_channels.specs.declared.Moment.{Moment}
+use Rattle.sample_items.specs.Limits.{itemOutside}
+use Rattle.record_state.specs.declared.Record.{Record}
+use Rattle.record_state.specs.State.{sound}
+use Rattle.campaign_state.specs.declared.Campaign.{Campaign}
+use Rattle.campaign_state.specs.State as campaigning
 
 -- ---- a record of n samples at R = 2, the last of them x, with so many crossings, so many in the largest set, the
 -- places of the first crossing, of the largest set's last and of the last crossing, and so many groups

@@ -20,47 +20,47 @@ use Rattle.truth.proofs.Laws.{and-true, both-true, holds, is-true, true≢false
 use Rattle.refusal.specs.declared.Refusal.{Refusal}
 use Rattle.refusal.specs.declared.Refusal.the-variants.{Acceleration, BrokenState, CampaignFull, Item, RowsUsedUp}
 use Rattle.refusal.specs.declared.Refusal.the-variants.{Sample, SumFull, TooLong, TooShort, Unequal}
-use Rattle.channels.specs.declared.Levels.{Levels}
-use Rattle.channels.specs.Channels.{anyBad, moments}
-use Rattle.range.specs.Range.{firstBad, sampleInRange}
-use Rattle.limits.specs.Limits.{decorrelationInRange, itemOutside, levelInRange, mostSamples, rampInRange, stepInRange}
-use Rattle.limits.specs.Limits.{within}
-use Rattle.limits.proofs.Items.{high, low}
-use Rattle.record.specs.State as recording
-use Rattle.record.specs.declared.Answer.the-variants as recorded
-use Rattle.record.specs.declared.Record.{Record}
-use Rattle.record.proofs.Relations as record-facts
-use Rattle.feeding.specs.Answers.{fed}
-use Rattle.steps.specs.Step.{stepped}
-use Rattle.result.specs.Result.{ending, resultOf}
-use Rattle.result.specs.declared.Ended.the-variants as ended
-use Rattle.result.specs.declared.Outcome.{Outcome}
-use Rattle.result.specs.declared.Result.{Result}
-use Rattle.campaign.specs.Answers.{entering, outcomeKept}
-use Rattle.campaign.specs.State as campaigning
-use Rattle.campaign.specs.declared.Answer.the-variants as campaigned
-use Rattle.campaign.specs.declared.Campaign.{Campaign}
-use Rattle.campaign.proofs.Relations as campaign-facts
-use Rattle.verdict.specs.Answers as verdicts
-use Rattle.verdict.specs.Figures.{ratesOf, verdictOf}
-use Rattle.verdict.specs.declared.Counted.the-variants as counting
-use Rattle.verdict.specs.declared.Judged.the-variants as judging
-use Rattle.verdict.specs.declared.Rated.the-variants as rating
-use Rattle.sum.specs.Answers.{adding}
-use Rattle.sum.specs.State as summing
-use Rattle.sum.specs.declared.Answer.the-variants as summed
-use Rattle.sum.specs.declared.Sum.{Sum}
-use Rattle.sum.proofs.Relations as sum-facts
-use Rattle.spread.specs.Answers as spreads
-use Rattle.spread.specs.Bounds.{boundsOf, ratesOf as sumRates}
-use Rattle.spread.specs.declared.Bounded.the-variants as bounded
-use Rattle.bench.specs.declared.Answer.the-variants as benched
-use Rattle.bench.specs.declared.Ask.{Ask}
-use Rattle.bench.specs.declared.Place.{Place}
-use Rattle.bench.specs.Calls.{called}
-use Rattle.bench.specs.Table.{allKept, at, free, isBureau, jobs, kept, placeKept}
-use Rattle.bench.proofs.Places.{all-at}
-use Rattle.bench.proofs.Relations as table-facts
+use Rattle.sample_channels.specs.declared.Levels.{Levels}
+use Rattle.sample_channels.specs.Channels.{anyBad, moments}
+use Rattle.sample_range.specs.Range.{firstBad, sampleInRange}
+use Rattle.sample_items.specs.Limits.{decorrelationInRange, itemOutside, levelInRange, mostSamples, rampInRange, stepInRange}
+use Rattle.sample_items.specs.Limits.{within}
+use Rattle.sample_items.proofs.Items.{high, low}
+use Rattle.record_state.specs.State as recording
+use Rattle.record_state.specs.declared.Answer.the-variants as recorded
+use Rattle.record_state.specs.declared.Record.{Record}
+use Rattle.record_state.proofs.Relations as record-facts
+use Rattle.record_feed.specs.Answers.{fed}
+use Rattle.record_step.specs.Step.{stepped}
+use Rattle.record_end.specs.Result.{ending, resultOf}
+use Rattle.record_end.specs.declared.Ended.the-variants as ended
+use Rattle.record_end.specs.declared.Outcome.{Outcome}
+use Rattle.record_end.specs.declared.Result.{Result}
+use Rattle.campaign_state.specs.Answers.{entering, outcomeKept}
+use Rattle.campaign_state.specs.State as campaigning
+use Rattle.campaign_state.specs.declared.Answer.the-variants as campaigned
+use Rattle.campaign_state.specs.declared.Campaign.{Campaign}
+use Rattle.campaign_state.proofs.Relations as campaign-facts
+use Rattle.campaign_verdict.specs.Answers as verdicts
+use Rattle.campaign_verdict.specs.Figures.{ratesOf, verdictOf}
+use Rattle.campaign_verdict.specs.declared.Counted.the-variants as counting
+use Rattle.campaign_verdict.specs.declared.Judged.the-variants as judging
+use Rattle.campaign_verdict.specs.declared.Rated.the-variants as rating
+use Rattle.binomial_sum.specs.Answers.{adding}
+use Rattle.binomial_sum.specs.State as summing
+use Rattle.binomial_sum.specs.declared.Answer.the-variants as summed
+use Rattle.binomial_sum.specs.declared.Sum.{Sum}
+use Rattle.binomial_sum.proofs.Relations as sum-facts
+use Rattle.binomial_bounds.specs.Answers as spreads
+use Rattle.binomial_bounds.specs.Bounds.{boundsOf, ratesOf as sumRates}
+use Rattle.binomial_bounds.specs.declared.Bounded.the-variants as bounded
+use Rattle.bureau_table.specs.declared.Answer.the-variants as benched
+use Rattle.bureau_table.specs.declared.Ask.{Ask}
+use Rattle.bureau_table.specs.declared.Place.{Place}
+use Rattle.bureau_table.specs.Calls.{called}
+use Rattle.bureau_table.specs.Table.{allKept, at, free, isBureau, jobs, kept, placeKept}
+use Rattle.bureau_table.proofs.Places.{all-at}
+use Rattle.bureau_table.proofs.Relations as table-facts
 use Rattle.demands.proofs.Demand1.{no}
 
 -- ---- the statement

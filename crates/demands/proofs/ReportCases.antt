@@ -8,20 +8,20 @@ use Prim.Native.Nat.{ℕ}
 use lib.ListN.{replicate}
 use Rattle.refusal.specs.Numbers.{numberOf, valueOf}
 use Rattle.poisson.specs.Tables.{l, lowerRows, u, upperRows}
-use Rattle.campaign.specs.declared.Campaign.{Campaign}
-use Rattle.campaign.specs.State.{censored, sound}
+use Rattle.campaign_state.specs.declared.Campaign.{Campaign}
+use Rattle.campaign_state.specs.State.{censored, sound}
 use Rattle.decimal.specs.Decimal.{digitsOf, digitsWithin}
 use Rattle.decimal.specs.Field.{fieldText}
-use Rattle.verdict.specs.Answers as verdict
-use Rattle.condition.specs.declared.Answer.{Answer}
-use Rattle.condition.specs.declared.Answer.the-variants as judged
-use Rattle.condition.specs.Answers.{brokenFrom, judging}
-use Rattle.condition.specs.Standing.{accepted, allAccepted, oneRejected, rejected, standing}
-use Rattle.condition.specs.declared.Standing.the-variants.{Accepted, Open, Rejected}
-use Rattle.report.specs.declared.Writing.{Writing}
-use Rattle.report.specs.declared.Writing.the-variants as written
-use Rattle.report.specs.Answers.{writing}
-use Rattle.report.specs.Report.{blocks, fourText, letterFor, lineText, linesFrom, reportText, sumOf, totalText}
+use Rattle.campaign_verdict.specs.Answers as verdict
+use Rattle.campaign_condition.specs.declared.Answer.{Answer}
+use Rattle.campaign_condition.specs.declared.Answer.the-variants as judged
+use Rattle.campaign_condition.specs.Answers.{brokenFrom, judging}
+use Rattle.campaign_condition.specs.Standing.{accepted, allAccepted, oneRejected, rejected, standing}
+use Rattle.campaign_condition.specs.declared.Standing.the-variants.{Accepted, Open, Rejected}
+use Rattle.campaign_report.specs.declared.Writing.{Writing}
+use Rattle.campaign_report.specs.declared.Writing.the-variants as written
+use Rattle.campaign_report.specs.Answers.{writing}
+use Rattle.campaign_report.specs.Report.{blocks, fourText, letterFor, lineText, linesFrom, reportText, sumOf, totalText}
 
 -- at q = 7,200,000: accepted, rejected, neither, without a record, broken
 abbrev campaign : ℕ → ℕ → ℕ → Bool → Campaign

@@ -14,24 +14,24 @@ use borrow.Author.Tests.{leb-false, ltb-false}
 use Rattle.truth.proofs.Cases.{by-test}
 use Rattle.refusal.specs.declared.Refusal.{Refusal}
 use Rattle.refusal.specs.declared.Refusal.the-variants.{CommaLine, Item, Room, Sample, TooLong}
-use Rattle.limits.specs.Limits.{stepInRange}
-use Rattle.range.specs.Range.{firstBad}
-use Rattle.range.proofs.Bad.{bad-within}
+use Rattle.sample_items.specs.Limits.{stepInRange}
+use Rattle.sample_range.specs.Range.{firstBad}
+use Rattle.sample_range.proofs.Bad.{bad-within}
 use Rattle.decimal.specs.Decimal.{allDigits, isNumber, longest, valueOf}
 use Rattle.decimal.specs.Leading.{leading}
 use Rattle.decimal.specs.Lines.{linesOf}
-use Rattle.comma.specs.Line.{isLine, right}
-use Rattle.comma.specs.Text.{firstWrong, samplesOf, textOf}
+use Rattle.comma_line.specs.Line.{isLine, right}
+use Rattle.comma_line.specs.Text.{firstWrong, samplesOf, textOf}
 use Rattle.degrees.specs.Degrees.{filled, isSize, size, sizeLength}
-use Rattle.intake.specs.declared.Reading.the-variants.{Samples, Refused}
-use Rattle.intake.specs.Answers.{filledBy, reading, readingLines}
-use Rattle.follow.specs.Follow.{mayBegin}
-use Rattle.follow.specs.Pieces.{joined, nothing, passing, ending}
-use Rattle.follow.proofs.Pieces.{followed-whole, followed-samples}
-use Rattle.follow.proofs.Begun.{wrong-stays}
-use Rattle.scribe.specs.declared.Writing.the-variants.{Bytes, Refused as Declined}
-use Rattle.scribe.specs.Answers.{laidBy, lastTime, writing}
-use Rattle.scribe.proofs.Back.{read-again, read-back}
+use Rattle.comma_read.specs.declared.Reading.the-variants.{Samples, Refused}
+use Rattle.comma_read.specs.Answers.{filledBy, reading, readingLines}
+use Rattle.comma_stream.specs.Follow.{mayBegin}
+use Rattle.comma_stream.specs.Pieces.{joined, nothing, passing, ending}
+use Rattle.comma_stream.proofs.Pieces.{followed-whole, followed-samples}
+use Rattle.comma_stream.proofs.Begun.{wrong-stays}
+use Rattle.comma_write.specs.declared.Writing.the-variants.{Bytes, Refused as Declined}
+use Rattle.comma_write.specs.Answers.{laidBy, lastTime, writing}
+use Rattle.comma_write.proofs.Back.{read-again, read-back}
 use Rattle.demands.proofs.Demand1.{Decides, Test, _gives_, decide, decided}
 
 -- ---- the statement

@@ -2,7 +2,7 @@
 -- fault, at column 0, exactly if it is not its two or three fields, parted by tabs, ended by LF, in 64 bytes; and that
 -- is judged first. Else the first bad field from the left tells: the column of its first byte that is no digit, else
 -- that of its first byte, or of the place where an empty field should start. A whole line is malformed exactly if one
--- of its fields is bad, so exactly if its column is not 0: this ties what `line` reads to what `form` tells. What the
+-- of its fields is bad, so exactly if its column is not 0: this ties what `sheet_line` reads to what `sheet_line` tells. What the
 -- number reader tells of a field, in 02's order: FieldIs. Which texts are refused: Refusal9. Assumes nothing.
 use mathlib.Core.Path.{_≡_, ap, refl, sym, subst, _∙_}
 use mathlib.Core.Bool.{true}
@@ -18,32 +18,32 @@ use Rattle.truth.proofs.Laws.{and-true, holds}
 use Rattle.refusal.specs.declared.Refusal.{Refusal}
 use Rattle.refusal.specs.declared.Refusal.the-variants.{Line}
 use Rattle.refusal.specs.Numbers.{numberOf}
-use Rattle.reply.specs.Written.{reasonText, refusedText, refusedWord}
-use Rattle.campaign.specs.declared.Campaign.{Campaign}
-use Rattle.campaign.specs.State.{sound}
-use Rattle.campaign.proofs.Relations.{kept-from}
+use Rattle.sheet_reply.specs.Written.{reasonText, refusedText, refusedWord}
+use Rattle.campaign_state.specs.declared.Campaign.{Campaign}
+use Rattle.campaign_state.specs.State.{sound}
+use Rattle.campaign_state.proofs.Relations.{kept-from}
 use Rattle.decimal.specs.Decimal.{allDigits, digitsOf, isDigit, longest, valueOf}
 use Rattle.decimal.specs.Field.{fieldText, lineFeed, tab}
 use Rattle.decimal.proofs.Text.{all-digits, digit-range, digits-value, field-few, number-below, number-digits, value-digits}
-use Rattle.fields.specs.Field.{fieldAt, fieldOf, readAs}
-use Rattle.fields.specs.declared.Field.{Field}
-use Rattle.form.specs.Column.{behind, columnIn, howMany, isWhole, mostNumber, recordColumn, recordFields, standardColumn, standardFields}
-use Rattle.form.specs.Form.{begins, standardStart, standardWord}
-use Rattle.line.specs.declared.Sheet.the-variants.{Fresh, Open}
-use Rattle.line.specs.declared.Step.{Step}
-use Rattle.line.specs.declared.Step.the-variants.{Stop}
-use Rattle.line.specs.Line.{lineAfter, malformed, stepping}
-use Rattle.line.proofs.Fields.{begins-with}
-use Rattle.line.proofs.Theorems.{begins-itself}
-use Rattle.form.specs.Texts.{RecordText, StandardText, entryText, headText}
+use Rattle.sheet_line.specs.Field.{fieldAt, fieldOf, readAs}
+use Rattle.sheet_line.specs.declared.Field.{Field}
+use Rattle.sheet_line.specs.Column.{behind, columnIn, howMany, isWhole, mostNumber, recordColumn, recordFields, standardColumn, standardFields}
+use Rattle.sheet_line.specs.Form.{begins, standardStart, standardWord}
+use Rattle.sheet_line.specs.declared.Sheet.the-variants.{Fresh, Open}
+use Rattle.sheet_line.specs.declared.Step.{Step}
+use Rattle.sheet_line.specs.declared.Step.the-variants.{Stop}
+use Rattle.sheet_line.specs.Line.{lineAfter, malformed, stepping}
+use Rattle.sheet_line.proofs.Fields.{begins-with}
+use Rattle.sheet_line.proofs.Theorems.{begins-itself}
+use Rattle.sheet_line.specs.Texts.{RecordText, StandardText, entryText, headText}
 use Rattle.demands.proofs.Exactly.{Exactly}
-use Rattle.fields.specs.Told.{FieldIs, number}
-use Rattle.fields.proofs.Told.{is-told, told-is}
-use Rattle.form.specs.Fault.{Bad, Good}
-use Rattle.form.specs.Parts.{OfThree, OfTwo, Plain, Three, Two}
-use Rattle.form.proofs.Fault.{bad-column, bad-some, good-column, good-or-bad}
-use Rattle.form.proofs.Parts.{field-plain, reads-plain, three-whole, two-whole, whole-three, whole-two}
-use Rattle.line.proofs.Forms.{Reads, Told, ToldStandard, good, ill, record-reads, standard-reads}
+use Rattle.sheet_line.specs.Told.{FieldIs, number}
+use Rattle.sheet_line.proofs.Told.{is-told, told-is}
+use Rattle.sheet_line.specs.Fault.{Bad, Good}
+use Rattle.sheet_line.specs.Parts.{OfThree, OfTwo, Plain, Three, Two}
+use Rattle.sheet_line.proofs.Fault.{bad-column, bad-some, good-column, good-or-bad}
+use Rattle.sheet_line.proofs.Parts.{field-plain, reads-plain, three-whole, two-whole, whole-three, whole-two}
+use Rattle.sheet_line.proofs.Forms.{Reads, Told, ToldStandard, good, ill, record-reads, standard-reads}
 use Rattle.demands.proofs.Refusal9.{Nine, refusal-9}
 
 -- ---- the statement

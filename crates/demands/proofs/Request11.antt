@@ -3,7 +3,7 @@
 -- the peaks handed out and the rest stays. And of the definitions: there is one way to part a list into groups of
 -- neighbours that join; a run starts with a sample that is not zero and has none of the other sign; a peak is kept
 -- exactly if it is the first largest of a high stretch with a peak that is not high on both sides; what is handed out
--- is more than the decorrelation time apart. The proof only puts together what `chains`, `stretch` and `envelope`
+-- is more than the decorrelation time apart. The proof only puts together what `peak_groups`, `peak_groups` and `peak_envelope`
 -- have. Assumes nothing.
 use mathlib.Core.Path.{_≡_, refl}
 use mathlib.Core.Bool.{Bool, true, false, cond, not, _||_}
@@ -15,27 +15,27 @@ use lib.IntN.{ℤ}
 use lib.ListN.{length, drop}
 use Rattle.refusal.specs.declared.Refusal.{Refusal}
 use Rattle.refusal.specs.declared.Refusal.the-variants.{Item, Room, Sample, TooLong, TooShort}
-use Rattle.limits.specs.Limits.{itemOutside, stepInRange, rampInRange, decorrelationInRange, mostSamples}
-use Rattle.range.specs.Range.{firstBad}
-use Rattle.reading.specs.Reading.{tooFew}
-use Rattle.chains.specs.declared.Peak.{Peak}
-use Rattle.groups.specs.Groups.{groups}
-use Rattle.chains.specs.Groups.{inner, largest, tops}
-use Rattle.groups.specs.Parting.{Parting}
-use Rattle.chains.specs.Meaning.{All, In, Spaced, Top, Tops}
-use Rattle.chains.proofs.Meant.{top-unique, tops-top}
-use Rattle.runs.specs.Meaning.{EachOneSign, IsPoints, WithoutZeros}
-use Rattle.runs.specs.Runs.{peaks, points, sameSide, started}
-use Rattle.runs.proofs.OneSign.{read, runs-one-sign, without-zeros}
-use Rattle.groups.proofs.Parting.{groups-only, groups-part}
-use Rattle.stretch.specs.Peaks.{close, handed, high, kept, sum}
-use Rattle.stretch.specs.Meaning.{Stands}
-use Rattle.stretch.proofs.Stretches.{standing-stands, stands-standing}
-use Rattle.stretch.proofs.Apart.{handed-apart}
-use Rattle.envelope.specs.declared.Found.{Found}
-use Rattle.envelope.specs.declared.Found.the-variants.{Peaks, Refused}
-use Rattle.envelope.specs.Answers.{FindsTo, found, itemAsked, momentOf, placed, sizeOf, written}
-use Rattle.envelope.proofs.Unique.{find-unique}
+use Rattle.sample_items.specs.Limits.{itemOutside, stepInRange, rampInRange, decorrelationInRange, mostSamples}
+use Rattle.sample_range.specs.Range.{firstBad}
+use Rattle.crossing_places.specs.Reading.{tooFew}
+use Rattle.peak_groups.specs.declared.Peak.{Peak}
+use Rattle.crossing_sets.specs.Groups.{groups}
+use Rattle.peak_groups.specs.Groups.{inner, largest, tops}
+use Rattle.crossing_sets.specs.Parting.{Parting}
+use Rattle.peak_groups.specs.Largest.{All, In, Spaced, Top, Tops}
+use Rattle.peak_groups.proofs.Meant.{top-unique, tops-top}
+use Rattle.peak_groups.specs.OneSign.{EachOneSign, IsPoints, WithoutZeros}
+use Rattle.peak_groups.specs.Runs.{peaks, points, sameSide, started}
+use Rattle.peak_groups.proofs.OneSign.{read, runs-one-sign, without-zeros}
+use Rattle.crossing_sets.proofs.Parting.{groups-only, groups-part}
+use Rattle.peak_groups.specs.Peaks.{close, handed, high, kept, sum}
+use Rattle.peak_groups.specs.Meaning.{Stands}
+use Rattle.peak_groups.proofs.Stretches.{standing-stands, stands-standing}
+use Rattle.peak_groups.proofs.Apart.{handed-apart}
+use Rattle.peak_envelope.specs.declared.Found.{Found}
+use Rattle.peak_envelope.specs.declared.Found.the-variants.{Peaks, Refused}
+use Rattle.peak_envelope.specs.Answers.{FindsTo, found, itemAsked, momentOf, placed, sizeOf, written}
+use Rattle.peak_envelope.proofs.Unique.{find-unique}
 use Rattle.demands.proofs.Demand1.{Decides, Test, _gives_, decide, decided, no}
 
 -- ---- the statement

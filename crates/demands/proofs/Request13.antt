@@ -15,29 +15,29 @@ use lib.ListN.{length}
 use Rattle.truth.proofs.Cases.{by-test}
 use Rattle.refusal.specs.declared.Refusal.{Refusal}
 use Rattle.refusal.specs.declared.Refusal.the-variants.{Room, Situation, Situations}
-use Rattle.campaign.specs.declared.Campaign.{Campaign}
-use Rattle.campaign.specs.State.{censored, sound}
+use Rattle.campaign_state.specs.declared.Campaign.{Campaign}
+use Rattle.campaign_state.specs.State.{censored, sound}
 use Rattle.decimal.specs.Field.{fieldText, lineFeed, tab}
-use Rattle.verdict.specs.Figures.{accepts, rejects, verdictOf}
-use Rattle.verdict.specs.Letters.{letterE, letterOf}
-use Rattle.verdict.proofs.Letters.{of-accept, of-continue, of-reject}
-use Rattle.condition.specs.Answers.{situationsInRange, judging, lowestBroken}
-use Rattle.condition.specs.Standing.{All, One, accepted, rejected, standing}
-use Rattle.condition.specs.declared.Answer.the-variants.{Given, Refused}
-use Rattle.condition.specs.declared.Standing.{Standing}
-use Rattle.condition.specs.declared.Standing.the-variants.{Accepted, Open, Rejected}
-use Rattle.condition.proofs.Exactly.{accepted-if, never-both, only-accepted, only-open, only-rejected, open-if, rejected-if}
-use Rattle.condition.proofs.Theorems.{accepted-accepts, accepts-accepted, all-needed, empty-open, lowest-named, one-rejects, order, rejected-rejects, rejects-rejected}
-use Rattle.report.specs.Answers.{laidBy, writing}
-use Rattle.report.specs.Report.{blocks, fourText, lineText, linesFrom, reportText, standingLetter, sumOf, totalText, totalWord}
-use Rattle.report.specs.Report as reporting
-use Rattle.reply.specs.Written as replying
-use Rattle.reply.specs.Written.{figures, recordText}
-use Rattle.report.specs.WholeCase.{reportOnThird, reportOnThree, theirReport, thirdAlone, threeSituations, twoSituations}
-use Rattle.report.specs.declared.Writing.the-variants.{Bytes, Refused as Declined}
-use Rattle.report.proofs.Enough.{enough}
-use Rattle.report.proofs.Rounding.{blocks-enough, blocks-least}
-use Rattle.report.proofs.WholeCase.{third-case, three-case, whole-case}
+use Rattle.campaign_verdict.specs.Figures.{accepts, rejects, verdictOf}
+use Rattle.campaign_verdict.specs.Letters.{letterE, letterOf}
+use Rattle.campaign_verdict.proofs.Letters.{of-accept, of-continue, of-reject}
+use Rattle.campaign_condition.specs.Answers.{situationsInRange, judging, lowestBroken}
+use Rattle.campaign_condition.specs.Standing.{All, One, accepted, rejected, standing}
+use Rattle.campaign_condition.specs.declared.Answer.the-variants.{Given, Refused}
+use Rattle.campaign_condition.specs.declared.Standing.{Standing}
+use Rattle.campaign_condition.specs.declared.Standing.the-variants.{Accepted, Open, Rejected}
+use Rattle.campaign_condition.proofs.Exactly.{accepted-if, never-both, only-accepted, only-open, only-rejected, open-if, rejected-if}
+use Rattle.campaign_condition.proofs.Theorems.{accepted-accepts, accepts-accepted, all-needed, empty-open, lowest-named, one-rejects, order, rejected-rejects, rejects-rejected}
+use Rattle.campaign_report.specs.Answers.{laidBy, writing}
+use Rattle.campaign_report.specs.Report.{blocks, fourText, lineText, linesFrom, reportText, standingLetter, sumOf, totalText, totalWord}
+use Rattle.campaign_report.specs.Report as reporting
+use Rattle.sheet_reply.specs.Written as replying
+use Rattle.sheet_reply.specs.Written.{figures, recordText}
+use Rattle.campaign_report.specs.WholeCase.{reportOnThird, reportOnThree, theirReport, thirdAlone, threeSituations, twoSituations}
+use Rattle.campaign_report.specs.declared.Writing.the-variants.{Bytes, Refused as Declined}
+use Rattle.campaign_report.proofs.Enough.{enough}
+use Rattle.campaign_report.proofs.Rounding.{blocks-enough, blocks-least}
+use Rattle.campaign_report.proofs.WholeCase.{third-case, three-case, whole-case}
 use Rattle.demands.proofs.Exactly.{Exactly}
 use Rattle.demands.proofs.Demand1.{Decides, Test, _gives_, decide, decided}
 

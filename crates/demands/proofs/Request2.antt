@@ -16,28 +16,28 @@ use Rattle.truth.proofs.Laws.{is-true}
 use Rattle.poisson.specs.Rows.{rows}
 use Rattle.refusal.specs.declared.Refusal.{Refusal}
 use Rattle.refusal.specs.declared.Refusal.the-variants.{CampaignFull, Item, Room, RowsUsedUp, TooLong, TooShort}
-use Rattle.limits.specs.Limits.{longestTime}
-use Rattle.campaign.specs.declared.Answer.{Answer}
-use Rattle.campaign.specs.declared.Answer.the-variants.{Taken}
-use Rattle.campaign.specs.declared.Campaign.{Campaign}
-use Rattle.campaign.specs.Answers.{opened}
-use Rattle.campaign.specs.Records.{campaignOf}
-use Rattle.campaign.specs.State.{empty, entered, mostRecords, sound, standardInRange}
-use Rattle.campaign.proofs.Keeping.{opened-sound}
-use Rattle.sheet.specs.declared.Reading.the-variants.{Read, Stopped}
-use Rattle.sheet.specs.Sheet.{meaning}
-use Rattle.ledger.specs.declared.Writing.{Writing}
-use Rattle.ledger.specs.declared.Writing.the-variants.{Bytes, Refused as Declined}
-use Rattle.ledger.specs.Answers.{afterJudging, judged, judgedAs, judgedFrom, laidBy, onward, writing}
-use Rattle.ledger.specs.Ledger.{exposureIn, failedIn, outcomeIn, sheetText}
-use Rattle.ledger.proofs.Enough.{enough}
-use Rattle.ledger.proofs.Entered.{judged-campaign, judged-records}
-use Rattle.ledger.proofs.Judging.{told-full, told-long, told-short, told-taken, told-used-up}
-use Rattle.ledger.proofs.Puts.{all-written, wrote}
-use Rattle.resume.specs.declared.Resumed.the-variants.{Records, Stopped as Bad}
-use Rattle.resume.specs.Records.{filledBy, recordsOf, resuming}
-use Rattle.resume.proofs.Back.{read-back, records-back}
-use Rattle.resume.proofs.Clean.{written-again}
+use Rattle.sample_items.specs.Limits.{longestTime}
+use Rattle.campaign_state.specs.declared.Answer.{Answer}
+use Rattle.campaign_state.specs.declared.Answer.the-variants.{Taken}
+use Rattle.campaign_state.specs.declared.Campaign.{Campaign}
+use Rattle.campaign_state.specs.Answers.{opened}
+use Rattle.campaign_state.specs.Records.{campaignOf}
+use Rattle.campaign_state.specs.State.{empty, entered, mostRecords, sound, standardInRange}
+use Rattle.campaign_state.proofs.Keeping.{opened-sound}
+use Rattle.sheet_text.specs.declared.Reading.the-variants.{Read, Stopped}
+use Rattle.sheet_text.specs.Sheet.{meaning}
+use Rattle.sheet_records.specs.declared.Writing.{Writing}
+use Rattle.sheet_records.specs.declared.Writing.the-variants.{Bytes, Refused as Declined}
+use Rattle.sheet_records.specs.Answers.{afterJudging, judged, judgedAs, judgedFrom, laidBy, onward, writing}
+use Rattle.sheet_records.specs.Ledger.{exposureIn, failedIn, outcomeIn, sheetText}
+use Rattle.sheet_records.proofs.Enough.{enough}
+use Rattle.sheet_records.proofs.Entered.{judged-campaign, judged-records}
+use Rattle.sheet_records.proofs.Judging.{told-full, told-long, told-short, told-taken, told-used-up}
+use Rattle.sheet_records.proofs.Puts.{all-written, wrote}
+use Rattle.sheet_records.specs.declared.Resumed.the-variants.{Records, Stopped as Bad}
+use Rattle.sheet_records.specs.Records.{filledBy, recordsOf, resuming}
+use Rattle.sheet_records.proofs.Back.{read-back, records-back}
+use Rattle.sheet_records.proofs.Clean.{written-again}
 use Rattle.demands.proofs.Demand1.{Decides, Test, _gives_, decide, decided}
 
 -- ---- the statement

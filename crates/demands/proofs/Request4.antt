@@ -12,28 +12,28 @@ use lib.Dec.{eqb, ltb}
 use Rattle.truth.proofs.Cases.{by-test}
 use Rattle.truth.proofs.Laws.{and-true}
 use Rattle.refusal.specs.declared.Refusal.the-variants.{BrokenState, TooShort}
-use Rattle.limits.specs.Limits.{longestTime}
-use Rattle.channels.specs.declared.Levels.{Levels}
-use Rattle.channels.specs.declared.Moment.{Moment}
-use Rattle.reading.specs.Reading.{crossesAt, crossings, firstOf, groups, largestSet, passing}
-use Rattle.record.specs.Answers.{opened}
-use Rattle.record.specs.declared.Answer.the-variants.{Taken}
-use Rattle.feeding.specs.Pieces.{AllTaken, Piece, joined, samplesOf}
-use Rattle.feeding.proofs.Theorems.{pieces-whole}
-use Rattle.record.specs.State.{failed, stateOf, tooShort}
-use Rattle.record.specs.State as reading
-use Rattle.record.specs.declared.Record.{Record}
-use Rattle.result.specs.Result.{ending, exposureOf, outcomeOf, resultOf}
-use Rattle.result.specs.declared.Ended.{Ended}
-use Rattle.result.specs.declared.Ended.the-variants.{Given}
-use Rattle.result.specs.declared.Ended.the-variants as ended
-use Rattle.result.specs.declared.Result.{Result}
-use Rattle.result.proofs.Given.{exposure-bounds, given, given-bounds}
-use Rattle.campaign.specs.Answers.{entering, outcomeKept, taken}
-use Rattle.campaign.specs.State.{sound}
-use Rattle.campaign.specs.declared.Answer.{Answer}
-use Rattle.campaign.specs.declared.Answer.the-variants.{Refused}
-use Rattle.campaign.specs.declared.Campaign.{Campaign}
+use Rattle.sample_items.specs.Limits.{longestTime}
+use Rattle.sample_channels.specs.declared.Levels.{Levels}
+use Rattle.sample_channels.specs.declared.Moment.{Moment}
+use Rattle.crossing_places.specs.Reading.{crossesAt, crossings, firstOf, groups, largestSet, passing}
+use Rattle.record_state.specs.Answers.{opened}
+use Rattle.record_state.specs.declared.Answer.the-variants.{Taken}
+use Rattle.record_feed.specs.Pieces.{AllTaken, Piece, joined, samplesOf}
+use Rattle.record_feed.proofs.Theorems.{pieces-whole}
+use Rattle.record_state.specs.State.{failed, stateOf, tooShort}
+use Rattle.record_state.specs.State as reading
+use Rattle.record_state.specs.declared.Record.{Record}
+use Rattle.record_end.specs.Result.{ending, exposureOf, outcomeOf, resultOf}
+use Rattle.record_end.specs.declared.Ended.{Ended}
+use Rattle.record_end.specs.declared.Ended.the-variants.{Given}
+use Rattle.record_end.specs.declared.Ended.the-variants as ended
+use Rattle.record_end.specs.declared.Result.{Result}
+use Rattle.record_end.proofs.Given.{exposure-bounds, given, given-bounds}
+use Rattle.campaign_state.specs.Answers.{entering, outcomeKept, taken}
+use Rattle.campaign_state.specs.State.{sound}
+use Rattle.campaign_state.specs.declared.Answer.{Answer}
+use Rattle.campaign_state.specs.declared.Answer.the-variants.{Refused}
+use Rattle.campaign_state.specs.declared.Campaign.{Campaign}
 
 -- ---- the statement
 -- the old closing: 8 (either state), 4, 5, 6

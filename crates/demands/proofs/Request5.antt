@@ -11,17 +11,17 @@ use lib.Dec.{eqb, leb}
 use lib.IntN.{ℤ}
 use Rattle.truth.proofs.Laws.{and-true}
 use Rattle.refusal.specs.declared.Refusal.the-variants.{BrokenState}
-use Rattle.record.specs.Answers.{opened}
-use Rattle.channels.specs.declared.Levels.{Levels}
-use Rattle.feeding.specs.Answers.{fed}
-use Rattle.record.specs.State.{countsKept, failed, failureKept, groupsKept, itemsKept, lastKept, lengthKept, noGroups, noneKept, sound}
-use Rattle.record.specs.declared.Answer.the-variants.{Refused, Taken}
-use Rattle.record.specs.declared.Record.{Record}
-use Rattle.feeding.proofs.Fed.{fed-broken}
-use Rattle.record.proofs.Relations.{Failure, None, kept-from}
-use Rattle.record.proofs.Bounds.{failure}
-use Rattle.record.proofs.Opening.{opened-sound}
-use Rattle.feeding.proofs.Theorems.{fed-sound}
+use Rattle.record_state.specs.Answers.{opened}
+use Rattle.sample_channels.specs.declared.Levels.{Levels}
+use Rattle.record_feed.specs.Answers.{fed}
+use Rattle.record_state.specs.State.{countsKept, failed, failureKept, groupsKept, itemsKept, lastKept, lengthKept, noGroups, noneKept, sound}
+use Rattle.record_state.specs.declared.Answer.the-variants.{Refused, Taken}
+use Rattle.record_state.specs.declared.Record.{Record}
+use Rattle.record_feed.proofs.Fed.{fed-broken}
+use Rattle.record_state.proofs.Relations.{Failure, None, kept-from}
+use Rattle.record_state.proofs.Bounds.{failure}
+use Rattle.record_state.proofs.Opening.{opened-sound}
+use Rattle.record_feed.proofs.Theorems.{fed-sound}
 
 -- ---- the statement
 -- document 01's relations

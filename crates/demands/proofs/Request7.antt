@@ -15,31 +15,31 @@ use lib.ListN.{length}
 use Rattle.truth.proofs.Laws.{is-true}
 use Rattle.refusal.specs.declared.Refusal.{Refusal}
 use Rattle.refusal.specs.declared.Refusal.the-variants.{BrokenState, Item, SumFull, TooShort}
-use Rattle.channels.specs.declared.Levels.{Levels}
-use Rattle.channels.specs.declared.Moment.{Moment}
-use Rattle.limits.specs.Limits.{stepInRange}
-use Rattle.reading.specs.Reading.{groups}
-use Rattle.record.specs.Answers as records
-use Rattle.record.specs.State as recording
-use Rattle.record.specs.State.{stateOf, tooShort}
-use Rattle.record.specs.declared.Answer.the-variants as read
-use Rattle.record.specs.declared.Record.{Record}
-use Rattle.feeding.specs.Pieces.{AllTaken, Piece, joined, samplesOf}
-use Rattle.feeding.proofs.Theorems.{pieces-whole}
-use Rattle.sum.specs.Answers.{adding, opened}
-use Rattle.sum.specs.Records.{AllAdded, sumOf}
-use Rattle.sum.specs.State.{empty, grown, sound, timed, wouldPass}
-use Rattle.sum.specs.declared.Answer.the-variants.{Refused, Taken}
-use Rattle.sum.specs.declared.Sum.{Sum}
-use Rattle.sum.proofs.Answered as answered
-use Rattle.sum.proofs.Records.{any-order, grown-by-adding, none-timed}
-use Rattle.verdict.specs.declared.Rated.the-variants as rated
-use Rattle.spread.specs.Answers.{bounding, rating, recorded}
-use Rattle.spread.specs.Bounds.{boundsOf, ratesOf}
-use Rattle.spread.specs.HalfWidth.{HalfWidth, firstFrom, halfWidth}
-use Rattle.spread.specs.declared.Bounded.the-variants as bounded
-use Rattle.spread.proofs.HalfWidth.{all-failures, half-width, least-unique, no-failure}
-use Rattle.spread.proofs.Order.{ordered}
+use Rattle.sample_channels.specs.declared.Levels.{Levels}
+use Rattle.sample_channels.specs.declared.Moment.{Moment}
+use Rattle.sample_items.specs.Limits.{stepInRange}
+use Rattle.crossing_places.specs.Reading.{groups}
+use Rattle.record_state.specs.Answers as records
+use Rattle.record_state.specs.State as recording
+use Rattle.record_state.specs.State.{stateOf, tooShort}
+use Rattle.record_state.specs.declared.Answer.the-variants as read
+use Rattle.record_state.specs.declared.Record.{Record}
+use Rattle.record_feed.specs.Pieces.{AllTaken, Piece, joined, samplesOf}
+use Rattle.record_feed.proofs.Theorems.{pieces-whole}
+use Rattle.binomial_sum.specs.Answers.{adding, opened}
+use Rattle.binomial_sum.specs.Records.{AllAdded, sumOf}
+use Rattle.binomial_sum.specs.State.{empty, grown, sound, timed, wouldPass}
+use Rattle.binomial_sum.specs.declared.Answer.the-variants.{Refused, Taken}
+use Rattle.binomial_sum.specs.declared.Sum.{Sum}
+use Rattle.binomial_sum.proofs.Answered as answered
+use Rattle.binomial_sum.proofs.Records.{any-order, grown-by-adding, none-timed}
+use Rattle.campaign_verdict.specs.declared.Rated.the-variants as rated
+use Rattle.binomial_bounds.specs.Answers.{bounding, rating, recorded}
+use Rattle.binomial_bounds.specs.Bounds.{boundsOf, ratesOf}
+use Rattle.binomial_bounds.specs.HalfWidth.{HalfWidth, firstFrom, halfWidth}
+use Rattle.binomial_bounds.specs.declared.Bounded.the-variants as bounded
+use Rattle.binomial_bounds.proofs.HalfWidth.{all-failures, half-width, least-unique, no-failure}
+use Rattle.binomial_bounds.proofs.Order.{ordered}
 use Rattle.demands.proofs.Demand1.{Decides, Test, _gives_, decide, decided, no}
 
 -- ---- the statement

@@ -14,19 +14,19 @@ use lib.ListN.{getD, length}
 use Rattle.truth.proofs.Laws.{and-true, true≢false}
 use Rattle.refusal.specs.declared.Refusal.the-variants.{Acceleration, Sample}
 use Rattle.refusal.specs.Numbers.{channelOf, valueOf}
-use Rattle.magnitude.specs.Above.{above}
-use Rattle.range.specs.Range.{sampleInRange}
-use Rattle.channels.specs.declared.Levels.{Levels}
-use Rattle.channels.specs.Channels as channels
-use Rattle.channels.specs.Channels.{badSample, moment, moments}
-use Rattle.channels.proofs.Moments.{moments-at}
-use Rattle.limits.specs.Limits.{decorrelationInRange, itemOutside, levelInRange, rampInRange, stepInRange}
-use Rattle.reading.specs.Reading.{crossesAt, sampleAt}
-use Rattle.record.specs.declared.Record.{Record}
-use Rattle.record.specs.State.{sound}
-use Rattle.record.proofs.Relations.{kept-from}
-use Rattle.feeding.specs.Pieces.{AllTaken, Even, Piece, end, more, none, piece}
-use Rattle.feeding.proofs.Fed.{taken}
+use Rattle.sample_size.specs.Above.{above}
+use Rattle.sample_range.specs.Range.{sampleInRange}
+use Rattle.sample_channels.specs.declared.Levels.{Levels}
+use Rattle.sample_channels.specs.Channels as channels
+use Rattle.sample_channels.specs.Channels.{badSample, moment, moments}
+use Rattle.sample_channels.proofs.Moments.{moments-at}
+use Rattle.sample_items.specs.Limits.{decorrelationInRange, itemOutside, levelInRange, rampInRange, stepInRange}
+use Rattle.crossing_places.specs.Reading.{crossesAt, sampleAt}
+use Rattle.record_state.specs.declared.Record.{Record}
+use Rattle.record_state.specs.State.{sound}
+use Rattle.record_state.proofs.Relations.{kept-from}
+use Rattle.record_feed.specs.Pieces.{AllTaken, Even, Piece, end, more, none, piece}
+use Rattle.record_feed.proofs.Fed.{taken}
 
 -- ---- the statement
 -- a sample of one channel

@@ -16,32 +16,32 @@ use Rattle.refusal.specs.declared.Refusal.{Refusal}
 use Rattle.refusal.specs.declared.Refusal.the-variants.{BrokenState, BureauFull, CampaignFull, Item, NoBureau, NotItsOwn, RowsUsedUp}
 use Rattle.poisson.specs.Rows.{rows}
 use Rattle.truth.proofs.Cases.{by-test}
-use Rattle.result.specs.declared.Outcome.{Outcome}
-use Rattle.campaign.specs.declared.Answer.the-variants as campaigned
-use Rattle.campaign.specs.declared.Campaign.{Campaign}
-use Rattle.campaign.specs.Answers.{entering, outcomeKept}
-use Rattle.campaign.specs.Records.{campaignOf, censoredIn}
-use Rattle.campaign.specs.State.{censored, mostRecords, sound, standardInRange}
-use Rattle.verdict.specs.Answers.{judging, rating}
-use Rattle.verdict.specs.Figures.{ratesOf, verdictOf}
-use Rattle.bench.specs.declared.Answer.{Answer}
-use Rattle.bench.specs.declared.Answer.the-variants.{Entered, Freed, Judged, Placed, Rated, Refused}
-use Rattle.bench.specs.declared.Ask.{Ask}
-use Rattle.bench.specs.declared.Ask.the-variants.{On, Take}
-use Rattle.bench.specs.declared.Call.{Call}
-use Rattle.bench.specs.declared.Place.{Place}
-use Rattle.bench.specs.declared.Work.{Work}
-use Rattle.bench.specs.declared.Work.the-variants.{Enter, GiveBack, Judge, Rate}
-use Rattle.bench.specs.Table.{at, bare, free, isBureau, jobs, kept, lowestFree, mostJobs, owned}
-use Rattle.bench.specs.Calls.{called, entry, worked}
-use Rattle.bench.specs.Taken.{TakenAt}
-use Rattle.bench.specs.History.{Move, after, alone, answersFrom, deskAnswers, entriesAt, freedAt, ownJobs, script}
-use Rattle.bench.proofs.Places.{all-at}
-use Rattle.bench.proofs.Relations.{kept-from, owned-sound}
-use Rattle.bench.proofs.Keeping.{bare-kept, calls-keep, others-kept, rates-leave, refusal-leaves, verdict-leaves}
-use Rattle.bench.proofs.Taking.{always-placed, freed-at, taken-at}
-use Rattle.bench.proofs.Alone.{as-alone, its-own-desk, same-answers}
-use Rattle.bench.proofs.Life.{Reads, from-taking-to-return}
+use Rattle.record_end.specs.declared.Outcome.{Outcome}
+use Rattle.campaign_state.specs.declared.Answer.the-variants as campaigned
+use Rattle.campaign_state.specs.declared.Campaign.{Campaign}
+use Rattle.campaign_state.specs.Answers.{entering, outcomeKept}
+use Rattle.campaign_state.specs.Records.{campaignOf, censoredIn}
+use Rattle.campaign_state.specs.State.{censored, mostRecords, sound, standardInRange}
+use Rattle.campaign_verdict.specs.Answers.{judging, rating}
+use Rattle.campaign_verdict.specs.Figures.{ratesOf, verdictOf}
+use Rattle.bureau_table.specs.declared.Answer.{Answer}
+use Rattle.bureau_table.specs.declared.Answer.the-variants.{Entered, Freed, Judged, Placed, Rated, Refused}
+use Rattle.bureau_table.specs.declared.Ask.{Ask}
+use Rattle.bureau_table.specs.declared.Ask.the-variants.{On, Take}
+use Rattle.bureau_table.specs.declared.Call.{Call}
+use Rattle.bureau_table.specs.declared.Place.{Place}
+use Rattle.bureau_table.specs.declared.Work.{Work}
+use Rattle.bureau_table.specs.declared.Work.the-variants.{Enter, GiveBack, Judge, Rate}
+use Rattle.bureau_table.specs.Table.{at, bare, free, isBureau, jobs, kept, lowestFree, mostJobs, owned}
+use Rattle.bureau_table.specs.Calls.{called, entry, worked}
+use Rattle.bureau_table.specs.Taken.{TakenAt}
+use Rattle.bureau_table.specs.History.{Move, after, alone, answersFrom, deskAnswers, entriesAt, freedAt, ownJobs, script}
+use Rattle.bureau_table.proofs.Places.{all-at}
+use Rattle.bureau_table.proofs.Relations.{kept-from, owned-sound}
+use Rattle.bureau_table.proofs.Keeping.{bare-kept, calls-keep, others-kept, rates-leave, refusal-leaves, verdict-leaves}
+use Rattle.bureau_table.proofs.Taking.{always-placed, freed-at, taken-at}
+use Rattle.bureau_table.proofs.Alone.{as-alone, its-own-desk, same-answers}
+use Rattle.bureau_table.proofs.Life.{Reads, from-taking-to-return}
 use Rattle.demands.proofs.Demand1.{Decides, Test, decide, decided, _gives_}
 use Rattle.demands.proofs.Demand3.{Demand3, demand-3}
 

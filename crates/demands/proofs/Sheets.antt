@@ -7,14 +7,14 @@ use Rattle.poisson.specs.Tables.{l, lowerRows, u, upperRows}
 use Rattle.decimal.specs.Decimal.{allDigits, digitsOf, digitsWithin, isNumber, valueOf}
 use Rattle.decimal.specs.Field.{fieldText}
 use Rattle.decimal.specs.Lines.{linesOf}
-use Rattle.fields.specs.Field.{faultIn, fieldAt, fieldOf, readAs, strangeIn}
-use Rattle.campaign.specs.Answers.{entering}
-use Rattle.campaign.specs.State.{censored, sound}
-use Rattle.form.specs.Column.{howMany, recordColumn, recordFields, standardColumn, standardFields}
-use Rattle.form.specs.Form.{begins, standardStart}
-use Rattle.line.specs.Line.{endedBy, fieldThen, recordLine, standardLine, startsWith, stepping, telling}
-use Rattle.reply.specs.Written.{figures, letterFor, reasonText, recordText, refusedText}
-use Rattle.sheet.specs.Sheet.{meaning, reading}
+use Rattle.sheet_line.specs.Field.{faultIn, fieldAt, fieldOf, readAs, strangeIn}
+use Rattle.campaign_state.specs.Answers.{entering}
+use Rattle.campaign_state.specs.State.{censored, sound}
+use Rattle.sheet_line.specs.Column.{howMany, recordColumn, recordFields, standardColumn, standardFields}
+use Rattle.sheet_line.specs.Form.{begins, standardStart}
+use Rattle.sheet_line.specs.Line.{endedBy, fieldThen, recordLine, standardLine, startsWith, stepping, telling}
+use Rattle.sheet_reply.specs.Written.{figures, letterFor, reasonText, recordText, refusedText}
+use Rattle.sheet_text.specs.Sheet.{meaning, reading}
 
 -- what the program writes for a sheet; where it unfolds, all that a sheet's meaning is defined by does
 pub says : List ℕ → List ℕ

@@ -1,5 +1,5 @@
 -- What a customer may rely on later (document 02, [6]), of a campaign that keeps document 01's relations and has a record: which verdicts stay when the standard is
--- changed afterwards, or when one more record comes in. After a failed record an accept need not stay: the slate has the request's numbers (slate_cases: Shown).
+-- changed afterwards, or when one more record comes in. After a failed record an accept need not stay: the slate has the request's numbers (demands_slate: Shown).
 --
 -- The proof: a shorter q lowers u(N*)·q, a longer one raises l(N)·q, and neither moves a rate; a record without failure after one leaves N* and raises T. Accept and
 -- reject never both hold, since the rows lie apart (verdict: Only). Assumes nothing.
@@ -15,19 +15,19 @@ use borrow.Author.Tests.{lt-ltb, ltb-true, ne-eqb}
 use Rattle.poisson.specs.Rows.{million}
 use Rattle.poisson.specs.Tables.{l, u}
 use Rattle.truth.proofs.Laws.{holds, is-true, true≢false}
-use Rattle.result.specs.declared.Outcome.{Outcome}
-use Rattle.campaign.specs.declared.Answer.the-variants.{Taken}
-use Rattle.campaign.specs.declared.Campaign.{Campaign}
-use Rattle.campaign.specs.Answers.{entering}
-use Rattle.campaign.specs.State.{censored, entered, sound, standardInRange}
-use Rattle.campaign.proofs.Answered.{entered-from}
-use Rattle.campaign.proofs.Keeping.{entering-sound}
-use Rattle.campaign.proofs.Relations.{kept-from, sound-from}
-use Rattle.verdict.specs.declared.Judged.the-variants.{Given}
-use Rattle.verdict.specs.declared.Verdict.the-variants.{Accept, Reject}
-use Rattle.verdict.specs.Answers.{judging}
-use Rattle.verdict.specs.Figures.{accepts, rejects, upperRate}
-use Rattle.verdict.proofs.Only.{given, gives, not-both}
+use Rattle.record_end.specs.declared.Outcome.{Outcome}
+use Rattle.campaign_state.specs.declared.Answer.the-variants.{Taken}
+use Rattle.campaign_state.specs.declared.Campaign.{Campaign}
+use Rattle.campaign_state.specs.Answers.{entering}
+use Rattle.campaign_state.specs.State.{censored, entered, sound, standardInRange}
+use Rattle.campaign_state.proofs.Answered.{entered-from}
+use Rattle.campaign_state.proofs.Keeping.{entering-sound}
+use Rattle.campaign_state.proofs.Relations.{kept-from, sound-from}
+use Rattle.campaign_verdict.specs.declared.Judged.the-variants.{Given}
+use Rattle.campaign_verdict.specs.declared.Verdict.the-variants.{Accept, Reject}
+use Rattle.campaign_verdict.specs.Answers.{judging}
+use Rattle.campaign_verdict.specs.Figures.{accepts, rejects, upperRate}
+use Rattle.campaign_verdict.proofs.Only.{given, gives, not-both}
 
 -- ---- the statement
 -- the campaign at another standard

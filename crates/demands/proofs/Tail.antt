@@ -2,7 +2,7 @@
 -- leaves the second slice as it stood; where none is given, the slice starts with the peaks sorted downwards, each as
 -- often as it was there, and the sum is that of a figure for each value over Y(k): never above the exact one and at
 -- most 1 below, 0 for equal values. So it is at most k - 1 below the exact sum. All is settled, and a greater ratio
--- has no smaller figure. The proof only puts together what `logarithm` and `tail` have. Assumes nothing.
+-- has no smaller figure. The proof only puts together what `logarithm` and `peak_tail` have. Assumes nothing.
 use mathlib.Core.Path.{_≡_, refl}
 use mathlib.Core.List.{List, [], _∷_}
 use Prim.Native.Nat.{ℕ, zero, suc, _+_, _-_, _*_, _^_, _≤_, _<_}
@@ -18,12 +18,12 @@ use Rattle.logarithm.proofs.Monotone.{log2-grows}
 use Rattle.logarithm.proofs.Unique.{exact-unique}
 use Rattle.sorting.specs.Sorting.{Downwards}
 use Rattle.sorting.proofs.Unique.{sort-unique}
-use Rattle.tail.specs.declared.Fitted.{Fitted}
-use Rattle.tail.specs.declared.Fitted.the-variants.{Refused, Sum}
-use Rattle.tail.specs.Fitting.{FitsTo, Summed, firstBad, fitted, tailOutside}
-use Rattle.tail.specs.Hill.{ExactSum, HillSum, NearSum, kth, plus, start}
-use Rattle.tail.proofs.Slack.{exact-sum, hill-slack}
-use Rattle.tail.proofs.Unique.{fit-unique}
+use Rattle.peak_tail.specs.declared.Fitted.{Fitted}
+use Rattle.peak_tail.specs.declared.Fitted.the-variants.{Refused, Sum}
+use Rattle.peak_tail.specs.Fitting.{FitsTo, Summed, firstBad, fitted, tailOutside}
+use Rattle.peak_tail.specs.Hill.{ExactSum, HillSum, NearSum, kth, plus, start}
+use Rattle.peak_tail.proofs.Slack.{exact-sum, hill-slack}
+use Rattle.peak_tail.proofs.Unique.{fit-unique}
 use Rattle.demands.proofs.Demand1.{Decides, Test, _gives_, decide, decided, no}
 
 abbrev pub tailTests : List ℕ → ℕ → ℕ → List Test

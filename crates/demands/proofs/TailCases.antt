@@ -1,6 +1,6 @@
 -- Document 02, [11] and [12]: envelope peaks and a tail, computed of the definitions: a chain by its neighbours' gaps
 -- and its largest, the refusals of both, figures of ratios, and the sum over the first k of a list that is sorted.
--- `stretch` has one more example, worked by hand. Each declaration has the name of its sentence. Assumes nothing.
+-- `peak_groups` has one more example, worked by hand. Each declaration has the name of its sentence. Assumes nothing.
 use mathlib.Core.Path.{_≡_, refl}
 use mathlib.Core.Bool.{false, true}
 use mathlib.Core.List.{List, [], _∷_, _++_, map}
@@ -10,22 +10,22 @@ use lib.Dec.{lit≤}
 use lib.IntN.{ℤ, pos, negsuc}
 use lib.ListN.{drop, getD, replicate}
 use Rattle.refusal.specs.Numbers.{numberOf, valueOf}
-use Rattle.limits.specs.Limits.{itemOutside}
-use Rattle.range.specs.Range as range
-use Rattle.chains.specs.declared.Peak.{Peak}
-use Rattle.groups.specs.Groups.{attach, groups}
-use Rattle.chains.specs.Groups.{larger, largest, those, tops}
-use Rattle.runs.specs.Runs.{peaks, points, started}
-use Rattle.stretch.specs.Peaks.{handed, sum}
-use Rattle.envelope.specs.declared.Found.{Found}
-use Rattle.envelope.specs.declared.Found.the-variants as envelope
-use Rattle.envelope.specs.Answers.{found, placed}
+use Rattle.sample_items.specs.Limits.{itemOutside}
+use Rattle.sample_range.specs.Range as range
+use Rattle.peak_groups.specs.declared.Peak.{Peak}
+use Rattle.crossing_sets.specs.Groups.{attach, groups}
+use Rattle.peak_groups.specs.Groups.{larger, largest, those, tops}
+use Rattle.peak_groups.specs.Runs.{peaks, points, started}
+use Rattle.peak_groups.specs.Peaks.{handed, sum}
+use Rattle.peak_envelope.specs.declared.Found.{Found}
+use Rattle.peak_envelope.specs.declared.Found.the-variants as envelope
+use Rattle.peak_envelope.specs.Answers.{found, placed}
 use Rattle.logarithm.specs.Ours.{doublings, ourFigure, squarings}
 use Rattle.sorting.specs.Sorting.{Downwards, SameValues, count}
 use Rattle.sorting.proofs.Unique.{sort-unique}
-use Rattle.tail.specs.declared.Fitted.{Fitted}
-use Rattle.tail.specs.declared.Fitted.the-variants.{Refused, Sum}
-use Rattle.tail.specs.Fitting.{FitsTo, firstBad, fitted, peakInRange, tailOutside}
+use Rattle.peak_tail.specs.declared.Fitted.{Fitted}
+use Rattle.peak_tail.specs.declared.Fitted.the-variants.{Refused, Sum}
+use Rattle.peak_tail.specs.Fitting.{FitsTo, firstBad, fitted, peakInRange, tailOutside}
 use Rattle.demands.proofs.Tail.{figures, sum-of-figures}
 
 -- ---- [11] envelope peaks

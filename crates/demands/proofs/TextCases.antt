@@ -8,34 +8,34 @@ use lib.IntN.{ℤ, pos, negsuc}
 use lib.ListN.{replicate}
 use Rattle.refusal.specs.declared.Refusal.the-variants.{Line, TooShort}
 use Rattle.refusal.specs.Numbers.{numberOf, valueOf}
-use Rattle.range.specs.Range.{firstBad}
+use Rattle.sample_range.specs.Range.{firstBad}
 use Rattle.decimal.specs.Decimal.{allDigits, digitsOf, digitsWithin, isNumber}
 use Rattle.decimal.specs.Decimal as decimal
 use Rattle.decimal.specs.Field.{fieldText}
 use Rattle.decimal.specs.Leading.{leading}
 use Rattle.decimal.specs.Lines.{linesOf}
 use Rattle.degrees.specs.Degrees.{degreesText, filled, isSize, size, sizeLength}
-use Rattle.comma.specs.Line as comma
-use Rattle.comma.specs.Text.{firstWrong, textFrom, textOf}
-use Rattle.intake.specs.declared.Reading.{Reading}
-use Rattle.intake.specs.declared.Reading.the-variants as read
-use Rattle.intake.specs.Answers.{reading, readingLines}
-use Rattle.scribe.specs.declared.Writing.{Writing}
-use Rattle.scribe.specs.declared.Writing.the-variants as scribed
-use Rattle.scribe.specs.Answers.{lastTime}
-use Rattle.scribe.specs.Answers as scribe
-use Rattle.campaign.specs.Answers.{entering}
-use Rattle.campaign.specs.State.{sound}
-use Rattle.line.specs.Line.{telling}
-use Rattle.ledger.specs.declared.Writing.{Writing as SheetWriting}
-use Rattle.ledger.specs.declared.Writing.the-variants as written
-use Rattle.ledger.specs.Answers as ledger
-use Rattle.ledger.specs.Ledger.{linesFrom, sheetText}
-use Rattle.fields.specs.declared.Field.the-variants.{Empty, LeadingZero, Number, Strange, TooLong}
-use Rattle.fields.specs.Field.{endsHere, faultIn, fieldAt, fieldOf, readAs, strangeIn}
-use Rattle.form.specs.Column.{howMany, recordColumn, recordFields, standardColumn, standardFields}
-use Rattle.form.specs.Form.{begins}
-use Rattle.reply.specs.Written.{reasonText, refusedText}
+use Rattle.comma_line.specs.Line as comma
+use Rattle.comma_line.specs.Text.{firstWrong, textFrom, textOf}
+use Rattle.comma_read.specs.declared.Reading.{Reading}
+use Rattle.comma_read.specs.declared.Reading.the-variants as read
+use Rattle.comma_read.specs.Answers.{reading, readingLines}
+use Rattle.comma_write.specs.declared.Writing.{Writing}
+use Rattle.comma_write.specs.declared.Writing.the-variants as scribed
+use Rattle.comma_write.specs.Answers.{lastTime}
+use Rattle.comma_write.specs.Answers as scribe
+use Rattle.campaign_state.specs.Answers.{entering}
+use Rattle.campaign_state.specs.State.{sound}
+use Rattle.sheet_line.specs.Line.{telling}
+use Rattle.sheet_records.specs.declared.Writing.{Writing as SheetWriting}
+use Rattle.sheet_records.specs.declared.Writing.the-variants as written
+use Rattle.sheet_records.specs.Answers as ledger
+use Rattle.sheet_records.specs.Ledger.{linesFrom, sheetText}
+use Rattle.sheet_line.specs.declared.Field.the-variants.{Empty, LeadingZero, Number, Strange, TooLong}
+use Rattle.sheet_line.specs.Field.{endsHere, faultIn, fieldAt, fieldOf, readAs, strangeIn}
+use Rattle.sheet_line.specs.Column.{howMany, recordColumn, recordFields, standardColumn, standardFields}
+use Rattle.sheet_line.specs.Form.{begins}
+use Rattle.sheet_reply.specs.Written.{reasonText, refusedText}
 
 -- ---- [1] comma files
 -- nothing but a number for what is done, the number and the value for what is refused

@@ -6,20 +6,20 @@ use mathlib.Core.List.{List, [], _∷_, map}
 use Prim.Native.Nat.{ℕ, _*_}
 use lib.Ieee.{Float, binary64, div, ofBits, ofInt}
 use Rattle.poisson.specs.Tables.{l, lowerRows, u, upperRows}
-use Rattle.result.specs.declared.Outcome.{Outcome}
-use Rattle.campaign.specs.declared.Answer.the-variants.{Taken}
-use Rattle.campaign.specs.declared.Campaign.{Campaign}
-use Rattle.campaign.specs.Answers.{entering}
-use Rattle.campaign.specs.Records.{butLast, campaignOf, censoredIn, exposureIn, failuresIn, lastFailed}
-use Rattle.campaign.specs.State.{censored, empty, sound}
-use Rattle.verdict.specs.declared.Judged.the-variants.{Given}
-use Rattle.verdict.specs.declared.Rated.the-variants as rated
-use Rattle.verdict.specs.declared.Rates.{Rates}
-use Rattle.verdict.specs.declared.Verdict.{Verdict}
-use Rattle.verdict.specs.declared.Verdict.the-variants.{Accept, Continue, NoRecord, Reject}
-use Rattle.verdict.specs.Answers.{judging, rating}
-use Rattle.verdict.specs.Figures.{quotient, ratesOf, verdictOf}
-use Rattle.verdict.specs.Letters.{letterE, letterOf}
+use Rattle.record_end.specs.declared.Outcome.{Outcome}
+use Rattle.campaign_state.specs.declared.Answer.the-variants.{Taken}
+use Rattle.campaign_state.specs.declared.Campaign.{Campaign}
+use Rattle.campaign_state.specs.Answers.{entering}
+use Rattle.campaign_state.specs.Records.{butLast, campaignOf, censoredIn, exposureIn, failuresIn, lastFailed}
+use Rattle.campaign_state.specs.State.{censored, empty, sound}
+use Rattle.campaign_verdict.specs.declared.Judged.the-variants.{Given}
+use Rattle.campaign_verdict.specs.declared.Rated.the-variants as rated
+use Rattle.campaign_verdict.specs.declared.Rates.{Rates}
+use Rattle.campaign_verdict.specs.declared.Verdict.{Verdict}
+use Rattle.campaign_verdict.specs.declared.Verdict.the-variants.{Accept, Continue, NoRecord, Reject}
+use Rattle.campaign_verdict.specs.Answers.{judging, rating}
+use Rattle.campaign_verdict.specs.Figures.{quotient, ratesOf, verdictOf}
+use Rattle.campaign_verdict.specs.Letters.{letterE, letterOf}
 
 -- q, M, N, whether the last record failed, T
 abbrev at : ℕ → ℕ → ℕ → Bool → ℕ → Campaign

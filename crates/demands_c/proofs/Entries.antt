@@ -25,80 +25,80 @@ use Rattle.refusal.specs.Numbers.{numberOf}
 use Rattle.refusal.specs.declared.Refusal.{Refusal}
 use Rattle.refusal.specs.declared.Refusal.the-variants.{BrokenState, BureauFull, CampaignFull, Item, Line, Room}
 use Rattle.refusal.specs.declared.Refusal.the-variants.{RowsUsedUp, TooLong, TooShort, Unequal}
-use Rattle.channels.specs.declared.Levels.{Levels}
-use Rattle.channels.specs.Channels.{anyBad, badSample, moments}
-use Rattle.range.specs.Range.{firstBad}
-use Rattle.limits.specs.Limits.{mostSamples, stepInRange}
-use Rattle.reading.specs.Reading.{counted, countedTimes}
-use Rattle.listing.specs.declared.Listed.{Listed}
-use Rattle.listing.specs.declared.Listed.the-variants as listing
-use Rattle.listing.specs.Answers as lists
-use Rattle.record.specs.declared.Answer.{Answer as Reading}
-use Rattle.record.specs.declared.Answer.the-variants as read
-use Rattle.record.specs.declared.Record.{Record}
-use Rattle.record.specs.Answers.{opened}
-use Rattle.record.specs.State.{sound, stateOf, tooShort}
-use Rattle.steps.specs.Step.{stepped}
-use Rattle.feeding.specs.Answers.{fed}
-use Rattle.result.specs.declared.Ended.{Ended}
-use Rattle.result.specs.declared.Ended.the-variants as ended
-use Rattle.result.specs.declared.Outcome.{Outcome}
-use Rattle.result.specs.declared.Result.{Result}
-use Rattle.result.specs.Result.{ending, outcomeOf}
-use Rattle.result.specs.Result as results
-use Rattle.campaign.specs.declared.Answer.{Answer as Campaigned}
-use Rattle.campaign.specs.declared.Answer.the-variants as campaigned
-use Rattle.campaign.specs.declared.Campaign.{Campaign}
-use Rattle.campaign.specs.Answers as campaigns
-use Rattle.campaign.specs.Answers.{entering, outcomeKept}
-use Rattle.campaign.specs.State.{empty, entered, standardInRange}
-use Rattle.campaign.specs.State as campaigning
-use Rattle.verdict.specs.declared.Rates.{Rates}
-use Rattle.verdict.specs.declared.Verdict.{Verdict}
-use Rattle.verdict.specs.declared.Verdict.the-variants.{Accept, Continue, NoRecord, Reject}
-use Rattle.verdict.specs.Figures.{ratesOf, verdictOf}
-use Rattle.sum.specs.declared.Answer.{Answer as Summing}
-use Rattle.sum.specs.declared.Answer.the-variants as summed
-use Rattle.sum.specs.declared.Sum.{Sum}
-use Rattle.sum.specs.Answers as adding
-use Rattle.sum.specs.State as sums
-use Rattle.spread.specs.Answers.{bounding, recorded}
-use Rattle.spread.specs.Bounds.{boundsOf}
-use Rattle.spread.specs.Bounds as spread
+use Rattle.sample_channels.specs.declared.Levels.{Levels}
+use Rattle.sample_channels.specs.Channels.{anyBad, badSample, moments}
+use Rattle.sample_range.specs.Range.{firstBad}
+use Rattle.sample_items.specs.Limits.{mostSamples, stepInRange}
+use Rattle.crossing_places.specs.Reading.{counted, countedTimes}
+use Rattle.record_list.specs.declared.Listed.{Listed}
+use Rattle.record_list.specs.declared.Listed.the-variants as listing
+use Rattle.record_list.specs.Answers as lists
+use Rattle.record_state.specs.declared.Answer.{Answer as Reading}
+use Rattle.record_state.specs.declared.Answer.the-variants as read
+use Rattle.record_state.specs.declared.Record.{Record}
+use Rattle.record_state.specs.Answers.{opened}
+use Rattle.record_state.specs.State.{sound, stateOf, tooShort}
+use Rattle.record_step.specs.Step.{stepped}
+use Rattle.record_feed.specs.Answers.{fed}
+use Rattle.record_end.specs.declared.Ended.{Ended}
+use Rattle.record_end.specs.declared.Ended.the-variants as ended
+use Rattle.record_end.specs.declared.Outcome.{Outcome}
+use Rattle.record_end.specs.declared.Result.{Result}
+use Rattle.record_end.specs.Result.{ending, outcomeOf}
+use Rattle.record_end.specs.Result as results
+use Rattle.campaign_state.specs.declared.Answer.{Answer as Campaigned}
+use Rattle.campaign_state.specs.declared.Answer.the-variants as campaigned
+use Rattle.campaign_state.specs.declared.Campaign.{Campaign}
+use Rattle.campaign_state.specs.Answers as campaigns
+use Rattle.campaign_state.specs.Answers.{entering, outcomeKept}
+use Rattle.campaign_state.specs.State.{empty, entered, standardInRange}
+use Rattle.campaign_state.specs.State as campaigning
+use Rattle.campaign_verdict.specs.declared.Rates.{Rates}
+use Rattle.campaign_verdict.specs.declared.Verdict.{Verdict}
+use Rattle.campaign_verdict.specs.declared.Verdict.the-variants.{Accept, Continue, NoRecord, Reject}
+use Rattle.campaign_verdict.specs.Figures.{ratesOf, verdictOf}
+use Rattle.binomial_sum.specs.declared.Answer.{Answer as Summing}
+use Rattle.binomial_sum.specs.declared.Answer.the-variants as summed
+use Rattle.binomial_sum.specs.declared.Sum.{Sum}
+use Rattle.binomial_sum.specs.Answers as adding
+use Rattle.binomial_sum.specs.State as sums
+use Rattle.binomial_bounds.specs.Answers.{bounding, recorded}
+use Rattle.binomial_bounds.specs.Bounds.{boundsOf}
+use Rattle.binomial_bounds.specs.Bounds as spread
 use Rattle.poisson.specs.Rows as quantiles
-use Rattle.bench.specs.declared.Answer.{Answer as Answered}
-use Rattle.bench.specs.declared.Answer.the-variants as answered
-use Rattle.bench.specs.declared.Ask.{Ask}
-use Rattle.bench.specs.declared.Ask.the-variants.{On, Take}
-use Rattle.bench.specs.declared.Work.the-variants.{Enter, GiveBack, Judge, Rate}
-use Rattle.bench.specs.Table.{at, jobs, lowestFree, mostJobs}
-use Rattle.bench.specs.Calls.{called}
-use Rattle.condition.specs.Standing.{standing}
-use Rattle.report.specs.Answers as reporting
-use Rattle.report.specs.Report.{reportText}
-use Rattle.line.specs.declared.Sheet.{Sheet as Standing}
-use Rattle.line.specs.declared.Sheet.the-variants.{Fresh, Open}
-use Rattle.line.specs.declared.Step.{Step}
-use Rattle.line.specs.declared.Step.the-variants.{Next, Stop}
-use Rattle.line.specs.Line.{stepping}
-use Rattle.sheet.specs.declared.Reading.{Reading as Ending}
-use Rattle.sheet.specs.declared.Reading.the-variants as sheet
-use Rattle.sheet.specs.Sheet.{afterStep, meaning, reading}
-use Rattle.ledger.specs.Answers as ledger
-use Rattle.ledger.specs.Ledger.{sheetText}
-use Rattle.resume.specs.declared.Resumed.the-variants as resumed
-use Rattle.resume.specs.Records.{filledBy, recordsOf, resuming}
+use Rattle.bureau_table.specs.declared.Answer.{Answer as Answered}
+use Rattle.bureau_table.specs.declared.Answer.the-variants as answered
+use Rattle.bureau_table.specs.declared.Ask.{Ask}
+use Rattle.bureau_table.specs.declared.Ask.the-variants.{On, Take}
+use Rattle.bureau_table.specs.declared.Work.the-variants.{Enter, GiveBack, Judge, Rate}
+use Rattle.bureau_table.specs.Table.{at, jobs, lowestFree, mostJobs}
+use Rattle.bureau_table.specs.Calls.{called}
+use Rattle.campaign_condition.specs.Standing.{standing}
+use Rattle.campaign_report.specs.Answers as reporting
+use Rattle.campaign_report.specs.Report.{reportText}
+use Rattle.sheet_line.specs.declared.Sheet.{Sheet as Standing}
+use Rattle.sheet_line.specs.declared.Sheet.the-variants.{Fresh, Open}
+use Rattle.sheet_line.specs.declared.Step.{Step}
+use Rattle.sheet_line.specs.declared.Step.the-variants.{Next, Stop}
+use Rattle.sheet_line.specs.Line.{stepping}
+use Rattle.sheet_text.specs.declared.Reading.{Reading as Ending}
+use Rattle.sheet_text.specs.declared.Reading.the-variants as sheet
+use Rattle.sheet_text.specs.Sheet.{afterStep, meaning, reading}
+use Rattle.sheet_records.specs.Answers as ledger
+use Rattle.sheet_records.specs.Ledger.{sheetText}
+use Rattle.sheet_records.specs.declared.Resumed.the-variants as resumed
+use Rattle.sheet_records.specs.Records.{filledBy, recordsOf, resuming}
 use Rattle.decimal.specs.Lines.{linesOf}
-use Rattle.comma.specs.Text.{samplesOf, textOf}
-use Rattle.intake.specs.Answers as intake
-use Rattle.scribe.specs.Answers as scribe
-use Rattle.stretch.specs.Peaks.{handed}
-use Rattle.envelope.specs.declared.Found.{Found}
-use Rattle.envelope.specs.Answers.{momentOf, sizeOf}
-use Rattle.envelope.specs.Answers as envelope
-use Rattle.tail.specs.declared.Fitted.{Fitted}
-use Rattle.tail.specs.declared.Fitted.the-variants as fitted
-use Rattle.tail.specs.Fitting.{Leaves, Summed}
+use Rattle.comma_line.specs.Text.{samplesOf, textOf}
+use Rattle.comma_read.specs.Answers as intake
+use Rattle.comma_write.specs.Answers as scribe
+use Rattle.peak_groups.specs.Peaks.{handed}
+use Rattle.peak_envelope.specs.declared.Found.{Found}
+use Rattle.peak_envelope.specs.Answers.{momentOf, sizeOf}
+use Rattle.peak_envelope.specs.Answers as envelope
+use Rattle.peak_tail.specs.declared.Fitted.{Fitted}
+use Rattle.peak_tail.specs.declared.Fitted.the-variants as fitted
+use Rattle.peak_tail.specs.Fitting.{Leaves, Summed}
 use Rattle.demands.proofs.Demand1.{Decides, Test, demand-1, itemTests, listTests, resultTests}
 use Rattle.demands.proofs.Demand1.{_gives_, end, here, not-it}
 use Rattle.demands.proofs.Request1 as request1
@@ -120,17 +120,17 @@ use Rattle.capi_record.specs.Told.{recordListed, recordOpened}
 use Rattle.capi_campaign.specs.Told.{campaignEntered, campaignOpened, campaignResultEntered, outcome}
 use Rattle.capi_verdict.specs.Told.{Judgement, Rating, campaignCensored, campaignJudged, campaignRated, countTold}
 use Rattle.capi_verdict.specs.Told.{judgedTold, ratedTold, verdictTold}
-use Rattle.capi_sum.specs.Told.{boundsNumbers, boundsTold, ofBounds, ofSum, sumAdded, sumBounded, sumKept, sumNumbers}
-use Rattle.capi_sum.specs.Told.{sumOf, sumOpened, sumRated, sumTold}
-use Rattle.capi_bench.specs.Rows as row
-use Rattle.capi_bench.specs.Rows.{placesOf, rowsLeft}
-use Rattle.capi_bench.specs.Told.{plain}
-use Rattle.capi_bench.specs.Told as bench-told
+use Rattle.capi_binomial.specs.Told.{boundsNumbers, boundsTold, ofBounds, ofSum, sumAdded, sumBounded, sumKept, sumNumbers}
+use Rattle.capi_binomial.specs.Told.{sumOf, sumOpened, sumRated, sumTold}
+use Rattle.capi_bureau.specs.Rows as row
+use Rattle.capi_bureau.specs.Rows.{placesOf, rowsLeft}
+use Rattle.capi_bureau.specs.Told.{plain}
+use Rattle.capi_bureau.specs.Told as bench-told
 use Rattle.capi_condition.specs.Told.{campaignsOf, conditionJudged, conditionReported, judgeTold, standingCode}
 use Rattle.capi_condition.specs.Told as conditions
 use Rattle.capi_sheet.specs.Told.{sheetColumn, sheetLine, sheetRead}
-use Rattle.capi_ledger.specs.Told.{recordsColumn, recordsLeft, recordsLine, recordsRead, recordsStandard, sheetWritten}
-use Rattle.capi_ledger.specs.Told as ledgers
+use Rattle.capi_sheet_records.specs.Told.{recordsColumn, recordsLeft, recordsLine, recordsRead, recordsStandard, sheetWritten}
+use Rattle.capi_sheet_records.specs.Told as ledgers
 use Rattle.capi_comma.specs.Told.{commaRead, commaSamples, commaWritten}
 use Rattle.capi_comma.specs.Told as commas
 use Rattle.capi_envelope.specs.Told.{envelopeFound, envelopeTimes, foundTold}

@@ -20,26 +20,26 @@ use Rattle.refusal.specs.declared.Refusal.the-variants.{Item, Sample, TooLong, 
 use Rattle.refusal.specs.declared.Refusal.the-variants.{BrokenState, Line, CommaLine, SumFull, Unequal, NoBureau}
 use Rattle.refusal.specs.declared.Refusal.the-variants.{BureauFull, NotItsOwn, Tail, Peak, Situations, Situation}
 use Rattle.refusal.specs.declared.Refusal.the-variants.{Acceleration}
-use Rattle.record.specs.declared.Record.{Record}
-use Rattle.record.specs.State as recording
-use Rattle.result.specs.declared.Result.{Result}
-use Rattle.campaign.specs.declared.Campaign.{Campaign}
-use Rattle.campaign.specs.State as campaigning
-use Rattle.verdict.specs.declared.Verdict.the-variants.{Accept, Continue, NoRecord, Reject}
-use Rattle.verdict.specs.Figures.{zero64}
-use Rattle.sum.specs.declared.Sum.{Sum}
-use Rattle.sum.specs.State as summing
-use Rattle.spread.specs.declared.Bounds.{Bounds}
-use Rattle.bench.specs.declared.Place.{Place}
-use Rattle.bench.specs.Table.{placeKept, places}
-use Rattle.condition.specs.Answers.{mostSituations}
-use Rattle.condition.specs.declared.Standing.the-variants.{Accepted, Open, Rejected}
+use Rattle.record_state.specs.declared.Record.{Record}
+use Rattle.record_state.specs.State as recording
+use Rattle.record_end.specs.declared.Result.{Result}
+use Rattle.campaign_state.specs.declared.Campaign.{Campaign}
+use Rattle.campaign_state.specs.State as campaigning
+use Rattle.campaign_verdict.specs.declared.Verdict.the-variants.{Accept, Continue, NoRecord, Reject}
+use Rattle.campaign_verdict.specs.Figures.{zero64}
+use Rattle.binomial_sum.specs.declared.Sum.{Sum}
+use Rattle.binomial_sum.specs.State as summing
+use Rattle.binomial_bounds.specs.declared.Bounds.{Bounds}
+use Rattle.bureau_table.specs.declared.Place.{Place}
+use Rattle.bureau_table.specs.Table.{placeKept, places}
+use Rattle.campaign_condition.specs.Answers.{mostSituations}
+use Rattle.campaign_condition.specs.declared.Standing.the-variants.{Accepted, Open, Rejected}
 use Rattle.capi.specs.Numbers.{campaignNumbers, campaignOf, codeOf, flag, isCampaign, isRecord, numberAt, ofCampaign}
 use Rattle.capi.specs.Numbers.{ofRecord, ofResult, recordNumbers, recordOf, resultNumbers, resultOf, sampleOf}
 use Rattle.capi.proofs.States.{other-campaign, other-record}
 use Rattle.capi_verdict.specs.Told.{judgement, verdictTold}
-use Rattle.capi_sum.specs.Told.{ofBounds, ofSum, sumNumbers, sumOf}
-use Rattle.capi_bench.specs.Rows.{ofPlace, placeOf}
+use Rattle.capi_binomial.specs.Told.{ofBounds, ofSum, sumNumbers, sumOf}
+use Rattle.capi_bureau.specs.Rows.{ofPlace, placeOf}
 use Rattle.capi_condition.specs.Told.{standingCode}
 use Rattle.demands_c.specs.Header.{CHIM-ACCELERATION, CHIM-ACCEPT, CHIM-ACCEPTED, CHIM-BENCH-PLACES}
 use Rattle.demands_c.specs.Header.{CHIM-BOUNDS-NUMBERS, CHIM-BROKEN-STATE, CHIM-BUREAU-FULL, CHIM-CAMPAIGN-FULL}

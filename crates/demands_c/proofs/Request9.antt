@@ -9,24 +9,24 @@ use mathlib.Core.List.{List, [], _∷_, _++_}
 use Prim.Native.Nat.{ℕ, _<_}
 use lib.ListN.{getD, length, length-set}
 use Rattle.refusal.specs.declared.Refusal.{Refusal}
-use Rattle.result.specs.declared.Outcome.{Outcome}
-use Rattle.bench.specs.declared.Answer.{Answer}
-use Rattle.bench.specs.declared.Answer.the-variants.{Placed, Refused}
-use Rattle.bench.specs.declared.Ask.{Ask}
-use Rattle.bench.specs.declared.Ask.the-variants.{On, Take}
-use Rattle.bench.specs.declared.Call.{Call}
-use Rattle.bench.specs.declared.Place.{Place}
-use Rattle.bench.specs.declared.Work.the-variants.{Judge, Rate}
-use Rattle.bench.specs.Table.{allKept, at, isBureau, jobs, kept}
-use Rattle.bench.specs.Calls.{called}
-use Rattle.bench.specs.Calls as bench
-use Rattle.bench.specs.History.{Move, alone, aside, deskAnswers, enters, frees, mine, noted, other, ownJobs, ownPlaces}
-use Rattle.bench.specs.History.{script, sent}
-use Rattle.bench.specs.History as places
-use Rattle.bench.proofs.Cases.{Made, called-made, enters as entering, frees as freeing, places as placing, reads}
-use Rattle.bench.proofs.Cases.{refuses}
-use Rattle.capi_bench.specs.Rows.{placesOf, rowsLeft}
-use Rattle.capi_bench.proofs.Rows.{row-stays, rows-length, rows-stand, rows-stay}
+use Rattle.record_end.specs.declared.Outcome.{Outcome}
+use Rattle.bureau_table.specs.declared.Answer.{Answer}
+use Rattle.bureau_table.specs.declared.Answer.the-variants.{Placed, Refused}
+use Rattle.bureau_table.specs.declared.Ask.{Ask}
+use Rattle.bureau_table.specs.declared.Ask.the-variants.{On, Take}
+use Rattle.bureau_table.specs.declared.Call.{Call}
+use Rattle.bureau_table.specs.declared.Place.{Place}
+use Rattle.bureau_table.specs.declared.Work.the-variants.{Judge, Rate}
+use Rattle.bureau_table.specs.Table.{allKept, at, isBureau, jobs, kept}
+use Rattle.bureau_table.specs.Calls.{called}
+use Rattle.bureau_table.specs.Calls as bench
+use Rattle.bureau_table.specs.History.{Move, alone, aside, deskAnswers, enters, frees, mine, noted, other, ownJobs, ownPlaces}
+use Rattle.bureau_table.specs.History.{script, sent}
+use Rattle.bureau_table.specs.History as places
+use Rattle.bureau_table.proofs.Cases.{Made, called-made, enters as entering, frees as freeing, places as placing, reads}
+use Rattle.bureau_table.proofs.Cases.{refuses}
+use Rattle.capi_bureau.specs.Rows.{placesOf, rowsLeft}
+use Rattle.capi_bureau.proofs.Rows.{row-stays, rows-length, rows-stand, rows-stay}
 use Rattle.demands.proofs.Request9.{Holds, request-9}
 use Rattle.demands_c.specs.History.{after, answers, answersFrom, emptyRows, entriesAt, freedAt, made}
 

@@ -5,15 +5,15 @@ use mathlib.Core.Bool.{Bool, false, _||_}
 use mathlib.Core.List.{List, [], _∷_, _++_}
 use Prim.Native.Nat.{ℕ}
 use lib.ListN.{replicate}
-use Rattle.result.specs.declared.Outcome.{Outcome}
-use Rattle.bench.specs.declared.Answer.{Answer}
-use Rattle.bench.specs.declared.Ask.{Ask}
-use Rattle.bench.specs.declared.Call.{Call}
-use Rattle.bench.specs.Table.{places}
-use Rattle.bench.specs.Calls.{called}
-use Rattle.bench.specs.Calls as bench
-use Rattle.bench.specs.History.{Move, aside, enters, frees, mine, noted, other, ownPlaces, sent}
-use Rattle.capi_bench.specs.Rows.{placesOf, rowsLeft}
+use Rattle.record_end.specs.declared.Outcome.{Outcome}
+use Rattle.bureau_table.specs.declared.Answer.{Answer}
+use Rattle.bureau_table.specs.declared.Ask.{Ask}
+use Rattle.bureau_table.specs.declared.Call.{Call}
+use Rattle.bureau_table.specs.Table.{places}
+use Rattle.bureau_table.specs.Calls.{called}
+use Rattle.bureau_table.specs.Calls as bench
+use Rattle.bureau_table.specs.History.{Move, aside, enters, frees, mine, noted, other, ownPlaces, sent}
+use Rattle.capi_bureau.specs.Rows.{placesOf, rowsLeft}
 
 -- 32 rows of six zeros: an empty bench
 abbrev pub emptyRows : List (List ℕ)

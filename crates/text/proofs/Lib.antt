@@ -1,3 +1,3 @@
+pub mod Unique
 pub mod Laws
 pub mod Parts
-pub mod Unique

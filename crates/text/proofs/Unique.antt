@@ -1,10 +1,14 @@
--- Two answers that a promise allows are the same answer, with the same bytes left. Assumes nothing.
+-- Two answers that a promise allows are the same answer: the promise equates it with a definition's value. Assumes nothing.
 use mathlib.Core.Path.{_≡_}
-use mathlib.Core.Bool.{Bool}
 use mathlib.Core.List.{List}
 use Prim.Native.Nat.{ℕ, _+_}
+use Rattle.text.specs.Front.{kept}
+use mathlib.Core.Bool.{Bool}
 use lib.Dec.{leb}
 use Rattle.text.specs.Write.{written, placeAfter}
+
+pub keep-unique : (from count : ℕ) (bytes later other : List ℕ) → later ≡ kept from count bytes → other ≡ kept from count bytes → later ≡ other
+keep-unique from count bytes later other e f = cc
 
 pub has-room-unique : (len at count : ℕ) (r q : Bool) → r ≡ leb (at + count) len → q ≡ leb (at + count) len → r ≡ q
 has-room-unique len at count r q e f = cc

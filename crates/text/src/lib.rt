@@ -1,10 +1,26 @@
-// Texts written into lent bytes. A text is written whole from a place on, or, where it has no room, not at all.
-// The answer is the place after the text, so that writes follow one another; without room it is the place handed in.
+// Texts written into lent bytes: whole from a place on, or, where there is no room, not at all. The answer is the place
+// after the text, so that writes follow one another; without room it is the place handed in. And a part of lent bytes moved
+// to their front: what a reader through a fixed buffer does with a line that has begun and not ended yet.
 ghost use mathlib.Core.Path.{_≡_};
+ghost use Rattle.text.specs.Front.{kept};
 ghost use mathlib.Core.List.{[], _∷_};
 ghost use Prim.Native.Nat.{_+_};
 ghost use lib.Dec.{leb};
 ghost use Rattle.text.specs.Write.{written, placeAfter};
+
+// Moves `count` bytes from `from` on to the start of `bytes`, whose rest stays; where there are not so many, nothing.
+pub fn keep(bytes: &mut [u8], from: usize, count: usize)
+    ensures { λ _. ⌜ now (bytes .exit) ≡ kept from count (now (bytes .entry)) ⌝ }
+{
+    if !has_room(bytes.len(), from, count) {
+        return;
+    }
+    let mut i = 0;
+    while i < count {
+        bytes[i] = bytes[from + i];
+        i += 1;
+    }
+}
 
 // Whether `count` bytes from `at` on end within `len` bytes.
 pub fn has_room(len: usize, at: usize, count: usize) -> bool

@@ -322,7 +322,7 @@ pub fn censored(c: &Campaign) -> u64 {
 }
 
 impl Rows {
-    /// From the lines that the program `rows` writes and R checks.
+    /// From the lines that the program `run_rows` writes and R checks.
     pub fn read(text: &str) -> Rows {
         let mut rows = Rows { upper: vec![0], lower: vec![0] };
         for line in text.lines() {

@@ -4,7 +4,7 @@ use mathlib.Core.Path.{_≡_, ap, _∙_}
 use lib.ListN.{length}
 use denote.Ref.{now}
 use borrow.Author.Needs.{needs}
-use Rattle.condition.specs.Answers.{judging}
+use Rattle.campaign_condition.specs.Answers.{judging}
 use Rattle.capi_condition.specs.Told.{campaignsOf, judgeTold}
 use Rattle.capi_condition.proofs.Rows.{many-refused}
 use Rattle.capi_condition.proofs.chim_condition_judge.Statement.{statement}

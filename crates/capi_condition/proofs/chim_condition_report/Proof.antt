@@ -5,9 +5,9 @@ use mathlib.Core.List.{List}
 use lib.ListN.{length}
 use denote.Ref.{now}
 use borrow.Author.Needs.{needs}
-use Rattle.campaign.specs.declared.Campaign.{Campaign}
-use Rattle.report.specs.Answers.{laidBy, writing}
-use Rattle.report.specs.Report.{reportText}
+use Rattle.campaign_state.specs.declared.Campaign.{Campaign}
+use Rattle.campaign_report.specs.Answers.{laidBy, writing}
+use Rattle.campaign_report.specs.Report.{reportText}
 use Rattle.capi_condition.specs.Told.{campaignsOf, writeTold}
 use Rattle.capi_condition.proofs.Rows.{many-declined}
 use Rattle.capi_condition.proofs.chim_condition_report.Statement.{statement}

@@ -1,7 +1,7 @@
 -- `capi_sheet::chim_sheet_read` meets its contract: a whole text read from its start is its meaning. Assumes nothing.
 use mathlib.Core.Path.{ap, _∙_}
 use borrow.Author.Tests.{eq-eqb, ne-eqb}
-use Rattle.sheet.specs.Sheet.{meaning, readingEnd}
+use Rattle.sheet_text.specs.Sheet.{meaning, readingEnd}
 use Rattle.capi.specs.Told.{campaignKept}
 use Rattle.capi_sheet.specs.Told.{answerOf, columnOf, lineOf, sheetColumn, sheetLine}
 use borrow.Author.Needs.{needs}

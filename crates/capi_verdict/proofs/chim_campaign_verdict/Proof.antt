@@ -1,5 +1,5 @@
 -- `capi_verdict::chim_campaign_verdict` meets its contract: what the campaign answered is known in each arm. Assumes nothing.
-use Rattle.verdict.proofs.Only.{only}
+use Rattle.campaign_verdict.proofs.Only.{only}
 use Rattle.capi_verdict.specs.Told.{judgedTold}
 use borrow.Author.Needs.{needs}
 use Rattle.capi_verdict.proofs.chim_campaign_verdict.Statement.{statement}

@@ -1,0 +1,66 @@
+-- `Sum::add` meets its contract: each answer follows from the tests that led to it; a sound record's figures are small enough to add. Assumes nothing.
+use native.Mathlib.Omega.{arith}
+use borrow.Author.Tests.{eq-eqb, le-ltb, lt-ltb, ne-eqb}
+use Rattle.truth.proofs.Laws.{holds, said-no, said-yes}
+use Rattle.record_state.proofs.Bounds.{items-of}
+use Rattle.record_state.proofs.Relations as kept
+use Rattle.binomial_sum.specs.Answers.{adding}
+use Rattle.binomial_sum.proofs.Relations.{brings, kept-from}
+use borrow.Author.Needs.{needs}
+use Rattle.binomial_sum.proofs.Sum.add.Statement.{statement}
+use Rattle.binomial_sum.proofs.Sum.add.Tie as tie
+
+sound-requires : tie.Need-sound-requires
+sound-requires c κs = search needs
+
+returns : tie.Need-returns
+unfolding adding
+returns c = rw (said-no (c .before .sound .ensures) (c .if1 .taken))
+
+sound-requires-2 : tie.Need-sound-requires-2
+sound-requires-2 c κs = search needs
+
+returns-2 : tie.Need-returns-2
+unfolding adding
+returns-2 c = rw (said-yes (c .before .before .before .sound .ensures) (c .before .before .if1 .left), said-no (c .before .sound2 .ensures) (c .if2 .taken))
+
+add-if3 : tie.Need-add-if3
+add-if3 c = omega (arith, items-of (kept.kept-from (c .before .before .before .before .before .args .r) (said-yes (c .before .before .sound2 .ensures) (c .before .if2 .left))) .ramp)
+
+returns-3 : tie.Need-returns-3
+unfolding adding
+returns-3 c = rw (said-yes (c .before .before .before .before .before .before .sound .ensures) (c .before .before .before .before .before .if1 .left), said-yes (c .before .before .before .before .sound2 .ensures) (c .before .before .before .if2 .left), lt-ltb _ _ (c .if3 .taken))
+
+returns-4 : tie.Need-returns-4
+unfolding adding
+returns-4 c = rw (said-yes (c .before .before .before .before .before .before .before .before .before .sound .ensures) (c .before .before .before .before .before .before .before .before .if1 .left), said-yes (c .before .before .before .before .before .before .before .sound2 .ensures) (c .before .before .before .before .before .before .if2 .left), le-ltb _ _ (c .before .before .before .if3 .left), ne-eqb _ _ (c .if4 .taken))
+
+sub-take : tie.Need-sub-take
+sub-take c = search needs
+
+take-requires : tie.Need-take-requires
+take-requires c κs =
+    let a = c .before .before .before .before .before .before .before .before .before .before .before .args in
+    let b = brings (a .r) (said-yes (c .before .before .before .before .before .before .before .before .sound2 .ensures) (c .before .before .before .before .before .before .before .if2 .left)) (le-ltb _ _ (c .before .before .before .before .if3 .left)) in
+    (kept-from (a .self) (holds (said-yes (c .before .before .before .before .before .before .before .before .before .before .sound .ensures) (c .before .before .before .before .before .before .before .before .before .if1 .left))), omega (arith, b .groups, b .few), b .few)
+
+returns-5 : tie.Need-returns-5
+unfolding adding
+returns-5 c =
+    rw (said-yes (c .before .before .before .before .before .before .before .before .before .before .before .sound .ensures) (c .before .before .before .before .before .before .before .before .before .before .if1 .left), said-yes (c .before .before .before .before .before .before .before .before .before .sound2 .ensures) (c .before .before .before .before .before .before .before .before .if2 .left), le-ltb _ _ (c .before .before .before .before .before .if3 .left), eq-eqb _ _ (c .before .before .if4 .left))
+    (c .take .ensures)
+
+pub add-spec : {M : Type 1} → statement M
+add-spec =
+    tie.close
+    (tie.spec
+    sound-requires
+    returns
+    sound-requires-2
+    returns-2
+    add-if3
+    returns-3
+    returns-4
+    sub-take
+    take-requires
+    returns-5)

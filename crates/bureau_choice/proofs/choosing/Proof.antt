@@ -1,0 +1,24 @@
+-- `bureau_choice::choosing` meets its contract: by what is asked. Assumes nothing.
+use borrow.Author.Needs.{needs}
+use Rattle.bureau_choice.proofs.choosing.Statement.{statement}
+use Rattle.bureau_choice.proofs.choosing.Tie as tie
+
+enum-known-ask : tie.Need-enum-known-ask
+enum-known-ask c = search needs
+
+taking-requires : tie.Need-taking-requires
+taking-requires c κs = search needs
+
+enum-known-ask-2 : tie.Need-enum-known-ask-2
+enum-known-ask-2 c = search needs
+
+returns : tie.Need-returns
+returns c = rw (c .before .before .ask .given .1) (c .taking .ensures)
+
+returns-2 : tie.Need-returns-2
+returns-2 c = rw (c .before .ask2 .given .1)
+
+pub choosing-spec : {M : Type 1} → statement M
+choosing-spec =
+    tie.close
+    (tie.spec enum-known-ask taking-requires enum-known-ask-2 returns returns-2)

@@ -1,0 +1,50 @@
+-- `campaign_condition::said` meets its contract: the verdict that is answered is the campaign's only one. Assumes nothing.
+use mathlib.Core.Path.{ap, sym, _∙_}
+use borrow.Author.Needs.{needs}
+use Rattle.campaign_verdict.specs.declared.Judged.{Judged}
+use Rattle.campaign_verdict.proofs.Only.{only}
+use Rattle.campaign_condition.specs.declared.Told.{Told}
+use Rattle.campaign_condition.specs.Standing.{accepted, acceptance, holdsIn, rejected, rejection}
+use Rattle.campaign_condition.proofs.said.Statement.{statement}
+use Rattle.campaign_condition.proofs.said.Tie as tie
+
+judge-requires : tie.Need-judge-requires
+judge-requires c κs = search needs
+
+enum-known-v : tie.Need-enum-known-v
+enum-known-v c = search needs
+
+rejection-requires : tie.Need-rejection-requires
+rejection-requires c κs = search needs
+
+acceptance-requires : tie.Need-acceptance-requires
+acceptance-requires c κs = search needs
+
+enum-told : tie.Need-enum-told
+enum-told c = search needs
+
+returns : tie.Need-returns
+unfolding rejected accepted
+returns c =
+    let v = c .before .before .before in
+    let is = sym (v .v .given .1) ∙ only _ (v .before .before .judge .result) (v .before .before .judge .ensures) in
+    rw (c .before .rejection .ensures ∙ ap (holdsIn rejection) is, c .acceptance .ensures ∙ ap (holdsIn acceptance) is)
+
+returns-2 : tie.Need-returns-2
+unfolding rejected accepted
+returns-2 c =
+    let is = sym (c .enum-told .given .1) ∙ only _ (c .before .before .judge .result) (c .before .before .judge .ensures) in
+    let tells : Judged → Told = λ j. record { rejected = holdsIn rejection j; accepted = holdsIn acceptance j } in
+    ap tells is
+
+pub said-spec : {M : Type 1} → statement M
+said-spec =
+    tie.close
+    (tie.spec
+    judge-requires
+    enum-known-v
+    rejection-requires
+    acceptance-requires
+    enum-told
+    returns
+    returns-2)

@@ -1,0 +1,36 @@
+-- `campaign_report::letter` meets its contract: of a state that keeps its relations the campaign gives its verdict, which has its letter. Assumes nothing.
+use mathlib.Core.Path.{ap, _∙_}
+use Rattle.campaign_verdict.proofs.Given.{has-verdict, not-refused}
+use Rattle.campaign_report.specs.Report.{letterFor, verdictLetter}
+use borrow.Author.Needs.{needs}
+use Rattle.campaign_report.proofs.letter.Statement.{statement}
+use Rattle.campaign_report.proofs.letter.Tie as tie
+
+judge-requires : tie.Need-judge-requires
+judge-requires c κs = search needs
+
+enum-known-v : tie.Need-enum-known-v
+enum-known-v c = search needs
+
+verdict-letter-requires : tie.Need-verdict-letter-requires
+verdict-letter-requires c κs = search needs
+
+enum-told : tie.Need-enum-told
+enum-told c = search needs
+
+returns : tie.Need-returns
+unfolding letterFor
+returns c =
+    let v = c .before .before in
+    let j = v .before .before in
+    c .verdict-letter .ensures ∙ ap verdictLetter (has-verdict (j .before .args .c) (j .before .pre) (j .judge .result) (j .judge .ensures) (v .v .given .1))
+
+returns-2 : tie.Need-returns-2
+returns-2 c =
+    let j = c .before .before in
+    absurd (not-refused (j .before .args .c) (j .before .pre) (j .judge .result) (j .judge .ensures) (c .enum-told .given .1))
+
+pub letter-spec : {M : Type 1} → statement M
+letter-spec =
+    tie.close
+    (tie.spec judge-requires enum-known-v verdict-letter-requires enum-told returns returns-2)

@@ -1,0 +1,153 @@
+-- `campaign_report::write` meets its contract: each refusal has the tests that led to it, and then the lines are put, and the last one. Assumes nothing.
+use Prim.Native.Nat.{ℕ, _+_, _≤_}
+use mathlib.Core.Path.{_≡_, refl, ap, subst, sym, _∙_}
+use mathlib.Core.List.{List, _++_}
+use native.Mathlib.Omega.{arith}
+use lib.ListN.{length, length-append, take}
+use denote.Ref.{now}
+use Rattle.text.proofs.Laws.{written-fits}
+use Rattle.text.proofs.Parts.{Left, left-all, left-fits, left-last, left-next}
+use Rattle.campaign_state.specs.declared.Campaign.{Campaign}
+use Rattle.campaign_condition.specs.Answers.{judging}
+use Rattle.campaign_condition.specs.declared.Answer.the-variants.{Given}
+use Rattle.campaign_condition.specs.declared.Standing.{Standing}
+use Rattle.campaign_condition.proofs.Whole.{Stood, stood}
+use Rattle.campaign_report.specs.Report.{linesFrom, reportText, totalText}
+use Rattle.campaign_report.specs.Answers.{laidBy}
+use Rattle.campaign_report.proofs.Texts.{all-written, at-fault, laid-front, no-room, report-parts}
+use borrow.Author.Needs.{needs}
+use Rattle.campaign_report.proofs.write.Statement.{statement}
+use Rattle.campaign_report.proofs.write.Tie as tie
+
+-- the condition has its standing
+module _ (c : tie.After-known-told2) where
+  abbrev start : tie.Start
+  start = c .before .before .before .before .before
+
+  abbrev Number : ℕ
+  Number = start .args .number
+
+  abbrev Situations : List Campaign
+  Situations = take Number (start .args .campaigns)
+
+  abbrev Out : List ℕ
+  Out = now (start .args .out)
+
+  abbrev S : Standing
+  S = c .before .s .given .0 .0
+
+  given : judging Number Situations ≡ Given S
+  given = sym (c .before .before .before .judge .ensures) ∙ c .before .s .given .1
+
+  stands : Stood Number Situations S
+  stands = stood Number Situations S given
+
+-- the sums, the letter and the bytes needed are those of the report
+module _ (c : tie.After-total-length) where
+  abbrev judged : tie.After-known-told2
+  judged = c .before .before .before .before
+
+  abbrev Last : List ℕ
+  Last = totalText (c .before .before .before .sum .result) (c .before .before .standing-letter .result)
+
+  whole : reportText (Situations judged) ≡ linesFrom 1 (Situations judged) ++ Last
+  whole = report-parts (Situations judged) _ (S judged) _ (c .before .before .before .sum .ensures) (stands judged .is) (c .before .before .standing-letter .ensures)
+
+  bytes : c .before .lines-length .result + c .total-length .result ≡ length (reportText (Situations judged))
+  bytes = omega (arith, c .before .lines-length .ensures .0, c .total-length .ensures .0, ap length whole ∙ length-append (linesFrom 1 (Situations judged)) Last)
+
+-- there is room for it
+module _ (c : tie.Else1) where
+  room : length (reportText (Situations (judged (c .before)))) ≤ length (Out (judged (c .before)))
+  room = omega (arith, bytes (c .before), c .if1 .left)
+
+  left0 : let j = judged (c .before) in Left (Out j) 0 (reportText (Situations j)) (linesFrom 1 (Situations j) ++ Last (c .before)) (Out j) 0
+  left0 =
+      let j = judged (c .before) in
+      subst (λ (rest : List ℕ). Left (Out j) 0 (reportText (Situations j)) rest (Out j) 0) (whole (c .before)) (left-all (Out j) 0 (reportText (Situations j)) (omega (arith, room)))
+
+left1 : (c : tie.After-put-lines) → let e = c .before .before in let j = judged (e .before) in
+    Left (Out j) 0 (reportText (Situations j)) (Last (e .before)) (c .put-lines .last .1 .1 .0) (c .put-lines .result)
+left1 c = left-next (linesFrom 1 (Situations (judged (c .before .before .before)))) _ (left0 (c .before .before)) (c .put-lines .ensures)
+
+judge-requires : tie.Need-judge-requires
+judge-requires c κs = search needs
+
+enum-known-r : tie.Need-enum-known-r
+enum-known-r c = search needs
+
+enum-known-s : tie.Need-enum-known-s
+enum-known-s c = search needs
+
+sum-requires : tie.Need-sum-requires
+sum-requires c κs = (stands c .few, stands c .whole)
+
+standing-letter-requires : tie.Need-standing-letter-requires
+standing-letter-requires c κs = search needs
+
+lines-length-requires : tie.Need-lines-length-requires
+lines-length-requires c κs = let j = c .before .before in (stands j .few, stands j .whole)
+
+total-length-requires : tie.Need-total-length-requires
+total-length-requires c κs = search needs
+
+add-needed : tie.Need-add-needed
+add-needed c = search needs
+
+returns : tie.Need-returns
+unfolding laidBy
+returns c =
+    let t = c .before in
+    let j = judged t in
+    (rw (bytes t) (no-room (Number j) (Situations j) (Out j) (given j) (omega (arith, bytes t, c .if1 .taken))), refl)
+
+put-lines-requires : tie.Need-put-lines-requires
+put-lines-requires c κs =
+    let t = c .before .before in
+    let j = judged t in
+    (stands j .few, stands j .whole, omega (arith, room (c .before), ap length (whole t) ∙ length-append (linesFrom 1 (Situations j)) (Last t)))
+
+put-total-requires : tie.Need-put-total-requires
+put-total-requires c κs = left-fits (left1 (c .before .before .before))
+
+returns-2 : tie.Need-returns-2
+unfolding laidBy
+returns-2 c =
+    let r = c .before in
+    let j = r .before .before in
+    let a = j .before .before .args in
+    (at-fault (a .number) (take (a .number) (a .campaigns)) (now (a .out)) (sym (j .judge .ensures) ∙ r .r .given .1), refl)
+
+same-length : tie.Need-same-length
+same-length c = search needs
+
+returns-3 : tie.Need-returns-3
+returns-3 c =
+    let p = c .before .before in
+    let l = p .before .before .before .before in
+    let e = l .before .before in
+    let t = e .before in
+    let j = judged t in
+    let text = reportText (Situations j) in (
+      rw (bytes t) (all-written (Number j) (Situations j) (Out j) (given j) (room e)),
+      rw (bytes t) (left-last (left1 l) (p .put-total .ensures) .1 ∙ written-fits (Out j) 0 text (omega (arith, room e)) ∙ laid-front (Out j) text),
+    )
+
+pub write-spec : {M : Type 1} → statement M
+write-spec =
+    tie.close
+    (tie.spec
+    judge-requires
+    enum-known-r
+    enum-known-s
+    sum-requires
+    standing-letter-requires
+    lines-length-requires
+    total-length-requires
+    add-needed
+    returns
+    put-lines-requires
+    put-total-requires
+    returns-2
+    same-length
+    returns-3)

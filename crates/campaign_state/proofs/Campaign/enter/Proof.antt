@@ -1,0 +1,40 @@
+-- `Campaign::enter` meets its contract: each answer follows from the tests that led to it. Assumes nothing.
+use borrow.Author.Tests.{leb-true}
+use lib.Dec.{leb}
+use Rattle.sample_items.specs.Limits.{longestTime}
+use Rattle.truth.proofs.Laws.{and-true, holds, said-no, said-yes}
+use Rattle.campaign_state.specs.Answers.{entering}
+use Rattle.campaign_state.proofs.Relations.{kept-from}
+use borrow.Author.Needs.{needs}
+use Rattle.campaign_state.proofs.Campaign.enter.Statement.{statement}
+use Rattle.campaign_state.proofs.Campaign.enter.Tie as tie
+
+sound-requires : tie.Need-sound-requires
+sound-requires c κs = search needs
+
+returns : tie.Need-returns
+unfolding entering
+returns c = rw (said-no (c .before .sound .ensures) (c .if1 .taken))
+
+both-requires : tie.Need-both-requires
+both-requires c κs = search needs
+
+returns-2 : tie.Need-returns-2
+unfolding entering
+returns-2 c = rw (said-yes (c .before .before .before .before .before .sound .ensures) (c .before .before .before .before .if1 .left), said-no (c .before .both .ensures) (c .if2 .taken))
+
+take-requires : tie.Need-take-requires
+take-requires c κs =
+    let s = c .before .before .before .before .before .before .args in
+    let e = said-yes (c .before .both .ensures) (c .if2 .left) in (
+      kept-from (s .self) (holds (said-yes (c .before .before .before .before .before .sound .ensures) (c .before .before .before .before .if1 .left))),
+      leb-true _ _ (and-true (leb 1 (s .o .exposure)) (leb (s .o .exposure) longestTime) e .1),
+    )
+
+returns-3 : tie.Need-returns-3
+unfolding entering
+returns-3 c = rw (said-yes (c .before .before .before .before .before .before .sound .ensures) (c .before .before .before .before .before .if1 .left), said-yes (c .before .before .both .ensures) (c .before .if2 .left)) (c .take .ensures)
+
+pub enter-spec : {M : Type 1} → statement M
+enter-spec =
+    tie.close (tie.spec sound-requires returns both-requires returns-2 take-requires returns-3)

@@ -1,0 +1,26 @@
+-- `campaign_verdict::judge` meets its contract: each answer follows from the tests that led to it. Assumes nothing.
+use mathlib.Core.Path.{refl}
+use native.Mathlib.Omega.{arith}
+use Rattle.truth.proofs.Laws.{holds, said-no, said-yes}
+use Rattle.campaign_state.proofs.Relations.{kept-from}
+use borrow.Author.Needs.{needs}
+use Rattle.campaign_verdict.proofs.judge.Statement.{statement}
+use Rattle.campaign_verdict.proofs.judge.Tie as tie
+
+sound-requires : tie.Need-sound-requires
+sound-requires c κs = search needs
+
+returns : tie.Need-returns
+returns c = (said-no (c .before .sound .ensures) (c .if1 .taken), refl)
+
+returns-2 : tie.Need-returns-2
+returns-2 c = (said-yes (c .before .before .before .sound .ensures) (c .before .before .if1 .left), c .if2 .taken)
+
+weigh-requires : tie.Need-weigh-requires
+weigh-requires c κs = (kept-from (c .before .before .before .before .args .c) (holds (said-yes (c .before .before .before .sound .ensures) (c .before .before .if1 .left))), omega arith)
+
+returns-3 : tie.Need-returns-3
+returns-3 c = (said-yes (c .before .before .before .before .sound .ensures) (c .before .before .before .if1 .left), c .weigh .ensures)
+
+pub judge-spec : {M : Type 1} → statement M
+judge-spec = tie.close (tie.spec sound-requires returns returns-2 weigh-requires returns-3)

@@ -1,0 +1,32 @@
+-- `campaign_verdict::rate` meets its contract: each answer follows from the tests that led to it. Assumes nothing.
+use mathlib.Core.Path.{ap}
+use mathlib.Core.Bool.{true}
+use borrow.Author.Tests.{eq-eqb, ne-eqb}
+use Rattle.truth.proofs.Laws.{holds, said-no, said-yes}
+use Rattle.campaign_verdict.specs.declared.Rated.the-variants.{Given}
+use Rattle.campaign_verdict.specs.Answers.{rating}
+use Rattle.campaign_state.proofs.Relations.{kept-from}
+use borrow.Author.Needs.{needs}
+use Rattle.campaign_verdict.proofs.rate.Statement.{statement}
+use Rattle.campaign_verdict.proofs.rate.Tie as tie
+
+sound-requires : tie.Need-sound-requires
+sound-requires c κs = search needs
+
+returns : tie.Need-returns
+unfolding rating
+returns c = rw (said-no (c .before .sound .ensures) (c .if1 .taken))
+
+returns-2 : tie.Need-returns-2
+unfolding rating
+returns-2 c = rw (said-yes (c .before .before .before .sound .ensures) (c .before .before .if1 .left), eq-eqb _ _ (c .if2 .taken))
+
+three-requires : tie.Need-three-requires
+three-requires c κs = kept-from (c .before .before .before .before .args .c) (holds (said-yes (c .before .before .before .sound .ensures) (c .before .before .if1 .left)))
+
+returns-3 : tie.Need-returns-3
+unfolding rating
+returns-3 c = rw (said-yes (c .before .before .before .before .sound .ensures) (c .before .before .before .if1 .left), ne-eqb _ _ (c .before .if2 .left)) (ap (Given true) (c .three .ensures))
+
+pub rate-spec : {M : Type 1} → statement M
+rate-spec = tie.close (tie.spec sound-requires returns returns-2 three-requires returns-3)

@@ -1,0 +1,18 @@
+-- `campaign_verdict::rejects` meets its contract: both products fit, the row and the standard having their bounds. Assumes nothing.
+use native.Mathlib.Omega.{arith}
+use native.Mathlib.Nat.{mul-le-mul}
+use borrow.Author.Needs.{needs}
+use Rattle.campaign_verdict.proofs.rejects.Statement.{statement}
+use Rattle.campaign_verdict.proofs.rejects.Tie as tie
+
+mul-result : tie.Need-mul-result
+mul-result c = search needs
+
+mul-result-2 : tie.Need-mul-result-2
+mul-result-2 c = omega (arith, mul-le-mul (c .before .before .pre .2) (c .before .before .pre .0 .standard-high))
+
+returns : tie.Need-returns
+returns c = rw (← c .before .before .pre .1)
+
+pub rejects-spec : {M : Type 1} → statement M
+rejects-spec = tie.close (tie.spec mul-result mul-result-2 returns)

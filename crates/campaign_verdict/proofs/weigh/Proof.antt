@@ -1,0 +1,75 @@
+-- `campaign_verdict::weigh` meets its contract: each answer follows from the tests that led to it, in whichever order they are made. Assumes nothing.
+use mathlib.Core.Path.{_≡_, sym, _∙_}
+use mathlib.Core.Bool.{false, true}
+use Prim.Native.Nat.{_≤_}
+use lib.Ieee.{Float}
+use borrow.Author.Needs.{needs}
+use Rattle.campaign_state.specs.declared.Campaign.{Campaign}
+use Rattle.campaign_verdict.specs.declared.Verdict.the-variants.{Accept, Continue, Reject}
+use Rattle.campaign_verdict.specs.Figures.{IsVerdict, accepts, lowerRate, rejects, upperRate}
+use Rattle.campaign_verdict.proofs.weigh.Statement.{statement}
+use Rattle.campaign_verdict.proofs.weigh.Tie as tie
+
+module _ (c : Campaign) (some : 1 ≤ c .records) where
+  rejected : {x : Float} → rejects c ≡ true → x ≡ lowerRate c → IsVerdict c (Reject x)
+  rejected r e = (some, r, e)
+
+  accepted : {y : Float} → accepts c ≡ true → y ≡ upperRate c → IsVerdict c (Accept y)
+  accepted a e = (some, a, e)
+
+  continued : {x y : Float} → rejects c ≡ false → accepts c ≡ false → x ≡ lowerRate c → y ≡ upperRate c → IsVerdict c (Continue x y)
+  continued r a d e = (some, r, a, d, e)
+
+low-requires : tie.Need-low-requires
+low-requires c κs = search needs
+
+rejects-requires : tie.Need-rejects-requires
+rejects-requires c κs = search needs
+
+rate-of-requires : tie.Need-rate-of-requires
+rate-of-requires c κs = search needs
+
+returns : tie.Need-returns
+returns c = rejected (c .before .before .before .before .args .c) (c .before .before .before .before .pre .1) (sym (c .before .before .rejects .ensures) ∙ c .before .if1 .taken) (rw (← c .before .before .before .low .ensures .0) (c .rate-of .ensures))
+
+high-requires : tie.Need-high-requires
+high-requires c κs = search needs
+
+accepts-requires : tie.Need-accepts-requires
+accepts-requires c κs = search needs
+
+rate-of-requires-2 : tie.Need-rate-of-requires-2
+rate-of-requires-2 c κs = search needs
+
+returns-2 : tie.Need-returns-2
+returns-2 c = accepted (c .before .before .before .before .before .before .before .args .c) (c .before .before .before .before .before .before .before .pre .1) (sym (c .before .before .accepts .ensures) ∙ c .before .if2 .taken) (rw (← c .before .before .before .high .ensures .0) (c .rate-of2 .ensures))
+
+rate-of-requires-3 : tie.Need-rate-of-requires-3
+rate-of-requires-3 c κs = search needs
+
+rate-of-requires-4 : tie.Need-rate-of-requires-4
+rate-of-requires-4 c κs = search needs
+
+returns-3 : tie.Need-returns-3
+returns-3 c =
+    continued (c .before .before .before .before .before .before .before .before .args .c) (c .before .before .before .before .before .before .before .before .pre .1)
+    (sym (c .before .before .before .before .before .before .rejects .ensures) ∙ c .before .before .before .before .before .if1 .left)
+    (sym (c .before .before .before .accepts .ensures) ∙ c .before .before .if2 .left)
+    (rw (← c .before .before .before .before .before .before .before .low .ensures .0) (c .before .rate-of3 .ensures))
+    (rw (← c .before .before .before .before .high .ensures .0) (c .rate-of4 .ensures))
+
+pub weigh-spec : {M : Type 1} → statement M
+weigh-spec =
+    tie.close
+    (tie.spec
+    low-requires
+    rejects-requires
+    rate-of-requires
+    returns
+    high-requires
+    accepts-requires
+    rate-of-requires-2
+    returns-2
+    rate-of-requires-3
+    rate-of-requires-4
+    returns-3)

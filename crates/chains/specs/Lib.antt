@@ -1,3 +1,0 @@
-pub mod Groups
-pub mod Meaning
-pub mod Machine

@@ -1,0 +1,73 @@
+-- `comma_read::plain_front` meets its contract: a run stands behind the runs before it; what is left of the text falls. Assumes nothing.
+use Prim.Native.Nat.{_-_, _*_}
+use native.Mathlib.Omega.{arith}
+use native.Mathlib.Nat.{add-mul}
+use lib.ListN.{length}
+use denote.Ref.{now}
+use Rattle.decimal.proofs.Text.{digits-some}
+use Rattle.comma_read.specs.Plain.{Narrow, PlainLines, none}
+use Rattle.comma_read.proofs.Times.{narrow-on}
+use Rattle.comma_read.proofs.Along.{Along, of-front, lines-ahead}
+use Rattle.comma_read.proofs.Front.{behind}
+use Rattle.comma_read.proofs.plain_front.Statement.{statement}
+use Rattle.comma_read.proofs.plain_front.Tie as tie
+
+abbrev Inv-loop : tie.InvT-loop
+Inv-loop text step at₀ passed₀ width₀ at passed width = PlainLines text step 0 0 at passed × Narrow width (passed * step)
+
+abbrev μ-loop : tie.MeasureT-loop
+μ-loop text step at₀ passed₀ width₀ at passed width = length text - at
+
+gone : (c : tie.At-loop Inv-loop μ-loop) → let a = c .before .before .args in Along (a .step) (now (a .text)) (c .loop .at) (c .loop .passed * a .step) (c .loop .passed) (c .loop .passed)
+gone c = of-front (c .loop .inv .0) (c .before .before .pre)
+
+loop-holds : tie.Need-loop-holds Inv-loop μ-loop
+loop-holds c = (none, record { some = omega arith; few = digits-some (0 * c .before .args .step) })
+
+mul-width-at : tie.Need-mul-width-at Inv-loop μ-loop
+mul-width-at c = omega (arith, gone (c .before) .due)
+
+width-at-requires : tie.Need-width-at-requires Inv-loop μ-loop
+width-at-requires c κs = (gone (c .before) .within, c .before .loop .inv .1)
+
+mul-plain-lines : tie.Need-mul-plain-lines Inv-loop μ-loop
+mul-plain-lines c = omega (arith, gone (c .before .before) .due)
+
+plain-lines-requires : tie.Need-plain-lines-requires Inv-loop μ-loop
+plain-lines-requires c κs = (c .width-at .ensures .0, c .before .before .before .before .pre)
+
+returns : tie.Need-returns Inv-loop μ-loop
+returns c = c .before .before .before .before .before .loop .inv .0
+
+add-passed : tie.Need-add-passed Inv-loop μ-loop
+add-passed c = let l = c .before .before .before .before .before .before in let g = of-front (behind (l .loop .inv .0) (c .before .before .before .plain-lines .ensures)) (l .before .before .pre) in omega (arith, g .few, g .within)
+
+loop-less : tie.Need-loop-less Inv-loop μ-loop
+loop-less c = omega (arith, lines-ahead (c .before .before .before .plain-lines .ensures), c .before .if1 .left, c .before .before .before .before .before .loop-test .taken)
+
+loop-again : tie.Need-loop-again Inv-loop μ-loop
+loop-again c =
+    let l = c .before .before .before .before .before .before in
+    let q = c .before .before .before .plain-lines in
+    let d = l .before .before .args .step in
+    (behind (l .loop .inv .0) (q .ensures), rw (add-mul (l .loop .passed) (q .result .lines) d) (narrow-on (q .result .lines * d) (c .before .before .before .before .width-at .ensures .0)))
+
+returns-2 : tie.Need-returns-2 Inv-loop μ-loop
+returns-2 c = c .before .loop .inv .0
+
+pub plain-front-spec : {M : Type 1} → statement M
+plain-front-spec =
+    tie.close
+    (tie.spec
+    Inv-loop
+    μ-loop
+    loop-holds
+    mul-width-at
+    width-at-requires
+    mul-plain-lines
+    plain-lines-requires
+    returns
+    add-passed
+    loop-less
+    loop-again
+    returns-2)

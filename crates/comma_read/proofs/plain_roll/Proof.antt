@@ -1,0 +1,123 @@
+-- `comma_read::plain_roll` meets its contract: eight bytes that are held by a form are of its kinds. Assumes nothing.
+use mathlib.Core.Path.{_≡_, refl, sym, ap, _∙_}
+use mathlib.Core.List.{List}
+use Prim.Native.Nat.{ℕ, _+_, _%_, _^_, _≤_}
+use native.Mathlib.Omega.{arith}
+use lib.Bits.{bitAnd, bitXor}
+use lib.ListN.{length}
+use mathlib.Core.Bool.{true}
+use denote.Ref.{now}
+use borrow.Author.Tests.{ltb-true, eqb-true}
+use Rattle.truth.proofs.Laws.{and-true}
+use Rattle.comma_word.specs.Word.{word}
+use Rattle.comma_word.specs.Form.{Kind, maskOf, bitsOf, moreOf, mask, bits, more}
+use Rattle.comma_word.proofs.Row.{row, row-is}
+use Rattle.comma_word.proofs.Form.{Are, own, against}
+use Rattle.comma_read.specs.Forms.{plusLong, plusShort, minusLong, minusShort}
+use Rattle.comma_read.proofs.Rolls.{plus-long, plus-short, minus-long, minus-short}
+use borrow.Author.Needs.{needs}
+use Rattle.comma_read.proofs.plain_roll.Statement.{statement}
+use Rattle.comma_read.proofs.plain_roll.Tie as tie
+
+-- the eight bytes at the comma
+module _ (e : tie.After-eight) where
+  abbrev S : List ℕ
+  S = now (e .before .before .args .s)
+
+  abbrev C : ℕ
+  C = e .before .before .args .c
+
+  room : C + 9 ≤ length S
+  room = e .before .before .pre
+
+  pub same : e .eight .result ≡ word (row S C 0 8)
+  same = e .eight .ensures .0 ∙ ap word (row-is S C 8 (omega (arith, room)))
+
+  are : (form : List Kind) → own form ≡ true → length form ≡ 8
+      → (bitAnd (bitXor (e .eight .result) (bits form)) (mask form) ≡ 0) × (bitAnd ((bitXor (e .eight .result) (bits form) + more form) % 2 ^ 64) (mask form) ≡ 0) → Are form (row S C 0 8)
+  are form o long h = against S C form o long (omega (arith, room)) (e .eight .ensures .1) (e .eight .result) (e .eight .ensures .0) (h .0) (h .1)
+
+  -- 0 says nothing
+  nothing : {P : Type 0} → 1 ≤ 0 → P
+  nothing h = absurd (omega arith)
+
+eight-requires : tie.Need-eight-requires
+eight-requires c κs = search needs
+
+held-requires : tie.Need-held-requires
+held-requires c κs = search needs
+
+returns : tie.Need-returns
+unfolding word maskOf bitsOf moreOf own
+returns c = let e = c .before .before .before in λ h. plus-long (S e) (C e) (room e) (e .eight .result) (same e) (are e plusLong refl refl (c .before .held .ensures (c .if2 .taken))) (c .before .before .if1 .taken)
+
+plus-short-requires : tie.Need-plus-short-requires
+plus-short-requires c κs = search needs
+
+returns-2 : tie.Need-returns-2
+unfolding word maskOf bitsOf moreOf own
+returns-2 c = let e = c .before .before .before .before .before in λ h. plus-short (S e) (C e) (room e) (e .eight .result) (same e) (are e plusShort refl refl (c .before .plus-short .ensures (c .if3 .taken)))
+
+returns-3 : tie.Need-returns-3
+returns-3 c = λ h. absurd (omega arith)
+
+held-requires-2 : tie.Need-held-requires-2
+held-requires-2 c κs = search needs
+
+add-both : tie.Need-add-both
+add-both c = search needs
+
+shared-slice-read-both : tie.Need-shared-slice-read-both
+shared-slice-read-both c = search needs
+
+both-requires : tie.Need-both-requires
+both-requires c κs = search needs
+
+returns-4 : tie.Need-returns-4
+unfolding word maskOf bitsOf moreOf own
+returns-4 c =
+    let e = c .before .before .before .before .before .before in
+    let (ten, feed) = and-true _ _ (sym (c .before .both .ensures) ∙ c .if5 .taken) in
+    λ h. minus-long (S e) (C e) (room e) (e .eight .result) (same e) (are e minusLong refl refl (c .before .before .before .before .held2 .ensures (c .before .before .before .if4 .taken))) (ltb-true _ _ ten) (eqb-true _ _ feed)
+
+returns-5 : tie.Need-returns-5
+returns-5 c = λ h. absurd (omega arith)
+
+held-requires-3 : tie.Need-held-requires-3
+held-requires-3 c κs = search needs
+
+returns-6 : tie.Need-returns-6
+unfolding word maskOf bitsOf moreOf own
+returns-6 c = let e = c .before .before .before .before .before in λ h. minus-short (S e) (C e) (room e) (e .eight .result) (same e) (are e minusShort refl refl (c .before .held3 .ensures (c .if6 .taken)))
+
+plus-short-requires-2 : tie.Need-plus-short-requires-2
+plus-short-requires-2 c κs = search needs
+
+returns-7 : tie.Need-returns-7
+unfolding word maskOf bitsOf moreOf own
+returns-7 c = let e = c .before .before .before .before .before .before .before in λ h. plus-short (S e) (C e) (room e) (e .eight .result) (same e) (are e plusShort refl refl (c .before .plus-short2 .ensures (c .if7 .taken)))
+
+returns-8 : tie.Need-returns-8
+returns-8 c = λ h. absurd (omega arith)
+
+pub plain-roll-spec : {M : Type 1} → statement M
+plain-roll-spec =
+    tie.close
+    (tie.spec
+    eight-requires
+    held-requires
+    returns
+    plus-short-requires
+    returns-2
+    returns-3
+    held-requires-2
+    add-both
+    shared-slice-read-both
+    both-requires
+    returns-4
+    returns-5
+    held-requires-3
+    returns-6
+    plus-short-requires-2
+    returns-7
+    returns-8)

@@ -1,0 +1,32 @@
+-- Plain lines, the lines that most files are made of: what the private functions that look for them promise where they stand. Assumes nothing.
+use Prim.Native.Nat.{ℕ, _+_, _*_, _≤_}
+use mathlib.Core.Path.{_≡_}
+use mathlib.Core.Bool.{true}
+use mathlib.Core.List.{List}
+use lib.ListN.{length, drop}
+use Rattle.decimal.specs.Decimal.{digitsOf}
+use Rattle.degrees.specs.Degrees.{unsigned, size, largestSize}
+use Rattle.comma_line.specs.Line.{roll, right, lineLength}
+use Rattle.comma_read.specs.Roll.{PlainRoll}
+
+-- a width that is not too large for a time
+pub record Narrow (width time : ℕ) : Type 0 where
+  pub some : 1 ≤ width
+  pub few : width ≤ length (digitsOf time)
+
+-- the line of a time stands at a place, its sample in range, and this is the place behind it
+pub record PlainLine (s : List ℕ) (at time next : ℕ) : Type 0 where
+  pub is : right time (drop at s) ≡ true
+  pub place : next ≡ at + lineLength (drop at s)
+  pub small : size (unsigned (roll (drop at s))) ≤ largestSize
+
+-- a plain line, its comma where its time ends
+pub record RollLine (s : List ℕ) (at time next : ℕ) : Type 0 where
+  pub line : PlainLine s at time next
+  pub roll : ℕ
+  pub found : PlainRoll s (at + length (digitsOf time)) roll
+
+-- plain lines stand one behind the other from a place on, the first of a time; this is the place behind the last of them, and their number
+pub data PlainLines (s : List ℕ) (D at time : ℕ) : ℕ → ℕ → Type 0 where
+  none : PlainLines s D at time at 0
+  more : {next lines end : ℕ} → PlainLines s D at time next lines → RollLine s next (time + lines * D) end → PlainLines s D at time end (lines + 1)

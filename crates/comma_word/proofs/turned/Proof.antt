@@ -1,0 +1,37 @@
+-- `comma_word::turned` meets its contract. The product fits, since each of its bytes is 246 at most; and what is left, with the product added back, wraps to the sum, so that
+-- it is the sum less the product. Assumes nothing.
+use mathlib.Core.Path.{_≡_}
+use Prim.Native.Nat.{ℕ, _+_, _*_, _/_, _%_, _^_, _≤_, _<_}
+use native.Mathlib.Omega.{arith}
+use borrow.Author.Needs.{needs}
+use lib.Bits.{bitAnd, and-le-r}
+use Rattle.comma_word.specs.Dial.{each, less, turned}
+use Rattle.comma_word.proofs.turned.Statement.{statement}
+use Rattle.comma_word.proofs.turned.Tie as tie
+
+-- whatever top bits are looked at
+product-fits : (x bits : ℕ) → bits ≤ each 128 8 → bitAnd x bits / 128 * 246 < 2 ^ 64
+unfolding each
+product-fits x bits h = omega (arith, and-le-r x bits)
+
+less-is : (x y r : ℕ) → y < 2 ^ 64 → r < 2 ^ 64 → (r + y) % 2 ^ 64 ≡ x → r ≡ less x y
+less-is x y r hy hr e = omega arith
+
+wrapping-add-u64-requires : tie.Need-wrapping-add-u64-requires
+wrapping-add-u64-requires c κs = search needs
+
+mul-wrapping-sub-u64 : tie.Need-mul-wrapping-sub-u64
+unfolding each
+mul-wrapping-sub-u64 c = record { fits = product-fits (c .wrapping-add-u64 .result) _ (omega arith) }
+
+wrapping-sub-u64-requires : tie.Need-wrapping-sub-u64-requires
+wrapping-sub-u64-requires c κs = search needs
+
+returns : tie.Need-returns
+unfolding turned each
+returns c =
+    let x = c .before .wrapping-add-u64 in
+    rw (← x .ensures) (less-is (x .result) _ (c .wrapping-sub-u64 .result) (product-fits (x .result) _ (omega arith)) (omega arith) (c .wrapping-sub-u64 .ensures))
+
+pub turned-spec : {M : Type 1} → statement M
+turned-spec = tie.close (tie.spec wrapping-add-u64-requires mul-wrapping-sub-u64 wrapping-sub-u64-requires returns)

@@ -1,0 +1,4 @@
+pub mod Plain
+pub mod Dial
+pub mod Word
+pub mod Form

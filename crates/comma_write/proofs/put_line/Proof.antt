@@ -1,0 +1,71 @@
+-- `comma_write::put_line` meets its contract: the line is written part by part, each taking itself off what is left of it. Assumes nothing.
+use mathlib.Core.List.{List, [], _∷_, _++_}
+use Prim.Native.Nat.{ℕ}
+use mir.Facts.{toZ-ofZ}
+use denote.Ref.{now}
+use borrow.Author.Needs.{needs}
+use Rattle.text.proofs.Parts.{Left, left-all, left-next, left-last}
+use Rattle.decimal.specs.Decimal.{digitsOf}
+use Rattle.decimal.specs.Field.{lineFeed}
+use Rattle.degrees.specs.Degrees.{degreesText}
+use Rattle.comma_line.specs.Line.{comma, lineText}
+use Rattle.comma_write.proofs.put_line.Statement.{statement}
+use Rattle.comma_write.proofs.put_line.Tie as tie
+
+-- the places on the way back
+abbrev start : tie.After-write-number → tie.Start
+start c = c .before .before .before
+
+abbrev number-of : tie.After-write-byte → tie.After-write-number
+number-of c = c .before .before .before .before
+
+abbrev comma-of : tie.After-write-degrees → tie.After-write-byte
+comma-of c = c .before .before .before .before
+
+-- of the line so much is left, and the lent bytes are these
+abbrev Stands : tie.After-write-number → List ℕ → List ℕ → ℕ → Type 0
+Stands c rest out at = Left (now (start c .args .out)) (start c .args .at) (lineText (start c .args .time) (start c .args .x)) rest out at
+
+abbrev Roll : tie.After-write-number → List ℕ
+Roll c = degreesText (start c .args .x) ++ (lineFeed ∷ [])
+
+left1 : (c : tie.After-write-number) → Stands c (comma ∷ Roll c) (c .write-number .last .1 .0) (c .write-number .result)
+unfolding lineText
+left1 c = left-next (digitsOf (start c .args .time)) (comma ∷ Roll c) (left-all _ _ (lineText (start c .args .time) (start c .args .x)) (start c .pre)) (c .write-number .ensures)
+
+left2 : (c : tie.After-write-byte) → Stands (number-of c) (Roll (number-of c)) (c .write-byte .last .1 .0) (c .write-byte .result)
+left2 c = left-next (comma ∷ []) (Roll (number-of c)) (left1 (number-of c)) (c .write-byte .ensures)
+
+left3 : (c : tie.After-write-degrees) → let n = number-of (comma-of c) in Stands n (lineFeed ∷ []) (c .write-degrees .last .1 .0) (c .write-degrees .result)
+left3 c =
+    let s = start (number-of (comma-of c)) in
+    left-next (degreesText (s .args .x)) (lineFeed ∷ []) (left2 (comma-of c)) (rw (toZ-ofZ (s .fits .x)) at (c .write-degrees .ensures))
+
+write-number-requires : tie.Need-write-number-requires
+write-number-requires c κs = search needs
+
+write-byte-requires : tie.Need-write-byte-requires
+write-byte-requires c κs = search needs
+
+write-degrees-requires : tie.Need-write-degrees-requires
+write-degrees-requires c κs = search needs
+
+write-byte-requires-2 : tie.Need-write-byte-requires-2
+write-byte-requires-2 c κs = search needs
+
+same-length : tie.Need-same-length
+same-length c = search needs
+
+returns : tie.Need-returns
+returns c = left-last (left3 (c .before .before .before .before .before .before)) (c .before .before .write-byte2 .ensures)
+
+pub put-line-spec : {M : Type 1} → statement M
+put-line-spec =
+    tie.close
+    (tie.spec
+    write-number-requires
+    write-byte-requires
+    write-degrees-requires
+    write-byte-requires-2
+    same-length
+    returns)

@@ -1,0 +1,5 @@
+pub mod Rising
+pub mod Walk
+pub mod Parting
+pub mod Starts
+pub mod Fewer

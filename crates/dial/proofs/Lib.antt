@@ -1,4 +1,0 @@
-pub mod Dial
-pub mod Turn
-pub mod Shown
-pub mod Unique

@@ -1,6 +1,0 @@
-pub mod Reading
-pub mod Faults
-pub mod Back
-pub mod Unique
-pub mod Examples
-pub mod Told

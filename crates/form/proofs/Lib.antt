@@ -1,4 +1,0 @@
-pub mod Columns
-pub mod Fault
-pub mod Parts
-pub mod Unique

@@ -1,5 +1,0 @@
-pub mod Form
-pub mod Texts
-pub mod Parts
-pub mod Fault
-pub mod Column

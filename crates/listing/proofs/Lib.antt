@@ -1,5 +1,0 @@
-pub mod Ready
-pub mod Underway
-pub mod Answered
-pub mod Heard
-pub mod Unique

@@ -1,0 +1,92 @@
+-- A turn of a loop: what was counted, summed or written and what is to come, together, stay. Assumes nothing.
+use Prim.Native.Nat.{ℕ, _+_, _-_, _≤_, _<_}
+use mathlib.Core.Path.{_≡_, refl, ap, _∙_}
+use mathlib.Core.Bool.{Bool, true, false, cond, not, _&&_}
+use mathlib.Core.List.{List, [], _∷_, map}
+use native.Mathlib.Numerals.{add-one}
+use native.Mathlib.Omega.{arith}
+use lib.ListN.{length, set, length-set}
+use lib.Seq.{sets}
+use lib.Dec.{ltb, eqb}
+use borrow.Author.Tests.{ne-eqb, ltb-true, ltb-false, eqb-true, eqb-false}
+use Rattle.peak_groups.specs.declared.Peak.{Peak}
+use Rattle.peak_groups.specs.declared.Group.{Group}
+use Rattle.peak_groups.specs.Machine.{gave, closed}
+use Rattle.peak_groups.proofs.Left.{Next, turned-next}
+use Rattle.peak_groups.specs.Peaks.{high, alike, close}
+use Rattle.peak_envelope.specs.declared.Envelope.{Envelope}
+use Rattle.peak_envelope.specs.Step.{met, chained, stepped, Fits, noting}
+
+count-next : (b : Bool) (k : ℕ) (p : Peak) (l : List Peak) → cond b (k + 1) k + length l ≡ k + length (cond b (p ∷ l) l)
+count-next true k p l = omega arith
+count-next false k p l = refl
+
+-- ---- the groups' numbers
+fed-next : (b : Bool) (g h : Group) → Next g h → Next g (cond b h g)
+fed-next true g h n = n
+fed-next false g h n = (omega arith, omega arith)
+
+module _ (n s τ : ℕ) (e : Envelope) (p : Peak) where
+  pub chains-more : Next (e .chains) (stepped n s τ e p .chains)
+  unfolding stepped
+  chains-more =
+      fed-next (gave (e .stretches) (met n s (e .stretches) p) && high n s (e .stretches .best)) (e .chains) (chained τ (e .chains) (e .stretches .best))
+      (turned-next (close τ (e .chains .last) (e .stretches .best)) (e .chains) (e .stretches .best))
+
+  pub fits-next : (k : ℕ) → Fits k e → Fits (k + 1) (stepped n s τ e p)
+  unfolding stepped
+  fits-next k f =
+      let h = turned-next (alike n s (e .stretches .last) p) (e .stretches) p in
+      let c = chains-more in
+      (omega arith, omega arith)
+
+  -- groups that fit k numbers fit m, if that is more
+  pub fits-later : (k m : ℕ) → k < m → Fits k e → Fits m (stepped n s τ e p)
+  fits-later k m l f = let g = fits-next k f in (omega (arith, g .0), omega (arith, g .1))
+
+-- ---- the slices
+-- the next place moves on where a chain was closed
+next-place : (g h : Group) → Next g h → h .opened - 1 ≡ cond (closed g (h .opened)) (g .opened - 1 + 1) (g .opened - 1)
+next-place g h n = go (ltb 0 (g .opened)) (eqb (g .opened) (h .opened)) refl refl
+  where
+    go : (a d : Bool) → ltb 0 (g .opened) ≡ a → eqb (g .opened) (h .opened) ≡ d → h .opened - 1 ≡ cond (a && not d) (g .opened - 1 + 1) (g .opened - 1)
+    go true true p q = omega (arith, eqb-true (g .opened) (h .opened) q)
+    go true false p q = more (g .opened) (h .opened) (n .0) (n .1) (eqb-false (g .opened) (h .opened) q) (ltb-true 0 (g .opened) p)
+      where
+        more : (a b : ℕ) → a ≤ b → b ≤ a + 1 → (a ≡ b → ⊥) → 0 < a → b - 1 ≡ a - 1 + 1
+        more a b l m d o = omega arith
+    go false d p q = omega (arith, ltb-false 0 (g .opened) p)
+
+module _ (g h : Group) (n : Next g h) (l : List Peak) where
+  pub place-next : h .opened - 1 + length l ≡ g .opened - 1 + length (cond (closed g (h .opened)) (g .best ∷ l) l)
+  place-next = ap (λ (k : ℕ). k + length l) (next-place g h n) ∙ count-next (closed g (h .opened)) (g .opened - 1) (g .best) l
+
+  pub sets-next : (f : Peak → ℕ) (slice : List ℕ) → sets (noting g (h .opened) (f (g .best)) slice) (h .opened - 1) (map f l) ≡ sets slice (g .opened - 1) (map f (cond (closed g (h .opened)) (g .best ∷ l) l))
+  sets-next f slice = ap (λ (k : ℕ). sets (noting g (h .opened) (f (g .best)) slice) k (map f l)) (next-place g h n) ∙ go (closed g (h .opened))
+    where
+      go : (b : Bool) → sets (cond b (set slice (g .opened - 1) (f (g .best))) slice) (cond b (g .opened - 1 + 1) (g .opened - 1)) (map f l) ≡ sets slice (g .opened - 1) (map f (cond b (g .best ∷ l) l))
+      go true = rw add-one
+      go false = refl
+
+pub noting-length : (g : Group) (o v : ℕ) (slice : List ℕ) → length (noting g o v slice) ≡ length slice
+noting-length g o v slice = go (closed g o)
+  where
+    go : (b : Bool) → length (cond b (set slice (g .opened - 1) v) slice) ≡ length slice
+    go true = length-set slice (g .opened - 1) v
+    go false = refl
+
+-- the open chain is closed at the end
+module _ (g : Group) where
+  pub place-last : g .opened - 1 + length (cond (ltb 0 (g .opened)) (g .best ∷ []) []) ≡ g .opened
+  place-last = go (ltb 0 (g .opened)) refl
+    where
+      go : (a : Bool) → ltb 0 (g .opened) ≡ a → g .opened - 1 + length (cond a (g .best ∷ []) []) ≡ g .opened
+      go true e = omega (arith, ltb-true 0 (g .opened) e)
+      go false e = omega (arith, ltb-false 0 (g .opened) e)
+
+  pub sets-last : (f : Peak → ℕ) (slice : List ℕ) → noting g (g .opened + 1) (f (g .best)) slice ≡ sets slice (g .opened - 1) (map f (cond (ltb 0 (g .opened)) (g .best ∷ []) []))
+  sets-last f slice = rw (ne-eqb (g .opened) (g .opened + 1) (λ z. omega arith)) (go (ltb 0 (g .opened)))
+    where
+      go : (a : Bool) → cond (a && true) (set slice (g .opened - 1) (f (g .best))) slice ≡ sets slice (g .opened - 1) (map f (cond a (g .best ∷ []) []))
+      go true = refl
+      go false = refl

@@ -1,0 +1,47 @@
+-- `peak_envelope::chains_after` meets its contract, by its test. Assumes nothing.
+use borrow.Author.Needs.{needs}
+use mathlib.Core.Path.{_≡_, sym, ap, _∙_}
+use mathlib.Core.Bool.{Bool, _&&_}
+use Rattle.peak_groups.specs.Machine.{turned, gave}
+use Rattle.peak_groups.specs.Peaks.{high}
+use Rattle.peak_envelope.proofs.chains_after.Statement.{statement}
+use Rattle.peak_envelope.proofs.chains_after.Tie as tie
+
+-- what the test says
+both : (c : tie.After-both) → c .both .result ≡ (gave (c .before .before .before .before .before .before .args .e .stretches) (c .before .before .before .before .before .before .args .h) && high (c .before .before .before .before .before .before .args .n) (c .before .before .before .before .before .before .args .s) (c .before .before .before .before .before .before .args .e .stretches .best))
+both c = c .both .ensures ∙ rw (c .before .before .gave .ensures, c .before .high .ensures)
+
+gave-requires : tie.Need-gave-requires
+gave-requires c κs = search needs
+
+high-requires : tie.Need-high-requires
+high-requires c κs = search needs
+
+both-requires : tie.Need-both-requires
+both-requires c κs = search needs
+
+in-chain-requires : tie.Need-in-chain-requires
+in-chain-requires c κs = search needs
+
+turn-requires : tie.Need-turn-requires
+turn-requires c κs = search needs
+
+returns : tie.Need-returns
+returns c =
+    rw (sym (both (c .before .before .before)) ∙ c .before .before .if1 .taken)
+    (c .turn .ensures ∙ ap (λ (k : Bool). turned k (c .before .before .before .before .before .before .before .before .before .args .e .chains) (c .before .before .before .before .before .before .before .before .before .args .e .stretches .best)) (c .before .in-chain .ensures))
+
+returns-2 : tie.Need-returns-2
+returns-2 c = rw (sym (both (c .before)) ∙ c .if1 .left)
+
+pub chains-after-spec : {M : Type 1} → statement M
+chains-after-spec =
+    tie.close
+    (tie.spec
+    gave-requires
+    high-requires
+    both-requires
+    in-chain-requires
+    turn-requires
+    returns
+    returns-2)

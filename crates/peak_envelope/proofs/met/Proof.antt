@@ -1,0 +1,19 @@
+-- `peak_envelope::met` meets its contract, which it follows word for word. Assumes nothing.
+use borrow.Author.Needs.{needs}
+use mathlib.Core.Path.{ap, _∙_}
+use mathlib.Core.Bool.{Bool}
+use Rattle.peak_groups.specs.Machine.{turned}
+use Rattle.peak_envelope.proofs.met.Statement.{statement}
+use Rattle.peak_envelope.proofs.met.Tie as tie
+
+in-stretch-requires : tie.Need-in-stretch-requires
+in-stretch-requires c κs = search needs
+
+turn-requires : tie.Need-turn-requires
+turn-requires c κs = search needs
+
+returns : tie.Need-returns
+returns c = c .turn .ensures ∙ ap (λ (k : Bool). turned k (c .before .before .args .g) (c .before .before .args .p)) (c .before .in-stretch .ensures)
+
+pub met-spec : {M : Type 1} → statement M
+met-spec = tie.close (tie.spec in-stretch-requires turn-requires returns)

@@ -1,0 +1,26 @@
+-- `peak_envelope::turn` meets its contract, by its test. Assumes nothing.
+use borrow.Author.Needs.{needs}
+use mathlib.Core.Path.{sym, _∙_}
+use Rattle.peak_groups.specs.Machine.{turned}
+use Rattle.peak_envelope.proofs.turn.Statement.{statement}
+use Rattle.peak_envelope.proofs.turn.Tie as tie
+
+both-requires : tie.Need-both-requires
+both-requires c κs = search needs
+
+larger-requires : tie.Need-larger-requires
+larger-requires c κs = search needs
+
+returns : tie.Need-returns
+unfolding turned
+returns c = rw (sym (c .before .before .before .both .ensures) ∙ c .before .before .if1 .taken, c .larger .ensures)
+
+add-t8 : tie.Need-add-t8
+add-t8 c = search needs
+
+returns-2 : tie.Need-returns-2
+unfolding turned
+returns-2 c = rw (sym (c .before .before .both .ensures) ∙ c .before .if1 .left)
+
+pub turn-spec : {M : Type 1} → statement M
+turn-spec = tie.close (tie.spec both-requires larger-requires returns add-t8 returns-2)

@@ -1,0 +1,12 @@
+pub mod Groups
+pub mod Left
+pub mod Meant
+pub mod Spacing
+pub mod Unique
+pub mod Sides
+pub mod Ahead
+pub mod Due
+pub mod OneSign
+pub mod Stretches
+pub mod Apart
+pub mod Example

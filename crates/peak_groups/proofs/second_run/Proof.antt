@@ -1,0 +1,59 @@
+-- `peak_groups::second_run` meets its contract: the zeros and the first run are within the samples. Assumes nothing.
+use Prim.Native.Nat.{ℕ, _+_, _≤_}
+use mathlib.Core.Path.{_≡_, ap, _∙_}
+use native.Mathlib.Omega.{arith}
+use borrow.Author.Needs.{needs}
+use lib.ListN.{length, drop}
+use Rattle.peak_groups.specs.Runs.{firstRun, second}
+use Rattle.peak_groups.specs.declared.Run.{Run}
+use Rattle.peak_groups.proofs.Due.{zeros-fit, from-place, second-fits}
+use Rattle.peak_groups.proofs.second_run.Statement.{statement}
+use Rattle.peak_groups.proofs.second_run.Tie as tie
+
+zeros-requires : tie.Need-zeros-requires
+zeros-requires c κs = search needs
+
+within : (c : tie.After-zeros) → c .zeros .result ≤ length (c .before .args .samples .now)
+within c = omega (arith, c .zeros .ensures, zeros-fit (c .before .args .samples .now))
+
+mul-first-run : tie.Need-mul-first-run
+mul-first-run c = omega (arith, within c)
+
+sub-first-run : tie.Need-sub-first-run
+sub-first-run c = omega (arith, within c)
+
+part-first-run-start : tie.Need-part-first-run-start
+part-first-run-start c = omega (arith, within c)
+
+part-first-run-end : tie.Need-part-first-run-end
+part-first-run-end c = search needs
+
+first-run-requires : tie.Need-first-run-requires
+first-run-requires c κs = search needs
+
+-- what is answered
+found : (c : tie.After-struct-known) → c .before .before .before .zeros .result + c .before .first-run .result .length ≡ second (c .before .before .before .before .args .samples .now)
+found c =
+    let p = c .before .before .before .before .args .samples .now in
+    let z = c .before .before .before .zeros .ensures in
+    let f = c .before .first-run .ensures ∙ ap firstRun (from-place (c .before .before .before .zeros .result) p) in
+    ap (λ (r : Run). c .before .before .before .zeros .result + r .length) f ∙ ap (λ (k : ℕ). k + firstRun (drop k p) .length) z
+
+add-result : tie.Need-add-result
+add-result c = omega (arith, found c, second-fits (c .before .before .before .before .args .samples .now))
+
+returns : tie.Need-returns
+returns c = found c
+
+pub second-run-spec : {M : Type 1} → statement M
+second-run-spec =
+    tie.close
+    (tie.spec
+    zeros-requires
+    mul-first-run
+    sub-first-run
+    part-first-run-start
+    part-first-run-end
+    first-run-requires
+    add-result
+    returns)

@@ -1,0 +1,30 @@
+-- `peak_tail::sum_of_largest` meets its contract: the values sorted hold no 0 either, so the k-th is at least 1. Assumes nothing.
+use mathlib.Core.Path.{sym, _∙_}
+use native.Mathlib.Omega.{arith}
+use borrow.Author.Needs.{needs}
+use Rattle.peak_tail.proofs.Bad.{some-at}
+use Rattle.peak_tail.proofs.sum_of_largest.Statement.{statement}
+use Rattle.peak_tail.proofs.sum_of_largest.Tie as tie
+
+sort-requires : tie.Need-sort-requires
+sort-requires c κs = search needs
+
+hill-sum-requires : tie.Need-hill-sum-requires
+hill-sum-requires c κs =
+    let s = c .before .before .before .sort in
+    let pre = c .before .before .before .before .before .before .pre in (
+      s .ensures .downwards,
+      pre .0,
+      omega (arith, s .kept .0),
+      pre .2,
+      some-at (s .last .0) (sym (s .ensures .same 0) ∙ pre .3) _ (omega (arith, s .kept .0)),
+    )
+
+same-length : tie.Need-same-length
+same-length c = search needs
+
+returns : tie.Need-returns
+returns c = search needs
+
+pub sum-of-largest-spec : {M : Type 1} → statement M
+sum-of-largest-spec = tie.close (tie.spec sort-requires hill-sum-requires same-length returns)

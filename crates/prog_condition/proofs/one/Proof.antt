@@ -1,0 +1,79 @@
+-- `prog_condition::one` is safe and ends. A line begun is less than a line, so there is room to read behind it; the bytes that are to come fall. Assumes nothing.
+use Prim.Native.Nat.{_<_}
+use mathlib.Core.Path.{_≡_, refl, sym, _∙_}
+use native.Mathlib.Omega.{arith}
+use borrow.Author.Needs.{needs}
+use lib.ListN.{length}
+use lib.Seq.{length-take-le}
+use Rattle.sheet_line.specs.Form.{longestLine}
+use Rattle.prog_condition.proofs.one.Statement.{statement}
+use Rattle.prog_condition.proofs.one.Tie as tie
+
+abbrev Inv-loop : tie.InvT-loop
+Inv-loop size text₀ sheet₀ kept₀ coming₀ text sheet kept coming = (length text ≡ length text₀) × (kept < longestLine)
+
+abbrev μ-loop : tie.MeasureT-loop
+μ-loop size text₀ sheet₀ kept₀ coming₀ text sheet kept coming = coming
+
+loop-holds : tie.Need-loop-holds Inv-loop μ-loop
+loop-holds c = (refl, omega arith)
+
+turn-requires : tie.Need-turn-requires Inv-loop μ-loop
+turn-requires c κs = (omega arith, omega arith)
+
+enum-known-t : tie.Need-enum-known-t Inv-loop μ-loop
+enum-known-t c = search needs
+
+loop-less : tie.Need-loop-less Inv-loop μ-loop
+loop-less c = rw (c .before .t .given .1) at (c .before .before .before .before .before .turn .ensures .1)
+
+loop-again : tie.Need-loop-again Inv-loop μ-loop
+loop-again c =
+    let t = c .before .before .before .before .before in
+    (t .turn .kept .1 .0 ∙ t .before .before .before .loop .inv .0, rw (c .before .t .given .1) at (t .turn .ensures .0))
+
+enum-known-reading : tie.Need-enum-known-reading Inv-loop μ-loop
+enum-known-reading c = search needs
+
+same-length : tie.Need-same-length Inv-loop μ-loop
+same-length c =
+    let t = c .before .before .before .before .before in
+    t .turn .kept .1 .0 ∙ t .before .before .before .loop .inv .0
+
+returns : tie.Need-returns Inv-loop μ-loop
+returns c = search needs
+
+slice-reshare-prefix-read : tie.Need-slice-reshare-prefix-read Inv-loop μ-loop
+slice-reshare-prefix-read c = omega arith
+
+slice-aggregate-read : tie.Need-slice-aggregate-read Inv-loop μ-loop
+slice-aggregate-read c = sym (length-take-le _ _ (omega arith))
+
+read-requires : tie.Need-read-requires Inv-loop μ-loop
+read-requires c κs = search needs
+
+same-length-2 : tie.Need-same-length-2 Inv-loop μ-loop
+same-length-2 c = c .before .before .before .loop .inv .0
+
+returns-2 : tie.Need-returns-2 Inv-loop μ-loop
+returns-2 c = search needs
+
+pub one-spec : {M : Type 1} → statement M
+one-spec =
+    tie.close
+    (tie.spec
+    Inv-loop
+    μ-loop
+    loop-holds
+    turn-requires
+    enum-known-t
+    loop-less
+    loop-again
+    enum-known-reading
+    same-length
+    returns
+    slice-reshare-prefix-read
+    slice-aggregate-read
+    read-requires
+    same-length-2
+    returns-2)

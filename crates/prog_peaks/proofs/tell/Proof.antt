@@ -1,0 +1,71 @@
+-- `prog_peaks::tell` is safe and ends: it writes of the places that there are. Assumes nothing.
+use Prim.Native.Nat.{_-_}
+use native.Mathlib.Omega.{arith}
+use borrow.Author.Needs.{needs}
+use Rattle.prog_peaks.proofs.tell.Statement.{statement}
+use Rattle.prog_peaks.proofs.tell.Tie as tie
+
+abbrev Inv-loop : tie.InvT-loop
+Inv-loop sizes times k i₀ i = Unit {0}
+
+abbrev μ-loop : tie.MeasureT-loop
+μ-loop sizes times k i₀ i = k - i
+
+loop-holds : tie.Need-loop-holds Inv-loop μ-loop
+loop-holds c = tt
+
+returns : tie.Need-returns Inv-loop μ-loop
+returns c = search needs
+
+returns-2 : tie.Need-returns-2 Inv-loop μ-loop
+returns-2 c = search needs
+
+mul-told : tie.Need-mul-told Inv-loop μ-loop
+mul-told c = omega arith
+
+shared-slice-read-told : tie.Need-shared-slice-read-told Inv-loop μ-loop
+shared-slice-read-told c = omega arith
+
+mul-told-2 : tie.Need-mul-told-2 Inv-loop μ-loop
+mul-told-2 c = omega arith
+
+shared-slice-read-told-2 : tie.Need-shared-slice-read-told-2 Inv-loop μ-loop
+shared-slice-read-told-2 c = omega arith
+
+told-requires : tie.Need-told-requires Inv-loop μ-loop
+told-requires c κs = search needs
+
+returns-3 : tie.Need-returns-3 Inv-loop μ-loop
+returns-3 c = search needs
+
+add-i : tie.Need-add-i Inv-loop μ-loop
+add-i c = omega arith
+
+loop-less : tie.Need-loop-less Inv-loop μ-loop
+loop-less c = omega arith
+
+loop-again : tie.Need-loop-again Inv-loop μ-loop
+loop-again c = tt
+
+returns-4 : tie.Need-returns-4 Inv-loop μ-loop
+returns-4 c = search needs
+
+pub tell-spec : {M : Type 1} → statement M
+tell-spec =
+    tie.close
+    (tie.spec
+    Inv-loop
+    μ-loop
+    loop-holds
+    returns
+    returns-2
+    mul-told
+    shared-slice-read-told
+    mul-told-2
+    shared-slice-read-told-2
+    told-requires
+    returns-3
+    add-i
+    loop-less
+    loop-again
+    returns-4)

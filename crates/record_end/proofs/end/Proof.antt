@@ -1,0 +1,34 @@
+-- `record_end::end` meets its contract: each answer follows from the tests that led to it; a sound record's ramp is small enough to add to. Assumes nothing.
+use native.Mathlib.Omega.{arith}
+use borrow.Author.Tests.{le-ltb, lt-ltb}
+use Rattle.truth.proofs.Laws.{said-no, said-yes}
+use Rattle.record_state.proofs.Relations.{kept-from}
+use Rattle.record_state.proofs.Bounds.{items-of}
+use Rattle.record_end.specs.Result.{ending}
+use borrow.Author.Needs.{needs}
+use Rattle.record_end.proofs.end.Statement.{statement}
+use Rattle.record_end.proofs.end.Tie as tie
+
+sound-requires : tie.Need-sound-requires
+sound-requires c κs = search needs
+
+returns : tie.Need-returns
+unfolding ending
+returns c = rw (said-no (c .before .sound .ensures) (c .if1 .taken))
+
+add-if2 : tie.Need-add-if2
+add-if2 c = omega (arith, items-of (kept-from (c .before .before .before .args .r) (said-yes (c .before .before .sound .ensures) (c .before .if1 .left))) .ramp)
+
+returns-2 : tie.Need-returns-2
+unfolding ending
+returns-2 c = rw (said-yes (c .before .before .before .before .sound .ensures) (c .before .before .before .if1 .left), lt-ltb _ _ (c .if2 .taken))
+
+exposure-of-requires : tie.Need-exposure-of-requires
+exposure-of-requires c κs = (said-yes (c .before .before .before .before .sound .ensures) (c .before .before .before .if1 .left), c .if2 .left)
+
+returns-3 : tie.Need-returns-3
+unfolding ending
+returns-3 c = rw (said-yes (c .before .before .before .before .before .sound .ensures) (c .before .before .before .before .if1 .left), le-ltb _ _ (c .before .if2 .left), c .exposure-of .ensures)
+
+pub end-spec : {M : Type 1} → statement M
+end-spec = tie.close (tie.spec sound-requires returns add-if2 returns-2 exposure-of-requires returns-3)

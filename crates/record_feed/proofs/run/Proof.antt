@@ -1,0 +1,58 @@
+-- `record_feed::run` meets its contract: what was noted of the samples is what they are (`marks-front`). Assumes nothing.
+use borrow.Author.Needs.{needs}
+use mathlib.Core.Path.{_≡_, sym, ap, _∙_}
+use mathlib.Core.Bool.{false}
+use mathlib.Core.List.{map}
+use native.Mathlib.Omega.{arith}
+use lib.ListN.{length, take, replicate}
+use lib.Seq.{take-all}
+use Rattle.sample_channels.specs.Channels.{above, moments}
+use Rattle.sample_channels.proofs.Marks.{marks-front, marks-many}
+use Rattle.record_feed.proofs.run.Statement.{statement}
+use Rattle.record_feed.proofs.run.Tie as tie
+
+slice-aggregate-mark : tie.Need-slice-aggregate-mark
+slice-aggregate-mark c = search needs
+
+mark-requires : tie.Need-mark-requires
+mark-requires c κs = search needs
+
+array-share-prefix-ups : tie.Need-array-share-prefix-ups
+array-share-prefix-ups c = search needs
+
+-- all of the acceleration is handed on
+all : (c : tie.Start) → take (length (c .args .roll .now)) (c .args .acceleration .now) ≡ c .args .acceleration .now
+all c = take-all (length (c .args .roll .now)) (c .args .acceleration .now) (omega (arith, c .pre .0 .equal))
+
+noted : (c : tie.After-mark) → take (length (c .before .before .args .roll .now)) (c .mark .last .1 .1 .1 .0) ≡ map (above (c .before .before .args .r .levels)) (moments (c .before .before .args .roll .now) (c .before .before .args .acceleration .now))
+noted c =
+    let a = c .before .before in
+    let g = a .args in
+    ap (take (length (g .roll .now))) (c .mark .ensures) ∙ marks-front (g .r .levels) (g .roll .now) (g .acceleration .now) (replicate 64 false) (a .pre .0 .equal) (a .pre .0 .short)
+
+slice-aggregate-along : tie.Need-slice-aggregate-along
+slice-aggregate-along c =
+    let a = c .before .before .before .before in
+    let g = a .args in
+    sym (ap length (noted (c .before .before)) ∙ marks-many (g .r .levels) (g .roll .now) (g .acceleration .now) (a .pre .0 .equal))
+
+slice-aggregate-along-2 : tie.Need-slice-aggregate-along-2
+slice-aggregate-along-2 c = rw (all (c .before .before .before .before .before)) (c .before .before .before .before .before .pre .0 .equal)
+
+along-requires : tie.Need-along-requires
+along-requires c κs = let a = c .before .before .before .before .before in rw (all a) (a .pre .0, a .pre .1, noted (c .before .before .before))
+
+returns : tie.Need-returns
+returns c = rw (all (c .before .before .before .before .before .before)) at (c .along .ensures)
+
+pub run-spec : {M : Type 1} → statement M
+run-spec =
+    tie.close
+    (tie.spec
+    slice-aggregate-mark
+    mark-requires
+    array-share-prefix-ups
+    slice-aggregate-along
+    slice-aggregate-along-2
+    along-requires
+    returns)

@@ -1,0 +1,132 @@
+-- `record_feed::step_all` meets its contract: the samples up to the first timed one at once, the others by `run`. Assumes nothing.
+use borrow.Author.Needs.{needs}
+use Prim.Native.Nat.{_+_, _-_, _≤_}
+use mathlib.Core.Path.{_≡_, sym, ap, _∙_}
+use mathlib.Core.List.{foldl}
+use native.Mathlib.Omega.{arith}
+use lib.ListN.{drop, length, length-drop}
+use lib.Seq.{take-all}
+use Rattle.sample_channels.specs.Channels.{moments}
+use Rattle.sample_channels.proofs.Moments.{moments-length, moments-drop}
+use Rattle.record_step.specs.Step.{moved, stepped}
+use Rattle.record_feed.proofs.Ramp.{led, led-good, led-on, led-sound}
+use Rattle.record_state.proofs.Relations.{kept-from}
+use Rattle.record_state.proofs.Bounds.{small}
+use Rattle.record_feed.proofs.step_all.Statement.{statement}
+use Rattle.record_feed.proofs.step_all.Tie as tie
+
+leading-requires : tie.Need-leading-requires
+leading-requires c κs = search needs
+
+run-requires : tie.Need-run-requires
+run-requires c κs = (c .before .before .pre .0, omega (arith, c .before .leading .ensures))
+
+returns : tie.Need-returns
+returns c = search needs
+
+sub-moment-at : tie.Need-sub-moment-at
+sub-moment-at c = search needs
+
+moment-at-requires : tie.Need-moment-at-requires
+moment-at-requires c κs = search needs
+
+moved-requires : tie.Need-moved-requires
+moved-requires c κs = let a = c .before .before .before in omega (arith, a .pre .0 .room, small (kept-from (a .args .r) (a .pre .0 .state)), c .before .before .leading .ensures)
+
+returns-2 : tie.Need-returns-2
+returns-2 c =
+    let a = c .before .before .before .before .before in
+    let r = a .args .r in
+    let xs = a .args .roll .now in
+    let ys = a .args .acceleration .now in
+    let p = moments xs ys in
+    let k : length p ≡ length xs = moments-length xs ys (a .pre .0 .equal) in
+    let j = c .before .before .before .before .leading .result in
+    let l = c .before .before .before .before .leading .ensures in
+    c .before .moved .ensures ∙ ap (moved r j) (c .before .before .moment-at .ensures) ∙ sym (led r p j (omega arith) (omega arith) (omega arith)) ∙ ap (foldl stepped r) (take-all j p (omega arith))
+
+mul-run : tie.Need-mul-run
+mul-run c = search needs
+
+sub-run : tie.Need-sub-run
+sub-run c = search needs
+
+part-run-start : tie.Need-part-run-start
+part-run-start c = search needs
+
+part-run-end : tie.Need-part-run-end
+part-run-end c = search needs
+
+mul-run-2 : tie.Need-mul-run-2
+mul-run-2 c = search needs
+
+sub-run-2 : tie.Need-sub-run-2
+sub-run-2 c = search needs
+
+part-run-start-2 : tie.Need-part-run-start-2
+part-run-start-2 c = search needs
+
+part-run-end-2 : tie.Need-part-run-end-2
+part-run-end-2 c = search needs
+
+run-requires-2 : tie.Need-run-requires-2
+run-requires-2 c κs =
+    let a = c .before .before .before .before .before .before .before in
+    let r = a .args .r in
+    let xs = a .args .roll .now in
+    let ys = a .args .acceleration .now in
+    let p = moments xs ys in
+    let k : length p ≡ length xs = moments-length xs ys (a .pre .0 .equal) in
+    let j = c .before .before .before .before .before .before .leading .result in
+    let l = c .before .before .before .before .before .before .leading .ensures in
+    let s = c .before .before .before .moved .ensures ∙ ap (moved r j) (c .before .before .before .before .moment-at .ensures) in
+    let e = take-all (length xs - j) (drop j xs) (omega (arith, length-drop j xs)) in
+    let f = take-all (length ys - j) (drop j ys) (omega (arith, length-drop j ys)) in
+    let i : r .n + j ≤ r .ramp + 1 = omega arith in
+    rw (s, e, f) (
+      record {
+        state = led-sound r p j (omega arith) (omega arith) i (a .pre .0 .good) (a .pre .0 .state) (omega (arith, a .pre .0 .room));
+        equal = omega (arith, a .pre .0 .equal, length-drop j xs, length-drop j ys);
+        good = rw (moments-drop j xs ys) (led-good r p j (omega arith) (omega arith) i (a .pre .0 .good));
+        room = omega (arith, a .pre .0 .room, length-drop j xs);
+        short = omega (arith, a .pre .0 .short, length-drop j xs);
+      },
+      omega arith,
+    )
+
+returns-3 : tie.Need-returns-3
+returns-3 c =
+    let a = c .before .before .before .before .before .before .before .before in
+    let r = a .args .r in
+    let xs = a .args .roll .now in
+    let ys = a .args .acceleration .now in
+    let p = moments xs ys in
+    let k : length p ≡ length xs = moments-length xs ys (a .pre .0 .equal) in
+    let j = c .before .before .before .before .before .before .before .leading .result in
+    let l = c .before .before .before .before .before .before .before .leading .ensures in
+    let s = c .before .before .before .before .moved .ensures ∙ ap (moved r j) (c .before .before .before .before .before .moment-at .ensures) in
+    let e = take-all (length xs - j) (drop j xs) (omega (arith, length-drop j xs)) in
+    let f = take-all (length ys - j) (drop j ys) (omega (arith, length-drop j ys)) in
+    c .run2 .ensures ∙ rw (s, e, f, moments-drop j xs ys) (led-on r p j (omega arith) (omega arith) (omega arith))
+
+pub step-all-spec : {M : Type 1} → statement M
+step-all-spec =
+    tie.close
+    (tie.spec
+    leading-requires
+    run-requires
+    returns
+    sub-moment-at
+    moment-at-requires
+    moved-requires
+    returns-2
+    mul-run
+    sub-run
+    part-run-start
+    part-run-end
+    mul-run-2
+    sub-run-2
+    part-run-start-2
+    part-run-end-2
+    run-requires-2
+    returns-3)

@@ -1,0 +1,84 @@
+-- `record_list::along` meets its contract. The invariant: what is left, noted from here, leaves what the whole block would; and the walk is ready for what
+-- is left. The measure is what is left. Assumes nothing.
+use Prim.Native.Nat.{suc, _+_, _-_, _≤_}
+use mathlib.Core.Path.{_≡_, refl, sym, ap, _∙_}
+use mathlib.Core.Bool.{false}
+use mathlib.Core.List.{foldl, [], _∷_}
+use native.Mathlib.Numerals.{add-one}
+use native.Mathlib.Omega.{arith}
+use lib.ListN.{length, getD, drop, drop-of-length-le}
+use lib.Seq.{drop-cons}
+use Rattle.record_list.specs.Walk.{Noting, noting, marked, Ready}
+use Rattle.record_list.proofs.Steps.{ready-less, ready-next, marked-length}
+use Rattle.record_list.proofs.along.Statement.{statement}
+use Rattle.record_list.proofs.along.Tie as tie
+
+abbrev Inv-loop : tie.InvT-loop
+Inv-loop step decorrelation ups times₀ v₀ i₀ times v i =
+    (i ≤ length ups)
+    × Ready step decorrelation v (length ups - i)
+    × (length times ≡ length times₀)
+    × (foldl (marked step decorrelation) (noting v times) (drop i ups) ≡ foldl (marked step decorrelation) (noting v₀ times₀) ups)
+
+abbrev μ-loop : tie.MeasureT-loop
+μ-loop step decorrelation ups times₀ v₀ i₀ times v i = length ups - i
+
+loop-holds : tie.Need-loop-holds Inv-loop μ-loop
+loop-holds c =
+    let e : length (c .before .before .args .ups .now) ≡ length (c .before .before .args .ups .now) - 0 = omega arith in
+    (omega arith, rw e at (c .before .before .pre), refl, refl)
+
+shared-slice-read-stepped : tie.Need-shared-slice-read-stepped Inv-loop μ-loop
+shared-slice-read-stepped c = omega arith
+
+stepped-requires : tie.Need-stepped-requires Inv-loop μ-loop
+stepped-requires c κs = ready-less (omega arith) (c .before .before .before .loop .inv .1)
+
+add-i : tie.Need-add-i Inv-loop μ-loop
+add-i c = omega arith
+
+loop-less : tie.Need-loop-less Inv-loop μ-loop
+loop-less c = omega arith
+
+loop-again : tie.Need-loop-again Inv-loop μ-loop
+loop-again c =
+    let g = c .before .before .before .before .before .before .before .before .before .args in
+    let f = marked (g .step) (g .decorrelation) in
+    let i = c .before .before .before .before .before .before .loop .i in
+    let v = c .before .before .before .before .before .before .loop .v in
+    let ts = c .before .before .before .before .before .before .loop .times in
+    let inv = c .before .before .before .before .before .before .loop .inv in
+    let up = getD (g .ups .now) i false in
+    let e : noting (c .before .before .stepped .result) (c .before .before .stepped .last .1 .1 .1 .1 .0) ≡ f (noting v ts) up = c .before .before .stepped .ensures in
+    let k : length (g .ups .now) - i ≡ suc (length (g .ups .now) - (i + 1)) = omega arith in
+    let r : Ready (g .step) (g .decorrelation) v (suc (length (g .ups .now) - (i + 1))) = rw k at (inv .1) in
+    let turn : drop i (g .ups .now) ≡ up ∷ drop (i + 1) (g .ups .now) = rw (add-one, drop-cons (g .ups .now) i false (omega arith)) in (
+      omega arith,
+      rw (ap (λ (s : Noting). s .walk) e) (ready-next up r),
+      ap (λ (s : Noting). length (s .times)) e ∙ marked-length (g .step) (g .decorrelation) (noting v ts) up ∙ inv .2,
+      ap (λ (s : Noting). foldl f s (drop (i + 1) (g .ups .now))) e ∙ sym (ap (foldl f (noting v ts)) turn) ∙ inv .3,
+    )
+
+same-length : tie.Need-same-length Inv-loop μ-loop
+same-length c = c .before .loop .inv .2
+
+returns : tie.Need-returns Inv-loop μ-loop
+returns c =
+    let g = c .before .before .before .before .args in
+    let e : drop (c .before .loop .i) (g .ups .now) ≡ [] = drop-of-length-le (g .ups .now) {i = c .before .loop .i} (omega arith) in
+    sym (ap (foldl (marked (g .step) (g .decorrelation)) (noting (c .before .loop .v) (c .before .loop .times))) e) ∙ c .before .loop .inv .3
+
+pub along-spec : {M : Type 1} → statement M
+along-spec =
+    tie.close
+    (tie.spec
+    Inv-loop
+    μ-loop
+    loop-holds
+    shared-slice-read-stepped
+    stepped-requires
+    add-i
+    loop-less
+    loop-again
+    same-length
+    returns)

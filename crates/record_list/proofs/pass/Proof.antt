@@ -1,0 +1,167 @@
+-- `record_list::pass` meets its contract. The invariant: the walk is underway (`Underway`), and the samples passed are in range, so the first bad place of each channel is i and that of what is left. A turn takes a block, which is not empty, so what is left falls. Assumes nothing.
+use Prim.Native.Nat.{_+_, _-_, _≤_, _<_}
+use mathlib.Core.Path.{_≡_, sym, ap, _∙_}
+use mathlib.Core.List.{[]}
+use native.Mathlib.Nat.{zero-add}
+use native.Mathlib.Omega.{arith}
+use borrow.Author.Needs.{needs}
+use lib.ListN.{length, take, drop, drop-of-length-le}
+use Rattle.sample_block.proofs.Cut.{end-within, end-near, block-length}
+use Rattle.sample_range.specs.Range.{firstBad}
+use Rattle.sample_channels.specs.Channels.{anyBad}
+use Rattle.sample_channels.proofs.Blocks.{good-on, block-equal, block-bad}
+use Rattle.sample_channels.proofs.Quiet.{ends-say}
+use Rattle.sample_channels.proofs.Range.{all-good, none-bad, ends-tell}
+use Rattle.record_list.specs.Walk.{Noting}
+use Rattle.record_list.proofs.Steps.{ready-less}
+use Rattle.record_list.proofs.Underway.{Underway, begins, goes-on, arrives}
+use Rattle.record_list.proofs.pass.Statement.{statement}
+use Rattle.record_list.proofs.pass.Tie as tie
+
+abbrev Inv-loop : tie.InvT-loop
+Inv-loop step levels decorrelation roll acceleration times₀ w₀ i₀ times w i =
+    Underway step levels decorrelation roll acceleration times₀ times w i
+    × (i + firstBad (drop i roll) ≡ firstBad roll)
+    × (i + firstBad (drop i acceleration) ≡ firstBad acceleration)
+
+abbrev μ-loop : tie.MeasureT-loop
+μ-loop step levels decorrelation roll acceleration times₀ w₀ i₀ times w i = length roll - i
+
+start-requires : tie.Need-start-requires Inv-loop μ-loop
+start-requires c κs = search needs
+
+loop-holds : tie.Need-loop-holds Inv-loop μ-loop
+loop-holds c =
+    let g = c .before .before .args in
+    rw (c .start .ensures) (begins (g .step) (g .levels) (g .decorrelation) (g .roll .now) (g .acceleration .now) (g .times .now) (c .before .before .pre .0), zero-add _, zero-add _)
+
+end-requires : tie.Need-end-requires Inv-loop μ-loop
+end-requires c κs = search needs
+
+-- the block is within the samples, and not empty
+within : (c : tie.After-end Inv-loop μ-loop) → (c .before .before .loop .i < c .end .result) × (c .end .result ≤ length (c .before .before .before .before .before .args .roll .now))
+within c = end-within (c .before .before .loop .i) (length (c .before .before .before .before .before .args .roll .now)) (c .end .ensures) (omega arith)
+
+mul-rolls : tie.Need-mul-rolls Inv-loop μ-loop
+mul-rolls c = omega (arith, within c)
+
+sub-rolls : tie.Need-sub-rolls Inv-loop μ-loop
+sub-rolls c = omega (arith, within c)
+
+part-rolls-start : tie.Need-part-rolls-start Inv-loop μ-loop
+part-rolls-start c = omega (arith, within c)
+
+part-rolls-end : tie.Need-part-rolls-end Inv-loop μ-loop
+part-rolls-end c = omega (arith, within c)
+
+mul-accelerations : tie.Need-mul-accelerations Inv-loop μ-loop
+mul-accelerations c = omega (arith, within (c .before), c .before .before .before .before .before .before .pre .1)
+
+sub-accelerations : tie.Need-sub-accelerations Inv-loop μ-loop
+sub-accelerations c = omega (arith, within (c .before), c .before .before .before .before .before .before .pre .1)
+
+part-accelerations-start : tie.Need-part-accelerations-start Inv-loop μ-loop
+part-accelerations-start c = omega (arith, within (c .before), c .before .before .before .before .before .before .pre .1)
+
+part-accelerations-end : tie.Need-part-accelerations-end Inv-loop μ-loop
+part-accelerations-end c = omega (arith, within (c .before), c .before .before .before .before .before .before .pre .1)
+
+ends-of-requires : tie.Need-ends-of-requires Inv-loop μ-loop
+ends-of-requires c κs = search needs
+
+ends-of-requires-2 : tie.Need-ends-of-requires-2 Inv-loop μ-loop
+ends-of-requires-2 c κs = search needs
+
+outside-requires : tie.Need-outside-requires Inv-loop μ-loop
+outside-requires c κs = search needs
+
+-- the ends of a block say whether a sample of it is bad
+told : (c : tie.After-outside Inv-loop μ-loop) → c .outside .result ≡ anyBad (take (c .before .before .before .before .before .end .result - c .before .before .before .before .before .before .before .loop .i) (drop (c .before .before .before .before .before .before .before .loop .i) (c .before .before .before .before .before .before .before .before .before .before .args .roll .now))) (take (c .before .before .before .before .before .end .result - c .before .before .before .before .before .before .before .loop .i) (drop (c .before .before .before .before .before .before .before .loop .i) (c .before .before .before .before .before .before .before .before .before .before .args .acceleration .now)))
+told c = c .outside .ensures ∙ ends-tell _ _ (c .before .before .ends-of .result) (c .before .ends-of2 .result) (c .before .before .ends-of .ensures) (c .before .ends-of2 .ensures)
+
+same-length : tie.Need-same-length Inv-loop μ-loop
+same-length c = c .before .before .before .before .before .before .before .before .loop .inv .0 .same
+
+returns : tie.Need-returns Inv-loop μ-loop
+returns c =
+    let a = c .before .before .before .before .before .before .before .before .before .before .before in
+    let v = c .before .before .before .before .before .before .before .before .loop .inv in
+    let w = within (c .before .before .before .before .before .before) in
+    block-bad (a .args .roll .now) (a .args .acceleration .now) (a .pre .1) (c .before .before .before .before .before .before .before .before .loop .i) (c .before .before .before .before .before .before .end .result) (omega arith) (w .1) (v .1) (v .2) (sym (told (c .before)) ∙ c .if1 .taken)
+
+past-requires : tie.Need-past-requires Inv-loop μ-loop
+past-requires c κs = search needs
+
+advance-requires : tie.Need-advance-requires Inv-loop μ-loop
+advance-requires c κs =
+    let a = c .before .before .before .before .before .before .before .before .before .before .before .before .before in
+    let l = c .before .before .before .before .before .before .before .before .before .before .loop in
+    let e = c .before .before .before .before .before .before .before .before .end .result in
+    let w = within (c .before .before .before .before .before .before .before .before) in
+    let k = block-length (a .args .roll .now) (l .i) e (omega arith) (w .1) in
+    let q = ends-say (a .args .levels) _ _ (c .before .before .before .before .before .ends-of .result) (c .before .before .before .before .ends-of2 .result) (c .before .before .before .before .before .ends-of .ensures) (c .before .before .before .before .ends-of2 .ensures) in
+    (ready-less (omega (arith, k)) (l .inv .0 .ready), block-equal (a .args .roll .now) (a .args .acceleration .now) (a .pre .1) (l .i) e (omega arith) (w .1), omega (arith, end-near (l .i) (length (a .args .roll .now)) (c .before .before .before .before .before .before .before .before .end .ensures)), c .before .past .ensures ∙ q, omega arith)
+
+loop-less : tie.Need-loop-less Inv-loop μ-loop
+loop-less c = omega (arith, within (c .before .before .before .before .before .before .before .before .before .before .before))
+
+loop-again : tie.Need-loop-again Inv-loop μ-loop
+loop-again c =
+    let g = c .before .before .before .before .before .before .before .before .before .before .before .before .before .before .before .before .args in
+    let xs = g .roll .now in
+    let ys = g .acceleration .now in
+    let same = c .before .before .before .before .before .before .before .before .before .before .before .before .before .before .before .before .pre .1 in
+    let i = c .before .before .before .before .before .before .before .before .before .before .before .before .before .loop .i in
+    let inv = c .before .before .before .before .before .before .before .before .before .before .before .before .before .loop .inv in
+    let e = c .before .before .before .before .before .before .before .before .before .before .before .end .result in
+    let h = within (c .before .before .before .before .before .before .before .before .before .before .before) in
+    let good = none-bad _ _ (sym (told (c .before .before .before .before .before .before)) ∙ c .before .before .before .before .before .if1 .left) in (
+      goes-on same (inv .0) e (omega arith) (h .1) (c .before .before .advance .ensures),
+      good-on xs i e (omega arith) (h .1) (inv .1) (good .0),
+      good-on ys i e (omega arith) (omega (arith, h .1, same)) (inv .2) (good .1),
+    )
+
+same-length-2 : tie.Need-same-length-2 Inv-loop μ-loop
+same-length-2 c = c .before .loop .inv .0 .same
+
+returns-2 : tie.Need-returns-2 Inv-loop μ-loop
+unfolding firstBad
+returns-2 c =
+    let a = c .before .before .before .before in
+    let g = a .args in
+    let xs = g .roll .now in
+    let ys = g .acceleration .now in
+    let l = c .before .loop in
+    let p : drop (l .i) xs ≡ [] = drop-of-length-le xs {i = l .i} (omega arith) in
+    let q : drop (l .i) ys ≡ [] = drop-of-length-le ys {i = l .i} (omega (arith, a .pre .1)) in
+    let d = arrives (a .pre .1) (l .inv .0) (omega arith) in
+    (all-good xs ys (omega (arith, l .inv .0 .within, l .inv .1, ap firstBad p)) (omega (arith, l .inv .0 .within, l .inv .2, ap firstBad q, a .pre .1)), ap (λ (s : Noting). s .walk .count) d, ap (λ (s : Noting). s .times) d)
+
+pub pass-spec : {M : Type 1} → statement M
+pass-spec =
+    tie.close
+    (tie.spec
+    Inv-loop
+    μ-loop
+    start-requires
+    loop-holds
+    end-requires
+    mul-rolls
+    sub-rolls
+    part-rolls-start
+    part-rolls-end
+    mul-accelerations
+    sub-accelerations
+    part-accelerations-start
+    part-accelerations-end
+    ends-of-requires
+    ends-of-requires-2
+    outside-requires
+    same-length
+    returns
+    past-requires
+    advance-requires
+    loop-less
+    loop-again
+    same-length-2
+    returns-2)

@@ -1,0 +1,58 @@
+-- `record_list::straight` meets its contract: where no sample is bad nothing is refused, since half as many times as samples are the most. Assumes nothing.
+use borrow.Author.Needs.{needs}
+use Prim.Native.Nat.{_≤_}
+use mathlib.Core.Path.{refl, sym, ap, _∙_}
+use native.Mathlib.Omega.{arith}
+use lib.ListN.{length}
+use Rattle.sample_channels.specs.Channels.{moments}
+use Rattle.sample_channels.proofs.Moments.{moments-length}
+use Rattle.sample_channels.proofs.Range.{looked-bad, looked-good}
+use Rattle.crossing_places.specs.Reading.{countedTimes}
+use Rattle.record_list.specs.Walk.{Noting}
+use Rattle.record_list.proofs.Walked.{walked-count, walked-times, half-counted}
+use Rattle.record_list.proofs.Answered.{writes-times}
+use Rattle.record_list.proofs.straight.Statement.{statement}
+use Rattle.record_list.proofs.straight.Tie as tie
+
+look-over-requires : tie.Need-look-over-requires
+look-over-requires c κs = search needs
+
+enum-told : tie.Need-enum-told
+enum-told c = search needs
+
+returns : tie.Need-returns
+returns c = (looked-bad _ _ (c .enum-told .given .0 .0) (sym (c .before .before .look-over .ensures) ∙ c .enum-told .given .1) .0, refl)
+
+enum-told-2 : tie.Need-enum-told-2
+enum-told-2 c = search needs
+
+walk-all-requires : tie.Need-walk-all-requires
+walk-all-requires c κs = (c .before .before .before .before .before .pre .0, c .before .before .before .before .before .pre .1)
+
+same-length : tie.Need-same-length
+same-length c = search needs
+
+returns-2 : tie.Need-returns-2
+returns-2 c =
+    let a = c .before .before .before .before .before .before .before .before in
+    let g = a .args in
+    let p = moments (g .roll .now) (g .acceleration .now) in
+    let ts = countedTimes (g .step) 0 (g .levels) (g .decorrelation) p in
+    let k = moments-length (g .roll .now) (g .acceleration .now) (a .pre .1) in
+    let l : length ts ≤ length (g .times .now) = omega (arith, half-counted (g .step) (g .levels) (g .decorrelation) p, a .pre .2) in
+    let e = c .before .before .walk-all .ensures in
+    let n = ap (λ (s : Noting). s .walk .count) e ∙ walked-count (g .step) (g .levels) (g .decorrelation) p (g .times .now) in
+    let t = ap (λ (s : Noting). s .times) e ∙ walked-times (g .step) (g .levels) (g .decorrelation) p (g .times .now) l in
+    (looked-good (g .roll .now) (g .acceleration .now) (sym (c .before .before .before .before .before .before .look-over .ensures) ∙ c .before .before .before .before .enum-told2 .given .1), rw (t, n) (writes-times ts (g .times .now) l))
+
+pub straight-spec : {M : Type 1} → statement M
+straight-spec =
+    tie.close
+    (tie.spec
+    look-over-requires
+    enum-told
+    returns
+    enum-told-2
+    walk-all-requires
+    same-length
+    returns-2)

@@ -1,0 +1,63 @@
+-- `record_list::walk_block` meets its contract: the block is walked by what was noted of its samples (`marks-front`, `noted-marks`). Assumes nothing.
+use borrow.Author.Needs.{needs}
+use mathlib.Core.Path.{_≡_, sym, ap, _∙_}
+use mathlib.Core.Bool.{false}
+use mathlib.Core.List.{foldl, map}
+use native.Mathlib.Omega.{arith}
+use lib.ListN.{length, take, replicate}
+use Rattle.sample_channels.specs.Channels.{above, moments}
+use Rattle.sample_channels.proofs.Marks.{marks-front, marks-many}
+use Rattle.record_list.specs.Walk.{noting, marked}
+use Rattle.record_list.proofs.Steps.{noted-marks}
+use Rattle.record_list.proofs.walk_block.Statement.{statement}
+use Rattle.record_list.proofs.walk_block.Tie as tie
+
+slice-aggregate-mark : tie.Need-slice-aggregate-mark
+slice-aggregate-mark c = search needs
+
+mark-requires : tie.Need-mark-requires
+mark-requires c κs = search needs
+
+array-share-prefix-ups : tie.Need-array-share-prefix-ups
+array-share-prefix-ups c = search needs
+
+-- what was noted of the block's samples
+noted : (c : tie.After-mark) → take (length (c .before .before .before .args .roll .now)) (c .mark .last .1 .1 .1 .0) ≡ map (above (c .before .before .before .args .levels)) (moments (c .before .before .before .args .roll .now) (c .before .before .before .args .acceleration .now))
+noted c =
+    let a = c .before .before .before in
+    let g = a .args in
+    ap (take (length (g .roll .now))) (c .mark .ensures) ∙ marks-front (g .levels) (g .roll .now) (g .acceleration .now) (replicate 64 false) (a .pre .1) (omega arith)
+
+as-many : (c : tie.After-mark) → length (c .before .before .before .args .roll .now) ≡ length (take (length (c .before .before .before .args .roll .now)) (c .mark .last .1 .1 .1 .0))
+as-many c =
+    let a = c .before .before .before in
+    let g = a .args in
+    sym (ap length (noted c) ∙ marks-many (g .levels) (g .roll .now) (g .acceleration .now) (a .pre .1))
+
+slice-aggregate-along : tie.Need-slice-aggregate-along
+slice-aggregate-along c = as-many (c .before .before)
+
+along-requires : tie.Need-along-requires
+along-requires c κs = rw (as-many (c .before .before .before)) at (c .before .before .before .before .before .before .pre .0)
+
+same-length : tie.Need-same-length
+same-length c = search needs
+
+returns : tie.Need-returns
+returns c =
+    let g = c .before .before .before .before .before .before .before .before .before .args in
+    let p = moments (g .roll .now) (g .acceleration .now) in
+    c .before .before .along .ensures ∙ ap (foldl (marked (g .step) (g .decorrelation)) (noting (g .w) (g .times .now))) (noted (c .before .before .before .before .before .before))
+    ∙ sym (noted-marks (g .step) (g .levels) (g .decorrelation) (noting (g .w) (g .times .now)) p)
+
+pub walk-block-spec : {M : Type 1} → statement M
+walk-block-spec =
+    tie.close
+    (tie.spec
+    slice-aggregate-mark
+    mark-requires
+    array-share-prefix-ups
+    slice-aggregate-along
+    along-requires
+    same-length
+    returns)

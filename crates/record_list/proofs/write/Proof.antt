@@ -1,0 +1,41 @@
+-- `record_list::write` meets its contract: the times are those kept aside, or those that a second pass notes. Assumes nothing.
+use borrow.Author.Needs.{needs}
+use native.Mathlib.Nat.{zero-add}
+use native.Mathlib.Omega.{arith}
+use Rattle.sample_channels.specs.Channels.{moments}
+use Rattle.crossing_places.specs.Reading.{countedTimes}
+use Rattle.record_list.proofs.Answered.{writes-room, writes-times}
+use Rattle.record_list.proofs.Heard.{writes-passed}
+use Rattle.record_list.proofs.write.Statement.{statement}
+use Rattle.record_list.proofs.write.Tie as tie
+
+returns : tie.Need-returns
+returns c = let n = c .before .before .before .pre .3 in rw n (writes-room (countedTimes (c .before .before .before .args .step) 0 (c .before .before .before .args .levels) (c .before .before .before .args .decorrelation) (moments (c .before .before .before .args .roll .now) (c .before .before .before .args .acceleration .now))) (c .before .before .before .args .times .now) (omega arith))
+
+copy-requires : tie.Need-copy-requires
+copy-requires c κs = search needs
+
+same-length : tie.Need-same-length
+same-length c = search needs
+
+returns-2 : tie.Need-returns-2
+returns-2 c =
+    let n = c .before .before .before .before .before .before .before .before .pre .3 in
+    rw (c .before .before .copy .ensures, zero-add, c .before .before .before .before .before .before .before .before .pre .4 (omega arith), n) (writes-times (countedTimes (c .before .before .before .before .before .before .before .before .args .step) 0 (c .before .before .before .before .before .before .before .before .args .levels) (c .before .before .before .before .before .before .before .before .args .decorrelation) (moments (c .before .before .before .before .before .before .before .before .args .roll .now) (c .before .before .before .before .before .before .before .before .args .acceleration .now))) (c .before .before .before .before .before .before .before .before .args .times .now) (omega arith))
+
+pass-requires : tie.Need-pass-requires
+pass-requires c κs = search needs
+
+same-length-2 : tie.Need-same-length-2
+same-length-2 c = search needs
+
+returns-3 : tie.Need-returns-3
+returns-3 c =
+    let a = c .before .before .before .before .before .before .before .before in
+    let g = a .args in
+    rw (a .pre .3) (writes-passed (g .step) (g .levels) (g .decorrelation) (g .roll .now) (g .acceleration .now) (g .times .now) _ (c .before .before .pass .result) (a .pre .2) (omega arith) (c .before .before .pass .ensures))
+
+pub write-spec : {M : Type 1} → statement M
+write-spec =
+    tie.close
+    (tie.spec returns copy-requires same-length returns-2 pass-requires same-length-2 returns-3)

@@ -1,0 +1,69 @@
+-- What follows from the relations of a sound state, whether it has a crossing or not: its items are in range, its counts are at most n, its places lie between the ramp
+-- and n. Assumes nothing.
+use Prim.Native.Nat.{ℕ, _≤_}
+use mathlib.Core.Path.{_≡_}
+use mathlib.Core.Logic.{_⊎_, inl, inr}
+use native.Mathlib.Omega.{arith}
+use Rattle.record_state.specs.declared.Record.{Record}
+use Rattle.sample_items.specs.Limits.{mostSamples, mostInRange}
+use Rattle.sample_items.proofs.Items.{Items, items, most-in-range, most-small}
+use Rattle.record_state.proofs.Relations.{None, Failure, Kept}
+
+pub items-of : {r : Record} → Kept r → Items (r .step) (r .ramp) (r .levels) (r .decorrelation)
+items-of {r} k = items (r .step) (r .ramp) (r .levels) (r .decorrelation) (k .outside)
+
+-- the longest record, in samples
+pub small : {r : Record} → Kept r → mostSamples (r .step) (r .ramp) ≤ 11000001
+small k = most-small (items-of k)
+
+pub most-of : {r : Record} → Kept r → mostInRange (r .step) (r .ramp) ≡ mostSamples (r .step) (r .ramp)
+most-of {r} k = most-in-range (r .step) (r .ramp) (r .levels) (r .decorrelation) (k .outside)
+
+-- a state with a crossing has a first failure
+pub failure : {r : Record} → Kept r → (r .crossings ≡ 0 → ⊥) → Failure r
+failure {r} k h = go (k .figures)
+  where
+    go : None r ⊎ Failure r → Failure r
+    go (inl n) = absurd (h (n .crossings))
+    go (inr f) = f
+
+pub crossings-below : {r : Record} → Kept r → r .crossings ≤ r .n
+crossings-below {r} k = go (k .figures)
+  where
+    go : None r ⊎ Failure r → r .crossings ≤ r .n
+    go (inl n) = omega (arith, n .crossings)
+    go (inr f) = omega (arith, f .crossings)
+
+-- the last crossing's place is not before the largest set's last, and groups are within the largest set, whether there is a crossing or not
+pub recent-after : {r : Record} → Kept r → r .latest ≤ r .recent
+recent-after {r} k = go (k .figures)
+  where
+    go : None r ⊎ Failure r → r .latest ≤ r .recent
+    go (inl n) = omega (arith, n .latest)
+    go (inr f) = f .recent
+
+pub groups-within : {r : Record} → Kept r → r .groups ≤ r .largest
+groups-within {r} k = go (k .figures)
+  where
+    go : None r ⊎ Failure r → r .groups ≤ r .largest
+    go (inl n) = omega (arith, n .groups)
+    go (inr f) = f .within
+
+-- the place of an earlier crossing is between the ramp and n
+pub record Earlier (r : Record) (p : ℕ) : Type 0 where
+  pub within : p ≤ r .n
+  pub timed : ¬ (r .crossings ≡ 0) → r .ramp ≤ p
+
+pub latest-earlier : {r : Record} → Kept r → Earlier r (r .latest)
+latest-earlier {r} k = record { within = go (k .figures); timed = λ h. let f = failure k h in omega (arith, f .above, f .ordered) }
+  where
+    go : None r ⊎ Failure r → r .latest ≤ r .n
+    go (inl n) = omega (arith, n .latest)
+    go (inr f) = omega (arith, f .below)
+
+pub recent-earlier : {r : Record} → Kept r → Earlier r (r .recent)
+recent-earlier {r} k = record { within = go (k .figures); timed = λ h. let f = failure k h in omega (arith, f .above, f .ordered, f .recent) }
+  where
+    go : None r ⊎ Failure r → r .recent ≤ r .n
+    go (inl n) = omega (arith, n .recent)
+    go (inr f) = omega (arith, f .recent-below)

@@ -1,0 +1,46 @@
+-- A fresh record: what opening it met, and that it keeps the relations. Assumes nothing.
+use Prim.Native.Nat.{ℕ}
+use mathlib.Core.Path.{_≡_, refl}
+use mathlib.Core.Bool.{Bool, true, false, cond}
+use mathlib.Core.List.{[]}
+use mathlib.Core.Logic.{inl}
+use native.Mathlib.Omega.{arith}
+use lib.Dec.{eqb}
+use borrow.Author.Tests.{eqb-true}
+use Rattle.refusal.specs.declared.Refusal.the-variants.{Item}
+use Rattle.crossing_sets.specs.Walk.{walk}
+use Rattle.crossing_sets.specs.Groups.{groups}
+use Rattle.sample_channels.specs.declared.Levels.{Levels}
+use Rattle.record_state.specs.declared.Record.{Record}
+use Rattle.record_state.specs.declared.Answer.the-variants.{Taken, Refused}
+use Rattle.sample_items.specs.Limits.{itemOutside}
+use Rattle.crossing_places.specs.Reading.{passing, firstOf, lastOf}
+use Rattle.record_state.specs.State.{stateOf, sound}
+use Rattle.record_state.specs.Answers.{opened}
+use Rattle.record_state.proofs.Relations.{kept-sound}
+
+only-taken : (b : Bool) (i : ℕ) (r s : Record) → cond b (Taken r) (Refused (Item i)) ≡ Taken s → (b ≡ true) × (r ≡ s)
+only-taken true i r s e = (refl, cc)
+only-taken false i r s e = let z : _≡_ {A = ℕ} 0 1 = cc in absurd (omega arith)
+
+pub opened-taken : (D R : ℕ) (a : Levels) (τ : ℕ) (s : Record) → opened D R a τ ≡ Taken s → (itemOutside D R a τ ≡ 0) × (stateOf D R a τ [] ≡ s)
+unfolding opened
+opened-taken D R a τ s e =
+    let o = only-taken (eqb (itemOutside D R a τ) 0) (itemOutside D R a τ) (stateOf D R a τ []) s e in
+    (eqb-true _ 0 (o .0), o .1)
+
+fresh-sound : (D R : ℕ) (a : Levels) (τ : ℕ) → itemOutside D R a τ ≡ 0 → sound (stateOf D R a τ []) ≡ true
+unfolding stateOf passing firstOf lastOf walk groups
+fresh-sound D R a τ e =
+    kept-sound (stateOf D R a τ [])
+    (record {
+      outside = e;
+      range = refl;
+      fresh = λ z. refl;
+      length = omega arith;
+      counts = omega arith;
+      figures = inl (record { first = refl; crossings = refl; largest = refl; latest = refl; recent = refl; groups = refl });
+    })
+
+pub opened-sound : (D R : ℕ) (a : Levels) (τ : ℕ) (s : Record) → opened D R a τ ≡ Taken s → sound s ≡ true
+opened-sound D R a τ s e = let o = opened-taken D R a τ s e in rw (← o .1) (fresh-sound D R a τ (o .0))

@@ -1,0 +1,27 @@
+-- `record_state::both_in_range` meets its contract, which it follows word for word. Assumes nothing.
+use borrow.Author.Needs.{needs}
+use mir.Facts.{toZ-ofZ}
+use mir.Val.{SFits}
+use mir.Syntax.{w32}
+use Rattle.record_state.proofs.both_in_range.Statement.{statement}
+use Rattle.record_state.proofs.both_in_range.Tie as tie
+
+in-range-requires : tie.Need-in-range-requires
+in-range-requires c κs = search needs
+
+in-range-requires-2 : tie.Need-in-range-requires-2
+in-range-requires-2 c κs = search needs
+
+both-requires : tie.Need-both-requires
+both-requires c κs = search needs
+
+returns : tie.Need-returns
+returns c =
+    let x = c .before .before .before .before .before .args .x in
+    let roll : SFits w32 (x .roll) = search needs in
+    let acceleration : SFits w32 (x .acceleration) = search needs in
+    rw (c .both .ensures, c .before .before .before .in-range .ensures, c .before .in-range2 .ensures, toZ-ofZ roll, toZ-ofZ acceleration)
+
+pub both-in-range-spec : {M : Type 1} → statement M
+both-in-range-spec =
+    tie.close (tie.spec in-range-requires in-range-requires-2 both-requires returns)

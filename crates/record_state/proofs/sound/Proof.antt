@@ -1,0 +1,57 @@
+-- `record_state::sound` meets its contract: an item outside its range settles it; otherwise it follows the definition word for word. Assumes nothing.
+use borrow.Author.Needs.{needs}
+use borrow.Author.Tests.{eq-eqb, ne-eqb}
+use Rattle.record_state.specs.State.{sound, itemsKept}
+use mathlib.Core.Path.{_≡_, sym, _∙_}
+use Rattle.sample_items.proofs.Items.{most-in-range}
+use mathlib.Core.Bool.{true}
+use Rattle.record_state.proofs.sound.Statement.{statement}
+use Rattle.record_state.proofs.sound.Tie as tie
+
+item-outside-requires : tie.Need-item-outside-requires
+item-outside-requires c κs = search needs
+
+returns : tie.Need-returns
+unfolding sound
+returns c = rw (← c .before .item-outside .ensures, ne-eqb _ _ (c .if1 .taken))
+
+last-kept-requires : tie.Need-last-kept-requires
+last-kept-requires c κs = search needs
+
+most-samples-requires : tie.Need-most-samples-requires
+most-samples-requires c κs = search needs
+
+figures-kept-requires : tie.Need-figures-kept-requires
+figures-kept-requires c κs = search needs
+
+both-requires : tie.Need-both-requires
+both-requires c κs = search needs
+
+both-requires-2 : tie.Need-both-requires-2
+both-requires-2 c κs = search needs
+
+both-requires-3 : tie.Need-both-requires-3
+both-requires-3 c κs = search needs
+
+returns-2 : tie.Need-returns-2
+unfolding sound
+returns-2 c =
+    let r = c .before .before .before .before .before .before .before .before .before .before .args .r in
+    let z = sym (c .before .before .before .before .before .before .before .before .before .item-outside .ensures) ∙ c .before .before .before .before .before .before .before .before .if1 .left in
+    let e : itemsKept r ≡ true = eq-eqb _ 0 z in
+    let m = most-in-range (r .step) (r .ramp) (r .levels) (r .decorrelation) z in
+    rw (e, c .both3 .ensures, c .before .both2 .ensures, c .before .before .both .ensures, c .before .before .before .figures-kept .ensures, c .before .before .before .before .before .before .most-samples .ensures, m, c .before .before .before .before .before .before .before .last-kept .ensures)
+
+pub sound-spec : {M : Type 1} → statement M
+sound-spec =
+    tie.close
+    (tie.spec
+    item-outside-requires
+    returns
+    last-kept-requires
+    most-samples-requires
+    figures-kept-requires
+    both-requires
+    both-requires-2
+    both-requires-3
+    returns-2)

@@ -1,0 +1,169 @@
+// A record: two channels of samples at a fixed step, roll and acceleration, with a level each, a ramp and a decorrelation time; what is kept of it between two pieces, and its opening.
+// A state goes in by value and comes back in an answer, so a refusal leaves the caller's as it stood.
+ghost use mathlib.Core.Path.{_≡_};
+ghost use mathlib.Core.List.{[]};
+ghost use Prim.Native.Nat.{_-_};
+ghost use Rattle.sample_channels.specs.Channels.{inRange};
+ghost use Rattle.record_state.specs.State.{stateOf, isStill, lastKept, noneKept, noGroups, failureKept, groupsKept, figuresKept, sound};
+ghost use Rattle.record_state.specs.Answers.{opened};
+use refusal::Refusal;
+use sample_channels::Levels;
+use sample_channels::Moment;
+
+// The items, how many samples came and the last of both channels, and the figures so far: the crossings, the largest set of them, the groups. `first`, `latest` and
+// `recent` are places of samples, those of the first crossing, of the largest set's last and of the last crossing; places without a meaning yet hold 0.
+pub struct Record {
+    pub step: u64,
+    pub ramp: u64,
+    pub levels: Levels,
+    pub decorrelation: u64,
+    pub n: u64,
+    pub last: Moment,
+    pub crossings: u64,
+    pub largest: u64,
+    pub first: u64,
+    pub latest: u64,
+    pub recent: u64,
+    pub groups: u64,
+}
+
+pub enum Answer {
+    Taken(Record),
+    Refused(Refusal),
+}
+
+// The state of no samples.
+fn fresh(step: u64, ramp: u64, levels: Levels, decorrelation: u64) -> Record
+    ensures { λ r. ⌜ r ≡ stateOf step ramp levels decorrelation [] ⌝ }
+{
+    Record {
+        step,
+        ramp,
+        levels,
+        decorrelation,
+        n: 0,
+        last: Moment {
+            roll: 0,
+            acceleration: 0,
+        },
+        crossings: 0,
+        largest: 0,
+        first: 0,
+        latest: 0,
+        recent: 0,
+        groups: 0,
+    }
+}
+
+// The fresh record, or refusal 1 with the lowest item outside its range.
+pub fn open(step: u64, ramp: u64, levels: Levels, decorrelation: u64) -> Answer
+    ensures { λ r. ⌜ r ≡ opened step ramp levels decorrelation ⌝ }
+{
+    let item = sample_items::item_outside(step, ramp, levels, decorrelation);
+    if item == 0 {
+        Answer::Taken(fresh(step, ramp, levels, decorrelation))
+    } else {
+        Answer::Refused(Refusal::Item(item))
+    }
+}
+
+// n - 1 - ramp, and 0 where there is no such number.
+fn spans(ramp: u64, n: u64) -> u64
+    ensures { λ r. ⌜ r ≡ n - 1 - ramp ⌝ }
+{
+    if ramp < n { n - 1 - ramp } else { 0 }
+}
+
+// Whether a sample is in range in both channels.
+fn both_in_range(x: Moment) -> bool
+    ensures { λ k. ⌜ k ≡ inRange x ⌝ }
+{
+    truth::both(
+        sample_range::in_range(x.roll),
+        sample_range::in_range(x.acceleration),
+    )
+}
+
+// Whether it is 0 in both.
+fn both_zero(x: Moment) -> bool
+    ensures { λ k. ⌜ k ≡ isStill x ⌝ }
+{
+    truth::both(
+        sample_size::magnitude(x.roll) == 0,
+        sample_size::magnitude(x.acceleration) == 0,
+    )
+}
+
+fn last_kept(r: Record) -> bool
+    ensures { λ k. ⌜ k ≡ lastKept r ⌝ }
+{
+    truth::both(
+        both_in_range(r.last),
+        truth::either(r.n != 0, both_zero(r.last)),
+    )
+}
+
+fn failure_kept(r: Record) -> bool
+    ensures { λ k. ⌜ k ≡ failureKept r ⌝ }
+{
+    truth::both(
+        1 <= r.largest,
+        truth::both(
+            r.crossings <= spans(r.ramp, r.n),
+            truth::both(
+                r.ramp < r.first,
+                truth::both(r.first <= r.latest, r.latest < r.n),
+            ),
+        ),
+    )
+}
+
+fn none_kept(r: Record) -> bool
+    ensures { λ k. ⌜ k ≡ noneKept r ⌝ }
+{
+    truth::both(r.crossings == 0, truth::both(r.largest == 0, r.latest == 0))
+}
+
+fn groups_kept(r: Record) -> bool
+    ensures { λ k. ⌜ k ≡ groupsKept r ⌝ }
+{
+    truth::both(
+        r.latest <= r.recent,
+        truth::both(
+            r.recent < r.n,
+            truth::both(1 <= r.groups, r.groups <= r.largest),
+        ),
+    )
+}
+
+fn no_groups(r: Record) -> bool
+    ensures { λ k. ⌜ k ≡ noGroups r ⌝ }
+{
+    truth::both(r.recent == 0, r.groups == 0)
+}
+
+fn figures_kept(r: Record) -> bool
+    ensures { λ k. ⌜ k ≡ figuresKept r ⌝ }
+{
+    if r.first == 0 {
+        truth::both(none_kept(r), no_groups(r))
+    } else {
+        truth::both(failure_kept(r), groups_kept(r))
+    }
+}
+
+// Whether a state keeps the relations for refusal 8.
+pub fn sound(r: Record) -> bool
+    ensures { λ k. ⌜ k ≡ sound r ⌝ }
+{
+    if sample_items::item_outside(r.step, r.ramp, r.levels, r.decorrelation) != 0 {
+        return false;
+    }
+    truth::both(
+        last_kept(r),
+        truth::both(
+            r.n <= sample_items::most_samples(r.step, r.ramp),
+            truth::both(r.largest <= r.crossings, figures_kept(r)),
+        ),
+    )
+}

@@ -1,9 +1,0 @@
-pub mod Lines
-pub mod Back
-pub mod Clean
-pub mod At
-pub mod Along
-pub mod Exposures
-pub mod Answered
-pub mod Second
-pub mod Unique

@@ -1,3 +1,0 @@
-pub mod Runs
-pub mod Step
-pub mod Meaning

@@ -1,0 +1,21 @@
+-- `sample_block::loud` meets its contract: the ends say it. Assumes nothing.
+use mathlib.Core.Path.{_∙_}
+use borrow.Author.Needs.{needs}
+use Rattle.sample_block.proofs.Sides.{ends-say}
+use Rattle.sample_block.proofs.loud.Statement.{statement}
+use Rattle.sample_block.proofs.loud.Tie as tie
+
+ends-of-requires : tie.Need-ends-of-requires
+ends-of-requires c κs = search needs
+
+past-requires : tie.Need-past-requires
+past-requires c κs = search needs
+
+returns : tie.Need-returns
+returns c =
+    let a = c .before .before .args .level in
+    let xs = c .before .before .args .samples .now in
+    c .past .ensures ∙ rw (c .before .ends-of .ensures .0, c .before .ends-of .ensures .1) (ends-say a xs)
+
+pub loud-spec : {M : Type 1} → statement M
+loud-spec = tie.close (tie.spec ends-of-requires past-requires returns)

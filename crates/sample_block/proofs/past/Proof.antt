@@ -1,0 +1,26 @@
+-- `sample_block::past` meets its contract: the two questions joined. Assumes nothing.
+use borrow.Author.Needs.{needs}
+use mir.Facts.{toZ-ofZ}
+use mir.Syntax.{w32}
+use mir.Val.{SFits}
+use Rattle.sample_block.proofs.past.Statement.{statement}
+use Rattle.sample_block.proofs.past.Tie as tie
+
+above-requires : tie.Need-above-requires
+above-requires c κs = search needs
+
+above-requires-2 : tie.Need-above-requires-2
+above-requires-2 c κs = search needs
+
+either-requires : tie.Need-either-requires
+either-requires c κs = search needs
+
+returns : tie.Need-returns
+returns c =
+    let e = c .before .before .before .before .before .args .e in
+    let low : SFits w32 (e .lowest) = search needs in
+    let high : SFits w32 (e .highest) = search needs in
+    cc (toZ-ofZ low, toZ-ofZ high)
+
+pub past-spec : {M : Type 1} → statement M
+past-spec = tie.close (tie.spec above-requires above-requires-2 either-requires returns)

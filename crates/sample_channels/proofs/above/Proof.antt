@@ -1,0 +1,26 @@
+-- `sample_channels::above` meets its contract: the two questions joined. Assumes nothing.
+use borrow.Author.Needs.{needs}
+use mir.Facts.{toZ-ofZ}
+use mir.Syntax.{w32}
+use mir.Val.{SFits}
+use Rattle.sample_channels.proofs.above.Statement.{statement}
+use Rattle.sample_channels.proofs.above.Tie as tie
+
+above-requires : tie.Need-above-requires
+above-requires c κs = search needs
+
+above-requires-2 : tie.Need-above-requires-2
+above-requires-2 c κs = search needs
+
+either-requires : tie.Need-either-requires
+either-requires c κs = search needs
+
+returns : tie.Need-returns
+returns c =
+    let x = c .before .before .before .before .before .args .x in
+    let roll : SFits w32 (x .roll) = search needs in
+    let acceleration : SFits w32 (x .acceleration) = search needs in
+    cc (toZ-ofZ roll, toZ-ofZ acceleration)
+
+pub above-spec : {M : Type 1} → statement M
+above-spec = tie.close (tie.spec above-requires above-requires-2 either-requires returns)

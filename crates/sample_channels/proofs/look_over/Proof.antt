@@ -1,0 +1,43 @@
+-- `sample_channels::look_over` meets its contract: its test is that of the definition. Assumes nothing.
+use borrow.Author.Needs.{needs}
+use mathlib.Core.Path.{_≡_, sym, _∙_}
+use Rattle.sample_channels.specs.Channels.{anyBad, looked}
+use Rattle.sample_channels.proofs.look_over.Statement.{statement}
+use Rattle.sample_channels.proofs.look_over.Tie as tie
+
+first-bad-requires : tie.Need-first-bad-requires
+first-bad-requires c κs = search needs
+
+first-bad-requires-2 : tie.Need-first-bad-requires-2
+first-bad-requires-2 c κs = search needs
+
+either-requires : tie.Need-either-requires
+either-requires c κs = search needs
+
+bad-of-requires : tie.Need-bad-of-requires
+bad-of-requires c κs = search needs
+
+tested : (c : tie.After-either) → c .either .result ≡ anyBad (c .before .before .before .args .roll .now) (c .before .before .before .args .acceleration .now)
+tested c = rw (c .either .ensures, c .before .before .first-bad .ensures, c .before .first-bad2 .ensures)
+
+returns : tie.Need-returns
+unfolding looked
+returns c =
+    let p = c .before .before .before .before .first-bad .ensures in
+    let q = c .before .before .before .first-bad2 .ensures in
+    rw (sym (tested (c .before .before)) ∙ c .before .if1 .taken, c .bad-of .ensures, p, q)
+
+returns-2 : tie.Need-returns-2
+unfolding looked
+returns-2 c = rw (sym (tested (c .before)) ∙ c .if1 .left)
+
+pub look-over-spec : {M : Type 1} → statement M
+look-over-spec =
+    tie.close
+    (tie.spec
+    first-bad-requires
+    first-bad-requires-2
+    either-requires
+    bad-of-requires
+    returns
+    returns-2)

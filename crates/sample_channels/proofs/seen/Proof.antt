@@ -1,0 +1,35 @@
+-- `sample_channels::seen` meets its contract: the two samples side by side. Assumes nothing.
+use mathlib.Core.Path.{sym}
+use lib.IntN.{pos}
+use lib.ListN.{getD}
+use borrow.Author.Needs.{needs}
+use mir.Facts.{toZ-ofZ}
+use mir.Val.{SFits}
+use mir.Syntax.{w32}
+use Rattle.sample_channels.proofs.Moments.{moments-at}
+use Rattle.sample_channels.proofs.seen.Statement.{statement}
+use Rattle.sample_channels.proofs.seen.Tie as tie
+
+mul-t4 : tie.Need-mul-t4
+mul-t4 c = search needs
+
+shared-slice-copy-out-t6 : tie.Need-shared-slice-copy-out-t6
+shared-slice-copy-out-t6 c = search needs
+
+mul-t7 : tie.Need-mul-t7
+mul-t7 c = search needs
+
+shared-slice-copy-out-t9 : tie.Need-shared-slice-copy-out-t9
+shared-slice-copy-out-t9 c = search needs
+
+returns : tie.Need-returns
+returns c =
+    let a = c .before .before .args in
+    let p = c .before .before .pre in
+    let roll : SFits w32 (getD (a .roll .now) (a .i) (pos 0)) = search needs in
+    let acceleration : SFits w32 (getD (a .acceleration .now) (a .i) (pos 0)) = search needs in
+    rw (toZ-ofZ roll, toZ-ofZ acceleration) (sym (moments-at (a .roll .now) (a .acceleration .now) (a .i) (p .0) (p .1)))
+
+pub seen-spec : {M : Type 1} → statement M
+seen-spec =
+    tie.close (tie.spec mul-t4 shared-slice-copy-out-t6 mul-t7 shared-slice-copy-out-t9 returns)

@@ -1,0 +1,26 @@
+-- `sample_range::outside` meets its contract, which it follows word for word. Assumes nothing.
+use borrow.Author.Needs.{needs}
+use mir.Facts.{toZ-ofZ}
+use mir.Syntax.{w32}
+use mir.Val.{SFits}
+use Rattle.sample_range.proofs.outside.Statement.{statement}
+use Rattle.sample_range.proofs.outside.Tie as tie
+
+in-range-requires : tie.Need-in-range-requires
+in-range-requires c κs = search needs
+
+in-range-requires-2 : tie.Need-in-range-requires-2
+in-range-requires-2 c κs = search needs
+
+both-requires : tie.Need-both-requires
+both-requires c κs = search needs
+
+returns : tie.Need-returns
+returns c =
+    let e = c .before .before .before .before .before .args .e in
+    let low : SFits w32 (e .lowest) = search needs in
+    let high : SFits w32 (e .highest) = search needs in
+    cc (toZ-ofZ low, toZ-ofZ high)
+
+pub outside-spec : {M : Type 1} → statement M
+outside-spec = tie.close (tie.spec in-range-requires in-range-requires-2 both-requires returns)

@@ -1,0 +1,13 @@
+pub mod Reading
+pub mod Faults
+pub mod Back
+pub mod Unique
+pub mod Examples
+pub mod Told
+pub mod Columns
+pub mod Fault
+pub mod Parts
+pub mod Fields
+pub mod Forms
+pub mod Entries
+pub mod Theorems

@@ -1,0 +1,46 @@
+-- `Sheet::line` meets its contract: line 1 or a later one, by where the reading stands. Assumes nothing.
+use Rattle.truth.proofs.Laws.{said-no, said-yes}
+use Rattle.sheet_line.specs.Line.{stepping}
+use borrow.Author.Needs.{needs}
+use Rattle.sheet_line.proofs.Sheet.line.Statement.{statement}
+use Rattle.sheet_line.proofs.Sheet.line.Tie as tie
+
+enum-told : tie.Need-enum-told
+enum-told c = search needs
+
+standard-line-requires : tie.Need-standard-line-requires
+standard-line-requires c κs = search needs
+
+enum-known-self : tie.Need-enum-known-self
+enum-known-self c = search needs
+
+sound-requires : tie.Need-sound-requires
+sound-requires c κs = search needs
+
+returns : tie.Need-returns
+unfolding stepping
+returns c = rw (c .before .before .before .self .given .1, said-no (c .before .sound .ensures) (c .if1 .taken))
+
+record-line-requires : tie.Need-record-line-requires
+record-line-requires c κs = said-yes (c .before .sound .ensures) (c .if1 .left)
+
+returns-2 : tie.Need-returns-2
+unfolding stepping
+returns-2 c = rw (c .before .enum-told .given .1) (c .standard-line .ensures)
+
+returns-3 : tie.Need-returns-3
+unfolding stepping
+returns-3 c = rw (c .before .before .before .before .self .given .1, said-yes (c .before .before .sound .ensures) (c .before .if1 .left)) (c .record-line .ensures)
+
+pub line-spec : {M : Type 1} → statement M
+line-spec =
+    tie.close
+    (tie.spec
+    enum-told
+    standard-line-requires
+    enum-known-self
+    sound-requires
+    returns
+    record-line-requires
+    returns-2
+    returns-3)

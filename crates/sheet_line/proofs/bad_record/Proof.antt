@@ -1,0 +1,22 @@
+-- `sheet_line::bad_record` meets its contract: a campaign that keeps its relations has few enough records for the line's number to fit. Assumes nothing.
+use native.Mathlib.Omega.{arith}
+use Rattle.truth.proofs.Laws.{holds}
+use Rattle.campaign_state.proofs.Relations.{kept-from}
+use borrow.Author.Needs.{needs}
+use Rattle.sheet_line.proofs.bad_record.Statement.{statement}
+use Rattle.sheet_line.proofs.bad_record.Tie as tie
+
+add-line : tie.Need-add-line
+add-line c = omega (arith, kept-from (c .before .before .args .c) (holds (c .before .before .pre)) .records)
+
+add-record-column : tie.Need-add-record-column
+add-record-column c = omega (arith, kept-from (c .before .before .before .args .c) (holds (c .before .before .before .pre)) .records)
+
+record-column-requires : tie.Need-record-column-requires
+record-column-requires c κs = search needs
+
+returns : tie.Need-returns
+returns c = search needs
+
+pub bad-record-spec : {M : Type 1} → statement M
+bad-record-spec = tie.close (tie.spec add-line add-record-column record-column-requires returns)

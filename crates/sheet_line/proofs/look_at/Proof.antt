@@ -1,0 +1,97 @@
+-- `sheet_line::look_at` meets its contract, case by case of what the field reads as; a place in a line of 64 bytes is small. Assumes nothing.
+use Prim.Native.Nat.{_≤_}
+use mathlib.Core.Path.{_≡_, refl, sym, ap, _∙_}
+use native.Mathlib.Omega.{arith}
+use lib.ListN.{length}
+use denote.Ref.{now}
+use Rattle.sheet_line.specs.Field.{fieldAt}
+use Rattle.sheet_line.proofs.Back.{read-only}
+use Rattle.sheet_line.proofs.Faults.{strangePlace, strange-within}
+use borrow.Author.Needs.{needs}
+use Rattle.sheet_line.proofs.look_at.Statement.{statement}
+use Rattle.sheet_line.proofs.look_at.Tie as tie
+
+abbrev start : tie.After-number-at → tie.Start
+start c = c .before .before
+
+reads : (c : tie.After-number-at) → fieldAt (now (start c .args .text)) (start c .args .at) ≡ c .number-at .result
+reads c = sym (c .number-at .ensures)
+
+within : (c : tie.After-f) → c .f .given .0 .1 .0 ≤ length (now (start (c .before .before) .args .text))
+within c =
+    let n = c .before .before in
+    read-only (now (start n .args .text)) (start n .args .at) (c .f .given .0 .0) (c .f .given .0 .1 .0) (reads n ∙ c .f .given .1) .within
+
+number-at-requires : tie.Need-number-at-requires
+number-at-requires c κs = search needs
+
+add-first : tie.Need-add-first
+add-first c = search needs
+
+enum-known-f : tie.Need-enum-known-f
+enum-known-f c = search needs
+
+both-requires : tie.Need-both-requires
+both-requires c κs = search needs
+
+pick-requires : tie.Need-pick-requires
+pick-requires c κs = search needs
+
+add-t16 : tie.Need-add-t16
+add-t16 c = omega (arith, within (c .before .before .before), start (c .before .before .before .before .before) .pre .0)
+
+enum-known-f-2 : tie.Need-enum-known-f-2
+enum-known-f-2 c = search needs
+
+add-t18 : tie.Need-add-t18
+add-t18 c =
+    let n = c .before .before .before in
+    omega (arith, strange-within (now (start n .args .text)) (start n .args .at), ap strangePlace (reads n ∙ c .before .f2 .given .1), start n .pre .0, start n .pre .1)
+
+enum-told : tie.Need-enum-told
+enum-told c = search needs
+
+enum-told-2 : tie.Need-enum-told-2
+enum-told-2 c = search needs
+
+enum-told-3 : tie.Need-enum-told-3
+enum-told-3 c = search needs
+
+returns : tie.Need-returns
+returns c =
+    let f = c .before .before .before in
+    let n = f .before .before in
+    rw (reads n ∙ f .f .given .1) (c .pick .ensures ∙ rw (c .before .both .ensures), (refl, omega (arith, within f, start n .pre .0)))
+
+returns-2 : tie.Need-returns-2
+returns-2 c = rw (reads (c .before .before .before) ∙ c .before .f2 .given .1) (refl, (refl, omega arith))
+
+returns-3 : tie.Need-returns-3
+returns-3 c = rw (reads (c .before .before) ∙ c .enum-told .given .1) (refl, (refl, omega arith))
+
+returns-4 : tie.Need-returns-4
+returns-4 c = rw (reads (c .before .before) ∙ c .enum-told2 .given .1) (refl, (refl, omega arith))
+
+returns-5 : tie.Need-returns-5
+returns-5 c = rw (reads (c .before .before) ∙ c .enum-told3 .given .1) (refl, (refl, omega arith))
+
+pub look-at-spec : {M : Type 1} → statement M
+look-at-spec =
+    tie.close
+    (tie.spec
+    number-at-requires
+    add-first
+    enum-known-f
+    both-requires
+    pick-requires
+    add-t16
+    enum-known-f-2
+    add-t18
+    enum-told
+    enum-told-2
+    enum-told-3
+    returns
+    returns-2
+    returns-3
+    returns-4
+    returns-5)

@@ -1,0 +1,196 @@
+-- `sheet_line::record_line` meets its contract: the line is taken apart field by field, and each answer follows from the fields and tests that led to
+-- it. A campaign that keeps its relations has few enough records for the line's number to fit. Assumes nothing.
+use Prim.Native.Nat.{ℕ}
+use mathlib.Core.Path.{_≡_, sym, ap, _∙_}
+use mathlib.Core.Bool.{true}
+use mathlib.Core.List.{List}
+use native.Mathlib.Omega.{arith}
+use denote.Ref.{now}
+use Rattle.truth.proofs.Laws.{holds, said-no, said-yes}
+use Rattle.campaign_state.proofs.Relations.{kept-from}
+use Rattle.decimal.specs.Field.{tab, lineFeed}
+use Rattle.sheet_line.specs.declared.Field.the-variants.{Number}
+use Rattle.sheet_line.specs.Form.{isLine}
+use Rattle.sheet_line.specs.Line.{fieldThen, isRecord, lineAfter, outcome, recordLine}
+use Rattle.sheet_line.proofs.Fields.{other-field}
+use borrow.Author.Needs.{needs}
+use Rattle.sheet_line.proofs.record_line.Statement.{statement}
+use Rattle.sheet_line.proofs.record_line.Tie as tie
+
+-- a field's number, and the place after it
+abbrev Found : Type 0
+Found = ℕ × ℕ
+
+-- the places on the way back: the test of the line, and each field
+abbrev line-of : tie.After-known-told → tie.Else1
+line-of c = c .before .before .before .before
+
+abbrev first-of : tie.After-known-told2 → tie.After-known-told
+first-of c = c .before .before .before .before
+
+abbrev second-of : tie.After-known-told3 → tie.After-known-told2
+second-of c = c .before .before .before .before
+
+abbrev fields-of : tie.After-both2 → tie.After-known-told3
+fields-of c = c .before .before .before
+
+abbrev start : tie.Else1 → tie.Start
+start c = c .before .before .before
+
+-- what is known past each
+abbrev Text : tie.Else1 → List ℕ
+Text c = now (start c .args .text)
+
+abbrev number : tie.After-known-told → Found
+number c = (c .before .number .given .0 .0, c .before .number .given .0 .1 .0)
+
+abbrev flag : tie.After-known-told2 → Found
+flag c = (c .before .flag .given .0 .0, c .before .flag .given .0 .1 .0)
+
+abbrev exposure : tie.After-known-told3 → Found
+exposure c = (c .before .exposure .given .0 .0, c .before .exposure .given .0 .1 .0)
+
+within : (c : tie.Else1) → isLine (Text c) ≡ true
+within c = said-yes (c .before .is-line .ensures) (c .if1 .left)
+
+first : (c : tie.After-known-told) → fieldThen tab (Text (line-of c)) 0 ≡ Number (number c .0) (number c .1)
+first c = sym (c .before .before .before .field-then .ensures) ∙ c .before .number .given .1
+
+second : (c : tie.After-known-told2) → fieldThen tab (Text (line-of (first-of c))) (number (first-of c) .1) ≡ Number (flag c .0) (flag c .1)
+second c = sym (c .before .before .before .field-then2 .ensures) ∙ c .before .flag .given .1
+
+third : (c : tie.After-known-told3) → fieldThen lineFeed (Text (line-of (first-of (second-of c)))) (flag (second-of c) .1) ≡ Number (exposure c .0) (exposure c .1)
+third c = sym (c .before .before .before .field-then3 .ensures) ∙ c .before .exposure .given .1
+
+tests : (c : tie.After-both2) → let t = fields-of c in let s = second-of t in let f = first-of s in
+    isRecord (start (line-of f) .args .c) (Text (line-of f)) (number f .0) (flag s .0) (exposure t .1) ≡ c .both2 .result
+tests c = cc
+
+is-line-requires : tie.Need-is-line-requires
+is-line-requires c κs = search needs
+
+bad-record-requires : tie.Need-bad-record-requires
+bad-record-requires c κs = search needs
+
+returns : tie.Need-returns
+unfolding recordLine
+returns c = rw (said-no (c .before .before .is-line .ensures) (c .before .if1 .taken)) (c .bad-record .ensures)
+
+field-then-requires : tie.Need-field-then-requires
+field-then-requires c κs = search needs
+
+enum-known-number : tie.Need-enum-known-number
+enum-known-number c = search needs
+
+bad-record-requires-2 : tie.Need-bad-record-requires-2
+bad-record-requires-2 c κs = search needs
+
+returns-2 : tie.Need-returns-2
+unfolding recordLine
+returns-2 c =
+    let m = c .before in
+    rw (within (m .before .before), ← m .before .field-then .ensures) (c .bad-record2 .ensures ∙ sym (other-field (m .before .field-then .result) _ _ (m .match .keys2)))
+
+field-then-requires-2 : tie.Need-field-then-requires-2
+field-then-requires-2 c κs = search needs
+
+enum-known-flag : tie.Need-enum-known-flag
+enum-known-flag c = search needs
+
+bad-record-requires-3 : tie.Need-bad-record-requires-3
+bad-record-requires-3 c κs = search needs
+
+returns-3 : tie.Need-returns-3
+unfolding recordLine
+returns-3 c =
+    let m = c .before in
+    let f = m .before .before in
+    rw (within (line-of f), first f, ← m .before .field-then2 .ensures) (c .bad-record3 .ensures ∙ sym (other-field (m .before .field-then2 .result) _ _ (m .match2 .keys2)))
+
+field-then-requires-3 : tie.Need-field-then-requires-3
+field-then-requires-3 c κs = search needs
+
+enum-known-exposure : tie.Need-enum-known-exposure
+enum-known-exposure c = search needs
+
+bad-record-requires-4 : tie.Need-bad-record-requires-4
+bad-record-requires-4 c κs = search needs
+
+returns-4 : tie.Need-returns-4
+unfolding recordLine
+returns-4 c =
+    let m = c .before in
+    let s = m .before .before in
+    rw (within (line-of (first-of s)), first (first-of s), second s, ← m .before .field-then3 .ensures) (c .bad-record4 .ensures ∙ sym (other-field (m .before .field-then3 .result) _ _ (m .match3 .keys2)))
+
+add-both : tie.Need-add-both
+add-both c =
+    let l = line-of (first-of (second-of (c .before))) in
+    omega (arith, kept-from (start l .args .c) (holds (start l .pre)) .records)
+
+both-requires : tie.Need-both-requires
+both-requires c κs = search needs
+
+both-requires-2 : tie.Need-both-requires-2
+both-requires-2 c κs = search needs
+
+bad-record-requires-5 : tie.Need-bad-record-requires-5
+bad-record-requires-5 c κs = search needs
+
+returns-5 : tie.Need-returns-5
+unfolding recordLine
+returns-5 c =
+    let b = c .before .before in
+    let t = fields-of b in
+    let s = second-of t in
+    rw (within (line-of (first-of s)), first (first-of s), second s, third t, said-no (sym (tests b)) (c .before .if2 .taken)) (c .bad-record5 .ensures)
+
+add-outcome : tie.Need-add-outcome
+add-outcome c =
+    let l = line-of (first-of (second-of (fields-of (c .before .before)))) in
+    omega (arith, kept-from (start l .args .c) (holds (start l .pre)) .records)
+
+tell-requires : tie.Need-tell-requires
+tell-requires c κs = search needs
+
+outcome-requires : tie.Need-outcome-requires
+outcome-requires c κs = search needs
+
+returns-6 : tie.Need-returns-6
+unfolding recordLine
+returns-6 c =
+    let b = c .before .before .before .before in
+    let t = fields-of b in
+    let s = second-of t in
+    let f = first-of s in
+    rw (within (line-of f), first f, second s, third t, said-yes (sym (tests b)) (c .before .before .before .if2 .left))
+    (c .outcome .ensures ∙ ap (outcome (lineAfter (start (line-of f) .args .c))) (c .before .tell .ensures))
+
+pub record-line-spec : {M : Type 1} → statement M
+record-line-spec =
+    tie.close
+    (tie.spec
+    is-line-requires
+    bad-record-requires
+    returns
+    field-then-requires
+    enum-known-number
+    bad-record-requires-2
+    returns-2
+    field-then-requires-2
+    enum-known-flag
+    bad-record-requires-3
+    returns-3
+    field-then-requires-3
+    enum-known-exposure
+    bad-record-requires-4
+    returns-4
+    add-both
+    both-requires
+    both-requires-2
+    bad-record-requires-5
+    returns-5
+    add-outcome
+    tell-requires
+    outcome-requires
+    returns-6)

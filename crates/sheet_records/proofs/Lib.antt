@@ -1,0 +1,13 @@
+pub mod Judging
+pub mod Puts
+pub mod Entered
+pub mod Unique
+pub mod Enough
+pub mod Lines
+pub mod Back
+pub mod Clean
+pub mod At
+pub mod Along
+pub mod Exposures
+pub mod Answered
+pub mod Second

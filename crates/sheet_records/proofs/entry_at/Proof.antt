@@ -1,0 +1,215 @@
+-- `sheet_records::entry_at` meets its contract: number, flag and exposure with the bytes behind them make up the line, and where one fails none stands there. Assumes
+-- nothing.
+use mathlib.Core.Path.{_≡_, subst, sym, _∙_}
+use mathlib.Core.Bool.{Bool, true, cond}
+use mathlib.Core.List.{List}
+use Prim.Native.Nat.{ℕ, _+_, _<_}
+use native.Mathlib.Omega.{arith}
+use lib.ListN.{length}
+use denote.Ref.{now}
+use borrow.Author.Tests.{not-false, not-true}
+use Rattle.truth.proofs.Laws.{said-no, said-yes}
+use Rattle.decimal.specs.declared.Lead.the-variants.{Number}
+use Rattle.decimal.specs.Decimal.{zeroByte}
+use Rattle.decimal.specs.Field.{tab}
+use Rattle.decimal.specs.Leading.{leadingAt, standsAt}
+use Rattle.sheet_records.specs.Pass.{EntryAt, ExposureAt, ExposureHere}
+use Rattle.sheet_records.proofs.At.{entry-here, flag-stands, neither, no-exposure, no-feed, no-flag, no-number, no-second, no-tab, other-number, stand-bytes}
+use borrow.Author.Needs.{needs}
+use Rattle.sheet_records.proofs.entry_at.Statement.{statement}
+use Rattle.sheet_records.proofs.entry_at.Tie as tie
+
+abbrev start : tie.After-leading-at → tie.Start
+start c = c .before .before
+
+-- the record number that was read
+module _ (c : tie.After-known-told) where
+  abbrev begin : tie.Start
+  begin = c .before .before .before .before .before
+
+  abbrev Text : List ℕ
+  Text = now (begin .args .text)
+
+  abbrev N : ℕ
+  N = c .before .number .given .0 .0
+
+  abbrev End : ℕ
+  End = c .before .number .given .0 .1 .0
+
+  number : leadingAt Text (begin .args .at) ≡ Number N End
+  number = sym (c .before .before .before .leading-at .ensures) ∙ c .before .number .given .1
+
+-- the tab behind it
+module _ (c : tie.Else2) where
+  abbrev known : tie.After-known-told
+  known = c .before .before .before
+
+  due : N known ≡ begin known .args .due
+  due = c .before .before .if1 .left
+
+  first : standsAt (Text known) (End known) tab ≡ true
+  first = said-yes (c .before .stands .ensures) (c .if2 .left)
+
+  inside : End known < length (Text known)
+  inside = stand-bytes (Text known) (End known) tab first .1
+
+-- the flag and its tab
+module _ (c : tie.Else4) where
+  abbrev tabbed : tie.Else2
+  tabbed = c .before .before .before .before .before .before
+
+  abbrev Failed : Bool
+  Failed = c .before .before .before .before .before .stands2 .result
+
+  flag : standsAt (Text (known tabbed)) (End (known tabbed) + 1) (zeroByte + cond Failed 1 0) ≡ true
+  flag = flag-stands (Text (known tabbed)) (End (known tabbed) + 1) (c .before .before .before .before .before .stands2 .ensures) (sym (c .before .before .before .either .ensures) ∙ not-false _ (c .before .before .if3 .left)) (c .before .before .before .before .stands3 .ensures)
+
+  second : standsAt (Text (known tabbed)) (End (known tabbed) + 2) tab ≡ true
+  second = said-yes (c .before .stands4 .ensures) (c .if4 .left)
+
+-- the exposure that was read
+module _ (c : tie.After-known-told2) where
+  abbrev flagged : tie.Else4
+  flagged = c .before .before .before .before
+
+  abbrev Feed : ℕ
+  Feed = c .before .feed .given .0 .0
+
+  exposure : let k = known (tabbed flagged) in ExposureHere (Text k) (End k + 3) Feed
+  unfolding ExposureAt
+  exposure = let k = known (tabbed flagged) in subst (ExposureAt (Text k) (End k + 3)) (c .before .feed .given .1) (c .before .before .before .exposure-at .ensures)
+
+leading-at-requires : tie.Need-leading-at-requires
+leading-at-requires c κs = search needs
+
+enum-known-number : tie.Need-enum-known-number
+enum-known-number c = search needs
+
+enum-told : tie.Need-enum-told
+enum-told c = search needs
+
+returns : tie.Need-returns
+unfolding EntryAt
+returns c = let s = start (c .before .before) in no-number (now (s .args .text)) (s .args .at) (s .args .due) (sym (c .before .before .leading-at .ensures) ∙ c .enum-told .given .1)
+
+returns-2 : tie.Need-returns-2
+unfolding EntryAt
+returns-2 c = let k = c .before in other-number (Text k) (begin k .args .at) (begin k .args .due) (N k) (End k) (number k) (c .if1 .taken)
+
+stands-requires : tie.Need-stands-requires
+stands-requires c κs = search needs
+
+returns-3 : tie.Need-returns-3
+unfolding EntryAt
+returns-3 c = let k = c .before .before .before in no-tab (Text k) (begin k .args .at) (begin k .args .due) (N k) (End k) (number k) (said-no (c .before .stands .ensures) (c .if2 .taken))
+
+add-stands : tie.Need-add-stands
+add-stands c = omega (arith, inside c)
+
+add-stands-2 : tie.Need-add-stands-2
+add-stands-2 c = search needs
+
+stands-requires-2 : tie.Need-stands-requires-2
+stands-requires-2 c κs = search needs
+
+add-stands-3 : tie.Need-add-stands-3
+add-stands-3 c = omega (arith, inside (c .before))
+
+stands-requires-3 : tie.Need-stands-requires-3
+stands-requires-3 c κs = search needs
+
+either-requires : tie.Need-either-requires
+either-requires c κs = search needs
+
+returns-4 : tie.Need-returns-4
+unfolding EntryAt
+returns-4 c =
+    let e = c .before .before .before .before in
+    let k = known e in
+    let (one, zero) = neither _ _ (sym (c .before .either .ensures) ∙ not-true _ (c .if3 .taken)) in
+    no-flag (Text k) (begin k .args .at) (begin k .args .due) (N k) (End k) (number k) (sym (c .before .before .before .stands2 .ensures) ∙ one) (sym (c .before .before .stands3 .ensures) ∙ zero)
+
+add-stands-4 : tie.Need-add-stands-4
+add-stands-4 c = omega (arith, inside (c .before .before .before .before))
+
+stands-requires-4 : tie.Need-stands-requires-4
+stands-requires-4 c κs = search needs
+
+returns-5 : tie.Need-returns-5
+unfolding EntryAt
+returns-5 c =
+    let k = known (c .before .before .before .before .before .before) in
+    no-second (Text k) (begin k .args .at) (begin k .args .due) (N k) (End k) (number k) (said-no (c .before .stands4 .ensures) (c .if4 .taken))
+
+add-exposure-at : tie.Need-add-exposure-at
+add-exposure-at c = omega (arith, inside (tabbed c))
+
+exposure-at-requires : tie.Need-exposure-at-requires
+exposure-at-requires c κs = search needs
+
+enum-known-feed : tie.Need-enum-known-feed
+enum-known-feed c = search needs
+
+enum-told-2 : tie.Need-enum-told-2
+enum-told-2 c = search needs
+
+returns-6 : tie.Need-returns-6
+unfolding EntryAt
+returns-6 c =
+    let k = known (tabbed (c .before .before .before)) in
+    no-exposure (Text k) (begin k .args .at) (begin k .args .due) (N k) (End k) (number k) (subst (ExposureAt (Text k) (End k + 3)) (c .enum-told2 .given .1) (c .before .before .exposure-at .ensures))
+
+stands-requires-5 : tie.Need-stands-requires-5
+stands-requires-5 c κs = search needs
+
+returns-7 : tie.Need-returns-7
+unfolding EntryAt
+returns-7 c =
+    let t = c .before .before in
+    let k = known (tabbed (flagged t)) in
+    no-feed (Text k) (begin k .args .at) (begin k .args .due) (N k) (End k) (number k) (Feed t) (exposure t) (said-no (c .before .stands5 .ensures) (c .if5 .taken))
+
+add-t11 : tie.Need-add-t11
+add-t11 c =
+    let t = c .before .before in
+    let k = known (tabbed (flagged t)) in
+    omega (arith, exposure t .within)
+
+returns-8 : tie.Need-returns-8
+unfolding EntryAt
+returns-8 c =
+    let t = c .before .before in
+    let e = tabbed (flagged t) in
+    let k = known e in
+    entry-here (Text k) (begin k .args .at) (begin k .args .due) (N k) (End k) (number k) (Feed t) (exposure t) (Failed (flagged t)) (due e) (first e) (flag (flagged t)) (second (flagged t)) (said-yes (c .before .stands5 .ensures) (c .if5 .left))
+
+pub entry-at-spec : {M : Type 1} → statement M
+entry-at-spec =
+    tie.close
+    (tie.spec
+    leading-at-requires
+    enum-known-number
+    enum-told
+    returns
+    returns-2
+    stands-requires
+    returns-3
+    add-stands
+    add-stands-2
+    stands-requires-2
+    add-stands-3
+    stands-requires-3
+    either-requires
+    returns-4
+    add-stands-4
+    stands-requires-4
+    returns-5
+    add-exposure-at
+    exposure-at-requires
+    enum-known-feed
+    enum-told-2
+    returns-6
+    stands-requires-5
+    returns-7
+    add-t11
+    returns-8)

@@ -1,0 +1,89 @@
+-- `sheet_records::line_one` meets its contract: the word, the number and the LF make up line 1. Assumes nothing.
+use mathlib.Core.Path.{_≡_, sym, _∙_}
+use mathlib.Core.Bool.{true}
+use mathlib.Core.List.{List}
+use Prim.Native.Nat.{ℕ}
+use native.Mathlib.Omega.{arith}
+use denote.Ref.{now}
+use Rattle.truth.proofs.Laws.{said-no, said-yes}
+use Rattle.decimal.specs.declared.Lead.the-variants.{Number}
+use Rattle.decimal.specs.Leading.{leadingAt}
+use Rattle.decimal.proofs.Leading.{leads-number}
+use Rattle.sheet_line.specs.Form.{begins, standardStart}
+use Rattle.sheet_records.specs.Pass.{HeadOf}
+use Rattle.sheet_records.proofs.At.{head-here, no-end, no-standard, no-word}
+use borrow.Author.Needs.{needs}
+use Rattle.sheet_records.proofs.line_one.Statement.{statement}
+use Rattle.sheet_records.proofs.line_one.Tie as tie
+
+abbrev Text : tie.After-begins → List ℕ
+Text c = now (c .before .before .before .args .text)
+
+-- the number that was read
+module _ (c : tie.After-known-told) where
+  abbrev word : tie.After-begins
+  word = c .before .before .before .before .before
+
+  abbrev Q : ℕ
+  Q = c .before .q .given .0 .0
+
+  abbrev Feed : ℕ
+  Feed = c .before .q .given .0 .1 .0
+
+  number : leadingAt (Text word) 9 ≡ Number Q Feed
+  number = sym (c .before .before .before .leading-at .ensures) ∙ c .before .q .given .1
+
+  begun : begins standardStart (Text word) ≡ true
+  begun = said-yes (word .begins .ensures) (c .before .before .before .before .if1 .left)
+
+slice-aggregate-begins : tie.Need-slice-aggregate-begins
+slice-aggregate-begins c = search needs
+
+begins-requires : tie.Need-begins-requires
+begins-requires c κs = search needs
+
+returns : tie.Need-returns
+unfolding HeadOf
+returns c = no-word (Text (c .before)) (said-no (c .before .begins .ensures) (c .if1 .taken))
+
+leading-at-requires : tie.Need-leading-at-requires
+leading-at-requires c κs = search needs
+
+enum-known-q : tie.Need-enum-known-q
+enum-known-q c = search needs
+
+enum-told : tie.Need-enum-told
+enum-told c = search needs
+
+returns-2 : tie.Need-returns-2
+unfolding HeadOf
+returns-2 c = let w = c .before .before .before .before in no-standard (Text w) (sym (c .before .before .leading-at .ensures) ∙ c .enum-told .given .1)
+
+stands-requires : tie.Need-stands-requires
+stands-requires c κs = search needs
+
+returns-3 : tie.Need-returns-3
+unfolding HeadOf
+returns-3 c = let k = c .before .before in no-end (Text (word k)) (Q k) (Feed k) (number k) (said-no (c .before .stands .ensures) (c .if2 .taken))
+
+add-t10 : tie.Need-add-t10
+add-t10 c = let k = c .before .before in omega (arith, leads-number (Text (word k)) 9 (Q k) (Feed k) (number k) .within)
+
+returns-4 : tie.Need-returns-4
+returns-4 c = let k = c .before .before in head-here (Text (word k)) (Q k) (Feed k) (number k) (begun k) (said-yes (c .before .stands .ensures) (c .if2 .left))
+
+pub line-one-spec : {M : Type 1} → statement M
+line-one-spec =
+    tie.close
+    (tie.spec
+    slice-aggregate-begins
+    begins-requires
+    returns
+    leading-at-requires
+    enum-known-q
+    enum-told
+    returns-2
+    stands-requires
+    returns-3
+    add-t10
+    returns-4)

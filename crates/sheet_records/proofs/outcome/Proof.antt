@@ -1,0 +1,24 @@
+-- `sheet_records::outcome` meets its contract: below zero a record failed, and its exposure is the number without its sign. Assumes nothing.
+use mathlib.Core.Path.{ap, _∙_}
+use mathlib.Core.Bool.{Bool}
+use mir.Facts.{toZ-ofZ}
+use borrow.Author.Needs.{needs}
+use Rattle.sheet_line.specs.Line.{told}
+use Rattle.sheet_records.proofs.Puts.{failed-below}
+use Rattle.sheet_records.proofs.outcome.Statement.{statement}
+use Rattle.sheet_records.proofs.outcome.Tie as tie
+
+magnitude-requires : tie.Need-magnitude-requires
+magnitude-requires c κs = search needs
+
+cast-t4 : tie.Need-cast-t4
+cast-t4 c = search needs
+
+returns : tie.Need-returns
+returns c =
+    let s = c .before in
+    let size = rw (toZ-ofZ (s .fits .x)) at (c .magnitude .ensures) in
+    rw (toZ-ofZ (s .fits .x)) (ap (λ (f : Bool). told f (c .magnitude .result)) (failed-below (s .args .x)) ∙ ap (told _) size)
+
+pub outcome-spec : {M : Type 1} → statement M
+outcome-spec = tie.close (tie.spec magnitude-requires cast-t4 returns)

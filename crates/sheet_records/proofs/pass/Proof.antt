@@ -1,0 +1,169 @@
+-- `sheet_records::pass` meets its contract: `Along` is its invariant, a record that is taken keeps it, anything else shows that the sheet does not read cleanly, and the
+-- end that it does. What is left of the text falls. Assumes nothing.
+use mathlib.Core.Path.{_≡_, subst}
+use mathlib.Core.Bool.{Bool, true}
+use mathlib.Core.List.{List}
+use Prim.Native.Nat.{ℕ, _+_, _-_, _≤_, _<_}
+use native.Mathlib.Omega.{arith}
+use lib.ListN.{length}
+use denote.Ref.{now}
+use borrow.Author.Needs.{needs}
+use Rattle.truth.proofs.Laws.{said-no, said-yes}
+use Rattle.sheet_records.specs.declared.Head.the-variants.{Standard}
+use Rattle.sheet_records.specs.Pass.{EntryAt, EntryHere, HeadOf, Passes, takenAfter}
+use Rattle.sheet_records.proofs.Along.{Along, bad-standard, ended, few, few-failures, no-head, not-taken, on, other-line, start}
+use Rattle.sheet_records.proofs.pass.Statement.{statement}
+use Rattle.sheet_records.proofs.pass.Tie as tie
+
+abbrev Inv-loop : tie.InvT-loop
+Inv-loop text q begin at₀ count₀ failures₀ at count failures = Along text q begin at count failures
+
+abbrev μ-loop : tie.MeasureT-loop
+μ-loop text q begin at₀ count₀ failures₀ at count failures = length text - at
+
+-- line 1 was read
+module _ (c : tie.After-known-told Inv-loop μ-loop) where
+  abbrev start-of : tie.Start Inv-loop μ-loop
+  start-of = c .before .before .before .before .before
+
+  abbrev Text : List ℕ
+  Text = now (start-of .args .text)
+
+  abbrev Q : ℕ
+  Q = c .before .q .given .0 .0
+
+  abbrev Next : ℕ
+  Next = c .before .q .given .0 .1 .0
+
+  stands : HeadOf Text (Standard Q Next)
+  stands = subst (HeadOf Text) (c .before .q .given .1) (c .before .before .before .line-one .ensures)
+
+-- a record's line was read
+module _ (c : tie.After-known-told2 Inv-loop μ-loop) where
+  abbrev loop : tie.At-loop Inv-loop μ-loop
+  loop = c .before .before .before .before .before
+
+  abbrev begin : tie.After-known-told Inv-loop μ-loop
+  begin = loop .before .before .before
+
+  abbrev Failed : Bool
+  Failed = c .before .failed .given .0 .0
+
+  abbrev Behind : ℕ
+  Behind = c .before .failed .given .0 .1 .0
+
+  entry : EntryHere (Text begin) (loop .loop .at) (loop .loop .count + 1) Failed Behind
+  unfolding EntryAt
+  entry = subst (EntryAt (Text begin) (loop .loop .at) (loop .loop .count + 1)) (c .before .failed .given .1) (c .before .before .before .entry-at .ensures)
+
+  further : (loop .loop .at < Behind) × (Behind ≤ length (Text begin))
+  further = (entry .starts .further, entry .starts .within)
+
+-- its record is taken
+taken : (c : tie.Else2 Inv-loop μ-loop) → let k = c .before .before in takenAfter (loop k .loop .count) (loop k .loop .failures) ≡ true
+taken c = said-yes (c .before .takes .ensures) (c .if2 .left)
+
+line-one-requires : tie.Need-line-one-requires Inv-loop μ-loop
+line-one-requires c κs = search needs
+
+enum-known-q : tie.Need-enum-known-q Inv-loop μ-loop
+enum-known-q c = search needs
+
+enum-told : tie.Need-enum-told Inv-loop μ-loop
+enum-told c = search needs
+
+returns : tie.Need-returns Inv-loop μ-loop
+unfolding Passes
+returns c =
+    let s = c .before .before .before .before in
+    let text = now (s .args .text) in
+    no-head text (subst (HeadOf text) (c .enum-told .given .1) (c .before .before .line-one .ensures))
+
+both-requires : tie.Need-both-requires Inv-loop μ-loop
+both-requires c κs = search needs
+
+returns-2 : tie.Need-returns-2 Inv-loop μ-loop
+unfolding Passes
+returns-2 c = let k = c .before .before in bad-standard (Text k) (Q k) (Next k) (stands k) (said-no (c .before .both .ensures) (c .if1 .taken))
+
+loop-holds : tie.Need-loop-holds Inv-loop μ-loop
+loop-holds c = let k = c .before .before in start (Text k) (Q k) (Next k) (stands k) (said-yes (c .before .both .ensures) (c .if1 .left))
+
+add-entry-at : tie.Need-add-entry-at Inv-loop μ-loop
+add-entry-at c = omega (arith, few (c .before .loop .inv))
+
+entry-at-requires : tie.Need-entry-at-requires Inv-loop μ-loop
+entry-at-requires c κs = search needs
+
+enum-known-failed : tie.Need-enum-known-failed Inv-loop μ-loop
+enum-known-failed c = search needs
+
+enum-told-2 : tie.Need-enum-told-2 Inv-loop μ-loop
+enum-told-2 c = search needs
+
+returns-3 : tie.Need-returns-3 Inv-loop μ-loop
+unfolding Passes
+returns-3 c =
+    let l = c .before .before .before .before in
+    let text = Text (l .before .before .before) in
+    other-line (l .loop .inv) (c .before .before .before .loop-test .taken) (subst (EntryAt text (l .loop .at) (l .loop .count + 1)) (c .enum-told2 .given .1) (c .before .before .entry-at .ensures))
+
+takes-requires : tie.Need-takes-requires Inv-loop μ-loop
+takes-requires c κs = search needs
+
+returns-4 : tie.Need-returns-4 Inv-loop μ-loop
+unfolding Passes
+returns-4 c =
+    let k = c .before .before in
+    not-taken (loop k .loop .inv) (Failed k) (Behind k) (entry k) (said-no (c .before .takes .ensures) (c .if2 .taken))
+
+add-pick : tie.Need-add-pick Inv-loop μ-loop
+add-pick c = let k = c .before .before in omega (arith, few-failures (loop k .loop .inv))
+
+pick-requires : tie.Need-pick-requires Inv-loop μ-loop
+pick-requires c κs = search needs
+
+add-count : tie.Need-add-count Inv-loop μ-loop
+add-count c = let k = c .before .before .before in omega (arith, few (loop k .loop .inv))
+
+loop-less : tie.Need-loop-less Inv-loop μ-loop
+loop-less c =
+    let k = c .before .before .before in
+    omega (arith, further k .0, further k .1)
+
+loop-again : tie.Need-loop-again Inv-loop μ-loop
+loop-again c =
+    let k = c .before .before .before in
+    let l = loop k .loop in
+    rw (c .pick .ensures) (on (l .inv) (Failed k) (Behind k) (entry k) (taken (c .before)))
+
+returns-5 : tie.Need-returns-5 Inv-loop μ-loop
+unfolding Passes
+returns-5 c = ended (c .before .loop .inv) (c .loop-test .left)
+
+pub pass-spec : {M : Type 1} → statement M
+pass-spec =
+    tie.close
+    (tie.spec
+    Inv-loop
+    μ-loop
+    line-one-requires
+    enum-known-q
+    enum-told
+    returns
+    both-requires
+    returns-2
+    loop-holds
+    add-entry-at
+    entry-at-requires
+    enum-known-failed
+    enum-told-2
+    returns-3
+    takes-requires
+    returns-4
+    add-pick
+    pick-requires
+    add-count
+    loop-less
+    loop-again
+    returns-5)

@@ -1,0 +1,121 @@
+-- `sheet_records::put_line` meets its contract: the line is written part by part, each taking itself off what is left of it. Assumes nothing.
+use mathlib.Core.Path.{_≡_, ap, subst, _∙_}
+use mathlib.Core.Bool.{cond}
+use mathlib.Core.List.{List, [], _∷_, _++_}
+use Prim.Native.Nat.{ℕ, _+_}
+use lib.IntN.{ℤ}
+use mir.Facts.{toZ-ofZ}
+use denote.Ref.{now}
+use borrow.Author.Needs.{needs}
+use Rattle.text.proofs.Parts.{Left, left-all, left-next, left-last}
+use Rattle.record_end.specs.declared.Outcome.{Outcome}
+use Rattle.decimal.specs.Decimal.{zeroByte, digitsOf}
+use Rattle.decimal.specs.Field.{lineFeed, tab}
+use Rattle.sheet_records.specs.Ledger.{exposureIn, failedIn, lineText, outcomeIn}
+use Rattle.sheet_records.proofs.Puts.{line-parts}
+use Rattle.sheet_records.proofs.put_line.Statement.{statement}
+use Rattle.sheet_records.proofs.put_line.Tie as tie
+
+-- the places on the way back
+abbrev start : tie.After-write-number → tie.Start
+start c = c .before .before .before .before
+
+abbrev number-of : tie.After-write-byte → tie.After-write-number
+number-of c = c .before .before .before .before
+
+abbrev tab-of : tie.After-write-byte2 → tie.After-write-byte
+tab-of c = c .before .before .before .before .before
+
+abbrev flag-of : tie.After-write-byte3 → tie.After-write-byte2
+flag-of c = c .before .before .before .before
+
+abbrev second-of : tie.After-write-number2 → tie.After-write-byte3
+second-of c = c .before .before .before .before
+
+-- of the line so much is left, and the lent bytes are these
+module _ (c : tie.After-write-number) where
+  abbrev X : ℤ
+  X = start c .args .x
+
+  is : c .before .before .outcome .result ≡ outcomeIn X
+  is = rw (toZ-ofZ (start c .fits .x)) at (c .before .before .outcome .ensures)
+
+  abbrev Exposure : List ℕ
+  Exposure = digitsOf (exposureIn X) ++ (lineFeed ∷ [])
+
+  abbrev Flag : ℕ
+  Flag = zeroByte + cond (failedIn X) 1 0
+
+  abbrev Stands : List ℕ → List ℕ → ℕ → Type 0
+  Stands rest out at = Left (now (start c .args .out)) (start c .args .at) (lineText (start c .args .number) X) rest out at
+
+  whole : Stands (digitsOf (start c .args .number) ++ (tab ∷ (Flag ∷ (tab ∷ Exposure)))) (now (start c .args .out)) (start c .args .at)
+  whole =
+      subst (λ (rest : List ℕ). Stands rest (now (start c .args .out)) (start c .args .at)) (line-parts (start c .args .number) (failedIn X) (exposureIn X))
+      (left-all _ _ (lineText (start c .args .number) X) (start c .pre))
+
+  left1 : Stands (tab ∷ (Flag ∷ (tab ∷ Exposure))) (c .write-number .last .1 .0) (c .write-number .result)
+  left1 = left-next (digitsOf (start c .args .number)) _ whole (c .write-number .ensures)
+
+left2 : (c : tie.After-write-byte) → let n = number-of c in Stands n (Flag n ∷ (tab ∷ Exposure n)) (c .write-byte .last .1 .0) (c .write-byte .result)
+left2 c = left-next (tab ∷ []) _ (left1 (number-of c)) (c .write-byte .ensures)
+
+left3 : (c : tie.After-write-byte2) → let n = number-of (tab-of c) in Stands n (tab ∷ Exposure n) (c .write-byte2 .last .1 .0) (c .write-byte2 .result)
+left3 c =
+    let n = number-of (tab-of c) in
+    let flag = c .before .before .flag-byte .ensures ∙ ap (λ (o : Outcome). zeroByte + cond (o .failed) 1 0) (is n) in
+    left-next (Flag n ∷ []) _ (left2 (tab-of c)) (rw flag at (c .write-byte2 .ensures))
+
+left4 : (c : tie.After-write-byte3) → let n = number-of (tab-of (flag-of c)) in Stands n (Exposure n) (c .write-byte3 .last .1 .0) (c .write-byte3 .result)
+left4 c = left-next (tab ∷ []) _ (left3 (flag-of c)) (c .write-byte3 .ensures)
+
+left5 : (c : tie.After-write-number2) → let n = number-of (tab-of (flag-of (second-of c))) in Stands n (lineFeed ∷ []) (c .write-number2 .last .1 .0) (c .write-number2 .result)
+left5 c =
+    let n = number-of (tab-of (flag-of (second-of c))) in
+    let exposure = ap (λ (o : Outcome). o .exposure) (is n) in
+    left-next (digitsOf (exposureIn (X n))) (lineFeed ∷ []) (left4 (second-of c)) (rw exposure at (c .write-number2 .ensures))
+
+outcome-requires : tie.Need-outcome-requires
+outcome-requires c κs = search needs
+
+write-number-requires : tie.Need-write-number-requires
+write-number-requires c κs = search needs
+
+write-byte-requires : tie.Need-write-byte-requires
+write-byte-requires c κs = search needs
+
+flag-byte-requires : tie.Need-flag-byte-requires
+flag-byte-requires c κs = search needs
+
+write-byte-requires-2 : tie.Need-write-byte-requires-2
+write-byte-requires-2 c κs = search needs
+
+write-byte-requires-3 : tie.Need-write-byte-requires-3
+write-byte-requires-3 c κs = search needs
+
+write-number-requires-2 : tie.Need-write-number-requires-2
+write-number-requires-2 c κs = search needs
+
+write-byte-requires-4 : tie.Need-write-byte-requires-4
+write-byte-requires-4 c κs = search needs
+
+same-length : tie.Need-same-length
+same-length c = search needs
+
+returns : tie.Need-returns
+returns c = left-last (left5 (c .before .before .before .before .before .before)) (c .before .before .write-byte4 .ensures)
+
+pub put-line-spec : {M : Type 1} → statement M
+put-line-spec =
+    tie.close
+    (tie.spec
+    outcome-requires
+    write-number-requires
+    write-byte-requires
+    flag-byte-requires
+    write-byte-requires-2
+    write-byte-requires-3
+    write-number-requires-2
+    write-byte-requires-4
+    same-length
+    returns)

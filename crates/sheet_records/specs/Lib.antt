@@ -1,0 +1,4 @@
+pub mod Ledger
+pub mod Answers
+pub mod Records
+pub mod Pass

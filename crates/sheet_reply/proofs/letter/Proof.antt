@@ -1,0 +1,68 @@
+-- `sheet_reply::letter` meets its contract: of a state that keeps its relations the campaign gives its verdict, and each has its letter. Assumes nothing.
+use mathlib.Core.Path.{_≡_}
+use Rattle.campaign_verdict.specs.Figures.{verdictOf}
+use Rattle.sheet_reply.specs.Written.{letterFor}
+use Rattle.campaign_verdict.proofs.Given.{has-verdict, not-refused}
+use borrow.Author.Needs.{needs}
+use Rattle.sheet_reply.proofs.letter.Statement.{statement}
+use Rattle.sheet_reply.proofs.letter.Tie as tie
+
+given : (c : tie.After-known-told) → c .before .v .given .0 .0 ≡ verdictOf (c .before .before .before .before .args .c)
+given c = has-verdict (c .before .before .before .before .args .c) (c .before .before .before .before .pre) (c .before .before .before .judge .result) (c .before .before .before .judge .ensures) (c .before .v .given .1)
+
+judge-requires : tie.Need-judge-requires
+judge-requires c κs = search needs
+
+enum-known-v : tie.Need-enum-known-v
+enum-known-v c = search needs
+
+enum-told : tie.Need-enum-told
+enum-told c = search needs
+
+returns : tie.Need-returns
+returns c = absurd (not-refused (c .before .before .before .args .c) (c .before .before .before .pre) (c .before .before .judge .result) (c .before .before .judge .ensures) (c .enum-told .given .1))
+
+enum-told-2 : tie.Need-enum-told-2
+enum-told-2 c = search needs
+
+enum-told-3 : tie.Need-enum-told-3
+enum-told-3 c = search needs
+
+enum-told-4 : tie.Need-enum-told-4
+enum-told-4 c = search needs
+
+enum-told-5 : tie.Need-enum-told-5
+enum-told-5 c = search needs
+
+returns-2 : tie.Need-returns-2
+unfolding letterFor
+returns-2 c = rw (← given (c .before .before), c .enum-told2 .given .1)
+
+returns-3 : tie.Need-returns-3
+unfolding letterFor
+returns-3 c = rw (← given (c .before .before), c .enum-told3 .given .1)
+
+returns-4 : tie.Need-returns-4
+unfolding letterFor
+returns-4 c = rw (← given (c .before .before), c .enum-told4 .given .1)
+
+returns-5 : tie.Need-returns-5
+unfolding letterFor
+returns-5 c = rw (← given (c .before .before), c .enum-told5 .given .1)
+
+pub letter-spec : {M : Type 1} → statement M
+letter-spec =
+    tie.close
+    (tie.spec
+    judge-requires
+    enum-known-v
+    enum-told
+    returns
+    enum-told-2
+    enum-told-3
+    enum-told-4
+    enum-told-5
+    returns-2
+    returns-3
+    returns-4
+    returns-5)

@@ -1,0 +1,74 @@
+-- `sheet_reply::put_refused` meets its contract: the word, then the line's number and the reason. Assumes nothing.
+use mathlib.Core.List.{List, _++_}
+use Prim.Native.Nat.{ℕ}
+use mathlib.Core.Path.{_≡_}
+use denote.Ref.{now}
+use Rattle.refusal.specs.Numbers.{numberOf}
+use Rattle.decimal.specs.Field.{tab, fieldText}
+use Rattle.text.proofs.Parts.{Left, left-all, left-next, left-fits, left-last}
+use Rattle.sheet_reply.specs.Written.{reasonText, refusedWord, refusedText}
+use borrow.Author.Needs.{needs}
+use Rattle.sheet_reply.proofs.put_refused.Statement.{statement}
+use Rattle.sheet_reply.proofs.put_refused.Tie as tie
+
+-- the places on the way back
+abbrev start : tie.After-write-bytes → tie.Start
+start c = c .before .before .before .before
+
+abbrev word-of : tie.After-write-field → tie.After-write-bytes
+word-of c = c .before .before .before .before
+
+abbrev line-of : tie.After-number → tie.After-write-field
+line-of c = c .before .before .before
+
+-- of the refused line so much is left, and the lent bytes are these
+abbrev Stands : tie.After-write-bytes → List ℕ → List ℕ → ℕ → Type 0
+Stands c rest out at = Left (now (start c .args .out)) (start c .args .at) (refusedText (start c .args .line) (start c .args .column) (start c .args .r)) rest out at
+
+abbrev Why : tie.After-write-bytes → List ℕ
+Why c = reasonText (numberOf (start c .args .r)) (start c .args .column)
+
+left1 : (c : tie.After-write-bytes) → Stands c (fieldText (start c .args .line) tab ++ Why c) (c .write-bytes .last .1 .0) (c .write-bytes .result)
+unfolding refusedText
+left1 c = left-next refusedWord _ (left-all _ _ (refusedText (start c .args .line) (start c .args .column) (start c .args .r)) (start c .pre)) (c .write-bytes .ensures)
+
+left2 : (c : tie.After-write-field) → Stands (word-of c) (Why (word-of c)) (c .write-field .last .1 .1 .0) (c .write-field .result)
+left2 c = left-next (fieldText (start (word-of c) .args .line) tab) _ (left1 (word-of c)) (c .write-field .ensures)
+
+left3 : (c : tie.After-write-field) {n : ℕ} → n ≡ numberOf (start (word-of c) .args .r) → Stands (word-of c) (reasonText n (start (word-of c) .args .column)) (c .write-field .last .1 .1 .0) (c .write-field .result)
+left3 c e = rw e (left2 c)
+
+slice-aggregate-write-bytes : tie.Need-slice-aggregate-write-bytes
+slice-aggregate-write-bytes c = search needs
+
+write-bytes-requires : tie.Need-write-bytes-requires
+write-bytes-requires c κs = search needs
+
+write-field-requires : tie.Need-write-field-requires
+write-field-requires c κs = search needs
+
+number-requires : tie.Need-number-requires
+number-requires c κs = search needs
+
+put-reason-requires : tie.Need-put-reason-requires
+put-reason-requires c κs = left-fits (left3 (line-of (c .before)) (c .before .number .ensures))
+
+same-length : tie.Need-same-length
+same-length c = search needs
+
+returns : tie.Need-returns
+returns c =
+    let w = c .before .before .before .before in
+    left-last (left3 (line-of w) (w .number .ensures)) (c .before .before .put-reason .ensures)
+
+pub put-refused-spec : {M : Type 1} → statement M
+put-refused-spec =
+    tie.close
+    (tie.spec
+    slice-aggregate-write-bytes
+    write-bytes-requires
+    write-field-requires
+    number-requires
+    put-reason-requires
+    same-length
+    returns)

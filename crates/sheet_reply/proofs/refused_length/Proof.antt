@@ -1,0 +1,36 @@
+-- `sheet_reply::refused_length` meets its contract: the word and its tab are eight bytes, and the line's number has one behind it. Assumes nothing.
+use mathlib.Core.Path.{ap}
+use native.Mathlib.Omega.{arith}
+use lib.ListN.{length, length-append}
+use Rattle.decimal.specs.Field.{fieldText}
+use Rattle.sheet_reply.specs.Written.{reasonText, refusedText}
+use borrow.Author.Needs.{needs}
+use Rattle.sheet_reply.proofs.refused_length.Statement.{statement}
+use Rattle.sheet_reply.proofs.refused_length.Tie as tie
+
+digits-requires : tie.Need-digits-requires
+digits-requires c κs = search needs
+
+number-requires : tie.Need-number-requires
+number-requires c κs = search needs
+
+reason-length-requires : tie.Need-reason-length-requires
+reason-length-requires c κs = search needs
+
+add-result : tie.Need-add-result
+add-result c = search needs
+
+add-result-2 : tie.Need-add-result-2
+add-result-2 c = search needs
+
+returns : tie.Need-returns
+unfolding refusedText fieldText
+returns c =
+    let n = c .before in
+    simp length-append
+    (omega (arith, n .before .digits .ensures .0, c .reason-length .ensures .0, ap (λ k. length (reasonText k (n .before .before .args .column))) (n .number .ensures)))
+
+pub refused-length-spec : {M : Type 1} → statement M
+refused-length-spec =
+    tie.close
+    (tie.spec digits-requires number-requires reason-length-requires add-result add-result-2 returns)

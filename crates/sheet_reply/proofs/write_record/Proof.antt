@@ -1,0 +1,85 @@
+-- `sheet_reply::write_record` meets its contract: a state that keeps its relations has its line, and the line its room or not. Assumes nothing.
+use Prim.Native.Nat.{_+_, _≤_}
+use mathlib.Core.Path.{_≡_, refl}
+use mathlib.Core.Bool.{true}
+use mathlib.Core.Logic.{⊎-elim}
+use native.Mathlib.Omega.{arith}
+use lib.ListN.{length}
+use borrow.Author.Tests.{leb-true}
+use denote.Ref.{now}
+use Rattle.truth.proofs.Laws.{said-no, said-yes}
+use Rattle.campaign_state.specs.State.{sound}
+use Rattle.sheet_reply.specs.Written.{recordText, recordLeft, recordWriting}
+use Rattle.sheet_reply.proofs.Few.{record-few}
+use Rattle.sheet_reply.proofs.Room.{has-room, no-room, upto}
+use borrow.Author.Needs.{needs}
+use Rattle.sheet_reply.proofs.write_record.Statement.{statement}
+use Rattle.sheet_reply.proofs.write_record.Tie as tie
+
+abbrev start : tie.Else1 → tie.Start
+start c = c .before .before .before
+
+-- past the first test the state is sound
+state : (c : tie.Else1) → sound (start c .args .c) ≡ true
+state c = said-yes (c .before .sound .ensures) (c .if1 .left)
+
+sound-requires : tie.Need-sound-requires
+sound-requires c κs = search needs
+
+returns : tie.Need-returns
+unfolding recordWriting recordLeft
+returns c = rw (said-no (c .before .sound .ensures) (c .if1 .taken)) (refl, refl)
+
+has-room-requires : tie.Need-has-room-requires
+has-room-requires c κs = search needs
+
+record-length-requires : tie.Need-record-length-requires
+record-length-requires c κs = state (c .before .before)
+
+has-room-requires-2 : tie.Need-has-room-requires-2
+has-room-requires-2 c κs = search needs
+
+returns-2 : tie.Need-returns-2
+unfolding recordWriting recordLeft
+returns-2 c =
+    let l = c .before .before in
+    let e = l .before .before .before in
+    let a = start e .args in
+    rw (state e) (no-room (now (a .out)) (a .at) (recordText (a .c)) (c .before .has-room2 .ensures) (l .record-length .ensures) (c .if3 .taken))
+
+-- either way the line has its room: the most that a line may need, or its own
+fits : (c : tie.Joined2) → let a = start (c .before .before) .args in a .at + length (recordText (a .c)) ≤ length (now (a .out))
+fits c =
+    let e = c .before .before in
+    let a = start e .args in
+    ⊎-elim
+    (λ w. has-room (now (a .out)) (a .at) (recordText (a .c)) (w .2 .ensures) (w .1 .ensures) (w .3 .left))
+    (λ w. omega (arith, record-few (a .c) (state e), leb-true (a .at + 30) (length (now (a .out))) (said-yes (c .before .has-room .ensures) (w .left))))
+    (c .if2 .came)
+
+put-record-requires : tie.Need-put-record-requires
+put-record-requires c κs = (state (c .before .before .before), fits (c .before))
+
+same-length : tie.Need-same-length
+same-length c = search needs
+
+returns-3 : tie.Need-returns-3
+unfolding recordWriting recordLeft
+returns-3 c =
+    let j = c .before .before .before .before in
+    let e = j .before .before in
+    rw (state e) (upto _ _ (recordText (start e .args .c)) (fits j) (c .before .before .put-record .ensures))
+
+pub write-record-spec : {M : Type 1} → statement M
+write-record-spec =
+    tie.close
+    (tie.spec
+    sound-requires
+    returns
+    has-room-requires
+    record-length-requires
+    has-room-requires-2
+    returns-2
+    put-record-requires
+    same-length
+    returns-3)

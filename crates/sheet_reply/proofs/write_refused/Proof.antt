@@ -1,0 +1,58 @@
+-- `sheet_reply::write_refused` meets its contract: the line has its room or not. Assumes nothing.
+use mathlib.Core.Path.{_≡_}
+use Prim.Native.Nat.{_+_, _≤_}
+use lib.Dec.{leb}
+use lib.ListN.{length}
+use denote.Ref.{now}
+use Rattle.sheet_reply.specs.Written.{refusedText}
+use Rattle.sheet_reply.proofs.Room.{has-room, no-room, upto}
+use borrow.Author.Needs.{needs}
+use Rattle.sheet_reply.proofs.write_refused.Statement.{statement}
+use Rattle.sheet_reply.proofs.write_refused.Tie as tie
+
+abbrev start : tie.After-has-room → tie.Start
+start c = c .before .before .before
+
+asked : (c : tie.After-has-room) → c .has-room .result ≡ leb (start c .args .at + c .before .refused-length .result) (length (now (start c .args .out)))
+asked c = c .has-room .ensures
+
+needed : (c : tie.After-has-room) → c .before .refused-length .result ≡ length (refusedText (start c .args .line) (start c .args .column) (start c .args .r))
+needed c = c .before .refused-length .ensures
+
+refused-length-requires : tie.Need-refused-length-requires
+refused-length-requires c κs = search needs
+
+has-room-requires : tie.Need-has-room-requires
+has-room-requires c κs = search needs
+
+returns : tie.Need-returns
+returns c =
+    let h = c .before in
+    no-room (now (start h .args .out)) (start h .args .at) (refusedText (start h .args .line) (start h .args .column) (start h .args .r)) (asked h) (needed h) (c .if1 .taken)
+
+fits : (c : tie.Else1) → let a = start (c .before) .args in a .at + length (refusedText (a .line) (a .column) (a .r)) ≤ length (now (a .out))
+fits c =
+    let h = c .before in
+    has-room (now (start h .args .out)) (start h .args .at) (refusedText (start h .args .line) (start h .args .column) (start h .args .r)) (asked h) (needed h) (c .if1 .left)
+
+put-refused-requires : tie.Need-put-refused-requires
+put-refused-requires c κs = fits (c .before)
+
+same-length : tie.Need-same-length
+same-length c = search needs
+
+returns-2 : tie.Need-returns-2
+returns-2 c =
+    let e = c .before .before .before .before in
+    upto _ _ (refusedText (start (e .before) .args .line) (start (e .before) .args .column) (start (e .before) .args .r)) (fits e) (c .before .before .put-refused .ensures)
+
+pub write-refused-spec : {M : Type 1} → statement M
+write-refused-spec =
+    tie.close
+    (tie.spec
+    refused-length-requires
+    has-room-requires
+    returns
+    put-refused-requires
+    same-length
+    returns-2)

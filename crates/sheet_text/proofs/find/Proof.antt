@@ -1,0 +1,112 @@
+-- `sheet_text::find` meets its contract: the part that it hands over is the first line of what stands at `at`. Assumes nothing.
+use native.Mathlib.Omega.{arith}
+use lib.ListN.{length, take, drop}
+use Prim.Native.Nat.{ℕ, _+_, _-_, _≤_}
+use mathlib.Core.Path.{_≡_, sym, _∙_}
+use denote.Ref.{now}
+use mathlib.Core.List.{List}
+use Rattle.sheet_line.specs.Form.{longestLine}
+use Rattle.sheet_line.specs.Line.{stepping}
+use Rattle.sheet_text.specs.Sheet.{waits}
+use Rattle.sheet_text.specs.Cut.{cut, firstLine, found}
+use Rattle.sheet_text.proofs.Lines.{end-within, part-length, part-end, part-first}
+use borrow.Author.Needs.{needs}
+use Rattle.sheet_text.proofs.find.Statement.{statement}
+use Rattle.sheet_text.proofs.find.Tie as tie
+
+-- what is handed over: the part from `at` to the end that was found
+abbrev Rest : tie.After-line-end → List ℕ
+Rest c = drop (c .before .before .args .at) (now (c .before .before .args .text))
+
+end-is : (c : tie.After-line-end) → c .line-end .result ≡ c .before .before .args .at + cut longestLine (Rest c)
+end-is c = c .line-end .ensures
+
+first : (c : tie.After-line-end) → take (c .line-end .result - c .before .before .args .at) (Rest c) ≡ firstLine (Rest c)
+first c = part-first (now (c .before .before .args .text)) (c .before .before .args .at) (c .line-end .result) (end-is c)
+
+within : (c : tie.After-line-end) → c .line-end .result ≤ length (now (c .before .before .args .text))
+within c = end-within _ _ (c .line-end .result) (end-is c) (omega arith)
+
+waits-is : (c : tie.After-waits) → waits (c .before .before .before .before .args .more) (firstLine (Rest (c .before .before))) ≡ c .waits .result
+waits-is c = rw (← first (c .before .before)) (sym (c .waits .ensures))
+
+abbrev waits-at : tie.After-line → tie.After-waits
+waits-at c = c .before .before .before
+
+step-is : (c : tie.After-line) → stepping (c .before .before .before .before .before .before .before .args .s) (firstLine (Rest (c .before .before .before .before .before))) ≡ c .line .result
+step-is c = rw (← first (c .before .before .before .before .before)) (sym (c .line .ensures))
+
+line-end-requires : tie.Need-line-end-requires
+line-end-requires c κs = search needs
+
+sub-waits : tie.Need-sub-waits
+sub-waits c = search needs
+
+part-waits-start : tie.Need-part-waits-start
+part-waits-start c = search needs
+
+part-waits-end : tie.Need-part-waits-end
+part-waits-end c = within c
+
+waits-requires : tie.Need-waits-requires
+waits-requires c κs = search needs
+
+sub-bytes : tie.Need-sub-bytes
+sub-bytes c = search needs
+
+returns : tie.Need-returns
+unfolding found
+returns c =
+    let e = c .before .before .before in
+    rw (waits-is (c .before) ∙ c .if1 .taken, part-length (now (e .before .before .args .text)) (e .before .before .args .at) (e .line-end .result) (end-is e))
+
+sub-line : tie.Need-sub-line
+sub-line c = search needs
+
+part-line-start : tie.Need-part-line-start
+part-line-start c = search needs
+
+part-line-end : tie.Need-part-line-end
+part-line-end c = within (c .before .before .before)
+
+line-requires : tie.Need-line-requires
+line-requires c κs = search needs
+
+enum-known-t : tie.Need-enum-known-t
+enum-known-t c = search needs
+
+enum-known-line : tie.Need-enum-known-line
+enum-known-line c = search needs
+
+returns-2 : tie.Need-returns-2
+unfolding found
+returns-2 c =
+    let l = c .before .before .before in
+    let e = l .before .before .before .before .before in
+    rw (waits-is (waits-at l) ∙ l .before .before .if1 .left, step-is l ∙ c .before .t .given .1, ← part-end (now (e .before .before .args .text)) (e .before .before .args .at) (e .line-end .result) (end-is e))
+
+returns-3 : tie.Need-returns-3
+unfolding found
+returns-3 c =
+    let l = c .before .before .before in
+    rw (waits-is (waits-at l) ∙ l .before .before .if1 .left, step-is l ∙ c .before .line2 .given .1)
+
+pub find-spec : {M : Type 1} → statement M
+find-spec =
+    tie.close
+    (tie.spec
+    line-end-requires
+    sub-waits
+    part-waits-start
+    part-waits-end
+    waits-requires
+    sub-bytes
+    returns
+    sub-line
+    part-line-start
+    part-line-end
+    line-requires
+    enum-known-t
+    enum-known-line
+    returns-2
+    returns-3)

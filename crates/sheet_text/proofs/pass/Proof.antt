@@ -1,0 +1,150 @@
+-- `sheet_text::pass` meets its contract. The invariant is `Running`: what the lines gave is counted, and stands at the start of the lent bytes where they have
+-- room for it. What is left of the text falls with each line. Assumes nothing.
+use Prim.Native.Nat.{_-_, _<_}
+use mathlib.Core.Path.{_≡_, sym, ap, _∙_}
+use native.Mathlib.Omega.{arith}
+use borrow.Author.Needs.{needs}
+use lib.ListN.{length}
+use denote.Ref.{now}
+use Rattle.sheet_reply.proofs.Few.{refused-few}
+use Rattle.sheet_text.specs.declared.Found.the-variants.{Taken}
+use Rattle.sheet_text.specs.Cut.{found}
+use Rattle.sheet_text.specs.Sheet.{ended}
+use Rattle.sheet_text.proofs.Along.{along-last}
+use Rattle.sheet_text.proofs.Put.{none-written}
+use Rattle.sheet_text.proofs.Running.{Running, running-start, running-next, running-end, few-so-far, line-few, last-few, last-left}
+use Rattle.sheet_text.proofs.Turns.{Took, found-taken, found-waits, found-bad}
+use Rattle.sheet_text.proofs.pass.Statement.{statement}
+use Rattle.sheet_text.proofs.pass.Tie as tie
+
+abbrev Inv-loop : tie.InvT-loop
+Inv-loop text more out₀ sheet₀ at₀ put₀ out sheet at put = Running more text sheet₀ out₀ out sheet at put
+
+abbrev μ-loop : tie.MeasureT-loop
+μ-loop text more out₀ sheet₀ at₀ put₀ out sheet at put = length text - at
+
+-- the places on the way back: the loop, and before it the start
+abbrev Loop : Type 0
+Loop = tie.At-loop Inv-loop μ-loop
+
+abbrev start : Loop → tie.Start Inv-loop μ-loop
+start c = c .before .before .before
+
+abbrev loop-of : tie.After-find Inv-loop μ-loop → Loop
+loop-of c = c .before .before
+
+inside : (c : tie.In-loop Inv-loop μ-loop) → c .before .loop .at < length (now (start (c .before) .args .text))
+inside c = c .loop-test .taken
+
+-- what was found at the loop's place
+found-is : (c : tie.After-find Inv-loop μ-loop) → let l = loop-of c in
+    found (start l .args .more) (now (start l .args .text)) (l .loop .at) (l .loop .sheet) ≡ c .find .result
+found-is c = sym (c .find .ensures)
+
+taken : (c : tie.After-known-told Inv-loop μ-loop) → let l = loop-of (c .before .before .before) in
+    found (start l .args .more) (now (start l .args .text)) (l .loop .at) (l .loop .sheet) ≡ Taken (c .before .t .given .0 .0) (c .before .t .given .0 .1 .0)
+taken c = found-is (c .before .before .before) ∙ c .before .t .given .1
+
+took : (c : tie.After-known-told Inv-loop μ-loop) → let l = loop-of (c .before .before .before) in
+    Took (start l .args .more) (now (start l .args .text)) (l .loop .at) (l .loop .sheet) (c .before .t .given .0 .0) (c .before .t .given .0 .1 .0)
+took c = found-taken _ _ _ _ (inside (c .before .before .before .before)) (loop-of (c .before .before .before) .loop .inv .along .sound) (taken c)
+
+loop-holds : tie.Need-loop-holds Inv-loop μ-loop
+loop-holds c =
+    let s = c .before .before in
+    running-start (s .args .more) (now (s .args .text)) (s .args .s) (now (s .args .out)) (s .pre)
+
+find-requires : tie.Need-find-requires Inv-loop μ-loop
+find-requires c κs = search needs
+
+enum-known-t : tie.Need-enum-known-t Inv-loop μ-loop
+enum-known-t c = search needs
+
+put-sheet-requires : tie.Need-put-sheet-requires Inv-loop μ-loop
+put-sheet-requires c κs =
+    let t = c .before in
+    line-few (loop-of (t .before .before .before) .loop .inv) (inside (t .before .before .before .before)) (taken t)
+
+loop-less : tie.Need-loop-less Inv-loop μ-loop
+loop-less c =
+    let t = took (c .before .before .before .before) in
+    omega (arith, t .further, t .within)
+
+loop-again : tie.Need-loop-again Inv-loop μ-loop
+loop-again c =
+    let t = c .before .before .before .before in
+    running-next (loop-of (t .before .before .before) .loop .inv) (inside (t .before .before .before .before)) (taken t) (c .before .before .put-sheet .ensures)
+
+enum-known-left : tie.Need-enum-known-left Inv-loop μ-loop
+enum-known-left c = search needs
+
+same-length : tie.Need-same-length Inv-loop μ-loop
+same-length c = loop-of (c .before .before .before) .loop .inv .size
+
+returns : tie.Need-returns Inv-loop μ-loop
+returns c =
+    let f = c .before .before .before in
+    let w = found-waits _ _ _ _ (inside (f .before)) (found-is f ∙ c .before .left .given .1) in
+    running-end (loop-of f .loop .inv) (w .0) (omega arith) (w .1, w .2) (none-written _ _)
+
+enum-known-line : tie.Need-enum-known-line Inv-loop μ-loop
+enum-known-line c = search needs
+
+put-end-requires : tie.Need-put-end-requires Inv-loop μ-loop
+put-end-requires c κs =
+    let f = c .before .before .before .before in
+    let b = found-bad _ _ _ _ (inside (f .before)) (loop-of f .loop .inv .along .sound) (found-is f ∙ c .before .before .line .given .1) in
+    omega (arith, few-so-far (loop-of f .loop .inv), refused-few (c .before .before .line .given .0 .0) (c .before .before .line .given .0 .1 .0) (c .before .before .line .given .0 .1 .1 .0) (b .1) (b .2))
+
+same-length-2 : tie.Need-same-length-2 Inv-loop μ-loop
+same-length-2 c = c .before .before .put-end .kept .1 .0 ∙ loop-of (c .before .before .before .before .before .before .before) .loop .inv .size
+
+returns-2 : tie.Need-returns-2 Inv-loop μ-loop
+returns-2 c =
+    let l = c .before .before .before .before .before in
+    let f = l .before .before in
+    let b = found-bad _ _ _ _ (inside (f .before)) (loop-of f .loop .inv .along .sound) (found-is f ∙ l .line .given .1) in
+    running-end (loop-of f .loop .inv) (b .0) (refused-few _ _ _ (b .1) (b .2)) (omega arith, omega arith) (c .before .before .put-end .ensures)
+
+last-requires : tie.Need-last-requires Inv-loop μ-loop
+last-requires c κs = search needs
+
+put-end-requires-2 : tie.Need-put-end-requires-2 Inv-loop μ-loop
+put-end-requires-2 c κs =
+    let l = c .before .before .before in
+    rw (c .before .last .ensures) (omega (arith, few-so-far (l .loop .inv), last-few (start l .args .more) (l .loop .sheet)))
+
+same-length-3 : tie.Need-same-length-3 Inv-loop μ-loop
+same-length-3 c = c .before .before .put-end2 .kept .1 .0 ∙ c .before .before .before .before .before .before .loop .inv .size
+
+returns-3 : tie.Need-returns-3 Inv-loop μ-loop
+returns-3 c =
+    let e = c .before .before .before .before in
+    let l = e .before .before in
+    let none = last-left (start l .args .more) (l .loop .sheet) in
+    running-end (l .loop .inv) (along-last (l .loop .inv .along) (omega arith) ∙ ap ended (sym (e .last .ensures)))
+    (rw (e .last .ensures) (last-few (start l .args .more) (l .loop .sheet))) (rw (e .last .ensures) (omega arith, omega arith)) (c .before .before .put-end2 .ensures)
+
+pub pass-spec : {M : Type 1} → statement M
+pass-spec =
+    tie.close
+    (tie.spec
+    Inv-loop
+    μ-loop
+    loop-holds
+    find-requires
+    enum-known-t
+    put-sheet-requires
+    loop-less
+    loop-again
+    enum-known-left
+    same-length
+    returns
+    enum-known-line
+    put-end-requires
+    same-length-2
+    returns-2
+    last-requires
+    put-end-requires-2
+    same-length-3
+    returns-3)

@@ -1,0 +1,68 @@
+-- `sheet_text::put_end` meets its contract: a refusal has its line, and the other ends have none. Assumes nothing.
+use Prim.Native.Nat.{_+_}
+use mathlib.Core.Path.{_≡_, ap, _∙_}
+use native.Mathlib.Omega.{arith}
+use lib.ListN.{length}
+use denote.Ref.{now}
+use Rattle.sheet_reply.specs.Written.{refusedText}
+use Rattle.sheet_text.specs.Cut.{behindOf}
+use Rattle.sheet_text.specs.Sheet.{endText}
+use Rattle.sheet_text.proofs.Put.{behind-writing, none-written}
+use borrow.Author.Needs.{needs}
+use Rattle.sheet_text.proofs.put_end.Statement.{statement}
+use Rattle.sheet_text.proofs.put_end.Tie as tie
+
+abbrev end-of : tie.After-write-refused → tie.After-end
+end-of c = c .before .before .before
+
+abbrev start : tie.After-end → tie.Start
+start c = c .before .before .before
+
+place : (c : tie.After-write-refused) → let e = end-of c in
+    behindOf (start e .args .at) (c .write-refused .result) ≡ start e .args .at + length (refusedText (e .end .given .0 .0) (e .end .given .0 .1 .0) (e .end .given .0 .1 .1 .0))
+place c = behind-writing (now (start (end-of c) .args .out)) (start (end-of c) .args .at) _ (c .write-refused .ensures .0)
+
+enum-told : tie.Need-enum-told
+enum-told c = search needs
+
+enum-known-end : tie.Need-enum-known-end
+enum-known-end c = search needs
+
+write-refused-requires : tie.Need-write-refused-requires
+write-refused-requires c κs = search needs
+
+behind-requires : tie.Need-behind-requires
+behind-requires c κs =
+    let w = c .before .before in
+    omega (arith, place w, ap (λ e. length (endText e)) (end-of w .end .given .1), start (end-of w) .pre)
+
+enum-told-2 : tie.Need-enum-told-2
+enum-told-2 c = search needs
+
+returns : tie.Need-returns
+returns c = rw (c .enum-told .given .1) (none-written (now (c .before .before .before .args .out)) (c .before .before .before .args .at))
+
+same-length : tie.Need-same-length
+same-length c = search needs
+
+returns-2 : tie.Need-returns-2
+returns-2 c =
+    let w = c .before .before .before in
+    rw (end-of w .end .given .1) (c .behind .ensures ∙ place w, w .write-refused .ensures .1)
+
+returns-3 : tie.Need-returns-3
+returns-3 c = rw (c .enum-told2 .given .1) (none-written (now (c .before .before .before .args .out)) (c .before .before .before .args .at))
+
+pub put-end-spec : {M : Type 1} → statement M
+put-end-spec =
+    tie.close
+    (tie.spec
+    enum-told
+    enum-known-end
+    write-refused-requires
+    behind-requires
+    enum-told-2
+    returns
+    same-length
+    returns-2
+    returns-3)

@@ -1,4 +1,0 @@
-pub mod Stretches
-pub mod Apart
-pub mod Example
-pub mod Unique

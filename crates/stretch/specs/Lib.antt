@@ -1,2 +1,0 @@
-pub mod Peaks
-pub mod Meaning

@@ -1,4 +1,0 @@
-pub mod Noting
-pub mod Steps
-pub mod Walked
-pub mod Unique

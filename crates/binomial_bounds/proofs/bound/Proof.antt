@@ -6,9 +6,6 @@ use borrow.Author.Needs.{needs}
 use Rattle.binomial_bounds.proofs.bound.Statement.{statement}
 use Rattle.binomial_bounds.proofs.bound.Tie as tie
 
-sound-requires : tie.Need-sound-requires
-sound-requires c κs = search needs
-
 returns : tie.Need-returns
 unfolding bounding
 returns c = rw (said-no (c .before .sound .ensures) (c .if1 .taken))
@@ -21,4 +18,4 @@ unfolding bounding
 returns-2 c = rw (said-yes (c .before .before .before .sound .ensures) (c .before .before .if1 .left), c .bounds-of .ensures)
 
 pub bound-spec : {M : Type 1} → statement M
-bound-spec = tie.close (tie.spec sound-requires returns bounds-of-requires returns-2)
+bound-spec = tie.close (tie.spec (λ c κs. search needs) returns bounds-of-requires returns-2)

@@ -5,15 +5,6 @@ use borrow.Author.Needs.{needs}
 use Rattle.binomial_bounds.proofs.bounds_of.Statement.{statement}
 use Rattle.binomial_bounds.proofs.bounds_of.Tie as tie
 
-mul-estimate : tie.Need-mul-estimate
-mul-estimate c = search needs
-
-half-width-requires : tie.Need-half-width-requires
-half-width-requires c κs = search needs
-
-less-requires : tie.Need-less-requires
-less-requires c κs = search needs
-
 add-t5 : tie.Need-add-t5
 add-t5 c = omega (arith, c .before .half-width .ensures, width-small (c .before .before .before .args .s) (c .before .before .before .pre))
 
@@ -25,4 +16,4 @@ returns c = rw (c .before .less .ensures, c .before .before .half-width .ensures
 
 pub bounds-of-spec : {M : Type 1} → statement M
 bounds-of-spec =
-    tie.close (tie.spec mul-estimate half-width-requires less-requires add-t5 mul-t6 returns)
+    tie.close (tie.spec (λ c. search needs) (λ c κs. search needs) (λ c κs. search needs) add-t5 mul-t6 returns)

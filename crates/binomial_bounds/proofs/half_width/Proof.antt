@@ -5,15 +5,6 @@ use borrow.Author.Needs.{needs}
 use Rattle.binomial_bounds.proofs.half_width.Statement.{statement}
 use Rattle.binomial_bounds.proofs.half_width.Tie as tie
 
-mul-least : tie.Need-mul-least
-mul-least c = search needs
-
-mul-least-2 : tie.Need-mul-least-2
-mul-least-2 c = search needs
-
-sub-least : tie.Need-sub-least
-sub-least c = search needs
-
 mul-least-3 : tie.Need-mul-least-3
 mul-least-3 c = let s = c .before .before .args .s in let k = c .before .before .pre in omega (arith, scatter-fits (s .failures) (s .samples) (k .failures) (k .samples))
 
@@ -25,4 +16,4 @@ returns c = let s = c .before .before .before .args .s in least-unique (c .least
 
 pub half-width-spec : {M : Type 1} → statement M
 half-width-spec =
-    tie.close (tie.spec mul-least mul-least-2 sub-least mul-least-3 least-requires returns)
+    tie.close (tie.spec (λ c. search needs) (λ c. search needs) (λ c. search needs) mul-least-3 least-requires returns)

@@ -44,16 +44,5 @@ returns c = ends (c .before .loop .inv) (c .loop-test .left)
 pub least-spec : {M : Type 1} → statement M
 least-spec =
     tie.close
-    (tie.spec
-    Inv-loop
-    μ-loop
-    loop-holds
-    add-middle
-    mul-if1
-    mul-if1-2
-    add-low
-    loop-less
-    loop-again
-    loop-less-2
-    loop-again-2
-    returns)
+    (tie.spec Inv-loop μ-loop loop-holds add-middle mul-if1 mul-if1-2 add-low loop-less loop-again loop-less-2
+    loop-again-2 returns)

@@ -5,9 +5,6 @@ use borrow.Author.Needs.{needs}
 use Rattle.binomial_bounds.proofs.three.Statement.{statement}
 use Rattle.binomial_bounds.proofs.three.Tie as tie
 
-bounds-of-requires : tie.Need-bounds-of-requires
-bounds-of-requires c κs = search needs
-
 quotient-requires : tie.Need-quotient-requires
 quotient-requires c κs = let b = small (c .before .args .s) (c .before .pre) in rw (c .bounds-of .ensures) (omega (arith, b .estimate), omega (arith, b .time))
 
@@ -23,4 +20,4 @@ returns c = rw (c .before .before .quotient .ensures, c .before .quotient2 .ensu
 pub three-spec : {M : Type 1} → statement M
 three-spec =
     tie.close
-    (tie.spec bounds-of-requires quotient-requires quotient-requires-2 quotient-requires-3 returns)
+    (tie.spec (λ c κs. search needs) quotient-requires quotient-requires-2 quotient-requires-3 returns)

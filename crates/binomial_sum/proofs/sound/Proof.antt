@@ -4,22 +4,10 @@ use borrow.Author.Needs.{needs}
 use Rattle.binomial_sum.proofs.sound.Statement.{statement}
 use Rattle.binomial_sum.proofs.sound.Tie as tie
 
-both-requires : tie.Need-both-requires
-both-requires c κs = search needs
-
-both-requires-2 : tie.Need-both-requires-2
-both-requires-2 c κs = search needs
-
-both-requires-3 : tie.Need-both-requires-3
-both-requires-3 c κs = search needs
-
-both-requires-4 : tie.Need-both-requires-4
-both-requires-4 c κs = search needs
-
 returns : tie.Need-returns
 unfolding sound
 returns c = rw (c .both4 .ensures, c .before .before .before .before .before .before .both .ensures, c .before .both3 .ensures, c .before .before .both2 .ensures)
 
 pub sound-spec : {M : Type 1} → statement M
 sound-spec =
-    tie.close (tie.spec both-requires both-requires-2 both-requires-3 both-requires-4 returns)
+    tie.close (tie.spec (λ c κs. search needs) (λ c κs. search needs) (λ c κs. search needs) (λ c κs. search needs) returns)

@@ -4,12 +4,9 @@ use borrow.Author.Needs.{needs}
 use Rattle.bureau_choice.proofs.act.Statement.{statement}
 use Rattle.bureau_choice.proofs.act.Tie as tie
 
-acting-requires : tie.Need-acting-requires
-acting-requires c κs = search needs
-
 returns : tie.Need-returns
 unfolding acted
 returns c = c .acting .ensures
 
 pub act-spec : {M : Type 1} → statement M
-act-spec = tie.close (tie.spec acting-requires returns)
+act-spec = tie.close (tie.spec (λ c κs. search needs) returns)

@@ -3,15 +3,6 @@ use borrow.Author.Needs.{needs}
 use Rattle.bureau_choice.proofs.choosing.Statement.{statement}
 use Rattle.bureau_choice.proofs.choosing.Tie as tie
 
-enum-known-ask : tie.Need-enum-known-ask
-enum-known-ask c = search needs
-
-taking-requires : tie.Need-taking-requires
-taking-requires c κs = search needs
-
-enum-known-ask-2 : tie.Need-enum-known-ask-2
-enum-known-ask-2 c = search needs
-
 returns : tie.Need-returns
 returns c = rw (c .before .before .ask .given .1) (c .taking .ensures)
 
@@ -21,4 +12,4 @@ returns-2 c = rw (c .before .ask2 .given .1)
 pub choosing-spec : {M : Type 1} → statement M
 choosing-spec =
     tie.close
-    (tie.spec enum-known-ask taking-requires enum-known-ask-2 returns returns-2)
+    (tie.spec (λ c. search needs) (λ c κs. search needs) (λ c. search needs) returns returns-2)

@@ -3,12 +3,6 @@ use borrow.Author.Needs.{needs}
 use Rattle.bureau_choice.proofs.entry.Statement.{statement}
 use Rattle.bureau_choice.proofs.entry.Tie as tie
 
-enum-known-a : tie.Need-enum-known-a
-enum-known-a c = search needs
-
-enum-known-a-2 : tie.Need-enum-known-a-2
-enum-known-a-2 c = search needs
-
 returns : tie.Need-returns
 returns c = rw (c .before .a .given .1)
 
@@ -16,4 +10,4 @@ returns-2 : tie.Need-returns-2
 returns-2 c = rw (c .before .a2 .given .1)
 
 pub entry-spec : {M : Type 1} → statement M
-entry-spec = tie.close (tie.spec enum-known-a enum-known-a-2 returns returns-2)
+entry-spec = tie.close (tie.spec (λ c. search needs) (λ c. search needs) returns returns-2)

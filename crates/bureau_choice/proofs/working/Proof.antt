@@ -7,11 +7,8 @@ use Rattle.bureau_choice.proofs.working.Tie as tie
 returns : tie.Need-returns
 returns c = rw (ne-eqb _ _ (c .if1 .taken))
 
-work-requires : tie.Need-work-requires
-work-requires c κs = search needs
-
 returns-2 : tie.Need-returns-2
 returns-2 c = rw (eq-eqb _ _ (c .before .before .if1 .left)) (c .work .ensures)
 
 pub working-spec : {M : Type 1} → statement M
-working-spec = tie.close (tie.spec returns work-requires returns-2)
+working-spec = tie.close (tie.spec returns (λ c κs. search needs) returns-2)

@@ -6,38 +6,11 @@ use Rattle.bureau_survey.proofs.Owners.{first-seen, free-seen, nobody-s
 use Rattle.bureau_survey.proofs.look.Statement.{statement}
 use Rattle.bureau_survey.proofs.look.Tie as tie
 
-zeros-requires : tie.Need-zeros-requires
-zeros-requires c κs = search needs
-
-both-requires : tie.Need-both-requires
-both-requires c κs = search needs
-
-pick-requires : tie.Need-pick-requires
-pick-requires c κs = search needs
-
 returns : tie.Need-returns
 returns c = let x = c .before .before .before .before .before .before .args in free-seen (x .s) (x .i) (x .p) (c .before .before .before .if1 .taken) (c .before .both .ensures ∙ ap (λ (z : Bool). x .s .whole && z) (c .before .before .zeros .ensures)) (c .pick .ensures)
 
-sound-requires : tie.Need-sound-requires
-sound-requires c κs = search needs
-
-both-requires-2 : tie.Need-both-requires-2
-both-requires-2 c κs = search needs
-
-more-requires : tie.Need-more-requires
-more-requires c κs = search needs
-
 returns-2 : tie.Need-returns-2
 returns-2 c = let x = c .before .before .before .before .before .before .before .before .args in first-seen (x .s) (x .i) (x .p) (c .before .before .before .if2 .taken) (c .before .both2 .ensures ∙ ap (λ (z : Bool). x .s .whole && z) (c .before .before .sound .ensures)) (c .more .ensures)
-
-sound-requires-2 : tie.Need-sound-requires-2
-sound-requires-2 c κs = search needs
-
-both-requires-3 : tie.Need-both-requires-3
-both-requires-3 c κs = search needs
-
-more-requires-2 : tie.Need-more-requires-2
-more-requires-2 c κs = search needs
 
 returns-3 : tie.Need-returns-3
 returns-3 c = let x = c .before .before .before .before .before .before .before .before .before .before .args in second-seen (x .s) (x .i) (x .p) (c .before .before .before .if3 .taken) (c .before .both3 .ensures ∙ ap (λ (z : Bool). x .s .whole && z) (c .before .before .sound2 .ensures)) (c .more2 .ensures)
@@ -48,17 +21,6 @@ returns-4 c = let x = c .before .before .before .before .before .before .before 
 pub look-spec : {M : Type 1} → statement M
 look-spec =
     tie.close
-    (tie.spec
-    zeros-requires
-    both-requires
-    pick-requires
-    returns
-    sound-requires
-    both-requires-2
-    more-requires
-    returns-2
-    sound-requires-2
-    both-requires-3
-    more-requires-2
-    returns-3
-    returns-4)
+    (tie.spec (λ c κs. search needs) (λ c κs. search needs) (λ c κs. search needs) returns (λ c κs. search needs)
+    (λ c κs. search needs) (λ c κs. search needs) returns-2 (λ c κs. search needs) (λ c κs. search needs)
+    (λ c κs. search needs) returns-3 returns-4)

@@ -7,11 +7,8 @@ use Rattle.bureau_survey.proofs.more.Tie as tie
 returns : tie.Need-returns
 returns c = rw (lt-ltb _ _ (c .if1 .taken))
 
-add-result : tie.Need-add-result
-add-result c = search needs
-
 returns-2 : tie.Need-returns-2
 returns-2 c = rw (le-ltb _ _ (c .if1 .left))
 
 pub more-spec : {M : Type 1} → statement M
-more-spec = tie.close (tie.spec returns add-result returns-2)
+more-spec = tie.close (tie.spec returns (λ c. search needs) returns-2)

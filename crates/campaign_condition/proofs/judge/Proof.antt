@@ -12,9 +12,6 @@ use borrow.Author.Needs.{needs}
 use Rattle.campaign_condition.proofs.judge.Statement.{statement}
 use Rattle.campaign_condition.proofs.judge.Tie as tie
 
-both-requires : tie.Need-both-requires
-both-requires c κs = search needs
-
 -- past the first test there are as many campaigns as there may be
 as-many : (c : tie.Else1) → situationsInRange (c .before .before .args .number) ≡ true
 as-many c = said-yes (c .before .both .ensures) (c .if1 .left)
@@ -52,4 +49,4 @@ returns-5 c =
 pub judge-spec : {M : Type 1} → statement M
 judge-spec =
     tie.close
-    (tie.spec both-requires returns look-requires returns-2 returns-3 returns-4 returns-5)
+    (tie.spec (λ c κs. search needs) returns look-requires returns-2 returns-3 returns-4 returns-5)

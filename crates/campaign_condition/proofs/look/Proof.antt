@@ -72,18 +72,5 @@ returns c =
 pub look-spec : {M : Type 1} → statement M
 look-spec =
     tie.close
-    (tie.spec
-    Inv-loop
-    μ-loop
-    loop-holds
-    mul-c
-    array-copy-out-c
-    add-lowest
-    lowest-requires
-    said-requires
-    either-requires
-    both-requires
-    add-i
-    loop-less
-    loop-again
-    returns)
+    (tie.spec Inv-loop μ-loop loop-holds mul-c array-copy-out-c add-lowest lowest-requires said-requires either-requires
+    both-requires add-i loop-less loop-again returns)

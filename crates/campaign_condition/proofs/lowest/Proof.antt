@@ -8,9 +8,6 @@ use Rattle.campaign_condition.proofs.lowest.Tie as tie
 returns : tie.Need-returns
 returns c = rw (ne-eqb _ _ (c .if1 .taken))
 
-sound-requires : tie.Need-sound-requires
-sound-requires c κs = search needs
-
 returns-2 : tie.Need-returns-2
 returns-2 c = rw (eq-eqb _ _ (c .before .before .if1 .left), sym (c .before .sound .ensures) ∙ c .if2 .taken)
 
@@ -18,4 +15,4 @@ returns-3 : tie.Need-returns-3
 returns-3 c = rw (eq-eqb _ _ (c .before .before .if1 .left), sym (c .before .sound .ensures) ∙ c .if2 .left)
 
 pub lowest-spec : {M : Type 1} → statement M
-lowest-spec = tie.close (tie.spec returns sound-requires returns-2 returns-3)
+lowest-spec = tie.close (tie.spec returns (λ c κs. search needs) returns-2 returns-3)

@@ -8,21 +8,6 @@ use Rattle.campaign_condition.specs.Standing.{accepted, acceptance, hold
 use Rattle.campaign_condition.proofs.said.Statement.{statement}
 use Rattle.campaign_condition.proofs.said.Tie as tie
 
-judge-requires : tie.Need-judge-requires
-judge-requires c κs = search needs
-
-enum-known-v : tie.Need-enum-known-v
-enum-known-v c = search needs
-
-rejection-requires : tie.Need-rejection-requires
-rejection-requires c κs = search needs
-
-acceptance-requires : tie.Need-acceptance-requires
-acceptance-requires c κs = search needs
-
-enum-told : tie.Need-enum-told
-enum-told c = search needs
-
 returns : tie.Need-returns
 unfolding rejected accepted
 returns c =
@@ -40,11 +25,5 @@ returns-2 c =
 pub said-spec : {M : Type 1} → statement M
 said-spec =
     tie.close
-    (tie.spec
-    judge-requires
-    enum-known-v
-    rejection-requires
-    acceptance-requires
-    enum-told
-    returns
-    returns-2)
+    (tie.spec (λ c κs. search needs) (λ c. search needs) (λ c κs. search needs) (λ c κs. search needs)
+    (λ c. search needs) returns returns-2)

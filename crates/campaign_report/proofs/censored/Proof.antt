@@ -4,15 +4,6 @@ use borrow.Author.Needs.{needs}
 use Rattle.campaign_report.proofs.censored.Statement.{statement}
 use Rattle.campaign_report.proofs.censored.Tie as tie
 
-censored-requires : tie.Need-censored-requires
-censored-requires c κs = search needs
-
-enum-known-n : tie.Need-enum-known-n
-enum-known-n c = search needs
-
-enum-told : tie.Need-enum-told
-enum-told c = search needs
-
 returns : tie.Need-returns
 returns c =
     let n = c .before in
@@ -25,4 +16,4 @@ returns-2 c =
     absurd (count-not-refused (j .before .args .c) (j .before .pre) (j .censored .ensures) (c .enum-told .given .1))
 
 pub censored-spec : {M : Type 1} → statement M
-censored-spec = tie.close (tie.spec censored-requires enum-known-n enum-told returns returns-2)
+censored-spec = tie.close (tie.spec (λ c κs. search needs) (λ c. search needs) (λ c. search needs) returns returns-2)

@@ -6,18 +6,6 @@ use borrow.Author.Needs.{needs}
 use Rattle.campaign_report.proofs.letter.Statement.{statement}
 use Rattle.campaign_report.proofs.letter.Tie as tie
 
-judge-requires : tie.Need-judge-requires
-judge-requires c κs = search needs
-
-enum-known-v : tie.Need-enum-known-v
-enum-known-v c = search needs
-
-verdict-letter-requires : tie.Need-verdict-letter-requires
-verdict-letter-requires c κs = search needs
-
-enum-told : tie.Need-enum-told
-enum-told c = search needs
-
 returns : tie.Need-returns
 unfolding letterFor
 returns c =
@@ -33,4 +21,4 @@ returns-2 c =
 pub letter-spec : {M : Type 1} → statement M
 letter-spec =
     tie.close
-    (tie.spec judge-requires enum-known-v verdict-letter-requires enum-told returns returns-2)
+    (tie.spec (λ c κs. search needs) (λ c. search needs) (λ c κs. search needs) (λ c. search needs) returns returns-2)

@@ -11,43 +11,10 @@ use borrow.Author.Needs.{needs}
 use Rattle.campaign_report.proofs.line_length.Statement.{statement}
 use Rattle.campaign_report.proofs.line_length.Tie as tie
 
-digits-requires : tie.Need-digits-requires
-digits-requires c κs = search needs
-
-digits-requires-2 : tie.Need-digits-requires-2
-digits-requires-2 c κs = search needs
-
-add-result : tie.Need-add-result
-add-result c = search needs
-
-censored-requires : tie.Need-censored-requires
-censored-requires c κs = search needs
-
-digits-requires-3 : tie.Need-digits-requires-3
-digits-requires-3 c κs = search needs
-
-add-result-2 : tie.Need-add-result-2
-add-result-2 c = search needs
-
-digits-requires-4 : tie.Need-digits-requires-4
-digits-requires-4 c κs = search needs
-
-add-result-3 : tie.Need-add-result-3
-add-result-3 c = search needs
-
 blocks-requires : tie.Need-blocks-requires
 blocks-requires c κs =
     let s = c .before .before .before .before .before in
     kept-from (s .args .c) (holds (s .pre)) .failures-rows
-
-digits-requires-5 : tie.Need-digits-requires-5
-digits-requires-5 c κs = search needs
-
-add-result-4 : tie.Need-add-result-4
-add-result-4 c = search needs
-
-add-result-5 : tie.Need-add-result-5
-add-result-5 c = search needs
 
 returns : tie.Need-returns
 returns c =
@@ -67,17 +34,6 @@ returns c =
 pub line-length-spec : {M : Type 1} → statement M
 line-length-spec =
     tie.close
-    (tie.spec
-    digits-requires
-    digits-requires-2
-    add-result
-    censored-requires
-    digits-requires-3
-    add-result-2
-    digits-requires-4
-    add-result-3
-    blocks-requires
-    digits-requires-5
-    add-result-4
-    add-result-5
-    returns)
+    (tie.spec (λ c κs. search needs) (λ c κs. search needs) (λ c. search needs) (λ c κs. search needs)
+    (λ c κs. search needs) (λ c. search needs) (λ c κs. search needs) (λ c. search needs) blocks-requires
+    (λ c κs. search needs) (λ c. search needs) (λ c. search needs) returns)

@@ -78,16 +78,5 @@ returns c =
 pub lines-length-spec : {M : Type 1} → statement M
 lines-length-spec =
     tie.close
-    (tie.spec
-    Inv-loop
-    μ-loop
-    loop-holds
-    mul-c
-    array-copy-out-c
-    add-line-length
-    line-length-requires
-    add-total
-    add-i
-    loop-less
-    loop-again
-    returns)
+    (tie.spec Inv-loop μ-loop loop-holds mul-c array-copy-out-c add-line-length line-length-requires add-total add-i
+    loop-less loop-again returns)

@@ -46,31 +46,11 @@ left2 c = left-next (fieldText (start (first-of c) .args .b) tab) _ (left1 (firs
 left3 : (c : tie.After-write-field3) → let s = start (first-of (second-of c)) in Stands s (D s) (c .write-field3 .last .1 .1 .0) (c .write-field3 .result)
 left3 c = left-next (fieldText (start (first-of (second-of c)) .args .c) tab) _ (left2 (second-of c)) (c .write-field3 .ensures)
 
-write-field-requires : tie.Need-write-field-requires
-write-field-requires c κs = search needs
-
-write-field-requires-2 : tie.Need-write-field-requires-2
-write-field-requires-2 c κs = search needs
-
-write-field-requires-3 : tie.Need-write-field-requires-3
-write-field-requires-3 c κs = search needs
-
-write-field-requires-4 : tie.Need-write-field-requires-4
-write-field-requires-4 c κs = search needs
-
-same-length : tie.Need-same-length
-same-length c = search needs
-
 returns : tie.Need-returns
 returns c = left-last (left3 (c .before .before .before .before .before .before)) (c .before .before .write-field4 .ensures)
 
 pub put-four-spec : {M : Type 1} → statement M
 put-four-spec =
     tie.close
-    (tie.spec
-    write-field-requires
-    write-field-requires-2
-    write-field-requires-3
-    write-field-requires-4
-    same-length
-    returns)
+    (tie.spec (λ c κs. search needs) (λ c κs. search needs) (λ c κs. search needs) (λ c κs. search needs)
+    (λ c. search needs) returns)

@@ -55,29 +55,11 @@ left2 c = left-next (Mark (blocks-of (four-of c)) ∷ []) _ (left1 (four-of c)) 
 left3 : (c : tie.After-write-byte2) → let b = blocks-of (four-of (mark-of c)) in Stands b (Blocks b) (c .write-byte2 .last .1 .0) (c .write-byte2 .result)
 left3 c = left-next (tab ∷ []) _ (left2 (mark-of c)) (c .write-byte2 .ensures)
 
-censored-requires : tie.Need-censored-requires
-censored-requires c κs = search needs
-
-letter-requires : tie.Need-letter-requires
-letter-requires c κs = search needs
-
 blocks-requires : tie.Need-blocks-requires
 blocks-requires c κs = let s = c .before .before .before in kept-from (s .args .c) (holds (s .pre .0)) .failures-rows
 
 put-four-requires : tie.Need-put-four-requires
 put-four-requires c κs = left-room (Four (c .before)) _ (left0 (c .before))
-
-write-byte-requires : tie.Need-write-byte-requires
-write-byte-requires c κs = search needs
-
-write-byte-requires-2 : tie.Need-write-byte-requires-2
-write-byte-requires-2 c κs = search needs
-
-write-field-requires : tie.Need-write-field-requires
-write-field-requires c κs = search needs
-
-same-length : tie.Need-same-length
-same-length c = search needs
 
 returns : tie.Need-returns
 returns c =
@@ -87,13 +69,5 @@ returns c =
 pub put-line-spec : {M : Type 1} → statement M
 put-line-spec =
     tie.close
-    (tie.spec
-    censored-requires
-    letter-requires
-    blocks-requires
-    put-four-requires
-    write-byte-requires
-    write-byte-requires-2
-    write-field-requires
-    same-length
-    returns)
+    (tie.spec (λ c κs. search needs) (λ c κs. search needs) blocks-requires put-four-requires (λ c κs. search needs)
+    (λ c κs. search needs) (λ c κs. search needs) (λ c. search needs) returns)

@@ -43,25 +43,10 @@ left2 c = left-next (Sums (start (word-of c))) _ (left1 (word-of c)) (c .put-fou
 left3 : (c : tie.After-write-byte) → let s = start (word-of (sums-of c)) in Stands s (lineFeed ∷ []) (c .write-byte .last .1 .0) (c .write-byte .result)
 left3 c = left-next (start (word-of (sums-of c)) .args .letter ∷ []) _ (left2 (sums-of c)) (c .write-byte .ensures)
 
-slice-aggregate-write-bytes : tie.Need-slice-aggregate-write-bytes
-slice-aggregate-write-bytes c = search needs
-
-write-bytes-requires : tie.Need-write-bytes-requires
-write-bytes-requires c κs = search needs
-
 put-four-requires : tie.Need-put-four-requires
 put-four-requires c κs =
     let w = c .before .before .before in
     left-room (Sums (start w)) _ (left1 w)
-
-write-byte-requires : tie.Need-write-byte-requires
-write-byte-requires c κs = search needs
-
-write-byte-requires-2 : tie.Need-write-byte-requires-2
-write-byte-requires-2 c κs = search needs
-
-same-length : tie.Need-same-length
-same-length c = search needs
 
 returns : tie.Need-returns
 returns c = left-last (left3 (c .before .before .before .before .before .before)) (c .before .before .write-byte2 .ensures)
@@ -69,11 +54,5 @@ returns c = left-last (left3 (c .before .before .before .before .before .before)
 pub put-total-spec : {M : Type 1} → statement M
 put-total-spec =
     tie.close
-    (tie.spec
-    slice-aggregate-write-bytes
-    write-bytes-requires
-    put-four-requires
-    write-byte-requires
-    write-byte-requires-2
-    same-length
-    returns)
+    (tie.spec (λ c. search needs) (λ c κs. search needs) put-four-requires (λ c κs. search needs) (λ c κs. search needs)
+    (λ c. search needs) returns)

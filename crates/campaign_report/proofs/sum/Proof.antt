@@ -90,18 +90,5 @@ returns c =
 pub sum-spec : {M : Type 1} → statement M
 sum-spec =
     tie.close
-    (tie.spec
-    Inv-loop
-    μ-loop
-    loop-holds
-    mul-c
-    array-copy-out-c
-    add-records
-    add-failures
-    add-exposure
-    blocks-requires
-    add-billed
-    add-i
-    loop-less
-    loop-again
-    returns)
+    (tie.spec Inv-loop μ-loop loop-holds mul-c array-copy-out-c add-records add-failures add-exposure blocks-requires
+    add-billed add-i loop-less loop-again returns)

@@ -5,30 +5,6 @@ use borrow.Author.Needs.{needs}
 use Rattle.campaign_report.proofs.total_length.Statement.{statement}
 use Rattle.campaign_report.proofs.total_length.Tie as tie
 
-digits-requires : tie.Need-digits-requires
-digits-requires c κs = search needs
-
-digits-requires-2 : tie.Need-digits-requires-2
-digits-requires-2 c κs = search needs
-
-add-result : tie.Need-add-result
-add-result c = search needs
-
-digits-requires-3 : tie.Need-digits-requires-3
-digits-requires-3 c κs = search needs
-
-add-result-2 : tie.Need-add-result-2
-add-result-2 c = search needs
-
-digits-requires-4 : tie.Need-digits-requires-4
-digits-requires-4 c κs = search needs
-
-add-result-3 : tie.Need-add-result-3
-add-result-3 c = search needs
-
-add-result-4 : tie.Need-add-result-4
-add-result-4 c = search needs
-
 returns : tie.Need-returns
 returns c =
     let s = c .before .before .before .before in
@@ -41,13 +17,5 @@ returns c =
 pub total-length-spec : {M : Type 1} → statement M
 total-length-spec =
     tie.close
-    (tie.spec
-    digits-requires
-    digits-requires-2
-    add-result
-    digits-requires-3
-    add-result-2
-    digits-requires-4
-    add-result-3
-    add-result-4
-    returns)
+    (tie.spec (λ c κs. search needs) (λ c κs. search needs) (λ c. search needs) (λ c κs. search needs)
+    (λ c. search needs) (λ c κs. search needs) (λ c. search needs) (λ c. search needs) returns)

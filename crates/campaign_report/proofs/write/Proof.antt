@@ -70,29 +70,11 @@ left1 : (c : tie.After-put-lines) → let e = c .before .before in let j = judge
     Left (Out j) 0 (reportText (Situations j)) (Last (e .before)) (c .put-lines .last .1 .1 .0) (c .put-lines .result)
 left1 c = left-next (linesFrom 1 (Situations (judged (c .before .before .before)))) _ (left0 (c .before .before)) (c .put-lines .ensures)
 
-judge-requires : tie.Need-judge-requires
-judge-requires c κs = search needs
-
-enum-known-r : tie.Need-enum-known-r
-enum-known-r c = search needs
-
-enum-known-s : tie.Need-enum-known-s
-enum-known-s c = search needs
-
 sum-requires : tie.Need-sum-requires
 sum-requires c κs = (stands c .few, stands c .whole)
 
-standing-letter-requires : tie.Need-standing-letter-requires
-standing-letter-requires c κs = search needs
-
 lines-length-requires : tie.Need-lines-length-requires
 lines-length-requires c κs = let j = c .before .before in (stands j .few, stands j .whole)
-
-total-length-requires : tie.Need-total-length-requires
-total-length-requires c κs = search needs
-
-add-needed : tie.Need-add-needed
-add-needed c = search needs
 
 returns : tie.Need-returns
 unfolding laidBy
@@ -118,9 +100,6 @@ returns-2 c =
     let a = j .before .before .args in
     (at-fault (a .number) (take (a .number) (a .campaigns)) (now (a .out)) (sym (j .judge .ensures) ∙ r .r .given .1), refl)
 
-same-length : tie.Need-same-length
-same-length c = search needs
-
 returns-3 : tie.Need-returns-3
 returns-3 c =
     let p = c .before .before in
@@ -136,18 +115,6 @@ returns-3 c =
 pub write-spec : {M : Type 1} → statement M
 write-spec =
     tie.close
-    (tie.spec
-    judge-requires
-    enum-known-r
-    enum-known-s
-    sum-requires
-    standing-letter-requires
-    lines-length-requires
-    total-length-requires
-    add-needed
-    returns
-    put-lines-requires
-    put-total-requires
-    returns-2
-    same-length
-    returns-3)
+    (tie.spec (λ c κs. search needs) (λ c. search needs) (λ c. search needs) sum-requires (λ c κs. search needs)
+    lines-length-requires (λ c κs. search needs) (λ c. search needs) returns put-lines-requires put-total-requires
+    returns-2 (λ c. search needs) returns-3)

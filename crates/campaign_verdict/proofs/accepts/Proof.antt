@@ -8,11 +8,8 @@ use Rattle.campaign_verdict.proofs.accepts.Tie as tie
 mul-result : tie.Need-mul-result
 mul-result c = omega (arith, mul-le-mul (c .before .pre .2) (c .before .pre .0 .standard-high))
 
-mul-result-2 : tie.Need-mul-result-2
-mul-result-2 c = search needs
-
 returns : tie.Need-returns
 returns c = rw (← c .before .before .pre .1)
 
 pub accepts-spec : {M : Type 1} → statement M
-accepts-spec = tie.close (tie.spec mul-result mul-result-2 returns)
+accepts-spec = tie.close (tie.spec mul-result (λ c. search needs) returns)

@@ -8,9 +8,6 @@ use borrow.Author.Needs.{needs}
 use Rattle.campaign_verdict.proofs.censored.Statement.{statement}
 use Rattle.campaign_verdict.proofs.censored.Tie as tie
 
-sound-requires : tie.Need-sound-requires
-sound-requires c κs = search needs
-
 returns : tie.Need-returns
 unfolding counting
 returns c = rw (said-no (c .before .sound .ensures) (c .if1 .taken))
@@ -23,4 +20,4 @@ unfolding counting
 returns-2 c = rw (said-yes (c .before .before .sound .ensures) (c .before .if1 .left)) (ap Count (c .censored-of .ensures))
 
 pub censored-spec : {M : Type 1} → statement M
-censored-spec = tie.close (tie.spec sound-requires returns censored-of-requires returns-2)
+censored-spec = tie.close (tie.spec (λ c κs. search needs) returns censored-of-requires returns-2)

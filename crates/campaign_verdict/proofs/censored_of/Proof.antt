@@ -10,18 +10,12 @@ returns : tie.Need-returns
 unfolding censored
 returns c = rw (eq-eqb _ _ (c .if1 .taken))
 
-pick-requires : tie.Need-pick-requires
-pick-requires c κs = search needs
-
 sub-result : tie.Need-sub-result
 sub-result c = let s = c .before .before .before .before .args .c in rw (c .before .pick .ensures) (before-fits (s .failed) (s .failures) (c .before .before .before .before .pre .failed))
-
-add-result : tie.Need-add-result
-add-result c = search needs
 
 returns-2 : tie.Need-returns-2
 unfolding censored
 returns-2 c = rw (ne-eqb _ _ (c .before .before .if1 .left), c .before .pick .ensures)
 
 pub censored-of-spec : {M : Type 1} → statement M
-censored-of-spec = tie.close (tie.spec returns pick-requires sub-result add-result returns-2)
+censored-of-spec = tie.close (tie.spec returns (λ c κs. search needs) sub-result (λ c. search needs) returns-2)

@@ -7,9 +7,6 @@ use borrow.Author.Needs.{needs}
 use Rattle.campaign_verdict.proofs.judge.Statement.{statement}
 use Rattle.campaign_verdict.proofs.judge.Tie as tie
 
-sound-requires : tie.Need-sound-requires
-sound-requires c κs = search needs
-
 returns : tie.Need-returns
 returns c = (said-no (c .before .sound .ensures) (c .if1 .taken), refl)
 
@@ -23,4 +20,4 @@ returns-3 : tie.Need-returns-3
 returns-3 c = (said-yes (c .before .before .before .before .sound .ensures) (c .before .before .before .if1 .left), c .weigh .ensures)
 
 pub judge-spec : {M : Type 1} → statement M
-judge-spec = tie.close (tie.spec sound-requires returns returns-2 weigh-requires returns-3)
+judge-spec = tie.close (tie.spec (λ c κs. search needs) returns returns-2 weigh-requires returns-3)

@@ -6,14 +6,8 @@ use borrow.Author.Needs.{needs}
 use Rattle.campaign_verdict.proofs.low.Statement.{statement}
 use Rattle.campaign_verdict.proofs.low.Tie as tie
 
-lower-row-requires : tie.Need-lower-row-requires
-lower-row-requires c κs = search needs
-
-cast-result : tie.Need-cast-result
-cast-result c = search needs
-
 returns : tie.Need-returns
 returns c = let n = c .before .args .c .failures in let e = c .lower-row .ensures in (lower-row-unique n (c .lower-row .result) (l n) e (lower-met n), e .bound)
 
 pub low-spec : {M : Type 1} → statement M
-low-spec = tie.close (tie.spec lower-row-requires cast-result returns)
+low-spec = tie.close (tie.spec (λ c κs. search needs) (λ c. search needs) returns)

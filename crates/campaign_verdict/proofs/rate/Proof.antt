@@ -10,9 +10,6 @@ use borrow.Author.Needs.{needs}
 use Rattle.campaign_verdict.proofs.rate.Statement.{statement}
 use Rattle.campaign_verdict.proofs.rate.Tie as tie
 
-sound-requires : tie.Need-sound-requires
-sound-requires c κs = search needs
-
 returns : tie.Need-returns
 unfolding rating
 returns c = rw (said-no (c .before .sound .ensures) (c .if1 .taken))
@@ -29,4 +26,4 @@ unfolding rating
 returns-3 c = rw (said-yes (c .before .before .before .before .sound .ensures) (c .before .before .before .if1 .left), ne-eqb _ _ (c .before .if2 .left)) (ap (Given true) (c .three .ensures))
 
 pub rate-spec : {M : Type 1} → statement M
-rate-spec = tie.close (tie.spec sound-requires returns returns-2 three-requires returns-3)
+rate-spec = tie.close (tie.spec (λ c κs. search needs) returns returns-2 three-requires returns-3)

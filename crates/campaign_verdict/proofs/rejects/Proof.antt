@@ -5,9 +5,6 @@ use borrow.Author.Needs.{needs}
 use Rattle.campaign_verdict.proofs.rejects.Statement.{statement}
 use Rattle.campaign_verdict.proofs.rejects.Tie as tie
 
-mul-result : tie.Need-mul-result
-mul-result c = search needs
-
 mul-result-2 : tie.Need-mul-result-2
 mul-result-2 c = omega (arith, mul-le-mul (c .before .before .pre .2) (c .before .before .pre .0 .standard-high))
 
@@ -15,4 +12,4 @@ returns : tie.Need-returns
 returns c = rw (← c .before .before .pre .1)
 
 pub rejects-spec : {M : Type 1} → statement M
-rejects-spec = tie.close (tie.spec mul-result mul-result-2 returns)
+rejects-spec = tie.close (tie.spec (λ c. search needs) mul-result-2 returns)

@@ -20,35 +20,11 @@ module _ (c : Campaign) (some : 1 ≤ c .records) where
   continued : {x y : Float} → rejects c ≡ false → accepts c ≡ false → x ≡ lowerRate c → y ≡ upperRate c → IsVerdict c (Continue x y)
   continued r a d e = (some, r, a, d, e)
 
-low-requires : tie.Need-low-requires
-low-requires c κs = search needs
-
-rejects-requires : tie.Need-rejects-requires
-rejects-requires c κs = search needs
-
-rate-of-requires : tie.Need-rate-of-requires
-rate-of-requires c κs = search needs
-
 returns : tie.Need-returns
 returns c = rejected (c .before .before .before .before .args .c) (c .before .before .before .before .pre .1) (sym (c .before .before .rejects .ensures) ∙ c .before .if1 .taken) (rw (← c .before .before .before .low .ensures .0) (c .rate-of .ensures))
 
-high-requires : tie.Need-high-requires
-high-requires c κs = search needs
-
-accepts-requires : tie.Need-accepts-requires
-accepts-requires c κs = search needs
-
-rate-of-requires-2 : tie.Need-rate-of-requires-2
-rate-of-requires-2 c κs = search needs
-
 returns-2 : tie.Need-returns-2
 returns-2 c = accepted (c .before .before .before .before .before .before .before .args .c) (c .before .before .before .before .before .before .before .pre .1) (sym (c .before .before .accepts .ensures) ∙ c .before .if2 .taken) (rw (← c .before .before .before .high .ensures .0) (c .rate-of2 .ensures))
-
-rate-of-requires-3 : tie.Need-rate-of-requires-3
-rate-of-requires-3 c κs = search needs
-
-rate-of-requires-4 : tie.Need-rate-of-requires-4
-rate-of-requires-4 c κs = search needs
 
 returns-3 : tie.Need-returns-3
 returns-3 c =
@@ -61,15 +37,5 @@ returns-3 c =
 pub weigh-spec : {M : Type 1} → statement M
 weigh-spec =
     tie.close
-    (tie.spec
-    low-requires
-    rejects-requires
-    rate-of-requires
-    returns
-    high-requires
-    accepts-requires
-    rate-of-requires-2
-    returns-2
-    rate-of-requires-3
-    rate-of-requires-4
-    returns-3)
+    (tie.spec (λ c κs. search needs) (λ c κs. search needs) (λ c κs. search needs) returns (λ c κs. search needs)
+    (λ c κs. search needs) (λ c κs. search needs) returns-2 (λ c κs. search needs) (λ c κs. search needs) returns-3)

@@ -5,22 +5,10 @@ use borrow.Author.Needs.{needs}
 use Rattle.capi.proofs.code_of.Statement.{statement}
 use Rattle.capi.proofs.code_of.Tie as tie
 
-magnitude-requires : tie.Need-magnitude-requires
-magnitude-requires c κs = search needs
-
-cast-m : tie.Need-cast-m
-cast-m c = search needs
-
-add-result : tie.Need-add-result
-add-result c = search needs
-
 sub-result : tie.Need-sub-result
 sub-result c =
     let e = toZ-ofZ (c .before .before .fits .x) in
     rw (c .before .magnitude .ensures, e) (code-negative (c .before .before .args .x) (rw e at (c .if1 .taken)) .0)
-
-add-result-2 : tie.Need-add-result-2
-add-result-2 c = search needs
 
 returns : tie.Need-returns
 returns c =
@@ -35,4 +23,4 @@ returns-2 c =
 pub code-of-spec : {M : Type 1} → statement M
 code-of-spec =
     tie.close
-    (tie.spec magnitude-requires cast-m add-result sub-result add-result-2 returns returns-2)
+    (tie.spec (λ c κs. search needs) (λ c. search needs) (λ c. search needs) sub-result (λ c. search needs) returns returns-2)

@@ -6,12 +6,6 @@ use mir.Val.{SFits}
 use Rattle.capi.proofs.of_record.Statement.{statement}
 use Rattle.capi.proofs.of_record.Tie as tie
 
-code-of-requires : tie.Need-code-of-requires
-code-of-requires c κs = search needs
-
-code-of-requires-2 : tie.Need-code-of-requires-2
-code-of-requires-2 c κs = search needs
-
 returns : tie.Need-returns
 returns c =
     let last = c .before .before .before .before .before .before .args .r .last in
@@ -20,4 +14,4 @@ returns c =
     rw (c .before .before .code-of .ensures, c .code-of2 .ensures, toZ-ofZ roll, toZ-ofZ acceleration)
 
 pub of-record-spec : {M : Type 1} → statement M
-of-record-spec = tie.close (tie.spec code-of-requires code-of-requires-2 returns)
+of-record-spec = tie.close (tie.spec (λ c κs. search needs) (λ c κs. search needs) returns)

@@ -22,9 +22,6 @@ low k h = ap (λ (z : ℤ). negsuc 0 -ℤ z) (half k h) ∙ below-zero (k / 2)
 low-fits : (k : ℕ) → k ≤ highestCode → SFits w32 (negsuc 0 -ℤ toZ w32 (k / 2))
 low-fits k h = subst (SFits w32) (sym (low k h)) (omega arith)
 
-cast-half : tie.Need-cast-half
-cast-half c = search needs
-
 sub-result : tie.Need-sub-result
 sub-result c = low-fits (c .before .args .code) (c .before .pre)
 
@@ -38,4 +35,4 @@ returns-2 c =
     toZ-ofZ (low-fits k h) ∙ low k h ∙ sym (sample-odd k (c .if1 .left))
 
 pub sample-of-spec : {M : Type 1} → statement M
-sample-of-spec = tie.close (tie.spec cast-half sub-result returns returns-2)
+sample-of-spec = tie.close (tie.spec (λ c. search needs) sub-result returns returns-2)

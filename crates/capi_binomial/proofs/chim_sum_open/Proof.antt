@@ -3,18 +3,9 @@ use borrow.Author.Needs.{needs}
 use Rattle.capi_binomial.proofs.chim_sum_open.Statement.{statement}
 use Rattle.capi_binomial.proofs.chim_sum_open.Tie as tie
 
-open-requires : tie.Need-open-requires
-open-requires c κs = search needs
-
-keep-sum-requires : tie.Need-keep-sum-requires
-keep-sum-requires c κs = search needs
-
-same-length : tie.Need-same-length
-same-length c = search needs
-
 returns : tie.Need-returns
 returns c = rw (← c .before .before .before .before .before .«open» .ensures) (c .before .before .keep-sum .ensures)
 
 pub chim-sum-open-spec : {M : Type 1} → statement M
 chim-sum-open-spec =
-    tie.close (tie.spec open-requires keep-sum-requires same-length returns)
+    tie.close (tie.spec (λ c κs. search needs) (λ c κs. search needs) (λ c. search needs) returns)

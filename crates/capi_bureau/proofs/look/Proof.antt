@@ -54,16 +54,5 @@ returns c = let l = c .before .loop in sym (look-all (l .s) (l .i) (c .before .b
 pub look-spec : {M : Type 1} → statement M
 look-spec =
     tie.close
-    (tie.spec
-    Inv-loop
-    μ-loop
-    unseen-requires
-    loop-holds
-    mul-r
-    shared-slice-copy-out-r
-    place-of-requires
-    look-requires
-    add-i
-    loop-less
-    loop-again
-    returns)
+    (tie.spec Inv-loop μ-loop unseen-requires loop-holds mul-r shared-slice-copy-out-r place-of-requires look-requires
+    add-i loop-less loop-again returns)

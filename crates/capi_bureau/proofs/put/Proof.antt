@@ -7,23 +7,8 @@ use borrow.Author.Needs.{needs}
 use Rattle.capi_bureau.proofs.put.Statement.{statement}
 use Rattle.capi_bureau.proofs.put.Tie as tie
 
-same-place-requires : tie.Need-same-place-requires
-same-place-requires c κs = search needs
-
 returns : tie.Need-returns
 returns c = rw (← c .before .same-place .ensures, c .if1 .taken)
-
-row-of-requires : tie.Need-row-of-requires
-row-of-requires c κs = search needs
-
-mul-t7 : tie.Need-mul-t7
-mul-t7 c = search needs
-
-slice-set-from-table : tie.Need-slice-set-from-table
-slice-set-from-table c = search needs
-
-same-length : tie.Need-same-length
-same-length c = search needs
 
 returns-2 : tie.Need-returns-2
 returns-2 c = rw (← c .before .before .same-place .ensures, c .before .if1 .left) (ap (λ (r : List ℕ). set (c .before .before .before .args .table .now) (c .before .before .before .args .i) r) (c .row-of .ensures))
@@ -31,11 +16,5 @@ returns-2 c = rw (← c .before .before .same-place .ensures, c .before .if1 .le
 pub put-spec : {M : Type 1} → statement M
 put-spec =
     tie.close
-    (tie.spec
-    same-place-requires
-    returns
-    row-of-requires
-    mul-t7
-    slice-set-from-table
-    same-length
-    returns-2)
+    (tie.spec (λ c κs. search needs) returns (λ c κs. search needs) (λ c. search needs) (λ c. search needs)
+    (λ c. search needs) returns-2)

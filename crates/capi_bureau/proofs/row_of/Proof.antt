@@ -3,11 +3,8 @@ use borrow.Author.Needs.{needs}
 use Rattle.capi_bureau.proofs.row_of.Statement.{statement}
 use Rattle.capi_bureau.proofs.row_of.Tie as tie
 
-flag-requires : tie.Need-flag-requires
-flag-requires c κs = search needs
-
 returns : tie.Need-returns
 returns c = rw (c .flag .ensures)
 
 pub row-of-spec : {M : Type 1} → statement M
-row-of-spec = tie.close (tie.spec flag-requires returns)
+row-of-spec = tie.close (tie.spec (λ c κs. search needs) returns)

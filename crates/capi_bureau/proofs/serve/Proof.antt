@@ -10,30 +10,6 @@ use Rattle.capi_bureau.proofs.Rows.{none-chosen, one-chosen}
 use Rattle.capi_bureau.proofs.serve.Statement.{statement}
 use Rattle.capi_bureau.proofs.serve.Tie as tie
 
-look-requires : tie.Need-look-requires
-look-requires c κs = search needs
-
-choose-requires : tie.Need-choose-requires
-choose-requires c κs = search needs
-
-mul-r : tie.Need-mul-r
-mul-r c = search needs
-
-slice-copy-out-r : tie.Need-slice-copy-out-r
-slice-copy-out-r c = search needs
-
-place-of-requires : tie.Need-place-of-requires
-place-of-requires c κs = search needs
-
-act-requires : tie.Need-act-requires
-act-requires c κs = search needs
-
-put-requires : tie.Need-put-requires
-put-requires c κs = search needs
-
-same-length : tie.Need-same-length
-same-length c = search needs
-
 returns : tie.Need-returns
 returns c =
     let x = c .before .before .before .before .before .before .before .before .before .before .before .args in
@@ -45,9 +21,6 @@ returns c =
     let said = one-chosen rows (x .c) (looks .result) (chose .result) (looks .ensures) (chose .ensures) _ (c .before .before .before .before .before .before .before .if1 .taken) (w .result) (w .ensures ∙ ap (λ (p : Place). acted (x .c) (chose .result) p) (place .ensures)) in
     (said .0, c .before .put .ensures ∙ ap (λ (p : Place). cond (samePlace p (w .result .place)) rows (set rows (chose .result .at) (ofPlace (w .result .place)))) (place .ensures) ∙ said .1)
 
-same-length-2 : tie.Need-same-length-2
-same-length-2 c = search needs
-
 returns-2 : tie.Need-returns-2
 returns-2 c =
     let x = c .before .before .before .before .args in
@@ -58,15 +31,6 @@ returns-2 c =
 pub serve-spec : {M : Type 1} → statement M
 serve-spec =
     tie.close
-    (tie.spec
-    look-requires
-    choose-requires
-    mul-r
-    slice-copy-out-r
-    place-of-requires
-    act-requires
-    put-requires
-    same-length
-    returns
-    same-length-2
+    (tie.spec (λ c κs. search needs) (λ c κs. search needs) (λ c. search needs) (λ c. search needs)
+    (λ c κs. search needs) (λ c κs. search needs) (λ c κs. search needs) (λ c. search needs) returns (λ c. search needs)
     returns-2)

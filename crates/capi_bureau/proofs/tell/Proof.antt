@@ -4,42 +4,6 @@ use borrow.Author.Needs.{needs}
 use Rattle.capi_bureau.proofs.tell.Statement.{statement}
 use Rattle.capi_bureau.proofs.tell.Tie as tie
 
-enum-known-a : tie.Need-enum-known-a
-enum-known-a c = search needs
-
-give-requires : tie.Need-give-requires
-give-requires c κs = search needs
-
-enum-told : tie.Need-enum-told
-enum-told c = search needs
-
-give-requires-2 : tie.Need-give-requires-2
-give-requires-2 c κs = search needs
-
-enum-told-2 : tie.Need-enum-told-2
-enum-told-2 c = search needs
-
-give-requires-3 : tie.Need-give-requires-3
-give-requires-3 c κs = search needs
-
-enum-told-3 : tie.Need-enum-told-3
-enum-told-3 c = search needs
-
-give-requires-4 : tie.Need-give-requires-4
-give-requires-4 c κs = search needs
-
-enum-told-4 : tie.Need-enum-told-4
-enum-told-4 c = search needs
-
-give-requires-5 : tie.Need-give-requires-5
-give-requires-5 c κs = search needs
-
-enum-known-a-2 : tie.Need-enum-known-a-2
-enum-known-a-2 c = search needs
-
-refuse-requires : tie.Need-refuse-requires
-refuse-requires c κs = search needs
-
 returns : tie.Need-returns
 unfolding plain
 returns c = rw (c .before .before .before .a .given .1, c .give .ensures .0, c .give .ensures .1)
@@ -67,22 +31,6 @@ returns-6 c = rw (c .before .before .before .a2 .given .1, c .refuse .ensures .0
 pub tell-spec : {M : Type 1} → statement M
 tell-spec =
     tie.close
-    (tie.spec
-    enum-known-a
-    give-requires
-    enum-told
-    give-requires-2
-    enum-told-2
-    give-requires-3
-    enum-told-3
-    give-requires-4
-    enum-told-4
-    give-requires-5
-    enum-known-a-2
-    refuse-requires
-    returns
-    returns-2
-    returns-3
-    returns-4
-    returns-5
-    returns-6)
+    (tie.spec (λ c. search needs) (λ c κs. search needs) (λ c. search needs) (λ c κs. search needs) (λ c. search needs)
+    (λ c κs. search needs) (λ c. search needs) (λ c κs. search needs) (λ c. search needs) (λ c κs. search needs)
+    (λ c. search needs) (λ c κs. search needs) returns returns-2 returns-3 returns-4 returns-5 returns-6)

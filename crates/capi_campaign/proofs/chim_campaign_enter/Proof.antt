@@ -5,24 +5,9 @@ use borrow.Author.Needs.{needs}
 use Rattle.capi_campaign.proofs.chim_campaign_enter.Statement.{statement}
 use Rattle.capi_campaign.proofs.chim_campaign_enter.Tie as tie
 
-refuse-requires : tie.Need-refuse-requires
-refuse-requires c κs = search needs
-
 returns : tie.Need-returns
 unfolding campaignEntered
 returns c = rw (lt-leb _ 1 (c .before .before .if1 .taken), c .refuse .ensures .0, c .refuse .ensures .1)
-
-campaign-of-requires : tie.Need-campaign-of-requires
-campaign-of-requires c κs = search needs
-
-enter-requires : tie.Need-enter-requires
-enter-requires c κs = search needs
-
-keep-campaign-requires : tie.Need-keep-campaign-requires
-keep-campaign-requires c κs = search needs
-
-same-length : tie.Need-same-length
-same-length c = search needs
 
 returns-2 : tie.Need-returns-2
 unfolding campaignEntered
@@ -31,11 +16,5 @@ returns-2 c = rw (le-leb _ 1 (c .before .before .before .before .before .before 
 pub chim-campaign-enter-spec : {M : Type 1} → statement M
 chim-campaign-enter-spec =
     tie.close
-    (tie.spec
-    refuse-requires
-    returns
-    campaign-of-requires
-    enter-requires
-    keep-campaign-requires
-    same-length
-    returns-2)
+    (tie.spec (λ c κs. search needs) returns (λ c κs. search needs) (λ c κs. search needs) (λ c κs. search needs)
+    (λ c. search needs) returns-2)

@@ -4,24 +4,6 @@ use borrow.Author.Needs.{needs}
 use Rattle.capi_campaign.proofs.chim_campaign_enter_result.Statement.{statement}
 use Rattle.capi_campaign.proofs.chim_campaign_enter_result.Tie as tie
 
-campaign-of-requires : tie.Need-campaign-of-requires
-campaign-of-requires c κs = search needs
-
-result-of-requires : tie.Need-result-of-requires
-result-of-requires c κs = search needs
-
-outcome-requires : tie.Need-outcome-requires
-outcome-requires c κs = search needs
-
-enter-requires : tie.Need-enter-requires
-enter-requires c κs = search needs
-
-keep-campaign-requires : tie.Need-keep-campaign-requires
-keep-campaign-requires c κs = search needs
-
-same-length : tie.Need-same-length
-same-length c = search needs
-
 returns : tie.Need-returns
 returns c =
     let entering = c .before .before .before .before .before in
@@ -32,11 +14,5 @@ returns c =
 pub chim-campaign-enter-result-spec : {M : Type 1} → statement M
 chim-campaign-enter-result-spec =
     tie.close
-    (tie.spec
-    campaign-of-requires
-    result-of-requires
-    outcome-requires
-    enter-requires
-    keep-campaign-requires
-    same-length
-    returns)
+    (tie.spec (λ c κs. search needs) (λ c κs. search needs) (λ c κs. search needs) (λ c κs. search needs)
+    (λ c κs. search needs) (λ c. search needs) returns)

@@ -4,24 +4,6 @@ use borrow.Author.Needs.{needs}
 use Rattle.capi_comma.proofs.chim_comma_read.Statement.{statement}
 use Rattle.capi_comma.proofs.chim_comma_read.Tie as tie
 
-read-requires : tie.Need-read-requires
-read-requires c κs = search needs
-
-enum-known-n : tie.Need-enum-known-n
-enum-known-n c = search needs
-
-give-requires : tie.Need-give-requires
-give-requires c κs = search needs
-
-enum-known-f : tie.Need-enum-known-f
-enum-known-f c = search needs
-
-refuse-requires : tie.Need-refuse-requires
-refuse-requires c κs = search needs
-
-same-length : tie.Need-same-length
-same-length c = search needs
-
 returns : tie.Need-returns
 unfolding readTold
 returns c =
@@ -29,9 +11,6 @@ returns c =
       rw (← e .0, c .before .before .before .n .given .1, c .give .ensures .0, c .give .ensures .1),
       rw (← e .0) (e .1),
     )
-
-same-length-2 : tie.Need-same-length-2
-same-length-2 c = search needs
 
 returns-2 : tie.Need-returns-2
 unfolding readTold
@@ -44,13 +23,5 @@ returns-2 c =
 pub chim-comma-read-spec : {M : Type 1} → statement M
 chim-comma-read-spec =
     tie.close
-    (tie.spec
-    read-requires
-    enum-known-n
-    give-requires
-    enum-known-f
-    refuse-requires
-    same-length
-    returns
-    same-length-2
-    returns-2)
+    (tie.spec (λ c κs. search needs) (λ c. search needs) (λ c κs. search needs) (λ c. search needs)
+    (λ c κs. search needs) (λ c. search needs) returns (λ c. search needs) returns-2)

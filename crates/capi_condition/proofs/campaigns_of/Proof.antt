@@ -58,16 +58,5 @@ returns c =
 pub campaigns-of-spec : {M : Type 1} → statement M
 campaigns-of-spec =
     tie.close
-    (tie.spec
-    Inv-loop
-    μ-loop
-    loop-holds
-    mul-r
-    shared-slice-copy-out-r
-    campaign-of-requires
-    mul-all
-    array-set-from-all
-    add-i
-    loop-less
-    loop-again
-    returns)
+    (tie.spec Inv-loop μ-loop loop-holds mul-r shared-slice-copy-out-r campaign-of-requires mul-all array-set-from-all
+    add-i loop-less loop-again returns)

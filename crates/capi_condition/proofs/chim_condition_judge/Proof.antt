@@ -14,36 +14,12 @@ use Rattle.capi_condition.proofs.chim_condition_judge.Tie as tie
 judged : (c : tie.After-judge) → let rows = now (c .before .before .before .args .campaigns) in c .judge .result ≡ judging (length rows) (campaignsOf rows)
 judged c = c .judge .ensures ∙ ap (judging (length (now (c .before .before .before .args .campaigns)))) (c .before .campaigns-of .ensures)
 
-refuse-requires : tie.Need-refuse-requires
-refuse-requires c κs = search needs
-
 returns : tie.Need-returns
 unfolding judgeTold
 returns c =
     let s = c .before .before in
     let rows = now (s .before .args .campaigns) in
     rw (many-refused (length rows) (campaignsOf rows) (s .if1 .taken), c .refuse .ensures .0, c .refuse .ensures .1)
-
-campaigns-of-requires : tie.Need-campaigns-of-requires
-campaigns-of-requires c κs = search needs
-
-judge-requires : tie.Need-judge-requires
-judge-requires c κs = search needs
-
-enum-known-s : tie.Need-enum-known-s
-enum-known-s c = search needs
-
-standing-code-requires : tie.Need-standing-code-requires
-standing-code-requires c κs = search needs
-
-give-requires : tie.Need-give-requires
-give-requires c κs = search needs
-
-enum-known-f : tie.Need-enum-known-f
-enum-known-f c = search needs
-
-refuse-requires-2 : tie.Need-refuse-requires-2
-refuse-requires-2 c κs = search needs
 
 returns-2 : tie.Need-returns-2
 unfolding judgeTold
@@ -61,15 +37,5 @@ returns-3 c =
 pub chim-condition-judge-spec : {M : Type 1} → statement M
 chim-condition-judge-spec =
     tie.close
-    (tie.spec
-    refuse-requires
-    returns
-    campaigns-of-requires
-    judge-requires
-    enum-known-s
-    standing-code-requires
-    give-requires
-    enum-known-f
-    refuse-requires-2
-    returns-2
-    returns-3)
+    (tie.spec (λ c κs. search needs) returns (λ c κs. search needs) (λ c κs. search needs) (λ c. search needs)
+    (λ c κs. search needs) (λ c κs. search needs) (λ c. search needs) (λ c κs. search needs) returns-2 returns-3)

@@ -3,31 +3,11 @@ use borrow.Author.Needs.{needs}
 use Rattle.capi_record.proofs.chim_record_feed.Statement.{statement}
 use Rattle.capi_record.proofs.chim_record_feed.Tie as tie
 
-record-of-requires : tie.Need-record-of-requires
-record-of-requires c κs = search needs
-
-feed-requires : tie.Need-feed-requires
-feed-requires c κs = search needs
-
-channel-in-requires : tie.Need-channel-in-requires
-channel-in-requires c κs = search needs
-
-keep-record-requires : tie.Need-keep-record-requires
-keep-record-requires c κs = search needs
-
-same-length : tie.Need-same-length
-same-length c = search needs
-
 returns : tie.Need-returns
 returns c = rw (← c .before .before .before .before .before .before .before .record-of .ensures, ← c .before .before .before .before .before .before .feed .ensures) (c .before .before .keep-record .ensures, c .before .before .before .before .before .channel-in .ensures)
 
 pub chim-record-feed-spec : {M : Type 1} → statement M
 chim-record-feed-spec =
     tie.close
-    (tie.spec
-    record-of-requires
-    feed-requires
-    channel-in-requires
-    keep-record-requires
-    same-length
-    returns)
+    (tie.spec (λ c κs. search needs) (λ c κs. search needs) (λ c κs. search needs) (λ c κs. search needs)
+    (λ c. search needs) returns)

@@ -3,17 +3,8 @@ use borrow.Author.Needs.{needs}
 use Rattle.capi_record.proofs.chim_record_open.Statement.{statement}
 use Rattle.capi_record.proofs.chim_record_open.Tie as tie
 
-open-requires : tie.Need-open-requires
-open-requires c κs = search needs
-
-keep-record-requires : tie.Need-keep-record-requires
-keep-record-requires c κs = search needs
-
-same-length : tie.Need-same-length
-same-length c = search needs
-
 returns : tie.Need-returns
 returns c = rw (← c .before .before .before .before .before .«open» .ensures) (c .before .before .keep-record .ensures)
 
 pub chim-record-open-spec : {M : Type 1} → statement M
-chim-record-open-spec = tie.close (tie.spec open-requires keep-record-requires same-length returns)
+chim-record-open-spec = tie.close (tie.spec (λ c κs. search needs) (λ c κs. search needs) (λ c. search needs) returns)

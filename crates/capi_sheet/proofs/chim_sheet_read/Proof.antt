@@ -8,32 +8,11 @@ use borrow.Author.Needs.{needs}
 use Rattle.capi_sheet.proofs.chim_sheet_read.Statement.{statement}
 use Rattle.capi_sheet.proofs.chim_sheet_read.Tie as tie
 
-refuse-requires : tie.Need-refuse-requires
-refuse-requires c κs = search needs
-
 returns : tie.Need-returns
 unfolding campaignKept sheetLine sheetColumn
 returns c =
     let other = ne-eqb _ _ (c .before .before .if1 .taken) in
     (rw (other, c .refuse .ensures .0, c .refuse .ensures .1), (rw other, rw other))
-
-read-requires : tie.Need-read-requires
-read-requires c κs = search needs
-
-stopped-on-requires : tie.Need-stopped-on-requires
-stopped-on-requires c κs = search needs
-
-column-of-requires : tie.Need-column-of-requires
-column-of-requires c κs = search needs
-
-ended-requires : tie.Need-ended-requires
-ended-requires c κs = search needs
-
-keep-campaign-requires : tie.Need-keep-campaign-requires
-keep-campaign-requires c κs = search needs
-
-same-length : tie.Need-same-length
-same-length c = search needs
 
 returns-2 : tie.Need-returns-2
 unfolding sheetLine sheetColumn meaning readingEnd
@@ -49,13 +28,5 @@ returns-2 c =
 pub chim-sheet-read-spec : {M : Type 1} → statement M
 chim-sheet-read-spec =
     tie.close
-    (tie.spec
-    refuse-requires
-    returns
-    read-requires
-    stopped-on-requires
-    column-of-requires
-    ended-requires
-    keep-campaign-requires
-    same-length
-    returns-2)
+    (tie.spec (λ c κs. search needs) returns (λ c κs. search needs) (λ c κs. search needs) (λ c κs. search needs)
+    (λ c κs. search needs) (λ c κs. search needs) (λ c. search needs) returns-2)

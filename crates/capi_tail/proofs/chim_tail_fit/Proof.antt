@@ -3,24 +3,6 @@ use borrow.Author.Needs.{needs}
 use Rattle.capi_tail.proofs.chim_tail_fit.Statement.{statement}
 use Rattle.capi_tail.proofs.chim_tail_fit.Tie as tie
 
-fit-requires : tie.Need-fit-requires
-fit-requires c κs = search needs
-
-enum-known-a : tie.Need-enum-known-a
-enum-known-a c = search needs
-
-give-requires : tie.Need-give-requires
-give-requires c κs = search needs
-
-enum-known-a-2 : tie.Need-enum-known-a-2
-enum-known-a-2 c = search needs
-
-refuse-requires : tie.Need-refuse-requires
-refuse-requires c κs = search needs
-
-same-length : tie.Need-same-length
-same-length c = search needs
-
 returns : tie.Need-returns
 returns c =
     let f = c .before .before .before .before .before .before .before .fit in
@@ -29,9 +11,6 @@ returns c =
       fits = f .ensures;
       tells = rw (c .before .before .before .a .given .1, c .give .ensures .0, c .give .ensures .1);
     }
-
-same-length-2 : tie.Need-same-length-2
-same-length-2 c = search needs
 
 returns-2 : tie.Need-returns-2
 returns-2 c =
@@ -45,13 +24,5 @@ returns-2 c =
 pub chim-tail-fit-spec : {M : Type 1} → statement M
 chim-tail-fit-spec =
     tie.close
-    (tie.spec
-    fit-requires
-    enum-known-a
-    give-requires
-    enum-known-a-2
-    refuse-requires
-    same-length
-    returns
-    same-length-2
-    returns-2)
+    (tie.spec (λ c κs. search needs) (λ c. search needs) (λ c κs. search needs) (λ c. search needs)
+    (λ c κs. search needs) (λ c. search needs) returns (λ c. search needs) returns-2)

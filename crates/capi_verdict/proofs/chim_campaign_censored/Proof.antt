@@ -4,24 +4,6 @@ use borrow.Author.Needs.{needs}
 use Rattle.capi_verdict.proofs.chim_campaign_censored.Statement.{statement}
 use Rattle.capi_verdict.proofs.chim_campaign_censored.Tie as tie
 
-campaign-of-requires : tie.Need-campaign-of-requires
-campaign-of-requires c κs = search needs
-
-censored-requires : tie.Need-censored-requires
-censored-requires c κs = search needs
-
-enum-known-a : tie.Need-enum-known-a
-enum-known-a c = search needs
-
-give-requires : tie.Need-give-requires
-give-requires c κs = search needs
-
-enum-known-a-2 : tie.Need-enum-known-a-2
-enum-known-a-2 c = search needs
-
-refuse-requires : tie.Need-refuse-requires
-refuse-requires c κs = search needs
-
 returns : tie.Need-returns
 unfolding countTold
 returns c = rw (← c .before .before .before .before .before .before .campaign-of .ensures, ← c .before .before .before .before .before .censored .ensures, c .before .before .before .a .given .1, c .give .ensures .0, c .give .ensures .1)
@@ -33,12 +15,5 @@ returns-2 c = rw (← c .before .before .before .before .before .before .campaig
 pub chim-campaign-censored-spec : {M : Type 1} → statement M
 chim-campaign-censored-spec =
     tie.close
-    (tie.spec
-    campaign-of-requires
-    censored-requires
-    enum-known-a
-    give-requires
-    enum-known-a-2
-    refuse-requires
-    returns
-    returns-2)
+    (tie.spec (λ c κs. search needs) (λ c κs. search needs) (λ c. search needs) (λ c κs. search needs)
+    (λ c. search needs) (λ c κs. search needs) returns returns-2)

@@ -5,24 +5,6 @@ use borrow.Author.Needs.{needs}
 use Rattle.capi_verdict.proofs.chim_campaign_verdict.Statement.{statement}
 use Rattle.capi_verdict.proofs.chim_campaign_verdict.Tie as tie
 
-campaign-of-requires : tie.Need-campaign-of-requires
-campaign-of-requires c κs = search needs
-
-judge-requires : tie.Need-judge-requires
-judge-requires c κs = search needs
-
-enum-known-a : tie.Need-enum-known-a
-enum-known-a c = search needs
-
-tell-requires : tie.Need-tell-requires
-tell-requires c κs = search needs
-
-enum-known-a-2 : tie.Need-enum-known-a-2
-enum-known-a-2 c = search needs
-
-refuse-requires : tie.Need-refuse-requires
-refuse-requires c κs = search needs
-
 returns : tie.Need-returns
 unfolding judgedTold
 returns c = rw (← c .before .before .before .before .before .before .before .before .campaign-of .ensures, ← only _ (c .before .before .before .before .before .before .before .judge .result) (c .before .before .before .before .before .before .before .judge .ensures), c .before .before .before .before .before .a .given .1, c .tell .ensures)
@@ -34,12 +16,5 @@ returns-2 c = rw (← c .before .before .before .before .before .before .campaig
 pub chim-campaign-verdict-spec : {M : Type 1} → statement M
 chim-campaign-verdict-spec =
     tie.close
-    (tie.spec
-    campaign-of-requires
-    judge-requires
-    enum-known-a
-    tell-requires
-    enum-known-a-2
-    refuse-requires
-    returns
-    returns-2)
+    (tie.spec (λ c κs. search needs) (λ c κs. search needs) (λ c. search needs) (λ c κs. search needs)
+    (λ c. search needs) (λ c κs. search needs) returns returns-2)

@@ -64,15 +64,6 @@ module _ (c : tie.After-known-told2) where
 feed : (c : tie.After-stands2) → let d = c .before in c .stands2 .result ≡ eqb (getD (S (told d)) (Next d) 0) lineFeed
 feed c = let d = c .before in c .stands2 .ensures ∙ stands-byte (S (told d)) (Next d) lineFeed (omega arith)
 
-leading-at-requires : tie.Need-leading-at-requires
-leading-at-requires c κs = search needs
-
-enum-known-t : tie.Need-enum-known-t
-enum-known-t c = search needs
-
-enum-told : tie.Need-enum-told
-enum-told c = search needs
-
 returns : tie.Need-returns
 returns c =
     let a = c .before .before .before .before .args in
@@ -81,32 +72,17 @@ returns c =
 returns-2 : tie.Need-returns-2
 returns-2 c = let d = c .before in sym (other-time (S d) (At d) (Time d) (Found d) (End d) (leads d) (c .if1 .taken))
 
-stands-requires : tie.Need-stands-requires
-stands-requires c κs = search needs
-
 returns-3 : tie.Need-returns-3
 returns-3 c = let d = c .before .before .before in sym (no-comma (S d) (At d) (Time d) (Found d) (End d) (leads d) (said-no (mark (c .before)) (c .if2 .taken)))
 
 add-roll-at : tie.Need-add-roll-at
 add-roll-at c = let d = c .before .before .before in omega (arith, stands-inside (S d) (End d) comma (omega arith) (said-yes (mark (c .before)) (c .if2 .left)))
 
-roll-at-requires : tie.Need-roll-at-requires
-roll-at-requires c κs = search needs
-
-enum-known-minus : tie.Need-enum-known-minus
-enum-known-minus c = search needs
-
-enum-told-2 : tie.Need-enum-told-2
-enum-told-2 c = search needs
-
 returns-4 : tie.Need-returns-4
 returns-4 c =
     let e = c .before .before .before in
     let d = e .before .before .before in
     sym (no-degrees (S d) (At d) (Time d) (Found d) (End d) (leads d) (degrees-none (S d) (End d + 1) (sym (c .before .before .roll-at .ensures) ∙ c .enum-told2 .given .1)))
-
-stands-requires-2 : tie.Need-stands-requires-2
-stands-requires-2 c κs = search needs
 
 returns-5 : tie.Need-returns-5
 returns-5 c =
@@ -129,20 +105,6 @@ returns-6 c =
 pub line-at-spec : {M : Type 1} → statement M
 line-at-spec =
     tie.close
-    (tie.spec
-    leading-at-requires
-    enum-known-t
-    enum-told
-    returns
-    returns-2
-    stands-requires
-    returns-3
-    add-roll-at
-    roll-at-requires
-    enum-known-minus
-    enum-told-2
-    returns-4
-    stands-requires-2
-    returns-5
-    add-t13
-    returns-6)
+    (tie.spec (λ c κs. search needs) (λ c. search needs) (λ c. search needs) returns returns-2 (λ c κs. search needs)
+    returns-3 add-roll-at (λ c κs. search needs) (λ c. search needs) (λ c. search needs) returns-4
+    (λ c κs. search needs) returns-5 add-t13 returns-6)

@@ -10,21 +10,6 @@ use Rattle.comma_line.proofs.roll_at.Tie as tie
 plain : (c : tie.Else1) → Plain (now (c .before .before .before .before .args .s)) (c .before .before .past-minus .result) (c .before .bytes-at .result)
 plain c = plain-of _ _ (c .before .bytes-at .ensures) (omega (arith, c .if1 .left))
 
-past-minus-requires : tie.Need-past-minus-requires
-past-minus-requires c κs = search needs
-
-bytes-at-requires : tie.Need-bytes-at-requires
-bytes-at-requires c κs = search needs
-
-degrees-at-requires : tie.Need-degrees-at-requires
-degrees-at-requires c κs = search needs
-
-returns : tie.Need-returns
-returns c = search needs
-
-size-at-requires : tie.Need-size-at-requires
-size-at-requires c κs = search needs
-
 add-t7 : tie.Need-add-t7
 add-t7 c = omega (arith, plain-facts _ _ (plain (c .before)) .room)
 
@@ -37,11 +22,5 @@ returns-2 c =
 pub roll-at-spec : {M : Type 1} → statement M
 roll-at-spec =
     tie.close
-    (tie.spec
-    past-minus-requires
-    bytes-at-requires
-    degrees-at-requires
-    returns
-    size-at-requires
-    add-t7
-    returns-2)
+    (tie.spec (λ c κs. search needs) (λ c κs. search needs) (λ c κs. search needs) (λ c. search needs)
+    (λ c κs. search needs) add-t7 returns-2)

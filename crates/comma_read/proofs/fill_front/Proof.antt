@@ -145,21 +145,5 @@ returns c =
 pub fill-front-spec : {M : Type 1} → statement M
 fill-front-spec =
     tie.close
-    (tie.spec
-    Inv-loop
-    μ-loop
-    loop-holds
-    mul-width-in
-    width-in-requires
-    add-form-of
-    form-of-requires
-    add-plain-sample
-    plain-sample-requires
-    store-requires
-    add-at
-    add-at-2
-    add-count
-    loop-less
-    loop-again
-    same-length
-    returns)
+    (tie.spec Inv-loop μ-loop loop-holds mul-width-in width-in-requires add-form-of form-of-requires add-plain-sample
+    plain-sample-requires store-requires add-at add-at-2 add-count loop-less loop-again same-length returns)

@@ -177,36 +177,7 @@ returns-2 c = let l = c .before in put-all (l .loop .inv .0) (l .loop .inv .1) (
 pub fill-rest-spec : {M : Type 1} → statement M
 fill-rest-spec =
     tie.close
-    (tie.spec
-    Inv-loop
-    μ-loop
-    mul-time
-    loop-holds
-    width-at-requires
-    add-roll
-    add-roll-2
-    past-minus-requires
-    bytes-at-requires
-    degrees-at-requires
-    enum-known-minus
-    enum-told
-    same-length
-    returns
-    sample-requires
-    put-requires
-    add-count
-    add-time
-    add-at
-    loop-less
-    loop-again
-    size-at-requires
-    sample-requires-2
-    put-requires-2
-    add-count-2
-    add-time-2
-    add-at-2
-    add-at-3
-    loop-less-2
-    loop-again-2
-    same-length-2
-    returns-2)
+    (tie.spec Inv-loop μ-loop mul-time loop-holds width-at-requires add-roll add-roll-2 past-minus-requires
+    bytes-at-requires degrees-at-requires enum-known-minus enum-told same-length returns sample-requires put-requires
+    add-count add-time add-at loop-less loop-again size-at-requires sample-requires-2 put-requires-2 add-count-2
+    add-time-2 add-at-2 add-at-3 loop-less-2 loop-again-2 same-length-2 returns-2)

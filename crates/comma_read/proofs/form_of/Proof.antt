@@ -45,29 +45,11 @@ module _ (s : List ℕ) (c : ℕ) (any : AnyRoll s c) where
   plus-long : ¬ (getD s (c + 1) 0 ≡ minus) → ¬ (getD s (c + 2) 0 ≡ point) → PlainRoll s c 16
   plus-long h e = number 16 0 6 (unsigned-roll s c h) (long-roll s c (any .found) (λ q. e (sym (after-none h) ∙ q))) refl
 
-add-if1 : tie.Need-add-if1
-add-if1 c = search needs
-
-shared-slice-read-if1 : tie.Need-shared-slice-read-if1
-shared-slice-read-if1 c = search needs
-
-add-if2 : tie.Need-add-if2
-add-if2 c = search needs
-
-shared-slice-read-if2 : tie.Need-shared-slice-read-if2
-shared-slice-read-if2 c = search needs
-
 returns : tie.Need-returns
 returns c = let s = c .before .before .before .before in minus-short (now (s .args .s)) (s .args .c) (s .pre) (c .before .before .if1 .taken) (c .if2 .taken)
 
 returns-2 : tie.Need-returns-2
 returns-2 c = let s = c .before .before .before .before in minus-long (now (s .args .s)) (s .args .c) (s .pre) (c .before .before .if1 .taken) (c .if2 .left)
-
-add-if3 : tie.Need-add-if3
-add-if3 c = search needs
-
-shared-slice-read-if3 : tie.Need-shared-slice-read-if3
-shared-slice-read-if3 c = search needs
 
 returns-3 : tie.Need-returns-3
 returns-3 c = let s = c .before .before .before .before in plus-short (now (s .args .s)) (s .args .c) (s .pre) (c .before .before .if1 .left) (c .if3 .taken)
@@ -78,14 +60,5 @@ returns-4 c = let s = c .before .before .before .before in plus-long (now (s .ar
 pub form-of-spec : {M : Type 1} → statement M
 form-of-spec =
     tie.close
-    (tie.spec
-    add-if1
-    shared-slice-read-if1
-    add-if2
-    shared-slice-read-if2
-    returns
-    returns-2
-    add-if3
-    shared-slice-read-if3
-    returns-3
-    returns-4)
+    (tie.spec (λ c. search needs) (λ c. search needs) (λ c. search needs) (λ c. search needs) returns returns-2
+    (λ c. search needs) (λ c. search needs) returns-3 returns-4)

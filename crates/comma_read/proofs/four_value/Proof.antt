@@ -19,24 +19,6 @@ module _ (c : tie.Start) where
       let (p, q, r, t) = four (c .args .a) (c .args .b) (c .args .c) (c .args .d) [] (c .pre) in
       (digit-range _ p, digit-range _ q, digit-range _ r, digit-range _ t)
 
-mul-result : tie.Need-mul-result
-mul-result c = search needs
-
-mul-result-2 : tie.Need-mul-result-2
-mul-result-2 c = search needs
-
-add-result : tie.Need-add-result
-add-result c = search needs
-
-mul-result-3 : tie.Need-mul-result-3
-mul-result-3 c = search needs
-
-add-result-2 : tie.Need-add-result-2
-add-result-2 c = search needs
-
-add-result-3 : tie.Need-add-result-3
-add-result-3 c = search needs
-
 sub-result : tie.Need-sub-result
 sub-result c = let d = digits c in omega (arith, d .0 .0, d .1 .0, d .2 .0, d .3 .0)
 
@@ -47,12 +29,5 @@ returns c = let d = digits c in (omega (arith, d .0 .0, d .1 .0, d .2 .0, d .3 .
 pub four-value-spec : {M : Type 1} → statement M
 four-value-spec =
     tie.close
-    (tie.spec
-    mul-result
-    mul-result-2
-    add-result
-    mul-result-3
-    add-result-2
-    add-result-3
-    sub-result
-    returns)
+    (tie.spec (λ c. search needs) (λ c. search needs) (λ c. search needs) (λ c. search needs) (λ c. search needs)
+    (λ c. search needs) sub-result returns)

@@ -11,11 +11,8 @@ use Rattle.comma_read.proofs.held.Tie as tie
 returns : tie.Need-returns
 returns c = λ e. absurd (true≢false (sym e))
 
-wrapping-add-u64-requires : tie.Need-wrapping-add-u64-requires
-wrapping-add-u64-requires c κs = search needs
-
 returns-2 : tie.Need-returns-2
 returns-2 c = λ e. (c .before .if1 .left, ap (λ (x : ℕ). bitAnd x (c .before .before .args .mask)) (sym (c .wrapping-add-u64 .ensures)) ∙ eqb-true _ _ e)
 
 pub held-spec : {M : Type 1} → statement M
-held-spec = tie.close (tie.spec returns wrapping-add-u64-requires returns-2)
+held-spec = tie.close (tie.spec returns (λ c κs. search needs) returns-2)

@@ -58,16 +58,5 @@ returns-2 c = c .before .loop .inv .0
 pub plain-front-spec : {M : Type 1} → statement M
 plain-front-spec =
     tie.close
-    (tie.spec
-    Inv-loop
-    μ-loop
-    loop-holds
-    mul-width-at
-    width-at-requires
-    mul-plain-lines
-    plain-lines-requires
-    returns
-    add-passed
-    loop-less
-    loop-again
-    returns-2)
+    (tie.spec Inv-loop μ-loop loop-holds mul-width-at width-at-requires mul-plain-lines plain-lines-requires returns
+    add-passed loop-less loop-again returns-2)

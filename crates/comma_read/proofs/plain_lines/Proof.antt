@@ -13,17 +13,8 @@ use Rattle.comma_read.proofs.plain_lines.Tie as tie
 room : (c : tie.Else2) → let a = c .before .before .before .before .args in a .at + 17 ≤ length (now (a .text))
 room c = leb-true _ _ (said-yes (c .before .has-room .ensures) (c .if2 .left))
 
-no-lines-requires : tie.Need-no-lines-requires
-no-lines-requires c κs = search needs
-
 returns : tie.Need-returns
 returns c = rw (c .no-lines .ensures .0, c .no-lines .ensures .1) none
-
-has-room-requires : tie.Need-has-room-requires
-has-room-requires c κs = search needs
-
-no-lines-requires-2 : tie.Need-no-lines-requires-2
-no-lines-requires-2 c κs = search needs
 
 returns-2 : tie.Need-returns-2
 returns-2 c = rw (c .no-lines2 .ensures .0, c .no-lines2 .ensures .1) none
@@ -34,38 +25,15 @@ add-past-minus c = omega (arith, room c, c .before .before .if1 .left)
 add-past-minus-2 : tie.Need-add-past-minus-2
 add-past-minus-2 c = omega (arith, room c, c .before .before .if1 .left)
 
-past-minus-requires : tie.Need-past-minus-requires
-past-minus-requires c κs = search needs
-
-bytes-at-requires : tie.Need-bytes-at-requires
-bytes-at-requires c κs = search needs
-
-no-lines-requires-3 : tie.Need-no-lines-requires-3
-no-lines-requires-3 c κs = search needs
-
 returns-3 : tie.Need-returns-3
 returns-3 c = rw (c .no-lines3 .ensures .0, c .no-lines3 .ensures .1) none
 
 plain-run-requires : tie.Need-plain-run-requires
 plain-run-requires c κs = let e = c .before .before .before in let s = e .before .before .before .before in (room e, s .pre .0, e .before .before .if1 .left, s .pre .1)
 
-returns-4 : tie.Need-returns-4
-returns-4 c = search needs
-
 pub plain-lines-spec : {M : Type 1} → statement M
 plain-lines-spec =
     tie.close
-    (tie.spec
-    no-lines-requires
-    returns
-    has-room-requires
-    no-lines-requires-2
-    returns-2
-    add-past-minus
-    add-past-minus-2
-    past-minus-requires
-    bytes-at-requires
-    no-lines-requires-3
-    returns-3
-    plain-run-requires
-    returns-4)
+    (tie.spec (λ c κs. search needs) returns (λ c κs. search needs) (λ c κs. search needs) returns-2 add-past-minus
+    add-past-minus-2 (λ c κs. search needs) (λ c κs. search needs) (λ c κs. search needs) returns-3 plain-run-requires
+    (λ c. search needs))

@@ -41,18 +41,9 @@ module _ (e : tie.After-eight) where
   nothing : {P : Type 0} → 1 ≤ 0 → P
   nothing h = absurd (omega arith)
 
-eight-requires : tie.Need-eight-requires
-eight-requires c κs = search needs
-
-held-requires : tie.Need-held-requires
-held-requires c κs = search needs
-
 returns : tie.Need-returns
 unfolding word maskOf bitsOf moreOf own
 returns c = let e = c .before .before .before in λ h. plus-long (S e) (C e) (room e) (e .eight .result) (same e) (are e plusLong refl refl (c .before .held .ensures (c .if2 .taken))) (c .before .before .if1 .taken)
-
-plus-short-requires : tie.Need-plus-short-requires
-plus-short-requires c κs = search needs
 
 returns-2 : tie.Need-returns-2
 unfolding word maskOf bitsOf moreOf own
@@ -60,18 +51,6 @@ returns-2 c = let e = c .before .before .before .before .before in λ h. plus-sh
 
 returns-3 : tie.Need-returns-3
 returns-3 c = λ h. absurd (omega arith)
-
-held-requires-2 : tie.Need-held-requires-2
-held-requires-2 c κs = search needs
-
-add-both : tie.Need-add-both
-add-both c = search needs
-
-shared-slice-read-both : tie.Need-shared-slice-read-both
-shared-slice-read-both c = search needs
-
-both-requires : tie.Need-both-requires
-both-requires c κs = search needs
 
 returns-4 : tie.Need-returns-4
 unfolding word maskOf bitsOf moreOf own
@@ -83,15 +62,9 @@ returns-4 c =
 returns-5 : tie.Need-returns-5
 returns-5 c = λ h. absurd (omega arith)
 
-held-requires-3 : tie.Need-held-requires-3
-held-requires-3 c κs = search needs
-
 returns-6 : tie.Need-returns-6
 unfolding word maskOf bitsOf moreOf own
 returns-6 c = let e = c .before .before .before .before .before in λ h. minus-short (S e) (C e) (room e) (e .eight .result) (same e) (are e minusShort refl refl (c .before .held3 .ensures (c .if6 .taken)))
-
-plus-short-requires-2 : tie.Need-plus-short-requires-2
-plus-short-requires-2 c κs = search needs
 
 returns-7 : tie.Need-returns-7
 unfolding word maskOf bitsOf moreOf own
@@ -103,21 +76,6 @@ returns-8 c = λ h. absurd (omega arith)
 pub plain-roll-spec : {M : Type 1} → statement M
 plain-roll-spec =
     tie.close
-    (tie.spec
-    eight-requires
-    held-requires
-    returns
-    plus-short-requires
-    returns-2
-    returns-3
-    held-requires-2
-    add-both
-    shared-slice-read-both
-    both-requires
-    returns-4
-    returns-5
-    held-requires-3
-    returns-6
-    plus-short-requires-2
-    returns-7
-    returns-8)
+    (tie.spec (λ c κs. search needs) (λ c κs. search needs) returns (λ c κs. search needs) returns-2 returns-3
+    (λ c κs. search needs) (λ c. search needs) (λ c. search needs) (λ c κs. search needs) returns-4 returns-5
+    (λ c κs. search needs) returns-6 (λ c κs. search needs) returns-7 returns-8)

@@ -126,30 +126,6 @@ returns-4 c = c .before .loop .inv .are
 pub plain-run-spec : {M : Type 1} → statement M
 plain-run-spec =
     tie.close
-    (tie.spec
-    Inv-loop
-    μ-loop
-    sub-last
-    mul-shift
-    sub-shift
-    shr-zeros
-    set-requires
-    add-by
-    set-requires-2
-    loop-holds
-    returns
-    eight-requires
-    shr-if2
-    add-if2
-    returns-2
-    add-plain-roll
-    plain-roll-requires
-    returns-3
-    add-place
-    add-place-2
-    turned-requires
-    add-time
-    add-lines
-    loop-less
-    loop-again
-    returns-4)
+    (tie.spec Inv-loop μ-loop sub-last mul-shift sub-shift shr-zeros set-requires add-by set-requires-2 loop-holds
+    returns eight-requires shr-if2 add-if2 returns-2 add-plain-roll plain-roll-requires returns-3 add-place add-place-2
+    turned-requires add-time add-lines loop-less loop-again returns-4)

@@ -27,9 +27,6 @@ roll-as p k e = rw e at p
 last : (c : tie.Else3) → c .before .before .before .before .args .roll ≡ 17
 last c = one-of _ _ _ (c .before .before .before .before .pre) (c .before .before .if1 .left) (c .before .if2 .left) (c .if3 .left)
 
-add-plain-size : tie.Need-add-plain-size
-add-plain-size c = search needs
-
 plain-size-requires : tie.Need-plain-size-requires
 plain-size-requires c κs = rw add-zero at (roll-as (c .before .before .pre) 16 (c .if1 .taken) .plain)
 
@@ -38,9 +35,6 @@ signed-size-requires c κs = c .plain-size .ensures .1
 
 returns : tie.Need-returns
 returns c = let f : SFits w32 (c .signed-size .result) = search needs in toZ-ofZ f ∙ c .signed-size .ensures ∙ rw (c .before .before .if1 .taken, c .before .plain-size .ensures .0, add-zero)
-
-add-plain-size-2 : tie.Need-add-plain-size-2
-add-plain-size-2 c = search needs
 
 plain-size-requires-2 : tie.Need-plain-size-requires-2
 plain-size-requires-2 c κs = rw add-zero at (roll-as (c .before .before .before .pre) 14 (c .if2 .taken) .plain)
@@ -51,9 +45,6 @@ signed-size-requires-2 c κs = c .plain-size2 .ensures .1
 returns-2 : tie.Need-returns-2
 returns-2 c = let f : SFits w32 (c .signed-size2 .result) = search needs in toZ-ofZ f ∙ c .signed-size2 .ensures ∙ rw (c .before .before .if2 .taken, c .before .plain-size2 .ensures .0, add-zero)
 
-add-plain-size-3 : tie.Need-add-plain-size-3
-add-plain-size-3 c = search needs
-
 plain-size-requires-3 : tie.Need-plain-size-requires-3
 plain-size-requires-3 c κs = rw (add-assoc (c .before .before .before .before .args .c) 1 1) at (roll-as (c .before .before .before .before .pre) 19 (c .if3 .taken) .plain)
 
@@ -62,9 +53,6 @@ signed-size-requires-3 c κs = c .plain-size3 .ensures .1
 
 returns-3 : tie.Need-returns-3
 returns-3 c = let f : SFits w32 (c .signed-size3 .result) = search needs in toZ-ofZ f ∙ c .signed-size3 .ensures ∙ rw (c .before .before .if3 .taken, c .before .plain-size3 .ensures .0, add-assoc (c .before .before .before .before .before .before .args .c) 1 1)
-
-add-plain-size-4 : tie.Need-add-plain-size-4
-add-plain-size-4 c = search needs
 
 plain-size-requires-4 : tie.Need-plain-size-requires-4
 plain-size-requires-4 c κs = rw (add-assoc (c .before .before .before .before .args .c) 1 1) at (roll-as (c .before .before .before .before .pre) 17 (last c) .plain)
@@ -78,20 +66,6 @@ returns-4 c = let f : SFits w32 (c .signed-size4 .result) = search needs in toZ-
 pub plain-sample-spec : {M : Type 1} → statement M
 plain-sample-spec =
     tie.close
-    (tie.spec
-    add-plain-size
-    plain-size-requires
-    signed-size-requires
-    returns
-    add-plain-size-2
-    plain-size-requires-2
-    signed-size-requires-2
-    returns-2
-    add-plain-size-3
-    plain-size-requires-3
-    signed-size-requires-3
-    returns-3
-    add-plain-size-4
-    plain-size-requires-4
-    signed-size-requires-4
-    returns-4)
+    (tie.spec (λ c. search needs) plain-size-requires signed-size-requires returns (λ c. search needs)
+    plain-size-requires-2 signed-size-requires-2 returns-2 (λ c. search needs) plain-size-requires-3
+    signed-size-requires-3 returns-3 (λ c. search needs) plain-size-requires-4 signed-size-requires-4 returns-4)

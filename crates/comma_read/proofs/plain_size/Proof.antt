@@ -21,65 +21,17 @@ module _ (c : tie.Else1) where
   tens : let s = now (c .before .before .args .s) in let at = c .before .before .args .at in (zeroByte ≤ getD s at 0) × (getD s at 0 < zeroByte + 10)
   tens = digit-range _ (long .0 .tens)
 
-shared-slice-read-four-value : tie.Need-shared-slice-read-four-value
-shared-slice-read-four-value c = search needs
-
-add-four-value : tie.Need-add-four-value
-add-four-value c = search needs
-
-shared-slice-read-four-value-2 : tie.Need-shared-slice-read-four-value-2
-shared-slice-read-four-value-2 c = search needs
-
-add-four-value-2 : tie.Need-add-four-value-2
-add-four-value-2 c = search needs
-
-shared-slice-read-four-value-3 : tie.Need-shared-slice-read-four-value-3
-shared-slice-read-four-value-3 c = search needs
-
-add-four-value-3 : tie.Need-add-four-value-3
-add-four-value-3 c = search needs
-
-shared-slice-read-four-value-4 : tie.Need-shared-slice-read-four-value-4
-shared-slice-read-four-value-4 c = search needs
-
 four-value-requires : tie.Need-four-value-requires
 four-value-requires c κs = let b = c .before .before .before .before in let s = b .before .before in short-of (now (s .args .s)) (s .args .at) (s .pre) (b .if1 .taken) .0 .digits
 
 returns : tie.Need-returns
 returns c = let b = c .before .before .before .before .before in let s = b .before .before in (c .four-value .ensures .0 ∙ sym (short-of (now (s .args .s)) (s .args .at) (s .pre) (b .if1 .taken) .1 .value), omega (arith, c .four-value .ensures .1))
 
-shared-slice-read-result : tie.Need-shared-slice-read-result
-shared-slice-read-result c = search needs
-
 cast-result : tie.Need-cast-result
 cast-result c = omega (arith, tens (c .before) .1)
 
 mul-result : tie.Need-mul-result
 mul-result c = omega (arith, tens (c .before) .1)
-
-add-four-value-4 : tie.Need-add-four-value-4
-add-four-value-4 c = search needs
-
-shared-slice-read-four-value-5 : tie.Need-shared-slice-read-four-value-5
-shared-slice-read-four-value-5 c = search needs
-
-add-four-value-5 : tie.Need-add-four-value-5
-add-four-value-5 c = search needs
-
-shared-slice-read-four-value-6 : tie.Need-shared-slice-read-four-value-6
-shared-slice-read-four-value-6 c = search needs
-
-add-four-value-6 : tie.Need-add-four-value-6
-add-four-value-6 c = search needs
-
-shared-slice-read-four-value-7 : tie.Need-shared-slice-read-four-value-7
-shared-slice-read-four-value-7 c = search needs
-
-add-four-value-7 : tie.Need-add-four-value-7
-add-four-value-7 c = search needs
-
-shared-slice-read-four-value-8 : tie.Need-shared-slice-read-four-value-8
-shared-slice-read-four-value-8 c = search needs
 
 four-value-requires-2 : tie.Need-four-value-requires-2
 four-value-requires-2 c κs = long (c .before .before .before .before .before) .0 .digits
@@ -96,28 +48,7 @@ returns-2 c = (rw (long (c .before .before .before .before .before .before) .1 .
 pub plain-size-spec : {M : Type 1} → statement M
 plain-size-spec =
     tie.close
-    (tie.spec
-    shared-slice-read-four-value
-    add-four-value
-    shared-slice-read-four-value-2
-    add-four-value-2
-    shared-slice-read-four-value-3
-    add-four-value-3
-    shared-slice-read-four-value-4
-    four-value-requires
-    returns
-    shared-slice-read-result
-    cast-result
-    mul-result
-    add-four-value-4
-    shared-slice-read-four-value-5
-    add-four-value-5
-    shared-slice-read-four-value-6
-    add-four-value-6
-    shared-slice-read-four-value-7
-    add-four-value-7
-    shared-slice-read-four-value-8
-    four-value-requires-2
-    add-result
-    sub-result
-    returns-2)
+    (tie.spec (λ c. search needs) (λ c. search needs) (λ c. search needs) (λ c. search needs) (λ c. search needs)
+    (λ c. search needs) (λ c. search needs) four-value-requires returns (λ c. search needs) cast-result mul-result
+    (λ c. search needs) (λ c. search needs) (λ c. search needs) (λ c. search needs) (λ c. search needs)
+    (λ c. search needs) (λ c. search needs) (λ c. search needs) four-value-requires-2 add-result sub-result returns-2)

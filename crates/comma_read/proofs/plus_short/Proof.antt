@@ -5,12 +5,9 @@ use borrow.Author.Needs.{needs}
 use Rattle.comma_read.proofs.plus_short.Statement.{statement}
 use Rattle.comma_read.proofs.plus_short.Tie as tie
 
-held-requires : tie.Need-held-requires
-held-requires c κs = search needs
-
 returns : tie.Need-returns
 unfolding word maskOf bitsOf moreOf
 returns c = λ e. c .held .ensures e
 
 pub plus-short-spec : {M : Type 1} → statement M
-plus-short-spec = tie.close (tie.spec held-requires returns)
+plus-short-spec = tie.close (tie.spec (λ c κs. search needs) returns)

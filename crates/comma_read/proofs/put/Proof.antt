@@ -6,20 +6,8 @@ use borrow.Author.Needs.{needs}
 use Rattle.comma_read.proofs.put.Statement.{statement}
 use Rattle.comma_read.proofs.put.Tie as tie
 
-mul-x : tie.Need-mul-x
-mul-x c = search needs
-
-slice-set-from-x : tie.Need-slice-set-from-x
-slice-set-from-x c = search needs
-
-same-length : tie.Need-same-length
-same-length c = search needs
-
-returns : tie.Need-returns
-returns c = search needs
-
 returns-2 : tie.Need-returns-2
 returns-2 c = sym (set-out (now (c .before .args .samples)) (c .before .args .i) _ (c .if1 .left))
 
 pub put-spec : {M : Type 1} → statement M
-put-spec = tie.close (tie.spec mul-x slice-set-from-x same-length returns returns-2)
+put-spec = tie.close (tie.spec (λ c. search needs) (λ c. search needs) (λ c. search needs) (λ c. search needs) returns-2)

@@ -56,9 +56,6 @@ fewer c = let s = c .before .before in omega (arith, of-front (front s .plain-fr
 all-good : (c : tie.After-count) → c .count .given .0 .0 ≤ c .count .given .0 .1 .0 → let s = c .before .before in AllGood (start s .args .step) (Found s)
 all-good c all = let r = right-found c in record { right = r .all ∙ sym (r .number); in-range = omega (arith, r .bad, r .number, r .low, all) }
 
-step-in-range-requires : tie.Need-step-in-range-requires
-step-in-range-requires c κs = search needs
-
 returns : tie.Need-returns
 unfolding filledBy
 returns c = let a = c .before .before .before .args in (bad-step (a .step) (linesOf (now (a .text))) (length (now (a .samples))) (said-no (c .before .step-in-range .ensures) (c .if1 .taken)), refl)
@@ -69,14 +66,8 @@ plain-front-requires c κs = small c
 survey-requires : tie.Need-survey-requires
 survey-requires c κs = (small (c .before), c .plain-front .ensures)
 
-enum-known-lines : tie.Need-enum-known-lines
-enum-known-lines c = search needs
-
 add-t13 : tie.Need-add-t13
 add-t13 c = let k = c .before in omega (arith, wrong-found k .some, lines-few (now (start (k .before .before) .args .text)))
-
-enum-known-count : tie.Need-enum-known-count
-enum-known-count c = search needs
 
 returns-2 : tie.Need-returns-2
 unfolding filledBy
@@ -93,9 +84,6 @@ returns-4 : tie.Need-returns-4
 unfolding filledBy
 returns-4 c = let k = c .before in let s = k .before .before in (wrong-line (start s .args .step) (Found s) (Places s) (step (front s .before)) _ (wrong-found k), refl)
 
-same-length : tie.Need-same-length
-same-length c = search needs
-
 returns-5 : tie.Need-returns-5
 returns-5 c =
     let k = c .before .before .before .before .before .before in
@@ -108,17 +96,5 @@ returns-5 c =
 pub read-spec : {M : Type 1} → statement M
 read-spec =
     tie.close
-    (tie.spec
-    step-in-range-requires
-    returns
-    plain-front-requires
-    survey-requires
-    enum-known-lines
-    add-t13
-    enum-known-count
-    returns-2
-    returns-3
-    fill-requires
-    returns-4
-    same-length
-    returns-5)
+    (tie.spec (λ c κs. search needs) returns plain-front-requires survey-requires (λ c. search needs) add-t13
+    (λ c. search needs) returns-2 returns-3 fill-requires returns-4 (λ c. search needs) returns-5)

@@ -7,9 +7,6 @@ use borrow.Author.Needs.{needs}
 use Rattle.comma_read.proofs.signed_size.Statement.{statement}
 use Rattle.comma_read.proofs.signed_size.Tie as tie
 
-cast-x : tie.Need-cast-x
-cast-x c = search needs
-
 sub-result : tie.Need-sub-result
 sub-result c = turned-fits (c .before .args .size) (omega (arith, c .before .pre))
 
@@ -20,4 +17,4 @@ returns-2 : tie.Need-returns-2
 returns-2 c = rw (c .if1 .left) (plain (c .before .args .size) (omega (arith, c .before .pre)))
 
 pub signed-size-spec : {M : Type 1} → statement M
-signed-size-spec = tie.close (tie.spec cast-x sub-result returns returns-2)
+signed-size-spec = tie.close (tie.spec (λ c. search needs) sub-result returns returns-2)

@@ -127,26 +127,6 @@ returns-3 c = ended (c .before .loop .inv .0) (c .loop-test .left)
 pub survey-spec : {M : Type 1} → statement M
 survey-spec =
     tie.close
-    (tie.spec
-    Inv-loop
-    μ-loop
-    mul-due
-    loop-holds
-    width-at-requires
-    plain-lines-requires
-    carried-requires
-    add-count
-    mul-due-2
-    add-due
-    returns
-    line-at-requires
-    enum-known-size
-    enum-told
-    returns-2
-    cast-tallied
-    tallied-requires
-    add-count-2
-    add-due-2
-    loop-less
-    loop-again
-    returns-3)
+    (tie.spec Inv-loop μ-loop mul-due loop-holds width-at-requires plain-lines-requires carried-requires add-count
+    mul-due-2 add-due returns line-at-requires enum-known-size enum-told returns-2 cast-tallied tallied-requires
+    add-count-2 add-due-2 loop-less loop-again returns-3)

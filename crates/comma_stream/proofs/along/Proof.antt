@@ -136,24 +136,6 @@ returns-2 c =
 pub along-spec : {M : Type 1} → statement M
 along-spec =
     tie.close
-    (tie.spec
-    Inv-loop
-    μ-loop
-    mul-time
-    loop-holds
-    line-at-requires
-    enum-known-minus
-    enum-told
-    add-lines
-    noted-requires
-    sample-requires
-    mul-t12
-    slice-set-from-samples
-    add-time
-    add-number
-    loop-less
-    loop-again
-    same-length
-    returns
-    same-length-2
-    returns-2)
+    (tie.spec Inv-loop μ-loop mul-time loop-holds line-at-requires enum-known-minus enum-told add-lines noted-requires
+    sample-requires mul-t12 slice-set-from-samples add-time add-number loop-less loop-again same-length returns
+    same-length-2 returns-2)

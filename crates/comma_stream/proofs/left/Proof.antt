@@ -55,18 +55,12 @@ returns-3 c =
 more-comes : (c : tie.Else3) → c .before .before .before .args .more ≡ true
 more-comes c = not-false (c .before .before .before .args .more) (c .if3 .left)
 
-sub-if4 : tie.Need-sub-if4
-sub-if4 c = search needs
-
 returns-4 : tie.Need-returns-4
 unfolding waitingFor
 returns-4 c =
     let e = c .before in
     let a = e .before .before .before .args in
     (rw (more-comes e) (sym (long (now (a .text)) (a .at) (e .before .if1 .left) (c .if4 .taken))), omega arith)
-
-unended-requires : tie.Need-unended-requires
-unended-requires c κs = search needs
 
 returns-5 : tie.Need-returns-5
 unfolding waitingFor
@@ -75,9 +69,6 @@ returns-5 c =
     let e = u .before .before in
     let a = e .before .before .before .args in
     (rw (more-comes e) (sym (short (now (a .text)) (a .at) (e .before .if1 .left) (u .before .if4 .left) false (said-no (u .unended .ensures) (c .if5 .taken)))), omega arith)
-
-sub-t7 : tie.Need-sub-t7
-sub-t7 c = search needs
 
 returns-6 : tie.Need-returns-6
 unfolding waitingFor
@@ -90,13 +81,5 @@ returns-6 c =
 pub left-spec : {M : Type 1} → statement M
 left-spec =
     tie.close
-    (tie.spec
-    returns
-    returns-2
-    returns-3
-    sub-if4
-    returns-4
-    unended-requires
-    returns-5
-    sub-t7
-    returns-6)
+    (tie.spec returns returns-2 returns-3 (λ c. search needs) returns-4 (λ c κs. search needs) returns-5
+    (λ c. search needs) returns-6)

@@ -12,9 +12,6 @@ use Rattle.comma_stream.proofs.Going.{taken-few, none-late}
 use Rattle.comma_stream.proofs.take.Statement.{statement}
 use Rattle.comma_stream.proofs.take.Tie as tie
 
-step-in-range-requires : tie.Need-step-in-range-requires
-step-in-range-requires c κs = search needs
-
 returns : tie.Need-returns
 unfolding taking leaving numberOf
 returns c = let a = c .before .before .before .args in (rw (said-no (c .before .step-in-range .ensures) (c .if1 .taken)), (refl, omega arith))
@@ -31,9 +28,6 @@ returns-2 c =
 along-requires : tie.Need-along-requires
 along-requires c κs = (step (c .before .before .before), c .before .if2 .left)
 
-same-length : tie.Need-same-length
-same-length c = search needs
-
 returns-3 : tie.Need-returns-3
 returns-3 c =
     let a = c .before .before .before .before .before .before .before .before .args in
@@ -43,4 +37,4 @@ returns-3 c =
 pub take-spec : {M : Type 1} → statement M
 take-spec =
     tie.close
-    (tie.spec step-in-range-requires returns returns-2 along-requires same-length returns-3)
+    (tie.spec (λ c κs. search needs) returns returns-2 along-requires (λ c. search needs) returns-3)

@@ -21,9 +21,6 @@ has c = said-yes (c .before .has-room .ensures) (c .if1 .left)
 room : (c : tie.Else1) → let a = c .before .before .before .args in a .at + 7 ≤ length (now (a .s))
 room c = leb-true _ _ (has c)
 
-has-room-requires : tie.Need-has-room-requires
-has-room-requires c κs = search needs
-
 returns : tie.Need-returns
 unfolding plainBytes
 returns c = rw (said-no (c .before .has-room .ensures) (c .if1 .taken))
@@ -91,17 +88,5 @@ returns-6 c =
 pub bytes-at-spec : {M : Type 1} → statement M
 bytes-at-spec =
     tie.close
-    (tie.spec
-    has-room-requires
-    returns
-    add-if2
-    shared-slice-read-if2
-    is-long-requires
-    returns-2
-    returns-3
-    add-if4
-    shared-slice-read-if4
-    is-short-requires
-    returns-4
-    returns-5
-    returns-6)
+    (tie.spec (λ c κs. search needs) returns add-if2 shared-slice-read-if2 is-long-requires returns-2 returns-3 add-if4
+    shared-slice-read-if4 is-short-requires returns-4 returns-5 returns-6)

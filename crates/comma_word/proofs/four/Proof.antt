@@ -5,14 +5,8 @@ use Rattle.comma_word.proofs.Dial.{parts, short}
 use Rattle.comma_word.proofs.four.Statement.{statement}
 use Rattle.comma_word.proofs.four.Tie as tie
 
-two-requires : tie.Need-two-requires
-two-requires c κs = search needs
-
 mul-result : tie.Need-mul-result
 mul-result c = omega (arith, short 2 _ (c .two .result) (c .two .ensures))
-
-two-requires-2 : tie.Need-two-requires-2
-two-requires-2 c κs = search needs
 
 add-result : tie.Need-add-result
 add-result c = omega (arith, short 2 _ (c .before .two .result) (c .before .two .ensures), short 2 _ (c .two2 .result) (c .two2 .ensures))
@@ -21,4 +15,4 @@ returns : tie.Need-returns
 returns c = omega (arith, parts 2 2 (c .before .before .args .n))
 
 pub four-spec : {M : Type 1} → statement M
-four-spec = tie.close (tie.spec two-requires mul-result two-requires-2 add-result returns)
+four-spec = tie.close (tie.spec (λ c κs. search needs) mul-result (λ c κs. search needs) add-result returns)

@@ -15,9 +15,6 @@ use Rattle.comma_word.proofs.size_at.Tie as tie
 has : (c : tie.Else1) → let a = c .before .before .before .args in leb (a .at + 7) (length (now (a .s))) ≡ true
 has c = said-yes (c .before .has-room .ensures) (c .if1 .left)
 
-has-room-requires : tie.Need-has-room-requires
-has-room-requires c κs = search needs
-
 returns : tie.Need-returns
 unfolding plainSize
 returns c = rw (said-no (c .before .has-room .ensures) (c .if1 .taken))
@@ -39,10 +36,4 @@ returns-3 c = let b = c .before in rw (has (b .before), ne-eqb _ 5 (b .if2 .left
 pub size-at-spec : {M : Type 1} → statement M
 size-at-spec =
     tie.close
-    (tie.spec
-    has-room-requires
-    returns
-    short-size-requires
-    returns-2
-    long-size-requires
-    returns-3)
+    (tie.spec (λ c κs. search needs) returns short-size-requires returns-2 long-size-requires returns-3)

@@ -17,15 +17,9 @@ product-fits x bits h = omega (arith, and-le-r x bits)
 less-is : (x y r : ℕ) → y < 2 ^ 64 → r < 2 ^ 64 → (r + y) % 2 ^ 64 ≡ x → r ≡ less x y
 less-is x y r hy hr e = omega arith
 
-wrapping-add-u64-requires : tie.Need-wrapping-add-u64-requires
-wrapping-add-u64-requires c κs = search needs
-
 mul-wrapping-sub-u64 : tie.Need-mul-wrapping-sub-u64
 unfolding each
 mul-wrapping-sub-u64 c = record { fits = product-fits (c .wrapping-add-u64 .result) _ (omega arith) }
-
-wrapping-sub-u64-requires : tie.Need-wrapping-sub-u64-requires
-wrapping-sub-u64-requires c κs = search needs
 
 returns : tie.Need-returns
 unfolding turned each
@@ -34,4 +28,4 @@ returns c =
     rw (← x .ensures) (less-is (x .result) _ (c .wrapping-sub-u64 .result) (product-fits (x .result) _ (omega arith)) (omega arith) (c .wrapping-sub-u64 .ensures))
 
 pub turned-spec : {M : Type 1} → statement M
-turned-spec = tie.close (tie.spec wrapping-add-u64-requires mul-wrapping-sub-u64 wrapping-sub-u64-requires returns)
+turned-spec = tie.close (tie.spec (λ c κs. search needs) mul-wrapping-sub-u64 (λ c κs. search needs) returns)

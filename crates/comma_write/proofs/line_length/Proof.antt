@@ -6,18 +6,6 @@ use Rattle.comma_write.proofs.Puts.{line-bytes}
 use Rattle.comma_write.proofs.line_length.Statement.{statement}
 use Rattle.comma_write.proofs.line_length.Tie as tie
 
-digits-requires : tie.Need-digits-requires
-digits-requires c κs = search needs
-
-degrees-length-requires : tie.Need-degrees-length-requires
-degrees-length-requires c κs = search needs
-
-add-result : tie.Need-add-result
-add-result c = search needs
-
-add-result-2 : tie.Need-add-result-2
-add-result-2 c = search needs
-
 returns : tie.Need-returns
 returns c =
     let s = c .before .before in
@@ -27,4 +15,4 @@ returns c =
 pub line-length-spec : {M : Type 1} → statement M
 line-length-spec =
     tie.close
-    (tie.spec digits-requires degrees-length-requires add-result add-result-2 returns)
+    (tie.spec (λ c κs. search needs) (λ c κs. search needs) (λ c. search needs) (λ c. search needs) returns)

@@ -41,31 +41,11 @@ left3 c =
     let s = start (number-of (comma-of c)) in
     left-next (degreesText (s .args .x)) (lineFeed ∷ []) (left2 (comma-of c)) (rw (toZ-ofZ (s .fits .x)) at (c .write-degrees .ensures))
 
-write-number-requires : tie.Need-write-number-requires
-write-number-requires c κs = search needs
-
-write-byte-requires : tie.Need-write-byte-requires
-write-byte-requires c κs = search needs
-
-write-degrees-requires : tie.Need-write-degrees-requires
-write-degrees-requires c κs = search needs
-
-write-byte-requires-2 : tie.Need-write-byte-requires-2
-write-byte-requires-2 c κs = search needs
-
-same-length : tie.Need-same-length
-same-length c = search needs
-
 returns : tie.Need-returns
 returns c = left-last (left3 (c .before .before .before .before .before .before)) (c .before .before .write-byte2 .ensures)
 
 pub put-line-spec : {M : Type 1} → statement M
 put-line-spec =
     tie.close
-    (tie.spec
-    write-number-requires
-    write-byte-requires
-    write-degrees-requires
-    write-byte-requires-2
-    same-length
-    returns)
+    (tie.spec (λ c κs. search needs) (λ c κs. search needs) (λ c κs. search needs) (λ c κs. search needs)
+    (λ c. search needs) returns)

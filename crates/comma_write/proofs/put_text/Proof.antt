@@ -89,16 +89,5 @@ returns c =
 pub put-text-spec : {M : Type 1} → statement M
 put-text-spec =
     tie.close
-    (tie.spec
-    Inv-loop
-    μ-loop
-    loop-holds
-    mul-put-line
-    shared-slice-copy-out-put-line
-    put-line-requires
-    add-time
-    add-i
-    loop-less
-    loop-again
-    same-length
-    returns)
+    (tie.spec Inv-loop μ-loop loop-holds mul-put-line shared-slice-copy-out-put-line put-line-requires add-time add-i
+    loop-less loop-again same-length returns)

@@ -67,16 +67,5 @@ returns c =
 pub text-length-spec : {M : Type 1} → statement M
 text-length-spec =
     tie.close
-    (tie.spec
-    Inv-loop
-    μ-loop
-    loop-holds
-    mul-line-length
-    shared-slice-copy-out-line-length
-    line-length-requires
-    add-total
-    add-time
-    add-i
-    loop-less
-    loop-again
-    returns)
+    (tie.spec Inv-loop μ-loop loop-holds mul-line-length shared-slice-copy-out-line-length line-length-requires
+    add-total add-time add-i loop-less loop-again returns)

@@ -26,14 +26,8 @@ returns c =
     let none : a .n - 1 ≡ 0 = omega (arith, c .if1 .taken) in
     sym (lt-leb (10 ^ longest) ((a .n - 1) * a .step) (omega (arith, ap (λ (x : ℕ). x * a .step) none)))
 
-sub-result : tie.Need-sub-result
-sub-result c = search needs
-
-div-result : tie.Need-div-result
-div-result c = search needs
-
 returns-2 : tie.Need-returns-2
 returns-2 c = passed (c .before .args .n - 1) (c .before .args .step) (c .before .pre)
 
 pub too-long-spec : {M : Type 1} → statement M
-too-long-spec = tie.close (tie.spec returns sub-result div-result returns-2)
+too-long-spec = tie.close (tie.spec returns (λ c. search needs) (λ c. search needs) returns-2)

@@ -58,15 +58,9 @@ number c =
     let e = c .before .before .before .before in
     few (length (Samples e)) (Step e) (some e) (leb-false (10 ^ longest) (lastTime (Step e) (Samples e)) (short c))
 
-step-in-range-requires : tie.Need-step-in-range-requires
-step-in-range-requires c κs = search needs
-
 returns : tie.Need-returns
 unfolding laidBy
 returns c = let a = c .before .before .before .args in (bad-step (a .step) (a .samples .now) (now (a .out)) (said-no (c .before .step-in-range .ensures) (c .if1 .taken)), refl)
-
-first-bad-requires : tie.Need-first-bad-requires
-first-bad-requires c κs = search needs
 
 returns-2 : tie.Need-returns-2
 unfolding laidBy
@@ -99,9 +93,6 @@ put-text-requires c κs =
     let d = t .before in
     (small (d .before .before .before .before), number d, omega (arith, t .text-length .ensures, c .before .if4 .left))
 
-same-length : tie.Need-same-length
-same-length c = search needs
-
 returns-5 : tie.Need-returns-5
 returns-5 c =
     let p = c .before .before in
@@ -115,15 +106,5 @@ returns-5 c =
 pub write-spec : {M : Type 1} → statement M
 write-spec =
     tie.close
-    (tie.spec
-    step-in-range-requires
-    returns
-    first-bad-requires
-    returns-2
-    too-long-requires
-    returns-3
-    text-length-requires
-    returns-4
-    put-text-requires
-    same-length
-    returns-5)
+    (tie.spec (λ c κs. search needs) returns (λ c κs. search needs) returns-2 too-long-requires returns-3
+    text-length-requires returns-4 put-text-requires (λ c. search needs) returns-5)

@@ -91,16 +91,5 @@ returns-3 c =
 pub first-crossing-spec : {M : Type 1} → statement M
 first-crossing-spec =
     tie.close
-    (tie.spec
-    Inv-loop
-    μ-loop
-    shorter-requires
-    returns
-    add-i
-    loop-holds
-    end-requires
-    rise-in-requires
-    loop-less
-    loop-again
-    returns-2
-    returns-3)
+    (tie.spec Inv-loop μ-loop shorter-requires returns add-i loop-holds end-requires rise-in-requires loop-less
+    loop-again returns-2 returns-3)

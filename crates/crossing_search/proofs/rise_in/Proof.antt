@@ -103,26 +103,6 @@ returns-3 c =
 pub rise-in-spec : {M : Type 1} → statement M
 rise-in-spec =
     tie.close
-    (tie.spec
-    Inv-loop
-    μ-loop
-    mul-loud
-    sub-loud
-    part-loud-start
-    part-loud-end
-    mul-loud-2
-    sub-loud-2
-    part-loud-start-2
-    part-loud-end-2
-    loud-requires
-    returns
-    loop-holds
-    sub-moment-at
-    moment-at-requires
-    moment-at-requires-2
-    rises-requires
-    returns-2
-    add-i
-    loop-less
-    loop-again
-    returns-3)
+    (tie.spec Inv-loop μ-loop mul-loud sub-loud part-loud-start part-loud-end mul-loud-2 sub-loud-2 part-loud-start-2
+    part-loud-end-2 loud-requires returns loop-holds sub-moment-at moment-at-requires moment-at-requires-2
+    rises-requires returns-2 add-i loop-less loop-again returns-3)

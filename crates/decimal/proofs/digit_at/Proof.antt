@@ -8,14 +8,5 @@ use Rattle.decimal.proofs.digit_at.Tie as tie
 returns : tie.Need-returns
 returns c = rw (List·getD-eq-default (now (c .before .before .args .s)) 0 (c .if1 .taken))
 
-shared-slice-read-is-digit : tie.Need-shared-slice-read-is-digit
-shared-slice-read-is-digit c = search needs
-
-is-digit-requires : tie.Need-is-digit-requires
-is-digit-requires c κs = search needs
-
-returns-2 : tie.Need-returns-2
-returns-2 c = search needs
-
 pub digit-at-spec : {M : Type 1} → statement M
-digit-at-spec = tie.close (tie.spec returns shared-slice-read-is-digit is-digit-requires returns-2)
+digit-at-spec = tie.close (tie.spec returns (λ c. search needs) (λ c κs. search needs) (λ c. search needs))

@@ -8,11 +8,8 @@ use Rattle.decimal.proofs.is_digit.Tie as tie
 returns : tie.Need-returns
 returns c = rw (lt-leb zeroByte (c .before .args .b) (c .if1 .taken))
 
-add-result : tie.Need-add-result
-add-result c = search needs
-
 returns-2 : tie.Need-returns-2
 returns-2 c = rw (le-leb zeroByte (c .before .args .b) (c .if1 .left))
 
 pub is-digit-spec : {M : Type 1} → statement M
-is-digit-spec = tie.close (tie.spec returns add-result returns-2)
+is-digit-spec = tie.close (tie.spec returns (λ c. search needs) returns-2)

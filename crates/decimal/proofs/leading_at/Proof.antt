@@ -18,12 +18,6 @@ use Rattle.decimal.proofs.Leading.{leads-bad, leads-read}
 use Rattle.decimal.proofs.leading_at.Statement.{statement}
 use Rattle.decimal.proofs.leading_at.Tie as tie
 
-run-at-requires : tie.Need-run-at-requires
-run-at-requires c κs = search needs
-
-digit-at-requires : tie.Need-digit-at-requires
-digit-at-requires c κs = search needs
-
 returns : tie.Need-returns
 returns c =
     let a = c .before .before .before .before .args in
@@ -62,9 +56,6 @@ module _ (c : tie.Else1) where
 returns-2 : tie.Need-returns-2
 returns-2 c = none (c .before) (c .if2 .taken)
 
-sub-if3 : tie.Need-sub-if3
-sub-if3 c = search needs
-
 returns-3 : tie.Need-returns-3
 returns-3 c = one (c .before .before) (omega arith)
 
@@ -84,13 +75,5 @@ returns-5 c =
 pub leading-at-spec : {M : Type 1} → statement M
 leading-at-spec =
     tie.close
-    (tie.spec
-    run-at-requires
-    digit-at-requires
-    returns
-    returns-2
-    sub-if3
-    returns-3
-    shared-slice-read-if4
-    returns-4
-    returns-5)
+    (tie.spec (λ c κs. search needs) (λ c κs. search needs) returns returns-2 (λ c. search needs) returns-3
+    shared-slice-read-if4 returns-4 returns-5)

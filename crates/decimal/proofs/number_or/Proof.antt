@@ -15,15 +15,6 @@ use Rattle.decimal.proofs.Leading.{LeadsTo, all-lead, led-all, leads-no
 use Rattle.decimal.proofs.number_or.Statement.{statement}
 use Rattle.decimal.proofs.number_or.Tie as tie
 
-leading-at-requires : tie.Need-leading-at-requires
-leading-at-requires c κs = search needs
-
-enum-known-v : tie.Need-enum-known-v
-enum-known-v c = search needs
-
-enum-told : tie.Need-enum-told
-enum-told c = search needs
-
 -- a text whose leading digits are no number, or not all of it, is none
 other-than : (s : List ℕ) (other : ℕ) → (isNumber s ≡ true → leading s ≡ s → true ≡ false) → other ≡ cond (isNumber s) (valueOf s) other
 other-than s other never = by-test (isNumber s) (λ n. absurd (true≢false (never n (all-lead s n)))) (λ n. rw n)
@@ -53,4 +44,4 @@ returns-3 c =
 
 pub number-or-spec : {M : Type 1} → statement M
 number-or-spec =
-    tie.close (tie.spec leading-at-requires enum-known-v enum-told returns returns-2 returns-3)
+    tie.close (tie.spec (λ c κs. search needs) (λ c. search needs) (λ c. search needs) returns returns-2 returns-3)

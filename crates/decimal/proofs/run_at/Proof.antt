@@ -112,19 +112,5 @@ returns-2 c =
 pub run-at-spec : {M : Type 1} → statement M
 run-at-spec =
     tie.close
-    (tie.spec
-    Inv-loop
-    μ-loop
-    last-place-requires
-    loop-holds
-    shared-slice-read-b
-    is-digit-requires
-    returns
-    mul-value
-    sub-value
-    cast-value
-    add-value
-    add-i
-    loop-less
-    loop-again
-    returns-2)
+    (tie.spec Inv-loop μ-loop last-place-requires loop-holds shared-slice-read-b is-digit-requires returns mul-value
+    sub-value cast-value add-value add-i loop-less loop-again returns-2)

@@ -14,30 +14,12 @@ use Rattle.decimal.specs.Field.{fieldText}
 use Rattle.decimal.proofs.write_field.Statement.{statement}
 use Rattle.decimal.proofs.write_field.Tie as tie
 
-digits-requires : tie.Need-digits-requires
-digits-requires c κs = search needs
-
-add-has-room : tie.Need-add-has-room
-add-has-room c = search needs
-
-has-room-requires : tie.Need-has-room-requires
-has-room-requires c κs = search needs
-
 returns : tie.Need-returns
 unfolding fieldText
 returns c =
     let a = c .before .before .before .before .args in
     let no-room = leb-false _ (length (now (a .out))) (sym (c .before .has-room .ensures) ∙ not-true (c .before .has-room .result) (c .if1 .taken)) in
     wrote-short (now (a .out)) (a .at) (fieldText (a .v) (a .end)) (omega (arith, length-append (digitsOf (a .v)) (a .end ∷ [])))
-
-write-number-requires : tie.Need-write-number-requires
-write-number-requires c κs = search needs
-
-write-byte-requires : tie.Need-write-byte-requires
-write-byte-requires c κs = search needs
-
-same-length : tie.Need-same-length
-same-length c = search needs
 
 room : (c : tie.Else1) → let a = c .before .before .before .before .args in a .at + length (fieldText (a .v) (a .end)) ≤ length (now (a .out))
 unfolding fieldText
@@ -56,12 +38,5 @@ returns-2 c =
 pub write-field-spec : {M : Type 1} → statement M
 write-field-spec =
     tie.close
-    (tie.spec
-    digits-requires
-    add-has-room
-    has-room-requires
-    returns
-    write-number-requires
-    write-byte-requires
-    same-length
-    returns-2)
+    (tie.spec (λ c κs. search needs) (λ c. search needs) (λ c κs. search needs) returns (λ c κs. search needs)
+    (λ c κs. search needs) (λ c. search needs) returns-2)

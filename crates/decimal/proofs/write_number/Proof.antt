@@ -114,21 +114,5 @@ returns-2 c =
 pub write-number-spec : {M : Type 1} → statement M
 write-number-spec =
     tie.close
-    (tie.spec
-    Inv-loop
-    μ-loop
-    digits-requires
-    has-room-requires
-    returns
-    add-i
-    loop-holds
-    sub-i
-    last-digit-requires
-    slice-write-out
-    loop-less
-    loop-again
-    last-digit-requires-2
-    slice-write-out-2
-    add-result
-    same-length
-    returns-2)
+    (tie.spec Inv-loop μ-loop digits-requires has-room-requires returns add-i loop-holds sub-i last-digit-requires
+    slice-write-out loop-less loop-again last-digit-requires-2 slice-write-out-2 add-result same-length returns-2)

@@ -22,25 +22,10 @@ whole c = c .digits .ensures .0 ∙ ap (λ n. length (digitsOf (n / 1000))) (siz
 few : (c : tie.After-digits) → c .digits .result ≤ 7
 few c = rw (c .digits .ensures .0) (digits-below 6 (c .before .magnitude .result / 1000) (omega (arith, size c, abs-small (c .before .before .args .x) (c .before .before .fits .x))))
 
-magnitude-requires : tie.Need-magnitude-requires
-magnitude-requires c κs = search needs
-
-cast-digits : tie.Need-cast-digits
-cast-digits c = search needs
-
-digits-requires : tie.Need-digits-requires
-digits-requires c κs = search needs
-
-add-result : tie.Need-add-result
-add-result c = search needs
-
 returns : tie.Need-returns
 returns c =
     let s = c .before .before .before in
     (rw (text-length, sign-below (s .args .x) (rw (toZ-ofZ (s .fits .x)) at (c .if1 .taken))) (omega (arith, whole (c .before))), omega (arith, few (c .before)))
-
-add-result-2 : tie.Need-add-result-2
-add-result-2 c = search needs
 
 returns-2 : tie.Need-returns-2
 returns-2 c =
@@ -50,11 +35,5 @@ returns-2 c =
 pub degrees-length-spec : {M : Type 1} → statement M
 degrees-length-spec =
     tie.close
-    (tie.spec
-    magnitude-requires
-    cast-digits
-    digits-requires
-    add-result
-    returns
-    add-result-2
-    returns-2)
+    (tie.spec (λ c κs. search needs) (λ c. search needs) (λ c κs. search needs) (λ c. search needs) returns
+    (λ c. search needs) returns-2)

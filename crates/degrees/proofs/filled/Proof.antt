@@ -4,14 +4,8 @@ use borrow.Author.Tests.{eq-eqb, ne-eqb}
 use Rattle.degrees.proofs.filled.Statement.{statement}
 use Rattle.degrees.proofs.filled.Tie as tie
 
-mul-result : tie.Need-mul-result
-mul-result c = search needs
-
 returns : tie.Need-returns
 returns c = rw (eq-eqb (c .before .args .count) 1 (c .if1 .taken))
-
-mul-result-2 : tie.Need-mul-result-2
-mul-result-2 c = search needs
 
 returns-2 : tie.Need-returns-2
 returns-2 c = rw (ne-eqb (c .before .before .args .count) 1 (c .before .if1 .left), eq-eqb (c .before .before .args .count) 2 (c .if2 .taken))
@@ -20,4 +14,4 @@ returns-3 : tie.Need-returns-3
 returns-3 c = rw (ne-eqb (c .before .before .args .count) 1 (c .before .if1 .left), ne-eqb (c .before .before .args .count) 2 (c .if2 .left))
 
 pub filled-spec : {M : Type 1} → statement M
-filled-spec = tie.close (tie.spec mul-result returns mul-result-2 returns-2 returns-3)
+filled-spec = tie.close (tie.spec (λ c. search needs) returns (λ c. search needs) returns-2 returns-3)

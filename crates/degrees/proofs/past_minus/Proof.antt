@@ -27,9 +27,6 @@ module _ (c : tie.After-stands) where
   told : c .stands .result ≡ below (drop At S)
   told = said ∙ rw (getD-drop, add-zero)
 
-stands-requires : tie.Need-stands-requires
-stands-requires c κs = search needs
-
 add-result : tie.Need-add-result
 add-result c = omega (arith, stands-inside (S (c .before)) (At (c .before)) minus (omega arith) (sym (said (c .before)) ∙ c .if1 .taken))
 
@@ -40,4 +37,4 @@ returns-2 : tie.Need-returns-2
 returns-2 c = rw (sym (told (c .before)) ∙ c .if1 .left, add-zero)
 
 pub past-minus-spec : {M : Type 1} → statement M
-past-minus-spec = tie.close (tie.spec stands-requires add-result returns returns-2)
+past-minus-spec = tie.close (tie.spec (λ c κs. search needs) add-result returns returns-2)

@@ -7,12 +7,6 @@ use Rattle.degrees.proofs.Signs.{sign-below, sign-other}
 use Rattle.degrees.proofs.put_sign.Statement.{statement}
 use Rattle.degrees.proofs.put_sign.Tie as tie
 
-write-byte-requires : tie.Need-write-byte-requires
-write-byte-requires c κs = search needs
-
-same-length : tie.Need-same-length
-same-length c = search needs
-
 returns : tie.Need-returns
 returns c =
     let s = c .before .before .before .before .before .before in
@@ -24,4 +18,4 @@ returns-2 c =
     rw (sign-other (s .args .x) (rw (toZ-ofZ (s .fits .x)) at (c .if1 .left))) (wrote-none (now (s .args .out)) (s .args .at) (s .pre))
 
 pub put-sign-spec : {M : Type 1} → statement M
-put-sign-spec = tie.close (tie.spec write-byte-requires same-length returns returns-2)
+put-sign-spec = tie.close (tie.spec (λ c κs. search needs) (λ c. search needs) returns returns-2)

@@ -11,9 +11,6 @@ use Rattle.degrees.proofs.sample.Tie as tie
 returns : tie.Need-returns
 returns c = rw (lt-leb (c .before .args .size) largestSize (c .if1 .taken))
 
-cast-x : tie.Need-cast-x
-cast-x c = search needs
-
 sub-result : tie.Need-sub-result
 sub-result c = turned-fits (c .before .before .args .size) (c .before .if1 .left)
 
@@ -30,4 +27,4 @@ returns-3 c =
     rw (le-leb n largestSize h, c .if2 .left) (plain n h)
 
 pub sample-spec : {M : Type 1} → statement M
-sample-spec = tie.close (tie.spec returns cast-x sub-result returns-2 returns-3)
+sample-spec = tie.close (tie.spec returns (λ c. search needs) sub-result returns-2 returns-3)

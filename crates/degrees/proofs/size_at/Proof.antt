@@ -59,22 +59,10 @@ module _ (c : tie.After-run-at) where
   pointed : eqb (getD (S told) (End told) 0) point ≡ true
   pointed = sym (stands-byte (S told) (End told) point (omega arith)) ∙ said-yes (c .before .before .stands .ensures) (c .before .if1 .left)
 
-leading-at-requires : tie.Need-leading-at-requires
-leading-at-requires c κs = search needs
-
-enum-known-whole : tie.Need-enum-known-whole
-enum-known-whole c = search needs
-
-enum-told : tie.Need-enum-told
-enum-told c = search needs
-
 returns : tie.Need-returns
 returns c =
     let a = c .before .before .before .before .args in
     sym (size-bad (now (a .s)) (a .at) (a .minus) (leads-none (now (a .s)) (a .at) (sym (c .before .before .leading-at .ensures) ∙ c .enum-told .given .1)))
-
-stands-requires : tie.Need-stands-requires
-stands-requires c κs = search needs
 
 mul-t11 : tie.Need-mul-t11
 mul-t11 c = omega (arith, leads (c .before .before) .small)
@@ -86,9 +74,6 @@ returns-2 c =
 
 add-run-at : tie.Need-add-run-at
 add-run-at c = omega (arith, leads (c .before .before) .within)
-
-run-at-requires : tie.Need-run-at-requires
-run-at-requires c κs = search needs
 
 add-count : tie.Need-add-count
 add-count c = omega (arith, leads (told c) .within)
@@ -142,21 +127,6 @@ returns-5 c =
 pub size-at-spec : {M : Type 1} → statement M
 size-at-spec =
     tie.close
-    (tie.spec
-    leading-at-requires
-    enum-known-whole
-    enum-told
-    returns
-    stands-requires
-    mul-t11
-    returns-2
-    add-run-at
-    run-at-requires
-    add-count
-    sub-count
-    returns-3
-    returns-4
-    mul-t13
-    filled-requires
-    add-t15
+    (tie.spec (λ c κs. search needs) (λ c. search needs) (λ c. search needs) returns (λ c κs. search needs) mul-t11
+    returns-2 add-run-at (λ c κs. search needs) add-count sub-count returns-3 returns-4 mul-t13 filled-requires add-t15
     returns-5)

@@ -54,35 +54,14 @@ left1 c =
     let a = start (sized c .before .before) .args in
     left-next (sign (a .x)) _ (left-all (now (a .out)) (a .at) _ (rw (← parts (sized c)) (room (sized c .before)))) (rw (toZ-ofZ (start (sized c .before .before) .fits .x)) at (c .put-sign .ensures))
 
-degrees-length-requires : tie.Need-degrees-length-requires
-degrees-length-requires c κs = search needs
-
-has-room-requires : tie.Need-has-room-requires
-has-room-requires c κs = search needs
-
 returns : tie.Need-returns
 returns c =
     let a = start (c .before) .args in
     let short = leb-false (a .at + c .before .before .degrees-length .result) (length (now (a .out))) (said-no (c .before .has-room .ensures) (c .if1 .taken)) in
     wrote-short (now (a .out)) (a .at) (degreesText (a .x)) (omega (arith, needed (c .before)))
 
-magnitude-requires : tie.Need-magnitude-requires
-magnitude-requires c κs = search needs
-
-cast-size : tie.Need-cast-size
-cast-size c = search needs
-
 put-sign-requires : tie.Need-put-sign-requires
 put-sign-requires c κs = omega (arith, room (c .before .before))
-
-write-number-requires : tie.Need-write-number-requires
-write-number-requires c κs = search needs
-
-put-decimals-requires : tie.Need-put-decimals-requires
-put-decimals-requires c κs = search needs
-
-same-length : tie.Need-same-length
-same-length c = search needs
 
 returns-2 : tie.Need-returns-2
 returns-2 c =
@@ -94,14 +73,5 @@ returns-2 c =
 pub write-degrees-spec : {M : Type 1} → statement M
 write-degrees-spec =
     tie.close
-    (tie.spec
-    degrees-length-requires
-    has-room-requires
-    returns
-    magnitude-requires
-    cast-size
-    put-sign-requires
-    write-number-requires
-    put-decimals-requires
-    same-length
-    returns-2)
+    (tie.spec (λ c κs. search needs) (λ c κs. search needs) returns (λ c κs. search needs) (λ c. search needs)
+    put-sign-requires (λ c κs. search needs) (λ c κs. search needs) (λ c. search needs) returns-2)

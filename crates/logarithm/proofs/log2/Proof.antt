@@ -62,18 +62,5 @@ returns-3 c =
 pub log2-spec : {M : Type 1} → statement M
 log2-spec =
     tie.close
-    (tie.spec
-    Inv-loop
-    μ-loop
-    returns
-    returns-2
-    scale-requires
-    loop-holds
-    mul-square
-    pick-requires
-    mul-m
-    add-m
-    add-i
-    loop-less
-    loop-again
-    returns-3)
+    (tie.spec Inv-loop μ-loop returns returns-2 scale-requires loop-holds mul-square pick-requires mul-m add-m add-i
+    loop-less loop-again returns-3)

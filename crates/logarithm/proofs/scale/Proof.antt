@@ -8,24 +8,6 @@ use Rattle.logarithm.proofs.Scaling.{quotient, shift-below, shift-less}
 use Rattle.logarithm.proofs.scale.Statement.{statement}
 use Rattle.logarithm.proofs.scale.Tie as tie
 
-shift-requires : tie.Need-shift-requires
-shift-requires c κs = search needs
-
-shift-requires-2 : tie.Need-shift-requires-2
-shift-requires-2 c κs = search needs
-
-cast-top : tie.Need-cast-top
-cast-top c = search needs
-
-shl-top : tie.Need-shl-top
-shl-top c = search needs
-
-cast-bottom : tie.Need-cast-bottom
-cast-bottom c = search needs
-
-shl-bottom : tie.Need-shl-bottom
-shl-bottom c = search needs
-
 sub-whole : tie.Need-sub-whole
 sub-whole c =
     let a = c .before .before .args in
@@ -33,17 +15,11 @@ sub-whole c =
     let z = c .shift2 in
     shift-less (a .a) (a .b) (y .result) (z .result) (omega arith) (z .ensures .0) (y .ensures .1)
 
-cast-whole : tie.Need-cast-whole
-cast-whole c = search needs
-
 sub-t12 : tie.Need-sub-t12
 sub-t12 c =
     let a = c .before .before .before .args in
     let l = shift-below (a .a) (a .b) (c .before .before .shift .result) (c .before .shift2 .result) (omega arith) (omega arith) in
     omega arith
-
-div-t14 : tie.Need-div-t14
-div-t14 c = search needs
 
 returns : tie.Need-returns
 returns c =
@@ -57,9 +33,6 @@ returns c =
       mod-eq-of-lt {n = a .b * 2 ^ z} {m = 2 ^ 64} (omega arith),
     )
     (quotient (a .a) (a .b) y z 1 (z - y - 1) (omega arith) (omega arith) (omega arith) (omega arith) (omega arith))
-
-div-t9 : tie.Need-div-t9
-div-t9 c = search needs
 
 returns-2 : tie.Need-returns-2
 returns-2 c =
@@ -77,17 +50,5 @@ returns-2 c =
 pub scale-spec : {M : Type 1} → statement M
 scale-spec =
     tie.close
-    (tie.spec
-    shift-requires
-    shift-requires-2
-    cast-top
-    shl-top
-    cast-bottom
-    shl-bottom
-    sub-whole
-    cast-whole
-    sub-t12
-    div-t14
-    returns
-    div-t9
-    returns-2)
+    (tie.spec (λ c κs. search needs) (λ c κs. search needs) (λ c. search needs) (λ c. search needs) (λ c. search needs)
+    (λ c. search needs) sub-whole (λ c. search needs) sub-t12 (λ c. search needs) returns (λ c. search needs) returns-2)

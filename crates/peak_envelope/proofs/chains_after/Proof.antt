@@ -11,21 +11,6 @@ use Rattle.peak_envelope.proofs.chains_after.Tie as tie
 both : (c : tie.After-both) → c .both .result ≡ (gave (c .before .before .before .before .before .before .args .e .stretches) (c .before .before .before .before .before .before .args .h) && high (c .before .before .before .before .before .before .args .n) (c .before .before .before .before .before .before .args .s) (c .before .before .before .before .before .before .args .e .stretches .best))
 both c = c .both .ensures ∙ rw (c .before .before .gave .ensures, c .before .high .ensures)
 
-gave-requires : tie.Need-gave-requires
-gave-requires c κs = search needs
-
-high-requires : tie.Need-high-requires
-high-requires c κs = search needs
-
-both-requires : tie.Need-both-requires
-both-requires c κs = search needs
-
-in-chain-requires : tie.Need-in-chain-requires
-in-chain-requires c κs = search needs
-
-turn-requires : tie.Need-turn-requires
-turn-requires c κs = search needs
-
 returns : tie.Need-returns
 returns c =
     rw (sym (both (c .before .before .before)) ∙ c .before .before .if1 .taken)
@@ -37,11 +22,5 @@ returns-2 c = rw (sym (both (c .before)) ∙ c .if1 .left)
 pub chains-after-spec : {M : Type 1} → statement M
 chains-after-spec =
     tie.close
-    (tie.spec
-    gave-requires
-    high-requires
-    both-requires
-    in-chain-requires
-    turn-requires
-    returns
-    returns-2)
+    (tie.spec (λ c κs. search needs) (λ c κs. search needs) (λ c κs. search needs) (λ c κs. search needs)
+    (λ c κs. search needs) returns returns-2)

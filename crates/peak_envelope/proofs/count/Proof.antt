@@ -114,24 +114,6 @@ returns c =
 pub count-spec : {M : Type 1} → statement M
 count-spec =
     tie.close
-    (tie.spec
-    Inv-loop
-    μ-loop
-    second-run-requires
-    mul-first-run
-    sub-first-run
-    part-first-run-start
-    part-first-run-end
-    first-run-requires
-    loop-holds
-    add-if1
-    add-requires
-    add-i
-    mul-first-run-2
-    sub-first-run-2
-    part-first-run-start-2
-    part-first-run-end-2
-    first-run-requires-2
-    loop-less
-    loop-again
-    returns)
+    (tie.spec Inv-loop μ-loop second-run-requires mul-first-run sub-first-run part-first-run-start part-first-run-end
+    first-run-requires loop-holds add-if1 add-requires add-i mul-first-run-2 sub-first-run-2 part-first-run-start-2
+    part-first-run-end-2 first-run-requires-2 loop-less loop-again returns)

@@ -3,11 +3,8 @@ use borrow.Author.Needs.{needs}
 use Rattle.peak_envelope.proofs.fresh.Statement.{statement}
 use Rattle.peak_envelope.proofs.fresh.Tie as tie
 
-empty-requires : tie.Need-empty-requires
-empty-requires c κs = search needs
-
 returns : tie.Need-returns
 returns c = rw (c .empty .ensures)
 
 pub fresh-spec : {M : Type 1} → statement M
-fresh-spec = tie.close (tie.spec empty-requires returns)
+fresh-spec = tie.close (tie.spec (λ c κs. search needs) returns)

@@ -8,26 +8,11 @@ use Rattle.truth.proofs.Laws.{and-true, said-no, said-yes}
 use Rattle.peak_envelope.proofs.hand.Statement.{statement}
 use Rattle.peak_envelope.proofs.hand.Tie as tie
 
-both-requires : tie.Need-both-requires
-both-requires c κs = search needs
-
 returns : tie.Need-returns
 returns c = rw (said-no (c .before .both .ensures) (c .if1 .taken)) (refl, refl)
 
 sub-k : tie.Need-sub-k
 sub-k c = ltb-true 0 (c .before .before .before .before .before .before .before .args .g .opened) (and-true (ltb 0 (c .before .before .before .before .before .before .before .args .g .opened)) (not (eqb (c .before .before .before .before .before .before .before .args .g .opened) (c .before .before .before .before .before .before .before .args .opened))) (said-yes (c .before .before .both .ensures) (c .before .if1 .left)) .0)
-
-place-requires : tie.Need-place-requires
-place-requires c κs = search needs
-
-place-requires-2 : tie.Need-place-requires-2
-place-requires-2 c κs = search needs
-
-same-length : tie.Need-same-length
-same-length c = search needs
-
-same-length-2 : tie.Need-same-length-2
-same-length-2 c = search needs
 
 returns-2 : tie.Need-returns-2
 returns-2 c = rw (said-yes (c .before .before .before .before .before .before .before .before .before .before .before .both .ensures) (c .before .before .before .before .before .before .before .before .before .before .if1 .left)) (c .before .before .before .before .before .before .place .ensures, c .before .before .place2 .ensures)
@@ -35,12 +20,5 @@ returns-2 c = rw (said-yes (c .before .before .before .before .before .before .b
 pub hand-spec : {M : Type 1} → statement M
 hand-spec =
     tie.close
-    (tie.spec
-    both-requires
-    returns
-    sub-k
-    place-requires
-    place-requires-2
-    same-length
-    same-length-2
-    returns-2)
+    (tie.spec (λ c κs. search needs) returns sub-k (λ c κs. search needs) (λ c κs. search needs) (λ c. search needs)
+    (λ c. search needs) returns-2)

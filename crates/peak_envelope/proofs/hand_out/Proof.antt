@@ -30,34 +30,10 @@ needed c = c .pass .ensures .0 ∙ ap length (whole c)
 count-requires : tie.Need-count-requires
 count-requires c κs = omega (arith, c .before .before .pre .0, div-le-self 10000000 (c .before .before .args .step))
 
-cast-gap : tie.Need-cast-gap
-cast-gap c = search needs
-
-slice-aggregate-pass : tie.Need-slice-aggregate-pass
-slice-aggregate-pass c = search needs
-
-slice-aggregate-pass-2 : tie.Need-slice-aggregate-pass-2
-slice-aggregate-pass-2 c = search needs
-
-pass-requires : tie.Need-pass-requires
-pass-requires c κs = search needs
-
-short-requires : tie.Need-short-requires
-short-requires c κs = search needs
-
 returns : tie.Need-returns
 returns c =
     let d = needed (c .before .before .before .before) in
     rw d (no-room (Whole (c .before .before .before .before)) _ _ (rw d at (sym (c .before .short .ensures) ∙ c .if1 .taken)))
-
-pass-requires-2 : tie.Need-pass-requires-2
-pass-requires-2 c κs = search needs
-
-same-length : tie.Need-same-length
-same-length c = search needs
-
-same-length-2 : tie.Need-same-length-2
-same-length-2 c = search needs
 
 returns-2 : tie.Need-returns-2
 returns-2 c =
@@ -70,15 +46,5 @@ returns-2 c =
 pub hand-out-spec : {M : Type 1} → statement M
 hand-out-spec =
     tie.close
-    (tie.spec
-    count-requires
-    cast-gap
-    slice-aggregate-pass
-    slice-aggregate-pass-2
-    pass-requires
-    short-requires
-    returns
-    pass-requires-2
-    same-length
-    same-length-2
-    returns-2)
+    (tie.spec count-requires (λ c. search needs) (λ c. search needs) (λ c. search needs) (λ c κs. search needs)
+    (λ c κs. search needs) returns (λ c κs. search needs) (λ c. search needs) (λ c. search needs) returns-2)

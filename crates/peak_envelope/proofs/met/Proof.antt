@@ -6,14 +6,8 @@ use Rattle.peak_groups.specs.Machine.{turned}
 use Rattle.peak_envelope.proofs.met.Statement.{statement}
 use Rattle.peak_envelope.proofs.met.Tie as tie
 
-in-stretch-requires : tie.Need-in-stretch-requires
-in-stretch-requires c κs = search needs
-
-turn-requires : tie.Need-turn-requires
-turn-requires c κs = search needs
-
 returns : tie.Need-returns
 returns c = c .turn .ensures ∙ ap (λ (k : Bool). turned k (c .before .before .args .g) (c .before .before .args .p)) (c .before .in-stretch .ensures)
 
 pub met-spec : {M : Type 1} → statement M
-met-spec = tie.close (tie.spec in-stretch-requires turn-requires returns)
+met-spec = tie.close (tie.spec (λ c κs. search needs) (λ c κs. search needs) returns)

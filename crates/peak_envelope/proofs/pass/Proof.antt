@@ -121,30 +121,7 @@ returns c =
 pub pass-spec : {M : Type 1} → statement M
 pass-spec =
     tie.close
-    (tie.spec
-    Inv-loop
-    μ-loop
-    fresh-requires
-    second-run-requires
-    mul-first-run
-    sub-first-run
-    part-first-run-start
-    part-first-run-end
-    first-run-requires
-    loop-holds
-    add-if1
-    peak-requires
-    onward-requires
-    add-i
-    mul-first-run-2
-    sub-first-run-2
-    part-first-run-start-2
-    part-first-run-end-2
-    first-run-requires-2
-    loop-less
-    loop-again
-    add-hand
-    hand-requires
-    same-length
-    same-length-2
-    returns)
+    (tie.spec Inv-loop μ-loop fresh-requires second-run-requires mul-first-run sub-first-run part-first-run-start
+    part-first-run-end first-run-requires loop-holds add-if1 peak-requires onward-requires add-i mul-first-run-2
+    sub-first-run-2 part-first-run-start-2 part-first-run-end-2 first-run-requires-2 loop-less loop-again add-hand
+    hand-requires same-length same-length-2 returns)

@@ -5,22 +5,13 @@ use Rattle.peak_groups.specs.Machine.{turned}
 use Rattle.peak_envelope.proofs.turn.Statement.{statement}
 use Rattle.peak_envelope.proofs.turn.Tie as tie
 
-both-requires : tie.Need-both-requires
-both-requires c κs = search needs
-
-larger-requires : tie.Need-larger-requires
-larger-requires c κs = search needs
-
 returns : tie.Need-returns
 unfolding turned
 returns c = rw (sym (c .before .before .before .both .ensures) ∙ c .before .before .if1 .taken, c .larger .ensures)
-
-add-t8 : tie.Need-add-t8
-add-t8 c = search needs
 
 returns-2 : tie.Need-returns-2
 unfolding turned
 returns-2 c = rw (sym (c .before .before .both .ensures) ∙ c .before .if1 .left)
 
 pub turn-spec : {M : Type 1} → statement M
-turn-spec = tie.close (tie.spec both-requires larger-requires returns add-t8 returns-2)
+turn-spec = tie.close (tie.spec (λ c κs. search needs) (λ c κs. search needs) returns (λ c. search needs) returns-2)

@@ -16,17 +16,11 @@ use Rattle.peak_groups.proofs.first_run.Tie as tie
 returns : tie.Need-returns
 returns c = no-run (c .before .args .samples .now) (c .if1 .taken)
 
-shared-slice-copy-out-if2 : tie.Need-shared-slice-copy-out-if2
-shared-slice-copy-out-if2 c = search needs
-
 run-on-requires : tie.Need-run-on-requires
 run-on-requires c κs =
     let x = getD (c .before .before .before .args .samples .now) 0 (pos 0) in
     let f : SFits w32 x = search needs in
     (omega (arith, c .before .before .if1 .left), sym (c .if2 .taken) ∙ ap (λ (y : ℤ). ltZ y (pos 0)) (toZ-ofZ f) ∙ side-first x)
-
-returns-2 : tie.Need-returns-2
-returns-2 c = search needs
 
 run-on-requires-2 : tie.Need-run-on-requires-2
 run-on-requires-2 c κs =
@@ -34,8 +28,5 @@ run-on-requires-2 c κs =
     let f : SFits w32 x = search needs in
     (omega (arith, c .before .before .if1 .left), sym (c .if2 .left) ∙ ap (λ (y : ℤ). ltZ y (pos 0)) (toZ-ofZ f) ∙ side-first x)
 
-returns-3 : tie.Need-returns-3
-returns-3 c = search needs
-
 pub first-run-spec : {M : Type 1} → statement M
-first-run-spec = tie.close (tie.spec returns shared-slice-copy-out-if2 run-on-requires returns-2 run-on-requires-2 returns-3)
+first-run-spec = tie.close (tie.spec returns (λ c. search needs) run-on-requires (λ c. search needs) run-on-requires-2 (λ c. search needs))

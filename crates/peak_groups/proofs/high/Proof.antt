@@ -5,14 +5,8 @@ use native.Mathlib.Omega.{arith}
 use Rattle.peak_groups.proofs.high.Statement.{statement}
 use Rattle.peak_groups.proofs.high.Tie as tie
 
-cast-result : tie.Need-cast-result
-cast-result c = search needs
-
 mul-result : tie.Need-mul-result
 mul-result c = omega (arith, mul-le-mul {n₁ = c .before .args .p .size} {m₁ = c .before .args .n} {n₂ = 4294967295} {m₂ = 4294967295} (omega arith) (omega arith))
 
-returns : tie.Need-returns
-returns c = search needs
-
 pub high-spec : {M : Type 1} → statement M
-high-spec = tie.close (tie.spec cast-result mul-result returns)
+high-spec = tie.close (tie.spec (λ c. search needs) mul-result (λ c. search needs))

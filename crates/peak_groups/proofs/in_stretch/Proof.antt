@@ -4,17 +4,8 @@ use mathlib.Core.Path.{_∙_}
 use Rattle.peak_groups.proofs.in_stretch.Statement.{statement}
 use Rattle.peak_groups.proofs.in_stretch.Tie as tie
 
-high-requires : tie.Need-high-requires
-high-requires c κs = search needs
-
-high-requires-2 : tie.Need-high-requires-2
-high-requires-2 c κs = search needs
-
-same-requires : tie.Need-same-requires
-same-requires c κs = search needs
-
 returns : tie.Need-returns
 returns c = c .same .ensures ∙ rw (c .before .high2 .ensures, c .before .before .high .ensures)
 
 pub in-stretch-spec : {M : Type 1} → statement M
-in-stretch-spec = tie.close (tie.spec high-requires high-requires-2 same-requires returns)
+in-stretch-spec = tie.close (tie.spec (λ c κs. search needs) (λ c κs. search needs) (λ c κs. search needs) returns)

@@ -8,19 +8,10 @@ use mir.Facts.{toZ-ofZ}
 use Rattle.peak_groups.proofs.longer.Statement.{statement}
 use Rattle.peak_groups.proofs.longer.Tie as tie
 
-magnitude-requires : tie.Need-magnitude-requires
-magnitude-requires c κs = search needs
-
-add-t5 : tie.Need-add-t5
-add-t5 c = search needs
-
 returns : tie.Need-returns
 returns c =
     let e : c .before .before .before .magnitude .result ≡ natAbs (c .before .before .before .before .args .x) = c .before .before .before .magnitude .ensures ∙ ap natAbs (toZ-ofZ (c .before .before .before .before .fits .x)) in
     rw (e, lt-ltb (c .before .before .before .before .args .r .size) (natAbs (c .before .before .before .before .args .x)) (omega (arith, e, c .before .if1 .taken)))
-
-add-t6 : tie.Need-add-t6
-add-t6 c = search needs
 
 returns-2 : tie.Need-returns-2
 returns-2 c =
@@ -28,4 +19,4 @@ returns-2 c =
     rw (le-ltb (c .before .before .before .before .args .r .size) (natAbs (c .before .before .before .before .args .x)) (omega (arith, e, c .before .if1 .left)))
 
 pub longer-spec : {M : Type 1} → statement M
-longer-spec = tie.close (tie.spec magnitude-requires add-t5 returns add-t6 returns-2)
+longer-spec = tie.close (tie.spec (λ c κs. search needs) (λ c. search needs) returns (λ c. search needs) returns-2)

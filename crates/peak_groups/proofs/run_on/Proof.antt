@@ -103,20 +103,6 @@ returns-2 c =
 pub run-on-spec : {M : Type 1} → statement M
 run-on-spec =
     tie.close
-    (tie.spec
-    Inv-loop
-    μ-loop
-    shared-slice-copy-out-magnitude
-    magnitude-requires
-    loop-holds
-    mul-stays
-    shared-slice-copy-out-stays
-    stays-requires
-    returns
-    mul-longer
-    shared-slice-copy-out-longer
-    longer-requires
-    add-i
-    loop-less
-    loop-again
-    returns-2)
+    (tie.spec Inv-loop μ-loop shared-slice-copy-out-magnitude magnitude-requires loop-holds mul-stays
+    shared-slice-copy-out-stays stays-requires returns mul-longer shared-slice-copy-out-longer longer-requires add-i
+    loop-less loop-again returns-2)

@@ -10,9 +10,6 @@ use Rattle.peak_groups.proofs.Due.{zeros-fit, from-place, second-fits}
 use Rattle.peak_groups.proofs.second_run.Statement.{statement}
 use Rattle.peak_groups.proofs.second_run.Tie as tie
 
-zeros-requires : tie.Need-zeros-requires
-zeros-requires c κs = search needs
-
 within : (c : tie.After-zeros) → c .zeros .result ≤ length (c .before .args .samples .now)
 within c = omega (arith, c .zeros .ensures, zeros-fit (c .before .args .samples .now))
 
@@ -24,12 +21,6 @@ sub-first-run c = omega (arith, within c)
 
 part-first-run-start : tie.Need-part-first-run-start
 part-first-run-start c = omega (arith, within c)
-
-part-first-run-end : tie.Need-part-first-run-end
-part-first-run-end c = search needs
-
-first-run-requires : tie.Need-first-run-requires
-first-run-requires c κs = search needs
 
 -- what is answered
 found : (c : tie.After-struct-known) → c .before .before .before .zeros .result + c .before .first-run .result .length ≡ second (c .before .before .before .before .args .samples .now)
@@ -48,12 +39,5 @@ returns c = found c
 pub second-run-spec : {M : Type 1} → statement M
 second-run-spec =
     tie.close
-    (tie.spec
-    zeros-requires
-    mul-first-run
-    sub-first-run
-    part-first-run-start
-    part-first-run-end
-    first-run-requires
-    add-result
-    returns)
+    (tie.spec (λ c κs. search needs) mul-first-run sub-first-run part-first-run-start (λ c. search needs)
+    (λ c κs. search needs) add-result returns)

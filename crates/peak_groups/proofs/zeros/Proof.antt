@@ -71,15 +71,5 @@ returns-2 c =
 pub zeros-spec : {M : Type 1} → statement M
 zeros-spec =
     tie.close
-    (tie.spec
-    Inv-loop
-    μ-loop
-    loop-holds
-    mul-magnitude
-    shared-slice-copy-out-magnitude
-    magnitude-requires
-    returns
-    add-i
-    loop-less
-    loop-again
-    returns-2)
+    (tie.spec Inv-loop μ-loop loop-holds mul-magnitude shared-slice-copy-out-magnitude magnitude-requires returns add-i
+    loop-less loop-again returns-2)

@@ -61,15 +61,5 @@ returns-2 c =
 pub first-bad-spec : {M : Type 1} → statement M
 first-bad-spec =
     tie.close
-    (tie.spec
-    Inv-loop
-    μ-loop
-    loop-holds
-    mul-peak-in-range
-    shared-slice-read-peak-in-range
-    peak-in-range-requires
-    returns
-    add-i
-    loop-less
-    loop-again
-    returns-2)
+    (tie.spec Inv-loop μ-loop loop-holds mul-peak-in-range shared-slice-read-peak-in-range peak-in-range-requires
+    returns add-i loop-less loop-again returns-2)

@@ -11,16 +11,10 @@ use Rattle.peak_tail.proofs.Order.{copied-rest, copied-start, inside, r
 use Rattle.peak_tail.proofs.fit.Statement.{statement}
 use Rattle.peak_tail.proofs.fit.Tie as tie
 
-tail-outside-requires : tie.Need-tail-outside-requires
-tail-outside-requires c κs = search needs
-
 returns : tie.Need-returns
 returns c =
     let a = c .before .before .before .before .args in
     refuses-tail (now (a .peaks)) (a .k) (now (a .sorted)) (sym (c .before .tail-outside .ensures) ∙ c .if1 .taken)
-
-first-bad-requires : tie.Need-first-bad-requires
-first-bad-requires c κs = search needs
 
 returns-2 : tie.Need-returns-2
 returns-2 c =
@@ -39,12 +33,6 @@ returns-3 c =
     (rw (f .ensures) at (c .before .if2 .left))
     (c .if3 .taken)
 
-copy-requires : tie.Need-copy-requires
-copy-requires c κs = search needs
-
-slice-relend-prefix-sum-of-largest : tie.Need-slice-relend-prefix-sum-of-largest
-slice-relend-prefix-sum-of-largest c = search needs
-
 slice-aggregate-sum-of-largest : tie.Need-slice-aggregate-sum-of-largest
 slice-aggregate-sum-of-largest c =
     let y = c .before .before .before .copy in
@@ -61,9 +49,6 @@ sum-of-largest-requires c κs =
     let (long, low, high) = inside (length (now (a .peaks))) (a .k) (sym (o .tail-outside .ensures) ∙ f .before .if1 .left) in
     rw (copied-start (now (a .peaks)) (now (a .sorted)) _ (y .ensures))
     (low, high, omega arith, none-zero (now (a .peaks)) (rw (f .first-bad .ensures) at (e .if2 .left)))
-
-same-length : tie.Need-same-length
-same-length c = search needs
 
 returns-4 : tie.Need-returns-4
 returns-4 c =
@@ -86,15 +71,5 @@ returns-4 c =
 pub fit-spec : {M : Type 1} → statement M
 fit-spec =
     tie.close
-    (tie.spec
-    tail-outside-requires
-    returns
-    first-bad-requires
-    returns-2
-    returns-3
-    copy-requires
-    slice-relend-prefix-sum-of-largest
-    slice-aggregate-sum-of-largest
-    sum-of-largest-requires
-    same-length
-    returns-4)
+    (tie.spec (λ c κs. search needs) returns (λ c κs. search needs) returns-2 returns-3 (λ c κs. search needs)
+    (λ c. search needs) slice-aggregate-sum-of-largest sum-of-largest-requires (λ c. search needs) returns-4)

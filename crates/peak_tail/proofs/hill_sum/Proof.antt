@@ -56,18 +56,5 @@ returns c =
 pub hill-sum-spec : {M : Type 1} → statement M
 hill-sum-spec =
     tie.close
-    (tie.spec
-    Inv-loop
-    μ-loop
-    sub-last
-    mul-least
-    shared-slice-read-least
-    loop-holds
-    mul-log2
-    shared-slice-read-log2
-    log2-requires
-    add-sum
-    add-i
-    loop-less
-    loop-again
-    returns)
+    (tie.spec Inv-loop μ-loop sub-last mul-least shared-slice-read-least loop-holds mul-log2 shared-slice-read-log2
+    log2-requires add-sum add-i loop-less loop-again returns)

@@ -6,9 +6,6 @@ use Rattle.peak_tail.proofs.Bad.{some-at}
 use Rattle.peak_tail.proofs.sum_of_largest.Statement.{statement}
 use Rattle.peak_tail.proofs.sum_of_largest.Tie as tie
 
-sort-requires : tie.Need-sort-requires
-sort-requires c κs = search needs
-
 hill-sum-requires : tie.Need-hill-sum-requires
 hill-sum-requires c κs =
     let s = c .before .before .before .sort in
@@ -20,11 +17,5 @@ hill-sum-requires c κs =
       some-at (s .last .0) (sym (s .ensures .same 0) ∙ pre .3) _ (omega (arith, s .kept .0)),
     )
 
-same-length : tie.Need-same-length
-same-length c = search needs
-
-returns : tie.Need-returns
-returns c = search needs
-
 pub sum-of-largest-spec : {M : Type 1} → statement M
-sum-of-largest-spec = tie.close (tie.spec sort-requires hill-sum-requires same-length returns)
+sum-of-largest-spec = tie.close (tie.spec (λ c κs. search needs) hill-sum-requires (λ c. search needs) (λ c. search needs))

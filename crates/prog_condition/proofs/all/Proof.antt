@@ -84,27 +84,6 @@ returns-3 c = search needs
 pub all-spec : {M : Type 1} → statement M
 all-spec =
     tie.close
-    (tie.spec
-    Inv-loop
-    μ-loop
-    loop-holds
-    add-size
-    size-requires
-    one-requires
-    enum-known-c
-    mul-campaigns
-    array-set-from-campaigns
-    enum-known-line
-    add-refused
-    refused-requires
-    same-length
-    returns
-    enum-told
-    same-length-2
-    returns-2
-    add-i
-    loop-less
-    loop-again
-    told-requires
-    same-length-3
-    returns-3)
+    (tie.spec Inv-loop μ-loop loop-holds add-size size-requires one-requires enum-known-c mul-campaigns
+    array-set-from-campaigns enum-known-line add-refused refused-requires same-length returns enum-told same-length-2
+    returns-2 add-i loop-less loop-again told-requires same-length-3 returns-3)

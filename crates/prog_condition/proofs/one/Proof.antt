@@ -61,19 +61,5 @@ returns-2 c = search needs
 pub one-spec : {M : Type 1} → statement M
 one-spec =
     tie.close
-    (tie.spec
-    Inv-loop
-    μ-loop
-    loop-holds
-    turn-requires
-    enum-known-t
-    loop-less
-    loop-again
-    enum-known-reading
-    same-length
-    returns
-    slice-reshare-prefix-read
-    slice-aggregate-read
-    read-requires
-    same-length-2
-    returns-2)
+    (tie.spec Inv-loop μ-loop loop-holds turn-requires enum-known-t loop-less loop-again enum-known-reading same-length
+    returns slice-reshare-prefix-read slice-aggregate-read read-requires same-length-2 returns-2)

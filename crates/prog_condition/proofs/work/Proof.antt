@@ -20,32 +20,11 @@ left-few c =
     let few = rw (← r .read .ensures, c .before .reading .given .1) at (unread true (take (s .args .end) (now (s .args .text))) (s .args .s)) in
     (omega (arith, few .0, length-take-le (s .args .end) (now (s .args .text)) (s .pre)), few .1)
 
-slice-reshare-prefix-read : tie.Need-slice-reshare-prefix-read
-slice-reshare-prefix-read c = search needs
-
 slice-aggregate-read : tie.Need-slice-aggregate-read
 slice-aggregate-read c = sym (length-take-le _ _ (omega arith))
 
-read-requires : tie.Need-read-requires
-read-requires c κs = search needs
-
-enum-known-reading : tie.Need-enum-known-reading
-enum-known-reading c = search needs
-
-same-length : tie.Need-same-length
-same-length c = search needs
-
-returns : tie.Need-returns
-returns c = search needs
-
 sub-keep : tie.Need-sub-keep
 sub-keep c = omega (arith, left-few (c .before) .0)
-
-keep-requires : tie.Need-keep-requires
-keep-requires c κs = search needs
-
-same-length-2 : tie.Need-same-length-2
-same-length-2 c = search needs
 
 returns-2 : tie.Need-returns-2
 returns-2 c = (left-few (c .before .before .before .before) .1, omega arith)
@@ -53,14 +32,5 @@ returns-2 c = (left-few (c .before .before .before .before) .1, omega arith)
 pub work-spec : {M : Type 1} → statement M
 work-spec =
     tie.close
-    (tie.spec
-    slice-reshare-prefix-read
-    slice-aggregate-read
-    read-requires
-    enum-known-reading
-    same-length
-    returns
-    sub-keep
-    keep-requires
-    same-length-2
-    returns-2)
+    (tie.spec (λ c. search needs) slice-aggregate-read (λ c κs. search needs) (λ c. search needs) (λ c. search needs)
+    (λ c. search needs) sub-keep (λ c κs. search needs) (λ c. search needs) returns-2)

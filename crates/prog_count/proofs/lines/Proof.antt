@@ -18,15 +18,6 @@ zeros-front zero m h = refl
 zeros-front (suc n) zero h = absurd (not-suc-le-zero h)
 zeros-front (suc n) (suc m) h = ap (λ (l : List ℤ). pos 0 ∷ l) (zeros-front n m (le-of-suc-le-suc h))
 
-slice-aggregate-take : tie.Need-slice-aggregate-take
-slice-aggregate-take c = search needs
-
-take-requires : tie.Need-take-requires
-take-requires c κs = search needs
-
-enum-known-f : tie.Need-enum-known-f
-enum-known-f c = search needs
-
 few : (c : tie.After-known-told) → c .before .f .given .0 .1 .1 .0 ≤ length (c .before .before .before .before .take .last .1 .1 .0)
 unfolding numberOf
 few c =
@@ -52,27 +43,9 @@ fed-requires c κs =
     let n = few (c .before .before) in
     zeros-front _ 16384 (array-share-prefix-zeros (c .before)) ∙ ap (λ (k : ℕ). replicate k (pos 0)) (sym (length-take-le _ _ n))
 
-enum-told : tie.Need-enum-told
-enum-told c = search needs
-
-returns : tie.Need-returns
-returns c = search needs
-
-returns-2 : tie.Need-returns-2
-returns-2 c = search needs
-
 pub lines-spec : {M : Type 1} → statement M
 lines-spec =
     tie.close
-    (tie.spec
-    slice-aggregate-take
-    take-requires
-    enum-known-f
-    array-share-prefix-samples
-    slice-aggregate-fed
-    array-share-prefix-zeros
-    slice-aggregate-fed-2
-    fed-requires
-    enum-told
-    returns
-    returns-2)
+    (tie.spec (λ c. search needs) (λ c κs. search needs) (λ c. search needs) array-share-prefix-samples
+    slice-aggregate-fed array-share-prefix-zeros slice-aggregate-fed-2 fed-requires (λ c. search needs)
+    (λ c. search needs) (λ c. search needs))

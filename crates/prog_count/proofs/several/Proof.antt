@@ -64,22 +64,6 @@ returns-2 c = search needs
 pub several-spec : {M : Type 1} → statement M
 several-spec =
     tie.close
-    (tie.spec
-    Inv-loop
-    μ-loop
-    loop-holds
-    item-requires
-    fresh-requires
-    serve-requires
-    among-requires
-    enum-known-t
-    enum-known-end
-    same-length
-    returns
-    wrapping-add-u64-requires
-    add-i
-    loop-less
-    loop-again
-    summed-requires
-    same-length-2
-    returns-2)
+    (tie.spec Inv-loop μ-loop loop-holds item-requires fresh-requires serve-requires among-requires enum-known-t
+    enum-known-end same-length returns wrapping-add-u64-requires add-i loop-less loop-again summed-requires
+    same-length-2 returns-2)

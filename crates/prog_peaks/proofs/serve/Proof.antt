@@ -88,30 +88,6 @@ returns-4 c = search needs
 pub serve-spec : {M : Type 1} → statement M
 serve-spec =
     tie.close
-    (tie.spec
-    Inv-loop
-    μ-loop
-    loop-holds
-    turn-requires
-    enum-known-c
-    live-requires
-    enum-known-c-2
-    finish-requires
-    same-length
-    same-length-2
-    returns
-    enum-known-line
-    refused-requires
-    same-length-3
-    same-length-4
-    returns-2
-    enum-told
-    same-length-5
-    same-length-6
-    returns-3
-    sub-turns
-    loop-less
-    loop-again
-    same-length-7
-    same-length-8
-    returns-4)
+    (tie.spec Inv-loop μ-loop loop-holds turn-requires enum-known-c live-requires enum-known-c-2 finish-requires
+    same-length same-length-2 returns enum-known-line refused-requires same-length-3 same-length-4 returns-2 enum-told
+    same-length-5 same-length-6 returns-3 sub-turns loop-less loop-again same-length-7 same-length-8 returns-4)

@@ -53,19 +53,5 @@ returns-4 c = search needs
 pub tell-spec : {M : Type 1} → statement M
 tell-spec =
     tie.close
-    (tie.spec
-    Inv-loop
-    μ-loop
-    loop-holds
-    returns
-    returns-2
-    mul-told
-    shared-slice-read-told
-    mul-told-2
-    shared-slice-read-told-2
-    told-requires
-    returns-3
-    add-i
-    loop-less
-    loop-again
-    returns-4)
+    (tie.spec Inv-loop μ-loop loop-holds returns returns-2 mul-told shared-slice-read-told mul-told-2
+    shared-slice-read-told-2 told-requires returns-3 add-i loop-less loop-again returns-4)

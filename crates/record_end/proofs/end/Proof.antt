@@ -9,9 +9,6 @@ use borrow.Author.Needs.{needs}
 use Rattle.record_end.proofs.end.Statement.{statement}
 use Rattle.record_end.proofs.end.Tie as tie
 
-sound-requires : tie.Need-sound-requires
-sound-requires c κs = search needs
-
 returns : tie.Need-returns
 unfolding ending
 returns c = rw (said-no (c .before .sound .ensures) (c .if1 .taken))
@@ -31,4 +28,4 @@ unfolding ending
 returns-3 c = rw (said-yes (c .before .before .before .before .before .sound .ensures) (c .before .before .before .before .if1 .left), le-ltb _ _ (c .before .if2 .left), c .exposure-of .ensures)
 
 pub end-spec : {M : Type 1} → statement M
-end-spec = tie.close (tie.spec sound-requires returns add-if2 returns-2 exposure-of-requires returns-3)
+end-spec = tie.close (tie.spec (λ c κs. search needs) returns add-if2 returns-2 exposure-of-requires returns-3)

@@ -15,12 +15,6 @@ use Rattle.record_end.proofs.exposure_of.Tie as tie
 failed-of : (r : Record) → ¬ (r .first ≡ 0) → failed r ≡ true
 failed-of r h = ap not (ne-eqb (r .first) 0 h)
 
-sub-result : tie.Need-sub-result
-sub-result c = search needs
-
-sub-result-2 : tie.Need-sub-result-2
-sub-result-2 c = search needs
-
 mul-result : tie.Need-mul-result
 mul-result c = let r = c .before .before .before .before .before .args .r in let t = whole-time r (c .before .before .before .before .before .pre .0) (le-ltb (r .n) (r .ramp + 2) (c .before .before .before .before .before .pre .1)) in omega arith
 
@@ -39,4 +33,4 @@ returns-2 c = rw (failed-of (c .before .before .before .before .args .r) (c .bef
 pub exposure-of-spec : {M : Type 1} → statement M
 exposure-of-spec =
     tie.close
-    (tie.spec sub-result sub-result-2 mul-result sub-result-3 mul-result-2 returns returns-2)
+    (tie.spec (λ c. search needs) (λ c. search needs) mul-result sub-result-3 mul-result-2 returns returns-2)

@@ -14,18 +14,6 @@ use Rattle.record_feed.proofs.Quiet.{quiet-still, still-run}
 use Rattle.record_feed.proofs.advance.Statement.{statement}
 use Rattle.record_feed.proofs.advance.Tie as tie
 
-step-all-requires : tie.Need-step-all-requires
-step-all-requires c κs = search needs
-
-returns : tie.Need-returns
-returns c = search needs
-
-sub-moment-at : tie.Need-sub-moment-at
-sub-moment-at c = search needs
-
-moment-at-requires : tie.Need-moment-at-requires
-moment-at-requires c κs = search needs
-
 moved-requires : tie.Need-moved-requires
 moved-requires c κs = let a = c .before .before in omega (arith, a .pre .0 .room, small (kept-from (a .args .r) (a .pre .0 .state)))
 
@@ -42,4 +30,4 @@ returns-2 c =
 pub advance-spec : {M : Type 1} → statement M
 advance-spec =
     tie.close
-    (tie.spec step-all-requires returns sub-moment-at moment-at-requires moved-requires returns-2)
+    (tie.spec (λ c κs. search needs) (λ c. search needs) (λ c. search needs) (λ c κs. search needs) moved-requires returns-2)

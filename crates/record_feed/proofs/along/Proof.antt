@@ -118,17 +118,5 @@ returns c =
 pub along-spec : {M : Type 1} → statement M
 along-spec =
     tie.close
-    (tie.spec
-    Inv-loop
-    μ-loop
-    gap-of-requires
-    below-requires
-    loop-holds
-    moment-at-requires
-    shared-slice-read-up
-    both-requires
-    step-requires
-    add-i
-    loop-less
-    loop-again
-    returns)
+    (tie.spec Inv-loop μ-loop gap-of-requires below-requires loop-holds moment-at-requires shared-slice-read-up
+    both-requires step-requires add-i loop-less loop-again returns)

@@ -3,14 +3,8 @@ use borrow.Author.Needs.{needs}
 use Rattle.record_feed.proofs.below.Statement.{statement}
 use Rattle.record_feed.proofs.below.Tie as tie
 
-above-requires : tie.Need-above-requires
-above-requires c κs = search needs
-
-both-requires : tie.Need-both-requires
-both-requires c κs = search needs
-
 returns : tie.Need-returns
 returns c = rw (c .both .ensures, c .before .above .ensures)
 
 pub below-spec : {M : Type 1} → statement M
-below-spec = tie.close (tie.spec above-requires both-requires returns)
+below-spec = tie.close (tie.spec (λ c κs. search needs) (λ c κs. search needs) returns)

@@ -24,14 +24,8 @@ add-t7 c = let k = kept-from (c .before .before .before .before .args .r) (c .be
 add-t8 : tie.Need-add-t8
 add-t8 c = let k = kept-from (c .before .before .before .before .before .args .r) (c .before .before .before .before .before .pre .0) in omega (arith, k .length, small k, crossings-below k, k .counts)
 
-pick-requires : tie.Need-pick-requires
-pick-requires c κs = search needs
-
 add-pick : tie.Need-add-pick
 add-pick c = let k = kept-from (c .before .before .before .before .before .before .before .before .args .r) (c .before .before .before .before .before .before .before .before .pre .0) in omega (arith, k .length, small k, crossings-below k, k .counts, groups-within k)
-
-pick-requires-2 : tie.Need-pick-requires-2
-pick-requires-2 c κs = search needs
 
 returns : tie.Need-returns
 returns c =
@@ -43,4 +37,4 @@ returns c =
 pub counted-spec : {M : Type 1} → statement M
 counted-spec =
     tie.close
-    (tie.spec far-requires add-t6 add-t7 add-t8 pick-requires add-pick pick-requires-2 returns)
+    (tie.spec far-requires add-t6 add-t7 add-t8 (λ c κs. search needs) add-pick (λ c κs. search needs) returns)

@@ -6,22 +6,13 @@ use Rattle.sample_channels.proofs.Range.{looked-bad, looked-good, equally-long}
 use Rattle.record_feed.proofs.fault.Statement.{statement}
 use Rattle.record_feed.proofs.fault.Tie as tie
 
-look-over-requires : tie.Need-look-over-requires
-look-over-requires c κs = search needs
-
-enum-known-look : tie.Need-enum-known-look
-enum-known-look c = search needs
-
 returns : tie.Need-returns
 returns c =
     let b = looked-bad _ _ (c .before .look .given .0 .0) (sym (c .before .before .before .look-over .ensures) ∙ c .before .look .given .1) in
     rw (b .0) (ap Refused (sym (b .1) ∙ equally-long _ _ (c .before .before .before .before .pre) (b .0)))
 
-enum-told : tie.Need-enum-told
-enum-told c = search needs
-
 returns-2 : tie.Need-returns-2
 returns-2 c = rw (looked-good _ _ (sym (c .before .before .look-over .ensures) ∙ c .enum-told .given .1))
 
 pub fault-spec : {M : Type 1} → statement M
-fault-spec = tie.close (tie.spec look-over-requires enum-known-look returns enum-told returns-2)
+fault-spec = tie.close (tie.spec (λ c κs. search needs) (λ c. search needs) returns (λ c. search needs) returns-2)

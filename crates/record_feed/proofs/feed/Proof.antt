@@ -12,9 +12,6 @@ use Rattle.record_feed.proofs.Fed.{fed-broken, fed-unequal, fed-full}
 use Rattle.record_feed.proofs.feed.Statement.{statement}
 use Rattle.record_feed.proofs.feed.Tie as tie
 
-sound-requires : tie.Need-sound-requires
-sound-requires c κs = search needs
-
 returns : tie.Need-returns
 returns c = sym (fed-broken _ _ _ (sym (c .before .sound .ensures) ∙ not-true _ (c .if1 .taken)))
 
@@ -28,9 +25,6 @@ facts c = kept-from (c .before .before .args .r) (held c)
 returns-2 : tie.Need-returns-2
 returns-2 c = sym (fed-unequal _ _ _ (held (c .before)) (c .if2 .taken))
 
-most-samples-requires : tie.Need-most-samples-requires
-most-samples-requires c κs = search needs
-
 -- the room for samples
 most : (c : tie.After-most-samples) → c .most-samples .result ≡ mostSamples (c .before .before .before .before .args .r .step) (c .before .before .before .before .args .r .ramp)
 most c = c .most-samples .ensures ∙ most-of (facts (c .before .before))
@@ -41,12 +35,6 @@ sub-room c = omega (arith, most (c .before), facts (c .before .before .before) .
 pass-requires : tie.Need-pass-requires
 pass-requires c κs = (held (c .before .before .before .before), c .before .before .before .if2 .left, omega (arith, most (c .before .before), facts (c .before .before .before .before) .length))
 
-returns-3 : tie.Need-returns-3
-returns-3 c = search needs
-
-fault-requires : tie.Need-fault-requires
-fault-requires c κs = search needs
-
 returns-4 : tie.Need-returns-4
 returns-4 c =
     let k = facts (c .before .before .before .before .before) in
@@ -55,13 +43,5 @@ returns-4 c =
 pub feed-spec : {M : Type 1} → statement M
 feed-spec =
     tie.close
-    (tie.spec
-    sound-requires
-    returns
-    returns-2
-    most-samples-requires
-    sub-room
-    pass-requires
-    returns-3
-    fault-requires
-    returns-4)
+    (tie.spec (λ c κs. search needs) returns returns-2 (λ c κs. search needs) sub-room pass-requires (λ c. search needs)
+    (λ c κs. search needs) returns-4)

@@ -165,26 +165,7 @@ returns-2 c =
 pub pass-spec : {M : Type 1} → statement M
 pass-spec =
     tie.close
-    (tie.spec
-    Inv-loop
-    μ-loop
-    loop-holds
-    end-requires
-    mul-rolls
-    sub-rolls
-    part-rolls-start
-    part-rolls-end
-    mul-accelerations
-    sub-accelerations
-    part-accelerations-start
-    part-accelerations-end
-    ends-of-requires
-    ends-of-requires-2
-    outside-requires
-    fault-requires
-    returns
-    past-requires
-    advance-requires
-    loop-less
-    loop-again
+    (tie.spec Inv-loop μ-loop loop-holds end-requires mul-rolls sub-rolls part-rolls-start part-rolls-end
+    mul-accelerations sub-accelerations part-accelerations-start part-accelerations-end ends-of-requires
+    ends-of-requires-2 outside-requires fault-requires returns past-requires advance-requires loop-less loop-again
     returns-2)

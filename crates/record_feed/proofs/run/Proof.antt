@@ -11,15 +11,6 @@ use Rattle.sample_channels.proofs.Marks.{marks-front, marks-many}
 use Rattle.record_feed.proofs.run.Statement.{statement}
 use Rattle.record_feed.proofs.run.Tie as tie
 
-slice-aggregate-mark : tie.Need-slice-aggregate-mark
-slice-aggregate-mark c = search needs
-
-mark-requires : tie.Need-mark-requires
-mark-requires c κs = search needs
-
-array-share-prefix-ups : tie.Need-array-share-prefix-ups
-array-share-prefix-ups c = search needs
-
 -- all of the acceleration is handed on
 all : (c : tie.Start) → take (length (c .args .roll .now)) (c .args .acceleration .now) ≡ c .args .acceleration .now
 all c = take-all (length (c .args .roll .now)) (c .args .acceleration .now) (omega (arith, c .pre .0 .equal))
@@ -48,11 +39,5 @@ returns c = rw (all (c .before .before .before .before .before .before)) at (c .
 pub run-spec : {M : Type 1} → statement M
 run-spec =
     tie.close
-    (tie.spec
-    slice-aggregate-mark
-    mark-requires
-    array-share-prefix-ups
-    slice-aggregate-along
-    slice-aggregate-along-2
-    along-requires
-    returns)
+    (tie.spec (λ c. search needs) (λ c κs. search needs) (λ c. search needs) slice-aggregate-along
+    slice-aggregate-along-2 along-requires returns)

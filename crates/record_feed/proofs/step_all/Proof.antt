@@ -15,20 +15,8 @@ use Rattle.record_state.proofs.Bounds.{small}
 use Rattle.record_feed.proofs.step_all.Statement.{statement}
 use Rattle.record_feed.proofs.step_all.Tie as tie
 
-leading-requires : tie.Need-leading-requires
-leading-requires c κs = search needs
-
 run-requires : tie.Need-run-requires
 run-requires c κs = (c .before .before .pre .0, omega (arith, c .before .leading .ensures))
-
-returns : tie.Need-returns
-returns c = search needs
-
-sub-moment-at : tie.Need-sub-moment-at
-sub-moment-at c = search needs
-
-moment-at-requires : tie.Need-moment-at-requires
-moment-at-requires c κs = search needs
 
 moved-requires : tie.Need-moved-requires
 moved-requires c κs = let a = c .before .before .before in omega (arith, a .pre .0 .room, small (kept-from (a .args .r) (a .pre .0 .state)), c .before .before .leading .ensures)
@@ -44,30 +32,6 @@ returns-2 c =
     let j = c .before .before .before .before .leading .result in
     let l = c .before .before .before .before .leading .ensures in
     c .before .moved .ensures ∙ ap (moved r j) (c .before .before .moment-at .ensures) ∙ sym (led r p j (omega arith) (omega arith) (omega arith)) ∙ ap (foldl stepped r) (take-all j p (omega arith))
-
-mul-run : tie.Need-mul-run
-mul-run c = search needs
-
-sub-run : tie.Need-sub-run
-sub-run c = search needs
-
-part-run-start : tie.Need-part-run-start
-part-run-start c = search needs
-
-part-run-end : tie.Need-part-run-end
-part-run-end c = search needs
-
-mul-run-2 : tie.Need-mul-run-2
-mul-run-2 c = search needs
-
-sub-run-2 : tie.Need-sub-run-2
-sub-run-2 c = search needs
-
-part-run-start-2 : tie.Need-part-run-start-2
-part-run-start-2 c = search needs
-
-part-run-end-2 : tie.Need-part-run-end-2
-part-run-end-2 c = search needs
 
 run-requires-2 : tie.Need-run-requires-2
 run-requires-2 c κs =
@@ -112,21 +76,6 @@ returns-3 c =
 pub step-all-spec : {M : Type 1} → statement M
 step-all-spec =
     tie.close
-    (tie.spec
-    leading-requires
-    run-requires
-    returns
-    sub-moment-at
-    moment-at-requires
-    moved-requires
-    returns-2
-    mul-run
-    sub-run
-    part-run-start
-    part-run-end
-    mul-run-2
-    sub-run-2
-    part-run-start-2
-    part-run-end-2
-    run-requires-2
-    returns-3)
+    (tie.spec (λ c κs. search needs) run-requires (λ c. search needs) (λ c. search needs) (λ c κs. search needs)
+    moved-requires returns-2 (λ c. search needs) (λ c. search needs) (λ c. search needs) (λ c. search needs)
+    (λ c. search needs) (λ c. search needs) (λ c. search needs) (λ c. search needs) run-requires-2 returns-3)

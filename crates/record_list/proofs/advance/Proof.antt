@@ -11,18 +11,6 @@ use Rattle.record_list.proofs.Steps.{quiet-block}
 use Rattle.record_list.proofs.advance.Statement.{statement}
 use Rattle.record_list.proofs.advance.Tie as tie
 
-walk-block-requires : tie.Need-walk-block-requires
-walk-block-requires c κs = search needs
-
-same-length : tie.Need-same-length
-same-length c = search needs
-
-returns : tie.Need-returns
-returns c = search needs
-
-passed-requires : tie.Need-passed-requires
-passed-requires c κs = search needs
-
 returns-2 : tie.Need-returns-2
 returns-2 c =
     let a = c .before .before .before in
@@ -32,4 +20,4 @@ returns-2 c =
     ap (λ (w : Walk). noting w (g .times .now)) (c .passed .ensures) ∙ sym (rw n at q)
 
 pub advance-spec : {M : Type 1} → statement M
-advance-spec = tie.close (tie.spec walk-block-requires same-length returns passed-requires returns-2)
+advance-spec = tie.close (tie.spec (λ c κs. search needs) (λ c. search needs) (λ c. search needs) (λ c κs. search needs) returns-2)

@@ -71,14 +71,5 @@ returns c =
 pub along-spec : {M : Type 1} → statement M
 along-spec =
     tie.close
-    (tie.spec
-    Inv-loop
-    μ-loop
-    loop-holds
-    shared-slice-read-stepped
-    stepped-requires
-    add-i
-    loop-less
-    loop-again
-    same-length
-    returns)
+    (tie.spec Inv-loop μ-loop loop-holds shared-slice-read-stepped stepped-requires add-i loop-less loop-again
+    same-length returns)

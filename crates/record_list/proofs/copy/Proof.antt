@@ -57,16 +57,5 @@ returns c =
 pub copy-spec : {M : Type 1} → statement M
 copy-spec =
     tie.close
-    (tie.spec
-    Inv-loop
-    μ-loop
-    loop-holds
-    mul-times
-    shared-slice-read-times
-    mul-times-2
-    slice-write-times
-    add-i
-    loop-less
-    loop-again
-    same-length
-    returns)
+    (tie.spec Inv-loop μ-loop loop-holds mul-times shared-slice-read-times mul-times-2 slice-write-times add-i loop-less
+    loop-again same-length returns)

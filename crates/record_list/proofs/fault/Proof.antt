@@ -7,23 +7,14 @@ use Rattle.record_list.specs.declared.Listed.the-variants.{Refused}
 use Rattle.record_list.proofs.fault.Statement.{statement}
 use Rattle.record_list.proofs.fault.Tie as tie
 
-look-over-requires : tie.Need-look-over-requires
-look-over-requires c κs = search needs
-
-enum-known-look : tie.Need-enum-known-look
-enum-known-look c = search needs
-
 returns : tie.Need-returns
 returns c = λ h.
     let e = sym (c .before .before .before .look-over .ensures) ∙ c .before .look .given .1 in
     let l = looked-bad _ _ (c .before .look .given .0 .0) e in
     ap Refused (sym (l .1) ∙ equally-long _ _ (c .before .before .before .before .pre) h)
 
-enum-told : tie.Need-enum-told
-enum-told c = search needs
-
 returns-2 : tie.Need-returns-2
 returns-2 c = λ h. absurd (true≢false (sym h ∙ looked-good _ _ (sym (c .before .before .look-over .ensures) ∙ c .enum-told .given .1)))
 
 pub fault-spec : {M : Type 1} → statement M
-fault-spec = tie.close (tie.spec look-over-requires enum-known-look returns enum-told returns-2)
+fault-spec = tie.close (tie.spec (λ c κs. search needs) (λ c. search needs) returns (λ c. search needs) returns-2)

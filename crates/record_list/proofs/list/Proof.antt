@@ -15,17 +15,8 @@ use Rattle.record_list.proofs.Answered.{lists-refused, lists-bad, lists
 use Rattle.record_list.proofs.list.Statement.{statement}
 use Rattle.record_list.proofs.list.Tie as tie
 
-judge-requires : tie.Need-judge-requires
-judge-requires c κs = search needs
-
-enum-known-size : tie.Need-enum-known-size
-enum-known-size c = search needs
-
 returns : tie.Need-returns
 returns c = lists-refused (c .before .before .before .before .before .args .step) (c .before .before .before .before .before .args .ramp) (c .before .before .before .before .before .args .levels) (c .before .before .before .before .before .args .decorrelation) (c .before .before .before .before .before .args .roll .now) (c .before .before .before .before .before .args .acceleration .now) (c .before .before .before .before .before .args .times .now) (c .before .size .given .0 .0) (refused-tested (c .before .before .before .before .before .args .step) (c .before .before .before .before .before .args .ramp) (c .before .before .before .before .before .args .levels) (c .before .before .before .before .before .args .decorrelation) (c .before .before .before .before .before .args .roll .now) (c .before .before .before .before .before .args .acceleration .now) (c .before .size .given .0 .0) (sym (c .before .before .before .judge .ensures) ∙ c .before .size .given .1))
-
-enum-told : tie.Need-enum-told
-enum-told c = search needs
 
 -- past the first tests the record fits
 fit : (c : tie.After-enum-told) → Fitting (c .before .before .before .before .args .step) (c .before .before .before .before .args .ramp) (c .before .before .before .before .args .levels) (c .before .before .before .before .args .decorrelation) (length (c .before .before .before .before .args .roll .now)) (length (c .before .before .before .before .args .acceleration .now))
@@ -37,12 +28,6 @@ slice-aggregate-look-over c = sym (length-take-le _ _ (omega (arith, fit (c .bef
 slice-aggregate-look-over-2 : tie.Need-slice-aggregate-look-over-2
 slice-aggregate-look-over-2 c = sym (length-take-le _ _ (omega (arith, fit (c .before .before) .few, fit (c .before .before) .equal)))
 
-look-over-requires : tie.Need-look-over-requires
-look-over-requires c κs = search needs
-
-enum-told-2 : tie.Need-enum-told-2
-enum-told-2 c = search needs
-
 fault-requires : tie.Need-fault-requires
 fault-requires c κs = fit (c .before .before .before .before .before) .equal
 
@@ -51,9 +36,6 @@ returns-2 c =
     let l = looked-bad (take (c .before .before .before .before .before .before .before .before .before .before .args .ramp) (c .before .before .before .before .before .before .before .before .before .before .args .roll .now)) (take (c .before .before .before .before .before .before .before .before .before .before .args .ramp) (c .before .before .before .before .before .before .before .before .before .before .args .acceleration .now)) (c .before .enum-told2 .given .0 .0) (sym (c .before .before .before .look-over .ensures) ∙ c .before .enum-told2 .given .1) in
     let w : anyBad (c .before .before .before .before .before .before .before .before .before .before .args .roll .now) (c .before .before .before .before .before .before .before .before .before .before .args .acceleration .now) ≡ true = any-parts (c .before .before .before .before .before .before .before .before .before .before .args .roll .now) (c .before .before .before .before .before .before .before .before .before .before .args .acceleration .now) (c .before .before .before .before .before .before .before .before .before .before .args .ramp) ∙ rw (l .0) in
     rw (c .fault .ensures w) (lists-bad (c .before .before .before .before .before .before .before .before .before .before .args .step) (c .before .before .before .before .before .before .before .before .before .before .args .ramp) (c .before .before .before .before .before .before .before .before .before .before .args .levels) (c .before .before .before .before .before .before .before .before .before .before .args .decorrelation) (c .before .before .before .before .before .before .before .before .before .before .args .roll .now) (c .before .before .before .before .before .before .before .before .before .before .args .acceleration .now) (c .before .before .before .before .before .before .before .before .before .before .args .times .now) (fit (c .before .before .before .before .before .before)) w)
-
-enum-told-3 : tie.Need-enum-told-3
-enum-told-3 c = search needs
 
 -- past the look no sample of the ramp is bad
 good : (c : tie.After-enum-told3) → anyBad (take (c .before .before .before .before .before .before .before .before .before .args .ramp) (c .before .before .before .before .before .before .before .before .before .args .roll .now)) (take (c .before .before .before .before .before .before .before .before .before .args .ramp) (c .before .before .before .before .before .before .before .before .before .args .acceleration .now)) ≡ false
@@ -74,9 +56,6 @@ sub-list-timed c = omega (arith, fit (c .before .before .before .before .before)
 part-list-timed-start : tie.Need-part-list-timed-start
 part-list-timed-start c = omega (arith, fit (c .before .before .before .before .before) .few)
 
-part-list-timed-end : tie.Need-part-list-timed-end
-part-list-timed-end c = search needs
-
 mul-list-timed-2 : tie.Need-mul-list-timed-2
 mul-list-timed-2 c = omega (arith, fit (c .before .before .before .before .before .before) .few, fit (c .before .before .before .before .before .before) .equal)
 
@@ -86,9 +65,6 @@ sub-list-timed-2 c = omega (arith, fit (c .before .before .before .before .befor
 part-list-timed-start-2 : tie.Need-part-list-timed-start-2
 part-list-timed-start-2 c = omega (arith, fit (c .before .before .before .before .before .before) .few, fit (c .before .before .before .before .before .before) .equal)
 
-part-list-timed-end-2 : tie.Need-part-list-timed-end-2
-part-list-timed-end-2 c = search needs
-
 list-timed-requires : tie.Need-list-timed-requires
 list-timed-requires c κs =
     let f = fit (c .before .before .before .before .before .before .before .before) in
@@ -96,26 +72,14 @@ list-timed-requires c κs =
     let t = timed (c .before .before .before) in
     rw (t .0, t .1) (ready (c .before .before .before .before .before .before .before .before .before .before .before .before .args .step) (c .before .before .before .before .before .before .before .before .before .before .before .before .args .ramp) (c .before .before .before .before .before .before .before .before .before .before .before .before .args .levels) (c .before .before .before .before .before .before .before .before .before .before .before .before .args .decorrelation) (g .roll .now) f, omega (arith, f .equal, length-drop (g .ramp) (g .roll .now), length-drop (g .ramp) (g .acceleration .now)))
 
-enum-known-settled : tie.Need-enum-known-settled
-enum-known-settled c = search needs
-
-enum-told-4 : tie.Need-enum-told-4
-enum-told-4 c = search needs
-
 fault-requires-2 : tie.Need-fault-requires-2
 fault-requires-2 c κs = fit (c .before .before .before .before .before .before .before .before .before .before .before .before .before) .equal
-
-same-length : tie.Need-same-length
-same-length c = search needs
 
 returns-3 : tie.Need-returns-3
 returns-3 c =
     let t = timed (c .before .before .before .before .before .before .before .before .before) in
     let q = rw (t .0, t .1, c .before .settled .given .1) at (c .before .before .before .before .before .list-timed .ensures) in
     lists-good (c .before .before .before .before .before .before .before .before .before .before .before .before .before .before .before .before .before .before .args .step) (c .before .before .before .before .before .before .before .before .before .before .before .before .before .before .before .before .before .before .args .ramp) (c .before .before .before .before .before .before .before .before .before .before .before .before .before .before .before .before .before .before .args .levels) (c .before .before .before .before .before .before .before .before .before .before .before .before .before .before .before .before .before .before .args .decorrelation) (c .before .before .before .before .before .before .before .before .before .before .before .before .before .before .before .before .before .before .args .roll .now) (c .before .before .before .before .before .before .before .before .before .before .before .before .before .before .before .before .before .before .args .acceleration .now) (c .before .before .before .before .before .before .before .before .before .before .before .before .before .before .before .before .before .before .args .times .now) (fit (c .before .before .before .before .before .before .before .before .before .before .before .before .before .before)) (any-parts (c .before .before .before .before .before .before .before .before .before .before .before .before .before .before .before .before .before .before .args .roll .now) (c .before .before .before .before .before .before .before .before .before .before .before .before .before .before .before .before .before .before .args .acceleration .now) (c .before .before .before .before .before .before .before .before .before .before .before .before .before .before .before .before .before .before .args .ramp) ∙ rw (good (c .before .before .before .before .before .before .before .before .before), q .0)) (q .1)
-
-same-length-2 : tie.Need-same-length-2
-same-length-2 c = search needs
 
 returns-4 : tie.Need-returns-4
 returns-4 c =
@@ -127,31 +91,8 @@ returns-4 c =
 pub list-spec : {M : Type 1} → statement M
 list-spec =
     tie.close
-    (tie.spec
-    judge-requires
-    enum-known-size
-    returns
-    enum-told
-    slice-aggregate-look-over
-    slice-aggregate-look-over-2
-    look-over-requires
-    enum-told-2
-    fault-requires
-    returns-2
-    enum-told-3
-    mul-list-timed
-    sub-list-timed
-    part-list-timed-start
-    part-list-timed-end
-    mul-list-timed-2
-    sub-list-timed-2
-    part-list-timed-start-2
-    part-list-timed-end-2
-    list-timed-requires
-    enum-known-settled
-    enum-told-4
-    fault-requires-2
-    same-length
-    returns-3
-    same-length-2
-    returns-4)
+    (tie.spec (λ c κs. search needs) (λ c. search needs) returns (λ c. search needs) slice-aggregate-look-over
+    slice-aggregate-look-over-2 (λ c κs. search needs) (λ c. search needs) fault-requires returns-2 (λ c. search needs)
+    mul-list-timed sub-list-timed part-list-timed-start (λ c. search needs) mul-list-timed-2 sub-list-timed-2
+    part-list-timed-start-2 (λ c. search needs) list-timed-requires (λ c. search needs) (λ c. search needs)
+    fault-requires-2 (λ c. search needs) returns-3 (λ c. search needs) returns-4)

@@ -140,28 +140,7 @@ returns-2 c =
 pub pass-spec : {M : Type 1} → statement M
 pass-spec =
     tie.close
-    (tie.spec
-    Inv-loop
-    μ-loop
-    start-requires
-    loop-holds
-    end-requires
-    mul-rolls
-    sub-rolls
-    part-rolls-start
-    part-rolls-end
-    mul-accelerations
-    sub-accelerations
-    part-accelerations-start
-    part-accelerations-end
-    ends-of-requires
-    ends-of-requires-2
-    outside-requires
-    same-length
-    returns
-    past-requires
-    advance-requires
-    loop-less
-    loop-again
-    same-length-2
-    returns-2)
+    (tie.spec Inv-loop μ-loop start-requires loop-holds end-requires mul-rolls sub-rolls part-rolls-start part-rolls-end
+    mul-accelerations sub-accelerations part-accelerations-start part-accelerations-end ends-of-requires
+    ends-of-requires-2 outside-requires same-length returns past-requires advance-requires loop-less loop-again
+    same-length-2 returns-2)

@@ -5,12 +5,6 @@ use Rattle.record_list.proofs.Heard.{heard-count, heard-times}
 use Rattle.record_list.proofs.settle.Statement.{statement}
 use Rattle.record_list.proofs.settle.Tie as tie
 
-enum-told : tie.Need-enum-told
-enum-told c = search needs
-
-enum-known-found : tie.Need-enum-known-found
-enum-known-found c = search needs
-
 write-requires : tie.Need-write-requires
 write-requires c κs =
     let h = rw (c .before .before .found .given .1) at (c .before .before .before .before .before .before .pre .2) in
@@ -19,12 +13,9 @@ write-requires c κs =
 returns : tie.Need-returns
 returns c = let h = rw (c .enum-told .given .1) at (c .before .before .before .before .pre .2) in (h .passes, refl)
 
-same-length : tie.Need-same-length
-same-length c = search needs
-
 returns-2 : tie.Need-returns-2
 returns-2 c = let h = rw (c .before .before .before .before .before .found .given .1) at (c .before .before .before .before .before .before .before .before .before .pre .2) in (h .passes .0, c .before .before .write .ensures)
 
 pub settle-spec : {M : Type 1} → statement M
 settle-spec =
-    tie.close (tie.spec enum-told enum-known-found write-requires returns same-length returns-2)
+    tie.close (tie.spec (λ c. search needs) (λ c. search needs) write-requires returns (λ c. search needs) returns-2)

@@ -7,9 +7,6 @@ use Rattle.record_list.specs.Walk.{stepped}
 use Rattle.record_list.proofs.stepped.Statement.{statement}
 use Rattle.record_list.proofs.stepped.Tie as tie
 
-both-requires : tie.Need-both-requires
-both-requires c κs = search needs
-
 -- the sample before was at most the level, and this one is above it
 crosses : (c : tie.Then1) → (c .before .before .before .args .w .below ≡ true) × (c .before .before .before .args .up ≡ true)
 crosses c = and-true (c .before .before .before .args .w .below) (c .before .before .before .args .up) (sym (c .before .both .ensures) ∙ c .if1 .taken)
@@ -17,15 +14,9 @@ crosses c = and-true (c .before .before .before .args .w .below) (c .before .bef
 crossed-requires : tie.Need-crossed-requires
 crossed-requires c κs = (c .before .before .before .before .pre, crosses (c .before) .0)
 
-same-length : tie.Need-same-length
-same-length c = search needs
-
 returns : tie.Need-returns
 unfolding stepped
 returns c = rw (crosses (c .before .before .before .before) .1) (c .before .before .crossed .ensures)
-
-add-t10 : tie.Need-add-t10
-add-t10 c = search needs
 
 returns-2 : tie.Need-returns-2
 unfolding stepped
@@ -33,4 +24,4 @@ returns-2 c = rw (sym (c .before .before .both .ensures) ∙ c .before .if1 .lef
 
 pub stepped-spec : {M : Type 1} → statement M
 stepped-spec =
-    tie.close (tie.spec both-requires crossed-requires same-length returns add-t10 returns-2)
+    tie.close (tie.spec (λ c κs. search needs) crossed-requires (λ c. search needs) returns (λ c. search needs) returns-2)

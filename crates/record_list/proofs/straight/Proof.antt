@@ -14,23 +14,11 @@ use Rattle.record_list.proofs.Answered.{writes-times}
 use Rattle.record_list.proofs.straight.Statement.{statement}
 use Rattle.record_list.proofs.straight.Tie as tie
 
-look-over-requires : tie.Need-look-over-requires
-look-over-requires c κs = search needs
-
-enum-told : tie.Need-enum-told
-enum-told c = search needs
-
 returns : tie.Need-returns
 returns c = (looked-bad _ _ (c .enum-told .given .0 .0) (sym (c .before .before .look-over .ensures) ∙ c .enum-told .given .1) .0, refl)
 
-enum-told-2 : tie.Need-enum-told-2
-enum-told-2 c = search needs
-
 walk-all-requires : tie.Need-walk-all-requires
 walk-all-requires c κs = (c .before .before .before .before .before .pre .0, c .before .before .before .before .before .pre .1)
-
-same-length : tie.Need-same-length
-same-length c = search needs
 
 returns-2 : tie.Need-returns-2
 returns-2 c =
@@ -48,11 +36,5 @@ returns-2 c =
 pub straight-spec : {M : Type 1} → statement M
 straight-spec =
     tie.close
-    (tie.spec
-    look-over-requires
-    enum-told
-    returns
-    enum-told-2
-    walk-all-requires
-    same-length
-    returns-2)
+    (tie.spec (λ c κs. search needs) (λ c. search needs) returns (λ c. search needs) walk-all-requires
+    (λ c. search needs) returns-2)

@@ -79,22 +79,6 @@ returns c = arrives (c .before .before .before .before .pre .1) (c .before .loop
 pub walk-all-spec : {M : Type 1} → statement M
 walk-all-spec =
     tie.close
-    (tie.spec
-    Inv-loop
-    μ-loop
-    start-requires
-    loop-holds
-    end-requires
-    mul-walk-block
-    sub-walk-block
-    part-walk-block-start
-    part-walk-block-end
-    mul-walk-block-2
-    sub-walk-block-2
-    part-walk-block-start-2
-    part-walk-block-end-2
-    walk-block-requires
-    loop-less
-    loop-again
-    same-length
-    returns)
+    (tie.spec Inv-loop μ-loop start-requires loop-holds end-requires mul-walk-block sub-walk-block part-walk-block-start
+    part-walk-block-end mul-walk-block-2 sub-walk-block-2 part-walk-block-start-2 part-walk-block-end-2
+    walk-block-requires loop-less loop-again same-length returns)

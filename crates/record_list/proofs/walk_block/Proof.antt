@@ -12,15 +12,6 @@ use Rattle.record_list.proofs.Steps.{noted-marks}
 use Rattle.record_list.proofs.walk_block.Statement.{statement}
 use Rattle.record_list.proofs.walk_block.Tie as tie
 
-slice-aggregate-mark : tie.Need-slice-aggregate-mark
-slice-aggregate-mark c = search needs
-
-mark-requires : tie.Need-mark-requires
-mark-requires c κs = search needs
-
-array-share-prefix-ups : tie.Need-array-share-prefix-ups
-array-share-prefix-ups c = search needs
-
 -- what was noted of the block's samples
 noted : (c : tie.After-mark) → take (length (c .before .before .before .args .roll .now)) (c .mark .last .1 .1 .1 .0) ≡ map (above (c .before .before .before .args .levels)) (moments (c .before .before .before .args .roll .now) (c .before .before .before .args .acceleration .now))
 noted c =
@@ -40,9 +31,6 @@ slice-aggregate-along c = as-many (c .before .before)
 along-requires : tie.Need-along-requires
 along-requires c κs = rw (as-many (c .before .before .before)) at (c .before .before .before .before .before .before .pre .0)
 
-same-length : tie.Need-same-length
-same-length c = search needs
-
 returns : tie.Need-returns
 returns c =
     let g = c .before .before .before .before .before .before .before .before .before .args in
@@ -53,11 +41,5 @@ returns c =
 pub walk-block-spec : {M : Type 1} → statement M
 walk-block-spec =
     tie.close
-    (tie.spec
-    slice-aggregate-mark
-    mark-requires
-    array-share-prefix-ups
-    slice-aggregate-along
-    along-requires
-    same-length
-    returns)
+    (tie.spec (λ c. search needs) (λ c κs. search needs) (λ c. search needs) slice-aggregate-along along-requires
+    (λ c. search needs) returns)

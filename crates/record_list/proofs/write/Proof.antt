@@ -12,22 +12,10 @@ use Rattle.record_list.proofs.write.Tie as tie
 returns : tie.Need-returns
 returns c = let n = c .before .before .before .pre .3 in rw n (writes-room (countedTimes (c .before .before .before .args .step) 0 (c .before .before .before .args .levels) (c .before .before .before .args .decorrelation) (moments (c .before .before .before .args .roll .now) (c .before .before .before .args .acceleration .now))) (c .before .before .before .args .times .now) (omega arith))
 
-copy-requires : tie.Need-copy-requires
-copy-requires c κs = search needs
-
-same-length : tie.Need-same-length
-same-length c = search needs
-
 returns-2 : tie.Need-returns-2
 returns-2 c =
     let n = c .before .before .before .before .before .before .before .before .pre .3 in
     rw (c .before .before .copy .ensures, zero-add, c .before .before .before .before .before .before .before .before .pre .4 (omega arith), n) (writes-times (countedTimes (c .before .before .before .before .before .before .before .before .args .step) 0 (c .before .before .before .before .before .before .before .before .args .levels) (c .before .before .before .before .before .before .before .before .args .decorrelation) (moments (c .before .before .before .before .before .before .before .before .args .roll .now) (c .before .before .before .before .before .before .before .before .args .acceleration .now))) (c .before .before .before .before .before .before .before .before .args .times .now) (omega arith))
-
-pass-requires : tie.Need-pass-requires
-pass-requires c κs = search needs
-
-same-length-2 : tie.Need-same-length-2
-same-length-2 c = search needs
 
 returns-3 : tie.Need-returns-3
 returns-3 c =
@@ -38,4 +26,4 @@ returns-3 c =
 pub write-spec : {M : Type 1} → statement M
 write-spec =
     tie.close
-    (tie.spec returns copy-requires same-length returns-2 pass-requires same-length-2 returns-3)
+    (tie.spec returns (λ c κs. search needs) (λ c. search needs) returns-2 (λ c κs. search needs) (λ c. search needs) returns-3)

@@ -6,15 +6,6 @@ use mir.Syntax.{w32}
 use Rattle.record_state.proofs.both_in_range.Statement.{statement}
 use Rattle.record_state.proofs.both_in_range.Tie as tie
 
-in-range-requires : tie.Need-in-range-requires
-in-range-requires c κs = search needs
-
-in-range-requires-2 : tie.Need-in-range-requires-2
-in-range-requires-2 c κs = search needs
-
-both-requires : tie.Need-both-requires
-both-requires c κs = search needs
-
 returns : tie.Need-returns
 returns c =
     let x = c .before .before .before .before .before .args .x in
@@ -24,4 +15,4 @@ returns c =
 
 pub both-in-range-spec : {M : Type 1} → statement M
 both-in-range-spec =
-    tie.close (tie.spec in-range-requires in-range-requires-2 both-requires returns)
+    tie.close (tie.spec (λ c κs. search needs) (λ c κs. search needs) (λ c κs. search needs) returns)

@@ -6,15 +6,6 @@ use mir.Syntax.{w32}
 use Rattle.record_state.proofs.both_zero.Statement.{statement}
 use Rattle.record_state.proofs.both_zero.Tie as tie
 
-magnitude-requires : tie.Need-magnitude-requires
-magnitude-requires c κs = search needs
-
-magnitude-requires-2 : tie.Need-magnitude-requires-2
-magnitude-requires-2 c κs = search needs
-
-both-requires : tie.Need-both-requires
-both-requires c κs = search needs
-
 returns : tie.Need-returns
 returns c =
     let x = c .before .before .before .before .before .args .x in
@@ -23,4 +14,4 @@ returns c =
     rw (c .both .ensures, c .before .before .before .magnitude .ensures, c .before .magnitude2 .ensures, toZ-ofZ roll, toZ-ofZ acceleration)
 
 pub both-zero-spec : {M : Type 1} → statement M
-both-zero-spec = tie.close (tie.spec magnitude-requires magnitude-requires-2 both-requires returns)
+both-zero-spec = tie.close (tie.spec (λ c κs. search needs) (λ c κs. search needs) (λ c κs. search needs) returns)

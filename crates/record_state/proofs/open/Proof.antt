@@ -5,12 +5,6 @@ use Rattle.record_state.specs.Answers.{opened}
 use Rattle.record_state.proofs.open.Statement.{statement}
 use Rattle.record_state.proofs.open.Tie as tie
 
-item-outside-requires : tie.Need-item-outside-requires
-item-outside-requires c κs = search needs
-
-fresh-requires : tie.Need-fresh-requires
-fresh-requires c κs = search needs
-
 returns : tie.Need-returns
 unfolding opened
 returns c = rw (← c .before .before .item-outside .ensures, eq-eqb _ _ (c .before .if1 .taken), c .fresh .ensures)
@@ -20,4 +14,4 @@ unfolding opened
 returns-2 c = rw (← c .before .item-outside .ensures, ne-eqb _ _ (c .if1 .left))
 
 pub open-spec : {M : Type 1} → statement M
-open-spec = tie.close (tie.spec item-outside-requires fresh-requires returns returns-2)
+open-spec = tie.close (tie.spec (λ c κs. search needs) (λ c κs. search needs) returns returns-2)

@@ -8,30 +8,9 @@ use mathlib.Core.Bool.{true}
 use Rattle.record_state.proofs.sound.Statement.{statement}
 use Rattle.record_state.proofs.sound.Tie as tie
 
-item-outside-requires : tie.Need-item-outside-requires
-item-outside-requires c κs = search needs
-
 returns : tie.Need-returns
 unfolding sound
 returns c = rw (← c .before .item-outside .ensures, ne-eqb _ _ (c .if1 .taken))
-
-last-kept-requires : tie.Need-last-kept-requires
-last-kept-requires c κs = search needs
-
-most-samples-requires : tie.Need-most-samples-requires
-most-samples-requires c κs = search needs
-
-figures-kept-requires : tie.Need-figures-kept-requires
-figures-kept-requires c κs = search needs
-
-both-requires : tie.Need-both-requires
-both-requires c κs = search needs
-
-both-requires-2 : tie.Need-both-requires-2
-both-requires-2 c κs = search needs
-
-both-requires-3 : tie.Need-both-requires-3
-both-requires-3 c κs = search needs
 
 returns-2 : tie.Need-returns-2
 unfolding sound
@@ -45,13 +24,5 @@ returns-2 c =
 pub sound-spec : {M : Type 1} → statement M
 sound-spec =
     tie.close
-    (tie.spec
-    item-outside-requires
-    returns
-    last-kept-requires
-    most-samples-requires
-    figures-kept-requires
-    both-requires
-    both-requires-2
-    both-requires-3
-    returns-2)
+    (tie.spec (λ c κs. search needs) returns (λ c κs. search needs) (λ c κs. search needs) (λ c κs. search needs)
+    (λ c κs. search needs) (λ c κs. search needs) (λ c κs. search needs) returns-2)

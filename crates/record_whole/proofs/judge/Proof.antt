@@ -12,9 +12,6 @@ use Rattle.record_whole.proofs.Judged.{sized-item, sized-unequal, sized
 use Rattle.record_whole.proofs.judge.Statement.{statement}
 use Rattle.record_whole.proofs.judge.Tie as tie
 
-item-outside-requires : tie.Need-item-outside-requires
-item-outside-requires c κs = search needs
-
 returns : tie.Need-returns
 returns c = let e = c .before .item-outside .ensures in rw e (sized-item (c .before .before .args .step) (c .before .before .args .ramp) (c .before .before .args .levels) (c .before .before .args .decorrelation) (c .before .before .args .roll .now) (c .before .before .args .acceleration .now) (λ z. c .if1 .taken (e ∙ z)))
 
@@ -25,14 +22,8 @@ ranged c = sym (c .before .item-outside .ensures) ∙ c .if1 .left
 returns-2 : tie.Need-returns-2
 returns-2 c = sized-unequal (c .before .before .before .args .step) (c .before .before .before .args .ramp) (c .before .before .before .args .levels) (c .before .before .before .args .decorrelation) (c .before .before .before .args .roll .now) (c .before .before .before .args .acceleration .now) (ranged (c .before)) (c .if2 .taken)
 
-most-samples-requires : tie.Need-most-samples-requires
-most-samples-requires c κs = search needs
-
 add-both : tie.Need-add-both
 add-both c = omega (arith, items (c .before .before .before .before .args .step) (c .before .before .before .before .args .ramp) (c .before .before .before .before .args .levels) (c .before .before .before .before .args .decorrelation) (ranged (c .before .before)) .ramp)
-
-both-requires : tie.Need-both-requires
-both-requires c κs = search needs
 
 most : (c : tie.After-most-samples) → c .most-samples .result ≡ mostSamples (c .before .before .before .before .args .step) (c .before .before .before .before .args .ramp)
 most c = c .most-samples .ensures ∙ most-in-range (c .before .before .before .before .args .step) (c .before .before .before .before .args .ramp) (c .before .before .before .before .args .levels) (c .before .before .before .before .args .decorrelation) (ranged (c .before .before))
@@ -44,22 +35,11 @@ tested c = rw (c .both .ensures, most (c .before))
 returns-3 : tie.Need-returns-3
 returns-3 c = sized-fits (c .before .before .before .before .before .before .args .step) (c .before .before .before .before .before .before .args .ramp) (c .before .before .before .before .before .before .args .levels) (c .before .before .before .before .before .before .args .decorrelation) (c .before .before .before .before .before .before .args .roll .now) (c .before .before .before .before .before .before .args .acceleration .now) (ranged (c .before .before .before .before)) (c .before .before .before .if2 .left) (sym (tested (c .before)) ∙ c .if3 .taken)
 
-fault-requires : tie.Need-fault-requires
-fault-requires c κs = search needs
-
 returns-4 : tie.Need-returns-4
 returns-4 c = c .fault .ensures ∙ rw (most (c .before .before .before)) (sized-fault (c .before .before .before .before .before .before .before .args .step) (c .before .before .before .before .before .before .before .args .ramp) (c .before .before .before .before .before .before .before .args .levels) (c .before .before .before .before .before .before .before .args .decorrelation) (c .before .before .before .before .before .before .before .args .roll .now) (c .before .before .before .before .before .before .before .args .acceleration .now) (ranged (c .before .before .before .before .before)) (c .before .before .before .before .if2 .left) (sym (tested (c .before .before)) ∙ c .before .if3 .left))
 
 pub judge-spec : {M : Type 1} → statement M
 judge-spec =
     tie.close
-    (tie.spec
-    item-outside-requires
-    returns
-    returns-2
-    most-samples-requires
-    add-both
-    both-requires
-    returns-3
-    fault-requires
-    returns-4)
+    (tie.spec (λ c κs. search needs) returns returns-2 (λ c κs. search needs) add-both (λ c κs. search needs) returns-3
+    (λ c κs. search needs) returns-4)

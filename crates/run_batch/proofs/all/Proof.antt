@@ -47,17 +47,5 @@ returns-2 c = search needs
 pub all-spec : {M : Type 1} → statement M
 all-spec =
     tie.close
-    (tie.spec
-    Inv-loop
-    μ-loop
-    loop-holds
-    next-requires
-    same-length
-    same-length-2
-    returns
-    sub-sheets
-    loop-less
-    loop-again
-    same-length-3
-    same-length-4
-    returns-2)
+    (tie.spec Inv-loop μ-loop loop-holds next-requires same-length same-length-2 returns sub-sheets loop-less loop-again
+    same-length-3 same-length-4 returns-2)

@@ -34,13 +34,4 @@ returns c = search needs
 pub jobs-spec : {M : Type 1} → statement M
 jobs-spec =
     tie.close
-    (tie.spec
-    Inv-loop
-    μ-loop
-    loop-holds
-    slice-aggregate-line
-    line-requires
-    add-k
-    loop-less
-    loop-again
-    returns)
+    (tie.spec Inv-loop μ-loop loop-holds slice-aggregate-line line-requires add-k loop-less loop-again returns)

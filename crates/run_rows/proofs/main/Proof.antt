@@ -46,17 +46,5 @@ returns c = search needs
 pub main-spec : {M : Type 1} → statement M
 main-spec =
     tie.close
-    (tie.spec
-    Inv-loop
-    μ-loop
-    loop-holds
-    slice-aggregate-row
-    upper-row-requires
-    row-requires
-    slice-aggregate-row-2
-    lower-row-requires
-    row-requires-2
-    add-n
-    loop-less
-    loop-again
-    returns)
+    (tie.spec Inv-loop μ-loop loop-holds slice-aggregate-row upper-row-requires row-requires slice-aggregate-row-2
+    lower-row-requires row-requires-2 add-n loop-less loop-again returns)

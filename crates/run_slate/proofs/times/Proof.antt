@@ -45,16 +45,5 @@ returns c = search needs
 pub times-spec : {M : Type 1} → statement M
 times-spec =
     tie.close
-    (tie.spec
-    Inv-loop
-    μ-loop
-    loop-holds
-    slice-aggregate-number
-    mul-wide
-    shared-slice-read-wide
-    wide-requires
-    number-requires
-    add-i
-    loop-less
-    loop-again
-    returns)
+    (tie.spec Inv-loop μ-loop loop-holds slice-aggregate-number mul-wide shared-slice-read-wide wide-requires
+    number-requires add-i loop-less loop-again returns)

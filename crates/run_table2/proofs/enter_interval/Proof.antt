@@ -34,13 +34,4 @@ returns c = search needs
 pub enter-interval-spec : {M : Type 1} → statement M
 enter-interval-spec =
     tie.close
-    (tie.spec
-    Inv-loop
-    μ-loop
-    loop-holds
-    enter-requires
-    sub-left
-    loop-less
-    loop-again
-    enter-requires-2
-    returns)
+    (tie.spec Inv-loop μ-loop loop-holds enter-requires sub-left loop-less loop-again enter-requires-2 returns)

@@ -46,17 +46,5 @@ returns-2 c = search needs
 pub four-digits-spec : {M : Type 1} → statement M
 four-digits-spec =
     tie.close
-    (tie.spec
-    Inv-loop
-    μ-loop
-    exact-requires
-    loop-holds
-    times-requires
-    add-tens
-    loop-less
-    loop-again
-    add-rounded
-    write-scientific-requires
-    write-scientific-requires-2
-    returns
-    returns-2)
+    (tie.spec Inv-loop μ-loop exact-requires loop-holds times-requires add-tens loop-less loop-again add-rounded
+    write-scientific-requires write-scientific-requires-2 returns returns-2)

@@ -49,18 +49,5 @@ returns-2 c = search needs
 pub main-spec : {M : Type 1} → statement M
 main-spec =
     tie.close
-    (tie.spec
-    Inv-loop
-    μ-loop
-    open-requires
-    enum-known-empty
-    enum-told
-    returns
-    loop-holds
-    mul-enter-interval
-    array-read-enter-interval
-    enter-interval-requires
-    add-i
-    loop-less
-    loop-again
-    returns-2)
+    (tie.spec Inv-loop μ-loop open-requires enum-known-empty enum-told returns loop-holds mul-enter-interval
+    array-read-enter-interval enter-interval-requires add-i loop-less loop-again returns-2)

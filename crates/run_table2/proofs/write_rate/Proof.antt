@@ -7,12 +7,6 @@ use borrow.Author.Needs.{needs}
 use Rattle.run_table2.proofs.write_rate.Statement.{statement}
 use Rattle.run_table2.proofs.write_rate.Tie as tie
 
-slice-aggregate-write : tie.Need-slice-aggregate-write
-slice-aggregate-write c = search needs
-
-write-requires : tie.Need-write-requires
-write-requires c κs = search needs
-
 above-number : (x : Float) → lt (ofBits binary64 0) x ≡ true → T (not (isNan x))
 unfolding isNan lt ofBits
 above-number nan e = absurd (subst T (sym e) tt)
@@ -22,22 +16,8 @@ above-number (fin s m k) e = tt
 four-digits-requires : tie.Need-four-digits-requires
 four-digits-requires c κs = above-number (c .before .before .before .before .args .rate) (c .if1 .taken)
 
-write-requires-2 : tie.Need-write-requires-2
-write-requires-2 c κs = search needs
-
-returns : tie.Need-returns
-returns c = search needs
-
-returns-2 : tie.Need-returns-2
-returns-2 c = search needs
-
 pub write-rate-spec : {M : Type 1} → statement M
 write-rate-spec =
     tie.close
-    (tie.spec
-    slice-aggregate-write
-    write-requires
-    four-digits-requires
-    write-requires-2
-    returns
-    returns-2)
+    (tie.spec (λ c. search needs) (λ c κs. search needs) four-digits-requires (λ c κs. search needs) (λ c. search needs)
+    (λ c. search needs))

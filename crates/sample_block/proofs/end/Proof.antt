@@ -11,9 +11,6 @@ returns : tie.Need-returns
 unfolding blockEnd
 returns c = rw (lt-leb (c .before .args .i + 64) (c .before .args .n) (omega arith))
 
-add-result : tie.Need-add-result
-add-result c = search needs
-
 returns-2 : tie.Need-returns-2
 unfolding blockEnd
 returns-2 c = rw (lt-leb (c .before .before .args .i + 64) (c .before .before .args .n) (omega arith))
@@ -23,4 +20,4 @@ unfolding blockEnd
 returns-3 c = rw (le-leb (c .before .before .args .i + 64) (c .before .before .args .n) (omega arith))
 
 pub end-spec : {M : Type 1} → statement M
-end-spec = tie.close (tie.spec returns add-result returns-2 returns-3)
+end-spec = tie.close (tie.spec returns (λ c. search needs) returns-2 returns-3)

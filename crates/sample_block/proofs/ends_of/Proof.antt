@@ -67,15 +67,5 @@ returns c =
 pub ends-of-spec : {M : Type 1} → statement M
 ends-of-spec =
     tie.close
-    (tie.spec
-    Inv-loop
-    μ-loop
-    loop-holds
-    mul-x
-    shared-slice-copy-out-x
-    chosen-requires
-    chosen-requires-2
-    add-i
-    loop-less
-    loop-again
-    returns)
+    (tie.spec Inv-loop μ-loop loop-holds mul-x shared-slice-copy-out-x chosen-requires chosen-requires-2 add-i loop-less
+    loop-again returns)

@@ -5,12 +5,6 @@ use Rattle.sample_block.proofs.Sides.{ends-say}
 use Rattle.sample_block.proofs.loud.Statement.{statement}
 use Rattle.sample_block.proofs.loud.Tie as tie
 
-ends-of-requires : tie.Need-ends-of-requires
-ends-of-requires c κs = search needs
-
-past-requires : tie.Need-past-requires
-past-requires c κs = search needs
-
 returns : tie.Need-returns
 returns c =
     let a = c .before .before .args .level in
@@ -18,4 +12,4 @@ returns c =
     c .past .ensures ∙ rw (c .before .ends-of .ensures .0, c .before .ends-of .ensures .1) (ends-say a xs)
 
 pub loud-spec : {M : Type 1} → statement M
-loud-spec = tie.close (tie.spec ends-of-requires past-requires returns)
+loud-spec = tie.close (tie.spec (λ c κs. search needs) (λ c κs. search needs) returns)

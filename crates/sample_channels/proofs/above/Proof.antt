@@ -6,15 +6,6 @@ use mir.Val.{SFits}
 use Rattle.sample_channels.proofs.above.Statement.{statement}
 use Rattle.sample_channels.proofs.above.Tie as tie
 
-above-requires : tie.Need-above-requires
-above-requires c κs = search needs
-
-above-requires-2 : tie.Need-above-requires-2
-above-requires-2 c κs = search needs
-
-either-requires : tie.Need-either-requires
-either-requires c κs = search needs
-
 returns : tie.Need-returns
 returns c =
     let x = c .before .before .before .before .before .args .x in
@@ -23,4 +14,4 @@ returns c =
     cc (toZ-ofZ roll, toZ-ofZ acceleration)
 
 pub above-spec : {M : Type 1} → statement M
-above-spec = tie.close (tie.spec above-requires above-requires-2 either-requires returns)
+above-spec = tie.close (tie.spec (λ c κs. search needs) (λ c κs. search needs) (λ c κs. search needs) returns)

@@ -9,11 +9,8 @@ returns c = rw (c .if1 .taken)
 returns-2 : tie.Need-returns-2
 returns-2 c = rw (c .before .if1 .left, c .if2 .taken)
 
-bad-sample-requires : tie.Need-bad-sample-requires
-bad-sample-requires c κs = search needs
-
 returns-3 : tie.Need-returns-3
 returns-3 c = rw (c .before .before .if1 .left, c .before .if2 .left, c .bad-sample .ensures)
 
 pub bad-of-spec : {M : Type 1} → statement M
-bad-of-spec = tie.close (tie.spec returns returns-2 bad-sample-requires returns-3)
+bad-of-spec = tie.close (tie.spec returns returns-2 (λ c κs. search needs) returns-3)

@@ -5,18 +5,6 @@ use Rattle.sample_channels.specs.Channels.{anyBad, looked}
 use Rattle.sample_channels.proofs.look_over.Statement.{statement}
 use Rattle.sample_channels.proofs.look_over.Tie as tie
 
-first-bad-requires : tie.Need-first-bad-requires
-first-bad-requires c κs = search needs
-
-first-bad-requires-2 : tie.Need-first-bad-requires-2
-first-bad-requires-2 c κs = search needs
-
-either-requires : tie.Need-either-requires
-either-requires c κs = search needs
-
-bad-of-requires : tie.Need-bad-of-requires
-bad-of-requires c κs = search needs
-
 tested : (c : tie.After-either) → c .either .result ≡ anyBad (c .before .before .before .args .roll .now) (c .before .before .before .args .acceleration .now)
 tested c = rw (c .either .ensures, c .before .before .first-bad .ensures, c .before .first-bad2 .ensures)
 
@@ -34,10 +22,5 @@ returns-2 c = rw (sym (tested (c .before)) ∙ c .if1 .left)
 pub look-over-spec : {M : Type 1} → statement M
 look-over-spec =
     tie.close
-    (tie.spec
-    first-bad-requires
-    first-bad-requires-2
-    either-requires
-    bad-of-requires
-    returns
+    (tie.spec (λ c κs. search needs) (λ c κs. search needs) (λ c κs. search needs) (λ c κs. search needs) returns
     returns-2)

@@ -75,17 +75,5 @@ returns c =
 pub mark-spec : {M : Type 1} → statement M
 mark-spec =
     tie.close
-    (tie.spec
-    Inv-loop
-    μ-loop
-    fewer-requires
-    fewer-requires-2
-    loop-holds
-    seen-requires
-    above-requires
-    slice-write-ups
-    add-i
-    loop-less
-    loop-again
-    same-length
-    returns)
+    (tie.spec Inv-loop μ-loop fewer-requires fewer-requires-2 loop-holds seen-requires above-requires slice-write-ups
+    add-i loop-less loop-again same-length returns)

@@ -7,12 +7,6 @@ use Rattle.sample_channels.proofs.Moments.{moments-none}
 use Rattle.sample_channels.proofs.moment_at.Statement.{statement}
 use Rattle.sample_channels.proofs.moment_at.Tie as tie
 
-seen-requires : tie.Need-seen-requires
-seen-requires c κs = search needs
-
-returns : tie.Need-returns
-returns c = search needs
-
 returns-2 : tie.Need-returns-2
 returns-2 c = sym (moments-none (c .before .before .args .roll .now) (c .before .before .args .acceleration .now) (c .before .before .args .i) (inr (omega arith)))
 
@@ -20,4 +14,4 @@ returns-3 : tie.Need-returns-3
 returns-3 c = sym (moments-none (c .before .args .roll .now) (c .before .args .acceleration .now) (c .before .args .i) (inl (omega arith)))
 
 pub moment-at-spec : {M : Type 1} → statement M
-moment-at-spec = tie.close (tie.spec seen-requires returns returns-2 returns-3)
+moment-at-spec = tie.close (tie.spec (λ c κs. search needs) (λ c. search needs) returns-2 returns-3)

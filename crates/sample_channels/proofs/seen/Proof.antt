@@ -10,18 +10,6 @@ use Rattle.sample_channels.proofs.Moments.{moments-at}
 use Rattle.sample_channels.proofs.seen.Statement.{statement}
 use Rattle.sample_channels.proofs.seen.Tie as tie
 
-mul-t4 : tie.Need-mul-t4
-mul-t4 c = search needs
-
-shared-slice-copy-out-t6 : tie.Need-shared-slice-copy-out-t6
-shared-slice-copy-out-t6 c = search needs
-
-mul-t7 : tie.Need-mul-t7
-mul-t7 c = search needs
-
-shared-slice-copy-out-t9 : tie.Need-shared-slice-copy-out-t9
-shared-slice-copy-out-t9 c = search needs
-
 returns : tie.Need-returns
 returns c =
     let a = c .before .before .args in
@@ -32,4 +20,4 @@ returns c =
 
 pub seen-spec : {M : Type 1} → statement M
 seen-spec =
-    tie.close (tie.spec mul-t4 shared-slice-copy-out-t6 mul-t7 shared-slice-copy-out-t9 returns)
+    tie.close (tie.spec (λ c. search needs) (λ c. search needs) (λ c. search needs) (λ c. search needs) returns)

@@ -11,15 +11,6 @@ use Rattle.sample_items.proofs.Items.{low, high}
 use Rattle.sample_items.proofs.most_samples.Statement.{statement}
 use Rattle.sample_items.proofs.most_samples.Tie as tie
 
-between-requires : tie.Need-between-requires
-between-requires c κs = search needs
-
-between-requires-2 : tie.Need-between-requires-2
-between-requires-2 c κs = search needs
-
-both-requires : tie.Need-both-requires
-both-requires c κs = search needs
-
 -- what the test says
 tested : (c : tie.After-both) → c .both .result ≡ (stepInRange (c .before .before .before .args .step) && rampInRange (c .before .before .before .args .ramp))
 tested c = rw (c .both .ensures, c .before .before .between .ensures, c .before .between2 .ensures)
@@ -51,12 +42,5 @@ returns-2 c = rw (sym (tested (c .before)) ∙ c .if1 .left)
 pub most-samples-spec : {M : Type 1} → statement M
 most-samples-spec =
     tie.close
-    (tie.spec
-    between-requires
-    between-requires-2
-    both-requires
-    add-result
-    div-result
-    add-result-2
-    returns
-    returns-2)
+    (tie.spec (λ c κs. search needs) (λ c κs. search needs) (λ c κs. search needs) add-result div-result add-result-2
+    returns returns-2)

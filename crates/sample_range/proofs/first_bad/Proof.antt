@@ -101,20 +101,5 @@ returns-2 c =
 pub first-bad-spec : {M : Type 1} → statement M
 first-bad-spec =
     tie.close
-    (tie.spec
-    Inv-loop
-    μ-loop
-    loop-holds
-    end-requires
-    mul-part
-    sub-part
-    part-part-start
-    part-part-end
-    ends-of-requires
-    outside-requires
-    first-of-requires
-    add-result
-    returns
-    loop-less
-    loop-again
-    returns-2)
+    (tie.spec Inv-loop μ-loop loop-holds end-requires mul-part sub-part part-part-start part-part-end ends-of-requires
+    outside-requires first-of-requires add-result returns loop-less loop-again returns-2)

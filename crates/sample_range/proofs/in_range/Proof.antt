@@ -21,13 +21,10 @@ between : (x : ℤ) → (leZ (negsuc 999999) x && leZ x (pos 1000000)) ≡ sampl
 between (pos n) = refl
 between (negsuc n) = down n (leb n 999999) refl
 
-both-requires : tie.Need-both-requires
-both-requires c κs = search needs
-
 returns : tie.Need-returns
 returns c =
     let x = toZ-ofZ (c .before .fits .x) in
     c .both .ensures ∙ rw x (between (c .before .args .x))
 
 pub in-range-spec : {M : Type 1} → statement M
-in-range-spec = tie.close (tie.spec both-requires returns)
+in-range-spec = tie.close (tie.spec (λ c κs. search needs) returns)

@@ -6,15 +6,6 @@ use mir.Val.{SFits}
 use Rattle.sample_range.proofs.outside.Statement.{statement}
 use Rattle.sample_range.proofs.outside.Tie as tie
 
-in-range-requires : tie.Need-in-range-requires
-in-range-requires c κs = search needs
-
-in-range-requires-2 : tie.Need-in-range-requires-2
-in-range-requires-2 c κs = search needs
-
-both-requires : tie.Need-both-requires
-both-requires c κs = search needs
-
 returns : tie.Need-returns
 returns c =
     let e = c .before .before .before .before .before .args .e in
@@ -23,4 +14,4 @@ returns c =
     cc (toZ-ofZ low, toZ-ofZ high)
 
 pub outside-spec : {M : Type 1} → statement M
-outside-spec = tie.close (tie.spec in-range-requires in-range-requires-2 both-requires returns)
+outside-spec = tie.close (tie.spec (λ c κs. search needs) (λ c κs. search needs) (λ c κs. search needs) returns)

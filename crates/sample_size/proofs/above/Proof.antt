@@ -18,12 +18,6 @@ narrow-tells a m l = go (ltb a m) refl
     go true e = lt-ltb (min a 4294967295) m (omega (arith, ltb-true a m e))
     go false e = le-ltb (min a 4294967295) m (omega (arith, ltb-false a m e))
 
-narrow-requires : tie.Need-narrow-requires
-narrow-requires c κs = search needs
-
-magnitude-requires : tie.Need-magnitude-requires
-magnitude-requires c κs = search needs
-
 returns : tie.Need-returns
 returns c =
     rw (c .before .narrow .ensures)
@@ -31,4 +25,4 @@ returns c =
     ∙ ap (ltb (c .before .before .args .level)) (c .magnitude .ensures ∙ ap natAbs (toZ-ofZ (c .before .before .fits .x))))
 
 pub above-spec : {M : Type 1} → statement M
-above-spec = tie.close (tie.spec narrow-requires magnitude-requires returns)
+above-spec = tie.close (tie.spec (λ c κs. search needs) (λ c κs. search needs) returns)

@@ -12,11 +12,5 @@ add-line c = omega (arith, kept-from (c .before .before .args .c) (holds (c .bef
 add-record-column : tie.Need-add-record-column
 add-record-column c = omega (arith, kept-from (c .before .before .before .args .c) (holds (c .before .before .before .pre)) .records)
 
-record-column-requires : tie.Need-record-column-requires
-record-column-requires c κs = search needs
-
-returns : tie.Need-returns
-returns c = search needs
-
 pub bad-record-spec : {M : Type 1} → statement M
-bad-record-spec = tie.close (tie.spec add-line add-record-column record-column-requires returns)
+bad-record-spec = tie.close (tie.spec add-line add-record-column (λ c κs. search needs) (λ c. search needs))

@@ -75,15 +75,5 @@ returns-3 c =
 pub begins-spec : {M : Type 1} → statement M
 begins-spec =
     tie.close
-    (tie.spec
-    Inv-loop
-    μ-loop
-    loop-holds
-    returns
-    shared-slice-read-if2
-    shared-slice-read-if2-2
-    returns-2
-    add-i
-    loop-less
-    loop-again
-    returns-3)
+    (tie.spec Inv-loop μ-loop loop-holds returns shared-slice-read-if2 shared-slice-read-if2-2 returns-2 add-i loop-less
+    loop-again returns-3)

@@ -49,14 +49,5 @@ returns-2 c = sym (strange-none (now (c .before .before .before .args .s)) (c .b
 pub digits-end-spec : {M : Type 1} → statement M
 digits-end-spec =
     tie.close
-    (tie.spec
-    Inv-loop
-    μ-loop
-    loop-holds
-    shared-slice-read-is-digit
-    is-digit-requires
-    returns
-    add-place
-    loop-less
-    loop-again
-    returns-2)
+    (tie.spec Inv-loop μ-loop loop-holds shared-slice-read-is-digit is-digit-requires returns add-place loop-less
+    loop-again returns-2)

@@ -12,9 +12,6 @@ returns : tie.Need-returns
 unfolding endsHere
 returns c = rw (drop-of-length-le (now (c .before .args .s)) (c .if1 .taken))
 
-shared-slice-read-b : tie.Need-shared-slice-read-b
-shared-slice-read-b c = search needs
-
 returns-2 : tie.Need-returns-2
 unfolding endsHere
 returns-2 c =
@@ -28,4 +25,4 @@ returns-3 c =
     rw (drop-cons (now (a .s)) (a .at) 0 (search needs), ne-eqb (getD (now (a .s)) (a .at) 0) 9 (c .if2 .left))
 
 pub ended-spec : {M : Type 1} → statement M
-ended-spec = tie.close (tie.spec returns shared-slice-read-b returns-2 returns-3)
+ended-spec = tie.close (tie.spec returns (λ c. search needs) returns-2 returns-3)

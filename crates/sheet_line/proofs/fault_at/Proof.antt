@@ -17,19 +17,10 @@ start c = c .before .before .before
 some : (c : tie.Else1) → endsHere (drop (start c .args .at) (now (start c .args .s))) ≡ false
 some c = sym (c .before .ended .ensures) ∙ c .if1 .left
 
-ended-requires : tie.Need-ended-requires
-ended-requires c κs = search needs
-
 returns : tie.Need-returns
 returns c =
     let s = c .before .before .before in
     is-empty (now (s .args .s)) (s .args .at) (s .pre) (sym (c .before .ended .ensures) ∙ c .if1 .taken)
-
-digits-end-requires : tie.Need-digits-end-requires
-digits-end-requires c κs = search needs
-
-ended-requires-2 : tie.Need-ended-requires-2
-ended-requires-2 c κs = search needs
 
 shared-slice-read-zero : tie.Need-shared-slice-read-zero
 shared-slice-read-zero c =
@@ -63,12 +54,5 @@ returns-4 c =
 pub fault-at-spec : {M : Type 1} → statement M
 fault-at-spec =
     tie.close
-    (tie.spec
-    ended-requires
-    returns
-    digits-end-requires
-    ended-requires-2
-    shared-slice-read-zero
-    returns-2
-    returns-3
-    returns-4)
+    (tie.spec (λ c κs. search needs) returns (λ c κs. search needs) (λ c κs. search needs) shared-slice-read-zero
+    returns-2 returns-3 returns-4)

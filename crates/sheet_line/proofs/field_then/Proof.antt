@@ -19,20 +19,11 @@ text c = now (c .before .before .args .text)
 reads : (c : tie.After-number-at) → fieldAt (text c) (c .before .before .args .at) ≡ c .number-at .result
 reads c = sym (c .number-at .ensures)
 
-number-at-requires : tie.Need-number-at-requires
-number-at-requires c κs = search needs
-
-enum-known-field : tie.Need-enum-known-field
-enum-known-field c = search needs
-
 returns : tie.Need-returns
 unfolding fieldThen endedBy startsWith
 returns c =
     let f = c .before .before in
     rw (reads (f .before .before) ∙ f .field .given .1, drop-of-length-le (text (f .before .before)) (c .if1 .taken))
-
-shared-slice-read-if2 : tie.Need-shared-slice-read-if2
-shared-slice-read-if2 c = search needs
 
 returns-2 : tie.Need-returns-2
 unfolding fieldThen endedBy startsWith
@@ -40,21 +31,6 @@ returns-2 c =
     let e = c .before .before in
     let f = e .before .before in
     rw (reads (f .before .before) ∙ f .field .given .1, drop-cons (text (f .before .before)) (f .field .given .0 .1 .0) 0 (e .if1 .left), ne-eqb _ _ (c .if2 .taken))
-
-add-t8 : tie.Need-add-t8
-add-t8 c = search needs
-
-enum-told : tie.Need-enum-told
-enum-told c = search needs
-
-enum-told-2 : tie.Need-enum-told-2
-enum-told-2 c = search needs
-
-enum-told-3 : tie.Need-enum-told-3
-enum-told-3 c = search needs
-
-enum-told-4 : tie.Need-enum-told-4
-enum-told-4 c = search needs
 
 returns-3 : tie.Need-returns-3
 unfolding fieldThen endedBy startsWith
@@ -82,19 +58,6 @@ returns-7 c = let e = c .enum-told4 .given .1 in rw (reads (c .before .before) �
 pub field-then-spec : {M : Type 1} → statement M
 field-then-spec =
     tie.close
-    (tie.spec
-    number-at-requires
-    enum-known-field
-    returns
-    shared-slice-read-if2
-    returns-2
-    add-t8
-    enum-told
-    enum-told-2
-    enum-told-3
-    enum-told-4
-    returns-3
-    returns-4
-    returns-5
-    returns-6
-    returns-7)
+    (tie.spec (λ c κs. search needs) (λ c. search needs) returns (λ c. search needs) returns-2 (λ c. search needs)
+    (λ c. search needs) (λ c. search needs) (λ c. search needs) (λ c. search needs) returns-3 returns-4 returns-5
+    returns-6 returns-7)

@@ -64,13 +64,4 @@ returns c =
 pub how-many-spec : {M : Type 1} → statement M
 how-many-spec =
     tie.close
-    (tie.spec
-    Inv-loop
-    μ-loop
-    loop-holds
-    shared-slice-read-if1
-    add-count
-    add-i
-    loop-less
-    loop-again
-    returns)
+    (tie.spec Inv-loop μ-loop loop-holds shared-slice-read-if1 add-count add-i loop-less loop-again returns)

@@ -16,14 +16,8 @@ returns c = rw (List·getD-eq-default (now (c .before .args .text)) 0 {n = lengt
 returns-2 : tie.Need-returns-2
 returns-2 c = rw (lt-leb (length (now (c .before .before .args .text))) longestLine (c .if2 .taken))
 
-sub-result : tie.Need-sub-result
-sub-result c = search needs
-
-shared-slice-read-result : tie.Need-shared-slice-read-result
-shared-slice-read-result c = search needs
-
 returns-3 : tie.Need-returns-3
 returns-3 c = rw (le-leb (length (now (c .before .before .before .args .text))) longestLine (c .before .if2 .left))
 
 pub is-line-spec : {M : Type 1} → statement M
-is-line-spec = tie.close (tie.spec returns returns-2 sub-result shared-slice-read-result returns-3)
+is-line-spec = tie.close (tie.spec returns returns-2 (λ c. search needs) (λ c. search needs) returns-3)

@@ -4,17 +4,8 @@ use borrow.Author.Needs.{needs}
 use Rattle.sheet_line.proofs.is_parted.Statement.{statement}
 use Rattle.sheet_line.proofs.is_parted.Tie as tie
 
-how-many-requires : tie.Need-how-many-requires
-how-many-requires c κs = search needs
-
-how-many-requires-2 : tie.Need-how-many-requires-2
-how-many-requires-2 c κs = search needs
-
-both-requires : tie.Need-both-requires
-both-requires c κs = search needs
-
 returns : tie.Need-returns
 returns c = c .both .ensures ∙ rw (c .before .before .how-many .ensures, c .before .how-many2 .ensures)
 
 pub is-parted-spec : {M : Type 1} → statement M
-is-parted-spec = tie.close (tie.spec how-many-requires how-many-requires-2 both-requires returns)
+is-parted-spec = tie.close (tie.spec (λ c κs. search needs) (λ c κs. search needs) (λ c κs. search needs) returns)

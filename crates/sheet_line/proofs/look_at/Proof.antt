@@ -22,40 +22,13 @@ within c =
     let n = c .before .before in
     read-only (now (start n .args .text)) (start n .args .at) (c .f .given .0 .0) (c .f .given .0 .1 .0) (reads n ∙ c .f .given .1) .within
 
-number-at-requires : tie.Need-number-at-requires
-number-at-requires c κs = search needs
-
-add-first : tie.Need-add-first
-add-first c = search needs
-
-enum-known-f : tie.Need-enum-known-f
-enum-known-f c = search needs
-
-both-requires : tie.Need-both-requires
-both-requires c κs = search needs
-
-pick-requires : tie.Need-pick-requires
-pick-requires c κs = search needs
-
 add-t16 : tie.Need-add-t16
 add-t16 c = omega (arith, within (c .before .before .before), start (c .before .before .before .before .before) .pre .0)
-
-enum-known-f-2 : tie.Need-enum-known-f-2
-enum-known-f-2 c = search needs
 
 add-t18 : tie.Need-add-t18
 add-t18 c =
     let n = c .before .before .before in
     omega (arith, strange-within (now (start n .args .text)) (start n .args .at), ap strangePlace (reads n ∙ c .before .f2 .given .1), start n .pre .0, start n .pre .1)
-
-enum-told : tie.Need-enum-told
-enum-told c = search needs
-
-enum-told-2 : tie.Need-enum-told-2
-enum-told-2 c = search needs
-
-enum-told-3 : tie.Need-enum-told-3
-enum-told-3 c = search needs
 
 returns : tie.Need-returns
 returns c =
@@ -78,20 +51,6 @@ returns-5 c = rw (reads (c .before .before) ∙ c .enum-told3 .given .1) (refl, 
 pub look-at-spec : {M : Type 1} → statement M
 look-at-spec =
     tie.close
-    (tie.spec
-    number-at-requires
-    add-first
-    enum-known-f
-    both-requires
-    pick-requires
-    add-t16
-    enum-known-f-2
-    add-t18
-    enum-told
-    enum-told-2
-    enum-told-3
-    returns
-    returns-2
-    returns-3
-    returns-4
-    returns-5)
+    (tie.spec (λ c κs. search needs) (λ c. search needs) (λ c. search needs) (λ c κs. search needs)
+    (λ c κs. search needs) add-t16 (λ c. search needs) add-t18 (λ c. search needs) (λ c. search needs)
+    (λ c. search needs) returns returns-2 returns-3 returns-4 returns-5)

@@ -17,20 +17,11 @@ use Rattle.sheet_line.proofs.Reading.{isOne, no-number, number-is, read
 use Rattle.sheet_line.proofs.number_at.Statement.{statement}
 use Rattle.sheet_line.proofs.number_at.Tie as tie
 
-run-at-requires : tie.Need-run-at-requires
-run-at-requires c κs = search needs
-
-ended-requires : tie.Need-ended-requires
-ended-requires c κs = search needs
-
 fault-at-requires : tie.Need-fault-at-requires
 fault-at-requires c κs =
     let a = c .before .before .before .before .args in
     let r = c .before .before .run-at in
     no-number (now (a .s)) (a .at) (r .result .end) (r .ensures .1) (sym (c .before .ended .ensures) ∙ not-true (c .before .ended .result) (c .if1 .taken))
-
-returns : tie.Need-returns
-returns c = search needs
 
 -- past the first test the field ends behind the run, and the run alone decides
 module _ (c : tie.Else1) where
@@ -61,12 +52,6 @@ module _ (c : tie.Else1) where
 fault-at-requires-2 : tie.Need-fault-at-requires-2
 fault-at-requires-2 c κs = none (c .before) (c .if2 .taken)
 
-returns-2 : tie.Need-returns-2
-returns-2 c = search needs
-
-sub-if3 : tie.Need-sub-if3
-sub-if3 c = search needs
-
 returns-3 : tie.Need-returns-3
 returns-3 c =
     let d = c .before .before in
@@ -80,9 +65,6 @@ fault-at-requires-3 c κs =
     let d = c .before .before .before .before in
     more d (omega arith) ∙ rw (eq-eqb (getD (S d) (At d) 0) zeroByte (c .if4 .taken))
 
-returns-4 : tie.Need-returns-4
-returns-4 c = search needs
-
 returns-5 : tie.Need-returns-5
 returns-5 c =
     let d = c .before .before .before .before in
@@ -92,16 +74,6 @@ returns-5 c =
 pub number-at-spec : {M : Type 1} → statement M
 number-at-spec =
     tie.close
-    (tie.spec
-    run-at-requires
-    ended-requires
-    fault-at-requires
-    returns
-    fault-at-requires-2
-    returns-2
-    sub-if3
-    returns-3
-    shared-slice-read-if4
-    fault-at-requires-3
-    returns-4
+    (tie.spec (λ c κs. search needs) (λ c κs. search needs) fault-at-requires (λ c. search needs) fault-at-requires-2
+    (λ c. search needs) (λ c. search needs) returns-3 shared-slice-read-if4 fault-at-requires-3 (λ c. search needs)
     returns-5)

@@ -8,23 +8,14 @@ use borrow.Author.Needs.{needs}
 use Rattle.sheet_line.proofs.record_column.Statement.{statement}
 use Rattle.sheet_line.proofs.record_column.Tie as tie
 
-is-line-requires : tie.Need-is-line-requires
-is-line-requires c κs = search needs
-
 returns : tie.Need-returns
 unfolding recordColumn
 returns c = rw (said-no (c .before .is-line .ensures) (c .if1 .taken))
-
-is-parted-requires : tie.Need-is-parted-requires
-is-parted-requires c κs = search needs
 
 record-fields-requires : tie.Need-record-fields-requires
 record-fields-requires c κs =
     let e = c .before in
     line-short (now (e .before .before .before .args .text)) (said-yes (e .before .is-line .ensures) (e .if1 .left))
-
-pick-requires : tie.Need-pick-requires
-pick-requires c κs = search needs
 
 returns-2 : tie.Need-returns-2
 unfolding recordColumn
@@ -35,10 +26,5 @@ returns-2 c =
 pub record-column-spec : {M : Type 1} → statement M
 record-column-spec =
     tie.close
-    (tie.spec
-    is-line-requires
-    returns
-    is-parted-requires
-    record-fields-requires
-    pick-requires
+    (tie.spec (λ c κs. search needs) returns (λ c κs. search needs) record-fields-requires (λ c κs. search needs)
     returns-2)

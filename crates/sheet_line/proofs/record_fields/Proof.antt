@@ -5,25 +5,16 @@ use borrow.Author.Needs.{needs}
 use Rattle.sheet_line.proofs.record_fields.Statement.{statement}
 use Rattle.sheet_line.proofs.record_fields.Tie as tie
 
-look-at-requires : tie.Need-look-at-requires
-look-at-requires c κs = search needs
-
 returns : tie.Need-returns
 returns c =
     let l = c .before .before in
     by-number (l .before .before .args .due) (now (l .before .before .args .text)) (l .look-at .ensures .0) (c .if1 .taken)
-
-look-at-requires-2 : tie.Need-look-at-requires-2
-look-at-requires-2 c κs = search needs
 
 returns-2 : tie.Need-returns-2
 returns-2 c =
     let m = c .before .before in
     let l = m .before .before .before in
     by-flag (l .before .before .args .due) (now (l .before .before .args .text)) (l .look-at .ensures .0) (m .before .if1 .left) (l .look-at .ensures .1 .0) (m .look-at2 .ensures .0) (c .if2 .taken)
-
-look-at-requires-3 : tie.Need-look-at-requires-3
-look-at-requires-3 c κs = search needs
 
 returns-3 : tie.Need-returns-3
 returns-3 c =
@@ -35,4 +26,4 @@ returns-3 c =
 pub record-fields-spec : {M : Type 1} → statement M
 record-fields-spec =
     tie.close
-    (tie.spec look-at-requires returns look-at-requires-2 returns-2 look-at-requires-3 returns-3)
+    (tie.spec (λ c κs. search needs) returns (λ c κs. search needs) returns-2 (λ c κs. search needs) returns-3)

@@ -66,24 +66,9 @@ tests : (c : tie.After-both2) → let t = fields-of c in let s = second-of t in 
     isRecord (start (line-of f) .args .c) (Text (line-of f)) (number f .0) (flag s .0) (exposure t .1) ≡ c .both2 .result
 tests c = cc
 
-is-line-requires : tie.Need-is-line-requires
-is-line-requires c κs = search needs
-
-bad-record-requires : tie.Need-bad-record-requires
-bad-record-requires c κs = search needs
-
 returns : tie.Need-returns
 unfolding recordLine
 returns c = rw (said-no (c .before .before .is-line .ensures) (c .before .if1 .taken)) (c .bad-record .ensures)
-
-field-then-requires : tie.Need-field-then-requires
-field-then-requires c κs = search needs
-
-enum-known-number : tie.Need-enum-known-number
-enum-known-number c = search needs
-
-bad-record-requires-2 : tie.Need-bad-record-requires-2
-bad-record-requires-2 c κs = search needs
 
 returns-2 : tie.Need-returns-2
 unfolding recordLine
@@ -91,30 +76,12 @@ returns-2 c =
     let m = c .before in
     rw (within (m .before .before), ← m .before .field-then .ensures) (c .bad-record2 .ensures ∙ sym (other-field (m .before .field-then .result) _ _ (m .match .keys2)))
 
-field-then-requires-2 : tie.Need-field-then-requires-2
-field-then-requires-2 c κs = search needs
-
-enum-known-flag : tie.Need-enum-known-flag
-enum-known-flag c = search needs
-
-bad-record-requires-3 : tie.Need-bad-record-requires-3
-bad-record-requires-3 c κs = search needs
-
 returns-3 : tie.Need-returns-3
 unfolding recordLine
 returns-3 c =
     let m = c .before in
     let f = m .before .before in
     rw (within (line-of f), first f, ← m .before .field-then2 .ensures) (c .bad-record3 .ensures ∙ sym (other-field (m .before .field-then2 .result) _ _ (m .match2 .keys2)))
-
-field-then-requires-3 : tie.Need-field-then-requires-3
-field-then-requires-3 c κs = search needs
-
-enum-known-exposure : tie.Need-enum-known-exposure
-enum-known-exposure c = search needs
-
-bad-record-requires-4 : tie.Need-bad-record-requires-4
-bad-record-requires-4 c κs = search needs
 
 returns-4 : tie.Need-returns-4
 unfolding recordLine
@@ -127,15 +94,6 @@ add-both : tie.Need-add-both
 add-both c =
     let l = line-of (first-of (second-of (c .before))) in
     omega (arith, kept-from (start l .args .c) (holds (start l .pre)) .records)
-
-both-requires : tie.Need-both-requires
-both-requires c κs = search needs
-
-both-requires-2 : tie.Need-both-requires-2
-both-requires-2 c κs = search needs
-
-bad-record-requires-5 : tie.Need-bad-record-requires-5
-bad-record-requires-5 c κs = search needs
 
 returns-5 : tie.Need-returns-5
 unfolding recordLine
@@ -150,12 +108,6 @@ add-outcome c =
     let l = line-of (first-of (second-of (fields-of (c .before .before)))) in
     omega (arith, kept-from (start l .args .c) (holds (start l .pre)) .records)
 
-tell-requires : tie.Need-tell-requires
-tell-requires c κs = search needs
-
-outcome-requires : tie.Need-outcome-requires
-outcome-requires c κs = search needs
-
 returns-6 : tie.Need-returns-6
 unfolding recordLine
 returns-6 c =
@@ -169,28 +121,8 @@ returns-6 c =
 pub record-line-spec : {M : Type 1} → statement M
 record-line-spec =
     tie.close
-    (tie.spec
-    is-line-requires
-    bad-record-requires
-    returns
-    field-then-requires
-    enum-known-number
-    bad-record-requires-2
-    returns-2
-    field-then-requires-2
-    enum-known-flag
-    bad-record-requires-3
-    returns-3
-    field-then-requires-3
-    enum-known-exposure
-    bad-record-requires-4
-    returns-4
-    add-both
-    both-requires
-    both-requires-2
-    bad-record-requires-5
-    returns-5
-    add-outcome
-    tell-requires
-    outcome-requires
+    (tie.spec (λ c κs. search needs) (λ c κs. search needs) returns (λ c κs. search needs) (λ c. search needs)
+    (λ c κs. search needs) returns-2 (λ c κs. search needs) (λ c. search needs) (λ c κs. search needs) returns-3
+    (λ c κs. search needs) (λ c. search needs) (λ c κs. search needs) returns-4 add-both (λ c κs. search needs)
+    (λ c κs. search needs) (λ c κs. search needs) returns-5 add-outcome (λ c κs. search needs) (λ c κs. search needs)
     returns-6)

@@ -5,18 +5,9 @@ use borrow.Author.Needs.{needs}
 use Rattle.sheet_line.proofs.standard_fields.Statement.{statement}
 use Rattle.sheet_line.proofs.standard_fields.Tie as tie
 
-slice-aggregate-begins : tie.Need-slice-aggregate-begins
-slice-aggregate-begins c = search needs
-
-begins-requires : tie.Need-begins-requires
-begins-requires c κs = search needs
-
 returns : tie.Need-returns
 unfolding standardFields
 returns c = rw (said-no (c .before .begins .ensures) (c .if1 .taken))
-
-look-at-requires : tie.Need-look-at-requires
-look-at-requires c κs = search needs
 
 returns-2 : tie.Need-returns-2
 unfolding standardFields
@@ -24,4 +15,4 @@ returns-2 c = rw (said-yes (c .before .before .begins .ensures) (c .before .if1 
 
 pub standard-fields-spec : {M : Type 1} → statement M
 standard-fields-spec =
-    tie.close (tie.spec slice-aggregate-begins begins-requires returns look-at-requires returns-2)
+    tie.close (tie.spec (λ c. search needs) (λ c κs. search needs) returns (λ c κs. search needs) returns-2)

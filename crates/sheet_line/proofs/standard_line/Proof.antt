@@ -28,37 +28,13 @@ word-at c = c .before .before .before .before
 number : (c : tie.After-known-told) → fieldThen lineFeed (now (c .before .before .before .before .before .before .before .before .before .before .args .text)) (length standardStart) ≡ Number (c .before .q .given .0 .0) (c .before .q .given .0 .1 .0)
 number c = sym (c .before .before .before .field-then .ensures) ∙ c .before .q .given .1
 
-is-line-requires : tie.Need-is-line-requires
-is-line-requires c κs = search needs
-
-bad-standard-requires : tie.Need-bad-standard-requires
-bad-standard-requires c κs = search needs
-
 returns : tie.Need-returns
 unfolding standardLine
 returns c = rw (said-no (c .before .before .is-line .ensures) (c .before .if1 .taken)) (c .bad-standard .ensures)
 
-slice-aggregate-begins : tie.Need-slice-aggregate-begins
-slice-aggregate-begins c = search needs
-
-begins-requires : tie.Need-begins-requires
-begins-requires c κs = search needs
-
-bad-standard-requires-2 : tie.Need-bad-standard-requires-2
-bad-standard-requires-2 c κs = search needs
-
 returns-2 : tie.Need-returns-2
 unfolding standardLine
 returns-2 c = rw (within (c .before .before .before .before), said-no (c .before .before .begins .ensures) (c .before .if2 .taken)) (c .bad-standard2 .ensures)
-
-field-then-requires : tie.Need-field-then-requires
-field-then-requires c κs = search needs
-
-enum-known-q : tie.Need-enum-known-q
-enum-known-q c = search needs
-
-bad-standard-requires-3 : tie.Need-bad-standard-requires-3
-bad-standard-requires-3 c κs = search needs
 
 returns-3 : tie.Need-returns-3
 unfolding standardLine
@@ -67,21 +43,12 @@ returns-3 c =
     let w = m .before .before in
     rw (within (w .before .before .before), worded w, ← m .before .field-then .ensures) (c .bad-standard3 .ensures ∙ sym (other-field (m .before .field-then .result) _ _ (m .match .keys2)))
 
-bad-standard-requires-4 : tie.Need-bad-standard-requires-4
-bad-standard-requires-4 c κs = search needs
-
 returns-4 : tie.Need-returns-4
 unfolding standardLine
 returns-4 c =
     let f = c .before .before in
     let w = word-at f in
     rw (within (w .before .before .before), worded w, number f, ne-eqb _ _ (c .before .if3 .taken)) (c .bad-standard4 .ensures)
-
-open-requires : tie.Need-open-requires
-open-requires c κs = search needs
-
-outcome-requires : tie.Need-outcome-requires
-outcome-requires c κs = search needs
 
 returns-5 : tie.Need-returns-5
 unfolding standardLine
@@ -94,20 +61,6 @@ returns-5 c =
 pub standard-line-spec : {M : Type 1} → statement M
 standard-line-spec =
     tie.close
-    (tie.spec
-    is-line-requires
-    bad-standard-requires
-    returns
-    slice-aggregate-begins
-    begins-requires
-    bad-standard-requires-2
-    returns-2
-    field-then-requires
-    enum-known-q
-    bad-standard-requires-3
-    returns-3
-    bad-standard-requires-4
-    returns-4
-    open-requires
-    outcome-requires
-    returns-5)
+    (tie.spec (λ c κs. search needs) (λ c κs. search needs) returns (λ c. search needs) (λ c κs. search needs)
+    (λ c κs. search needs) returns-2 (λ c κs. search needs) (λ c. search needs) (λ c κs. search needs) returns-3
+    (λ c κs. search needs) returns-4 (λ c κs. search needs) (λ c κs. search needs) returns-5)

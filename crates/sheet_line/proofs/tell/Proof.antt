@@ -13,12 +13,9 @@ returns-2 : tie.Need-returns-2
 unfolding telling
 returns-2 c = rw (ne-eqb _ _ (c .before .if1 .left), lt-ltb _ _ (c .if2 .taken))
 
-enter-requires : tie.Need-enter-requires
-enter-requires c κs = search needs
-
 returns-3 : tie.Need-returns-3
 unfolding telling
 returns-3 c = rw (ne-eqb _ _ (c .before .before .if1 .left), le-ltb _ _ (c .before .if2 .left)) (c .enter .ensures)
 
 pub tell-spec : {M : Type 1} → statement M
-tell-spec = tie.close (tie.spec returns returns-2 enter-requires returns-3)
+tell-spec = tie.close (tie.spec returns returns-2 (λ c κs. search needs) returns-3)

@@ -47,14 +47,5 @@ returns-2 c = let l = c .before in sym (digit-none (now (l .before .before .args
 pub digits-end-spec : {M : Type 1} → statement M
 digits-end-spec =
     tie.close
-    (tie.spec
-    Inv-loop
-    μ-loop
-    loop-holds
-    shared-slice-read-is-digit
-    is-digit-requires
-    returns
-    add-i
-    loop-less
-    loop-again
+    (tie.spec Inv-loop μ-loop loop-holds shared-slice-read-is-digit is-digit-requires returns add-i loop-less loop-again
     returns-2)

@@ -79,15 +79,6 @@ module _ (c : tie.After-known-told2) where
   unfolding ExposureAt
   exposure = let k = known (tabbed flagged) in subst (ExposureAt (Text k) (End k + 3)) (c .before .feed .given .1) (c .before .before .before .exposure-at .ensures)
 
-leading-at-requires : tie.Need-leading-at-requires
-leading-at-requires c κs = search needs
-
-enum-known-number : tie.Need-enum-known-number
-enum-known-number c = search needs
-
-enum-told : tie.Need-enum-told
-enum-told c = search needs
-
 returns : tie.Need-returns
 unfolding EntryAt
 returns c = let s = start (c .before .before) in no-number (now (s .args .text)) (s .args .at) (s .args .due) (sym (c .before .before .leading-at .ensures) ∙ c .enum-told .given .1)
@@ -96,9 +87,6 @@ returns-2 : tie.Need-returns-2
 unfolding EntryAt
 returns-2 c = let k = c .before in other-number (Text k) (begin k .args .at) (begin k .args .due) (N k) (End k) (number k) (c .if1 .taken)
 
-stands-requires : tie.Need-stands-requires
-stands-requires c κs = search needs
-
 returns-3 : tie.Need-returns-3
 unfolding EntryAt
 returns-3 c = let k = c .before .before .before in no-tab (Text k) (begin k .args .at) (begin k .args .due) (N k) (End k) (number k) (said-no (c .before .stands .ensures) (c .if2 .taken))
@@ -106,20 +94,8 @@ returns-3 c = let k = c .before .before .before in no-tab (Text k) (begin k .arg
 add-stands : tie.Need-add-stands
 add-stands c = omega (arith, inside c)
 
-add-stands-2 : tie.Need-add-stands-2
-add-stands-2 c = search needs
-
-stands-requires-2 : tie.Need-stands-requires-2
-stands-requires-2 c κs = search needs
-
 add-stands-3 : tie.Need-add-stands-3
 add-stands-3 c = omega (arith, inside (c .before))
-
-stands-requires-3 : tie.Need-stands-requires-3
-stands-requires-3 c κs = search needs
-
-either-requires : tie.Need-either-requires
-either-requires c κs = search needs
 
 returns-4 : tie.Need-returns-4
 unfolding EntryAt
@@ -132,9 +108,6 @@ returns-4 c =
 add-stands-4 : tie.Need-add-stands-4
 add-stands-4 c = omega (arith, inside (c .before .before .before .before))
 
-stands-requires-4 : tie.Need-stands-requires-4
-stands-requires-4 c κs = search needs
-
 returns-5 : tie.Need-returns-5
 unfolding EntryAt
 returns-5 c =
@@ -144,23 +117,11 @@ returns-5 c =
 add-exposure-at : tie.Need-add-exposure-at
 add-exposure-at c = omega (arith, inside (tabbed c))
 
-exposure-at-requires : tie.Need-exposure-at-requires
-exposure-at-requires c κs = search needs
-
-enum-known-feed : tie.Need-enum-known-feed
-enum-known-feed c = search needs
-
-enum-told-2 : tie.Need-enum-told-2
-enum-told-2 c = search needs
-
 returns-6 : tie.Need-returns-6
 unfolding EntryAt
 returns-6 c =
     let k = known (tabbed (c .before .before .before)) in
     no-exposure (Text k) (begin k .args .at) (begin k .args .due) (N k) (End k) (number k) (subst (ExposureAt (Text k) (End k + 3)) (c .enum-told2 .given .1) (c .before .before .exposure-at .ensures))
-
-stands-requires-5 : tie.Need-stands-requires-5
-stands-requires-5 c κs = search needs
 
 returns-7 : tie.Need-returns-7
 unfolding EntryAt
@@ -186,30 +147,8 @@ returns-8 c =
 pub entry-at-spec : {M : Type 1} → statement M
 entry-at-spec =
     tie.close
-    (tie.spec
-    leading-at-requires
-    enum-known-number
-    enum-told
-    returns
-    returns-2
-    stands-requires
-    returns-3
-    add-stands
-    add-stands-2
-    stands-requires-2
-    add-stands-3
-    stands-requires-3
-    either-requires
-    returns-4
-    add-stands-4
-    stands-requires-4
-    returns-5
-    add-exposure-at
-    exposure-at-requires
-    enum-known-feed
-    enum-told-2
-    returns-6
-    stands-requires-5
-    returns-7
-    add-t11
+    (tie.spec (λ c κs. search needs) (λ c. search needs) (λ c. search needs) returns returns-2 (λ c κs. search needs)
+    returns-3 add-stands (λ c. search needs) (λ c κs. search needs) add-stands-3 (λ c κs. search needs)
+    (λ c κs. search needs) returns-4 add-stands-4 (λ c κs. search needs) returns-5 add-exposure-at
+    (λ c κs. search needs) (λ c. search needs) (λ c. search needs) returns-6 (λ c κs. search needs) returns-7 add-t11
     returns-8)

@@ -39,15 +39,9 @@ module _ (c : tie.After-known-told) where
   number : leadingAt (Text counted) (At counted) ≡ Number Value End
   number = sym (c .before .before .before .leading-at .ensures) ∙ c .before .t .given .1
 
-digits-end-requires : tie.Need-digits-end-requires
-digits-end-requires c κs = search needs
-
 returns : tie.Need-returns
 unfolding ExposureAt
 returns c = let d = c .before in no-digits (Text d) (At d) (d .digits-end .result) (d .digits-end .ensures) (c .if1 .taken)
-
-stands-requires : tie.Need-stands-requires
-stands-requires c κs = search needs
 
 returns-2 : tie.Need-returns-2
 unfolding ExposureAt
@@ -62,15 +56,6 @@ returns-3 c =
     let e = c .before in
     let d = e .before .before .before in
     few (Text d) (At d) (other e) (d .digits-end .result) (d .digits-end .ensures) (e .before .before .if1 .left) (omega (arith, d .digits-end .ensures, c .if3 .taken))
-
-leading-at-requires : tie.Need-leading-at-requires
-leading-at-requires c κs = search needs
-
-enum-known-t : tie.Need-enum-known-t
-enum-known-t c = search needs
-
-enum-told : tie.Need-enum-told
-enum-told c = search needs
 
 returns-4 : tie.Need-returns-4
 unfolding ExposureAt
@@ -91,16 +76,5 @@ returns-6 c =
 pub exposure-at-spec : {M : Type 1} → statement M
 exposure-at-spec =
     tie.close
-    (tie.spec
-    digits-end-requires
-    returns
-    stands-requires
-    returns-2
-    sub-if3
-    returns-3
-    leading-at-requires
-    enum-known-t
-    enum-told
-    returns-4
-    returns-5
-    returns-6)
+    (tie.spec (λ c κs. search needs) returns (λ c κs. search needs) returns-2 sub-if3 returns-3 (λ c κs. search needs)
+    (λ c. search needs) (λ c. search needs) returns-4 returns-5 returns-6)

@@ -3,9 +3,6 @@ use borrow.Author.Needs.{needs}
 use Rattle.sheet_records.proofs.flag_byte.Statement.{statement}
 use Rattle.sheet_records.proofs.flag_byte.Tie as tie
 
-add-result : tie.Need-add-result
-add-result c = search needs
-
 returns : tie.Need-returns
 returns c = rw (c .if1 .taken)
 
@@ -13,4 +10,4 @@ returns-2 : tie.Need-returns-2
 returns-2 c = rw (c .if1 .left)
 
 pub flag-byte-spec : {M : Type 1} → statement M
-flag-byte-spec = tie.close (tie.spec add-result returns returns-2)
+flag-byte-spec = tie.close (tie.spec (λ c. search needs) returns returns-2)

@@ -101,22 +101,6 @@ returns-3 c = ended (c .before .loop .inv) (c .loop-test .left)
 pub judge-spec : {M : Type 1} → statement M
 judge-spec =
     tie.close
-    (tie.spec
-    Inv-loop
-    μ-loop
-    both-requires
-    returns
-    loop-holds
-    mul-outcome
-    shared-slice-copy-out-outcome
-    outcome-requires
-    judge-one-requires
-    enum-known-r
-    returns-2
-    enum-told
-    add-pick
-    pick-requires
-    add-i
-    loop-less
-    loop-again
-    returns-3)
+    (tie.spec Inv-loop μ-loop both-requires returns loop-holds mul-outcome shared-slice-copy-out-outcome
+    outcome-requires judge-one-requires enum-known-r returns-2 enum-told add-pick pick-requires add-i loop-less
+    loop-again returns-3)

@@ -36,31 +36,13 @@ module _ (c : tie.After-known-told) where
   begun : begins standardStart (Text word) ≡ true
   begun = said-yes (word .begins .ensures) (c .before .before .before .before .if1 .left)
 
-slice-aggregate-begins : tie.Need-slice-aggregate-begins
-slice-aggregate-begins c = search needs
-
-begins-requires : tie.Need-begins-requires
-begins-requires c κs = search needs
-
 returns : tie.Need-returns
 unfolding HeadOf
 returns c = no-word (Text (c .before)) (said-no (c .before .begins .ensures) (c .if1 .taken))
 
-leading-at-requires : tie.Need-leading-at-requires
-leading-at-requires c κs = search needs
-
-enum-known-q : tie.Need-enum-known-q
-enum-known-q c = search needs
-
-enum-told : tie.Need-enum-told
-enum-told c = search needs
-
 returns-2 : tie.Need-returns-2
 unfolding HeadOf
 returns-2 c = let w = c .before .before .before .before in no-standard (Text w) (sym (c .before .before .leading-at .ensures) ∙ c .enum-told .given .1)
-
-stands-requires : tie.Need-stands-requires
-stands-requires c κs = search needs
 
 returns-3 : tie.Need-returns-3
 unfolding HeadOf
@@ -75,15 +57,5 @@ returns-4 c = let k = c .before .before in head-here (Text (word k)) (Q k) (Feed
 pub line-one-spec : {M : Type 1} → statement M
 line-one-spec =
     tie.close
-    (tie.spec
-    slice-aggregate-begins
-    begins-requires
-    returns
-    leading-at-requires
-    enum-known-q
-    enum-told
-    returns-2
-    stands-requires
-    returns-3
-    add-t10
-    returns-4)
+    (tie.spec (λ c. search needs) (λ c κs. search needs) returns (λ c κs. search needs) (λ c. search needs)
+    (λ c. search needs) returns-2 (λ c κs. search needs) returns-3 add-t10 returns-4)

@@ -25,9 +25,6 @@ negated-fits (suc n) h = omega arith
 turned-fits : (n : ℕ) → n ≤ longestTime → SFits w32 (pos 0 -ℤ toZ w32 n)
 turned-fits n h = subst (SFits w32) (sym (turned n h)) (negated-fits n h)
 
-cast-x : tie.Need-cast-x
-cast-x c = search needs
-
 sub-result : tie.Need-sub-result
 sub-result c = turned-fits (c .before .args .exposure) (c .before .pre)
 
@@ -38,4 +35,4 @@ returns-2 : tie.Need-returns-2
 returns-2 c = rw (c .if1 .left) (plain (c .before .args .exposure) (c .before .pre))
 
 pub number-for-spec : {M : Type 1} → statement M
-number-for-spec = tie.close (tie.spec cast-x sub-result returns returns-2)
+number-for-spec = tie.close (tie.spec (λ c. search needs) sub-result returns returns-2)

@@ -8,12 +8,6 @@ use Rattle.sheet_records.proofs.Puts.{failed-below}
 use Rattle.sheet_records.proofs.outcome.Statement.{statement}
 use Rattle.sheet_records.proofs.outcome.Tie as tie
 
-magnitude-requires : tie.Need-magnitude-requires
-magnitude-requires c κs = search needs
-
-cast-t4 : tie.Need-cast-t4
-cast-t4 c = search needs
-
 returns : tie.Need-returns
 returns c =
     let s = c .before in
@@ -21,4 +15,4 @@ returns c =
     rw (toZ-ofZ (s .fits .x)) (ap (λ (f : Bool). told f (c .magnitude .result)) (failed-below (s .args .x)) ∙ ap (told _) size)
 
 pub outcome-spec : {M : Type 1} → statement M
-outcome-spec = tie.close (tie.spec magnitude-requires cast-t4 returns)
+outcome-spec = tie.close (tie.spec (λ c κs. search needs) (λ c. search needs) returns)

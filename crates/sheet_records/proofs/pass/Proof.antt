@@ -144,26 +144,6 @@ returns-5 c = ended (c .before .loop .inv) (c .loop-test .left)
 pub pass-spec : {M : Type 1} → statement M
 pass-spec =
     tie.close
-    (tie.spec
-    Inv-loop
-    μ-loop
-    line-one-requires
-    enum-known-q
-    enum-told
-    returns
-    both-requires
-    returns-2
-    loop-holds
-    add-entry-at
-    entry-at-requires
-    enum-known-failed
-    enum-told-2
-    returns-3
-    takes-requires
-    returns-4
-    add-pick
-    pick-requires
-    add-count
-    loop-less
-    loop-again
-    returns-5)
+    (tie.spec Inv-loop μ-loop line-one-requires enum-known-q enum-told returns both-requires returns-2 loop-holds
+    add-entry-at entry-at-requires enum-known-failed enum-told-2 returns-3 takes-requires returns-4 add-pick
+    pick-requires add-count loop-less loop-again returns-5)

@@ -99,21 +99,5 @@ returns c = put-done (c .before .loop .inv) (c .loop-test .left)
 pub put-all-spec : {M : Type 1} → statement M
 put-all-spec =
     tie.close
-    (tie.spec
-    Inv-loop
-    μ-loop
-    loop-holds
-    record-at-requires
-    number-for-requires
-    put-requires
-    add-count
-    add-pick
-    add-pick-2
-    pick-requires
-    add-pick-3
-    mul-pick
-    pick-requires-2
-    loop-less
-    loop-again
-    same-length
-    returns)
+    (tie.spec Inv-loop μ-loop loop-holds record-at-requires number-for-requires put-requires add-count add-pick
+    add-pick-2 pick-requires add-pick-3 mul-pick pick-requires-2 loop-less loop-again same-length returns)

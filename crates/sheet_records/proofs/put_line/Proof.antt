@@ -75,47 +75,12 @@ left5 c =
     let exposure = ap (λ (o : Outcome). o .exposure) (is n) in
     left-next (digitsOf (exposureIn (X n))) (lineFeed ∷ []) (left4 (second-of c)) (rw exposure at (c .write-number2 .ensures))
 
-outcome-requires : tie.Need-outcome-requires
-outcome-requires c κs = search needs
-
-write-number-requires : tie.Need-write-number-requires
-write-number-requires c κs = search needs
-
-write-byte-requires : tie.Need-write-byte-requires
-write-byte-requires c κs = search needs
-
-flag-byte-requires : tie.Need-flag-byte-requires
-flag-byte-requires c κs = search needs
-
-write-byte-requires-2 : tie.Need-write-byte-requires-2
-write-byte-requires-2 c κs = search needs
-
-write-byte-requires-3 : tie.Need-write-byte-requires-3
-write-byte-requires-3 c κs = search needs
-
-write-number-requires-2 : tie.Need-write-number-requires-2
-write-number-requires-2 c κs = search needs
-
-write-byte-requires-4 : tie.Need-write-byte-requires-4
-write-byte-requires-4 c κs = search needs
-
-same-length : tie.Need-same-length
-same-length c = search needs
-
 returns : tie.Need-returns
 returns c = left-last (left5 (c .before .before .before .before .before .before)) (c .before .before .write-byte4 .ensures)
 
 pub put-line-spec : {M : Type 1} → statement M
 put-line-spec =
     tie.close
-    (tie.spec
-    outcome-requires
-    write-number-requires
-    write-byte-requires
-    flag-byte-requires
-    write-byte-requires-2
-    write-byte-requires-3
-    write-number-requires-2
-    write-byte-requires-4
-    same-length
+    (tie.spec (λ c κs. search needs) (λ c κs. search needs) (λ c κs. search needs) (λ c κs. search needs)
+    (λ c κs. search needs) (λ c κs. search needs) (λ c κs. search needs) (λ c κs. search needs) (λ c. search needs)
     returns)

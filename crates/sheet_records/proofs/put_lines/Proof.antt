@@ -88,16 +88,5 @@ returns c =
 pub put-lines-spec : {M : Type 1} → statement M
 put-lines-spec =
     tie.close
-    (tie.spec
-    Inv-loop
-    μ-loop
-    loop-holds
-    add-put-line
-    mul-put-line
-    shared-slice-copy-out-put-line
-    put-line-requires
-    add-i
-    loop-less
-    loop-again
-    same-length
-    returns)
+    (tie.spec Inv-loop μ-loop loop-holds add-put-line mul-put-line shared-slice-copy-out-put-line put-line-requires
+    add-i loop-less loop-again same-length returns)

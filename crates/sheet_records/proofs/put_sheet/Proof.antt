@@ -23,11 +23,8 @@ put-head-requires c κs = let s = c .before .before in omega (arith, s .pre .1, 
 put-lines-requires : tie.Need-put-lines-requires
 put-lines-requires c κs = let h = c .before .before .before in (start h .pre .0, left-fits (left h))
 
-same-length : tie.Need-same-length
-same-length c = search needs
-
 returns : tie.Need-returns
 returns c = left-last (left (c .before .before .before .before .before .before)) (c .before .before .put-lines .ensures) .1
 
 pub put-sheet-spec : {M : Type 1} → statement M
-put-sheet-spec = tie.close (tie.spec put-head-requires put-lines-requires same-length returns)
+put-sheet-spec = tie.close (tie.spec put-head-requires put-lines-requires (λ c. search needs) returns)

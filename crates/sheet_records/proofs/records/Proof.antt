@@ -43,21 +43,6 @@ module _ (c : tie.After-known-told) where
   unfolding Passes
   clean = subst (Passes (Text passed)) (c .before .q .given .1) (passed .pass .ensures)
 
-pass-requires : tie.Need-pass-requires
-pass-requires c κs = search needs
-
-enum-told : tie.Need-enum-told
-enum-told c = search needs
-
-read-requires : tie.Need-read-requires
-read-requires c κs = search needs
-
-stopped-requires : tie.Need-stopped-requires
-stopped-requires c κs = search needs
-
-enum-known-q : tie.Need-enum-known-q
-enum-known-q c = search needs
-
 returns : tie.Need-returns
 unfolding filledBy
 returns c = let k = c .before in (no-room (clean k) (length (Places (passed k))) (c .if1 .taken), refl)
@@ -74,9 +59,6 @@ returns-2 c =
     let is = c .stopped .ensures ∙ ap stoppedFrom (c .before .read .ensures) ∙ unclean (Text p) (length (Places p)) never in
     (is, sym (ap (λ (r : Resumed). filledBy r (recordsOf (Text p)) (Places p)) (c .stopped .ensures) ∙ stopped-kept (c .before .read .result) (recordsOf (Text p)) (Places p)))
 
-same-length : tie.Need-same-length
-same-length c = search needs
-
 returns-3 : tie.Need-returns-3
 returns-3 c =
     let w = c .before in
@@ -88,14 +70,5 @@ returns-3 c =
 pub records-spec : {M : Type 1} → statement M
 records-spec =
     tie.close
-    (tie.spec
-    pass-requires
-    enum-told
-    read-requires
-    stopped-requires
-    enum-known-q
-    returns
-    put-all-requires
-    returns-2
-    same-length
-    returns-3)
+    (tie.spec (λ c κs. search needs) (λ c. search needs) (λ c κs. search needs) (λ c κs. search needs)
+    (λ c. search needs) returns put-all-requires returns-2 (λ c. search needs) returns-3)

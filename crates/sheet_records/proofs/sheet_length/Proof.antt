@@ -74,18 +74,5 @@ returns c =
 pub sheet-length-spec : {M : Type 1} → statement M
 sheet-length-spec =
     tie.close
-    (tie.spec
-    Inv-loop
-    μ-loop
-    digits-requires
-    add-total
-    loop-holds
-    add-line-length
-    mul-line-length
-    shared-slice-copy-out-line-length
-    line-length-requires
-    add-total-2
-    add-i
-    loop-less
-    loop-again
-    returns)
+    (tie.spec Inv-loop μ-loop digits-requires add-total loop-holds add-line-length mul-line-length
+    shared-slice-copy-out-line-length line-length-requires add-total-2 add-i loop-less loop-again returns)

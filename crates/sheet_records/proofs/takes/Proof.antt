@@ -4,12 +4,9 @@ use borrow.Author.Needs.{needs}
 use Rattle.sheet_records.proofs.takes.Statement.{statement}
 use Rattle.sheet_records.proofs.takes.Tie as tie
 
-both-requires : tie.Need-both-requires
-both-requires c κs = search needs
-
 returns : tie.Need-returns
 unfolding takenAfter
 returns c = c .both .ensures
 
 pub takes-spec : {M : Type 1} → statement M
-takes-spec = tie.close (tie.spec both-requires returns)
+takes-spec = tie.close (tie.spec (λ c κs. search needs) returns)

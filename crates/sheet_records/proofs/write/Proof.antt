@@ -37,15 +37,6 @@ module _ (c : tie.After-enum-told) where
   few : length Records ≤ 100000
   few = let (d, e) = judged-clean (judged Q Records) clean in judged-few Q Records d e
 
-judge-requires : tie.Need-judge-requires
-judge-requires c κs = search needs
-
-enum-known-r : tie.Need-enum-known-r
-enum-known-r c = search needs
-
-enum-told : tie.Need-enum-told
-enum-told c = search needs
-
 sheet-length-requires : tie.Need-sheet-length-requires
 sheet-length-requires c κs = few c
 
@@ -68,9 +59,6 @@ returns-2 c =
     let s = c .before .before .before .before .before in
     (at-fault (s .args .q) (now (s .args .records)) (now (s .args .out)) (c .before .r .given .0 .0) (sym (c .before .r .given .1) ∙ c .before .before .before .judge .ensures), refl)
 
-same-length : tie.Need-same-length
-same-length c = search needs
-
 returns-3 : tie.Need-returns-3
 returns-3 c =
     let p = c .before .before in
@@ -85,13 +73,5 @@ returns-3 c =
 pub write-spec : {M : Type 1} → statement M
 write-spec =
     tie.close
-    (tie.spec
-    judge-requires
-    enum-known-r
-    enum-told
-    sheet-length-requires
-    returns
-    put-sheet-requires
-    returns-2
-    same-length
-    returns-3)
+    (tie.spec (λ c κs. search needs) (λ c. search needs) (λ c. search needs) sheet-length-requires returns
+    put-sheet-requires returns-2 (λ c. search needs) returns-3)

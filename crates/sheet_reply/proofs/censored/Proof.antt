@@ -4,15 +4,6 @@ use borrow.Author.Needs.{needs}
 use Rattle.sheet_reply.proofs.censored.Statement.{statement}
 use Rattle.sheet_reply.proofs.censored.Tie as tie
 
-censored-requires : tie.Need-censored-requires
-censored-requires c κs = search needs
-
-enum-known-n : tie.Need-enum-known-n
-enum-known-n c = search needs
-
-enum-told : tie.Need-enum-told
-enum-told c = search needs
-
 returns : tie.Need-returns
 returns c = absurd (count-not-refused (c .before .before .before .args .c) (c .before .before .before .pre) (c .before .before .censored .ensures) (c .enum-told .given .1))
 
@@ -20,4 +11,4 @@ returns-2 : tie.Need-returns-2
 returns-2 c = has-count (c .before .before .before .before .args .c) (c .before .before .before .before .pre) (c .before .before .before .censored .ensures) (c .before .n .given .1)
 
 pub censored-spec : {M : Type 1} → statement M
-censored-spec = tie.close (tie.spec censored-requires enum-known-n enum-told returns returns-2)
+censored-spec = tie.close (tie.spec (λ c κs. search needs) (λ c. search needs) (λ c. search needs) returns returns-2)

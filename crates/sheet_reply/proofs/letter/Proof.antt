@@ -10,29 +10,8 @@ use Rattle.sheet_reply.proofs.letter.Tie as tie
 given : (c : tie.After-known-told) → c .before .v .given .0 .0 ≡ verdictOf (c .before .before .before .before .args .c)
 given c = has-verdict (c .before .before .before .before .args .c) (c .before .before .before .before .pre) (c .before .before .before .judge .result) (c .before .before .before .judge .ensures) (c .before .v .given .1)
 
-judge-requires : tie.Need-judge-requires
-judge-requires c κs = search needs
-
-enum-known-v : tie.Need-enum-known-v
-enum-known-v c = search needs
-
-enum-told : tie.Need-enum-told
-enum-told c = search needs
-
 returns : tie.Need-returns
 returns c = absurd (not-refused (c .before .before .before .args .c) (c .before .before .before .pre) (c .before .before .judge .result) (c .before .before .judge .ensures) (c .enum-told .given .1))
-
-enum-told-2 : tie.Need-enum-told-2
-enum-told-2 c = search needs
-
-enum-told-3 : tie.Need-enum-told-3
-enum-told-3 c = search needs
-
-enum-told-4 : tie.Need-enum-told-4
-enum-told-4 c = search needs
-
-enum-told-5 : tie.Need-enum-told-5
-enum-told-5 c = search needs
 
 returns-2 : tie.Need-returns-2
 unfolding letterFor
@@ -53,16 +32,5 @@ returns-5 c = rw (← given (c .before .before), c .enum-told5 .given .1)
 pub letter-spec : {M : Type 1} → statement M
 letter-spec =
     tie.close
-    (tie.spec
-    judge-requires
-    enum-known-v
-    enum-told
-    returns
-    enum-told-2
-    enum-told-3
-    enum-told-4
-    enum-told-5
-    returns-2
-    returns-3
-    returns-4
-    returns-5)
+    (tie.spec (λ c κs. search needs) (λ c. search needs) (λ c. search needs) returns (λ c. search needs)
+    (λ c. search needs) (λ c. search needs) (λ c. search needs) returns-2 returns-3 returns-4 returns-5)

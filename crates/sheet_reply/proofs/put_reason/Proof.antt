@@ -35,23 +35,8 @@ left1 : (c : tie.After-write-field) → let t = c .before .before in
     Stands t (fieldText (start t .args .column) lineFeed) (c .write-field .last .1 .1 .0) (c .write-field .result)
 left1 c = left-next (fieldText (start (c .before .before) .args .number) tab) _ (left0 (c .before .before)) (c .write-field .ensures)
 
-write-field-requires : tie.Need-write-field-requires
-write-field-requires c κs = search needs
-
-write-field-requires-2 : tie.Need-write-field-requires-2
-write-field-requires-2 c κs = search needs
-
-same-length : tie.Need-same-length
-same-length c = search needs
-
 returns : tie.Need-returns
 returns c = left-last (left1 (c .before .before .before .before .before .before)) (c .before .before .write-field2 .ensures)
-
-write-field-requires-3 : tie.Need-write-field-requires-3
-write-field-requires-3 c κs = search needs
-
-same-length-2 : tie.Need-same-length-2
-same-length-2 c = search needs
 
 returns-2 : tie.Need-returns-2
 returns-2 c = rw (alone (c .before .before .before .before)) (c .before .before .write-field3 .ensures)
@@ -59,11 +44,5 @@ returns-2 c = rw (alone (c .before .before .before .before)) (c .before .before 
 pub put-reason-spec : {M : Type 1} → statement M
 put-reason-spec =
     tie.close
-    (tie.spec
-    write-field-requires
-    write-field-requires-2
-    same-length
-    returns
-    write-field-requires-3
-    same-length-2
-    returns-2)
+    (tie.spec (λ c κs. search needs) (λ c κs. search needs) (λ c. search needs) returns (λ c κs. search needs)
+    (λ c. search needs) returns-2)

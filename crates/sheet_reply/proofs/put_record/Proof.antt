@@ -89,33 +89,6 @@ left5 c = left-next (letter-of (first-of (second-of (third-of (fourth-of c)))) .
 returns : tie.Need-returns
 returns c = let a = c .before .before .before .args in rw (empty (a .c) (c .if1 .taken)) (wrote-none (now (a .out)) (a .at) (omega (arith, rw (empty (a .c) (c .if1 .taken)) at (c .before .before .before .pre .1))))
 
-censored-requires : tie.Need-censored-requires
-censored-requires c κs = search needs
-
-letter-requires : tie.Need-letter-requires
-letter-requires c κs = search needs
-
-write-field-requires : tie.Need-write-field-requires
-write-field-requires c κs = search needs
-
-write-field-requires-2 : tie.Need-write-field-requires-2
-write-field-requires-2 c κs = search needs
-
-write-field-requires-3 : tie.Need-write-field-requires-3
-write-field-requires-3 c κs = search needs
-
-write-field-requires-4 : tie.Need-write-field-requires-4
-write-field-requires-4 c κs = search needs
-
-write-byte-requires : tie.Need-write-byte-requires
-write-byte-requires c κs = search needs
-
-write-byte-requires-2 : tie.Need-write-byte-requires-2
-write-byte-requires-2 c κs = search needs
-
-same-length : tie.Need-same-length
-same-length c = search needs
-
 returns-2 : tie.Need-returns-2
 returns-2 c =
     let p = c .before .before .before .before .before .before in
@@ -124,15 +97,6 @@ returns-2 c =
 pub put-record-spec : {M : Type 1} → statement M
 put-record-spec =
     tie.close
-    (tie.spec
-    returns
-    censored-requires
-    letter-requires
-    write-field-requires
-    write-field-requires-2
-    write-field-requires-3
-    write-field-requires-4
-    write-byte-requires
-    write-byte-requires-2
-    same-length
+    (tie.spec returns (λ c κs. search needs) (λ c κs. search needs) (λ c κs. search needs) (λ c κs. search needs)
+    (λ c κs. search needs) (λ c κs. search needs) (λ c κs. search needs) (λ c κs. search needs) (λ c. search needs)
     returns-2)

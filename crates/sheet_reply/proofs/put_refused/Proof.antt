@@ -38,23 +38,8 @@ left2 c = left-next (fieldText (start (word-of c) .args .line) tab) _ (left1 (wo
 left3 : (c : tie.After-write-field) {n : ℕ} → n ≡ numberOf (start (word-of c) .args .r) → Stands (word-of c) (reasonText n (start (word-of c) .args .column)) (c .write-field .last .1 .1 .0) (c .write-field .result)
 left3 c e = rw e (left2 c)
 
-slice-aggregate-write-bytes : tie.Need-slice-aggregate-write-bytes
-slice-aggregate-write-bytes c = search needs
-
-write-bytes-requires : tie.Need-write-bytes-requires
-write-bytes-requires c κs = search needs
-
-write-field-requires : tie.Need-write-field-requires
-write-field-requires c κs = search needs
-
-number-requires : tie.Need-number-requires
-number-requires c κs = search needs
-
 put-reason-requires : tie.Need-put-reason-requires
 put-reason-requires c κs = left-fits (left3 (line-of (c .before)) (c .before .number .ensures))
-
-same-length : tie.Need-same-length
-same-length c = search needs
 
 returns : tie.Need-returns
 returns c =
@@ -64,11 +49,5 @@ returns c =
 pub put-refused-spec : {M : Type 1} → statement M
 put-refused-spec =
     tie.close
-    (tie.spec
-    slice-aggregate-write-bytes
-    write-bytes-requires
-    write-field-requires
-    number-requires
-    put-reason-requires
-    same-length
-    returns)
+    (tie.spec (λ c. search needs) (λ c κs. search needs) (λ c κs. search needs) (λ c κs. search needs)
+    put-reason-requires (λ c. search needs) returns)

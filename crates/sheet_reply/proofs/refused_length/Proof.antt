@@ -8,21 +8,6 @@ use borrow.Author.Needs.{needs}
 use Rattle.sheet_reply.proofs.refused_length.Statement.{statement}
 use Rattle.sheet_reply.proofs.refused_length.Tie as tie
 
-digits-requires : tie.Need-digits-requires
-digits-requires c κs = search needs
-
-number-requires : tie.Need-number-requires
-number-requires c κs = search needs
-
-reason-length-requires : tie.Need-reason-length-requires
-reason-length-requires c κs = search needs
-
-add-result : tie.Need-add-result
-add-result c = search needs
-
-add-result-2 : tie.Need-add-result-2
-add-result-2 c = search needs
-
 returns : tie.Need-returns
 unfolding refusedText fieldText
 returns c =
@@ -33,4 +18,4 @@ returns c =
 pub refused-length-spec : {M : Type 1} → statement M
 refused-length-spec =
     tie.close
-    (tie.spec digits-requires number-requires reason-length-requires add-result add-result-2 returns)
+    (tie.spec (λ c κs. search needs) (λ c κs. search needs) (λ c κs. search needs) (λ c. search needs) (λ c. search needs) returns)

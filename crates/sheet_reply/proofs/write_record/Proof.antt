@@ -23,21 +23,12 @@ start c = c .before .before .before
 state : (c : tie.Else1) → sound (start c .args .c) ≡ true
 state c = said-yes (c .before .sound .ensures) (c .if1 .left)
 
-sound-requires : tie.Need-sound-requires
-sound-requires c κs = search needs
-
 returns : tie.Need-returns
 unfolding recordWriting recordLeft
 returns c = rw (said-no (c .before .sound .ensures) (c .if1 .taken)) (refl, refl)
 
-has-room-requires : tie.Need-has-room-requires
-has-room-requires c κs = search needs
-
 record-length-requires : tie.Need-record-length-requires
 record-length-requires c κs = state (c .before .before)
-
-has-room-requires-2 : tie.Need-has-room-requires-2
-has-room-requires-2 c κs = search needs
 
 returns-2 : tie.Need-returns-2
 unfolding recordWriting recordLeft
@@ -60,9 +51,6 @@ fits c =
 put-record-requires : tie.Need-put-record-requires
 put-record-requires c κs = (state (c .before .before .before), fits (c .before))
 
-same-length : tie.Need-same-length
-same-length c = search needs
-
 returns-3 : tie.Need-returns-3
 unfolding recordWriting recordLeft
 returns-3 c =
@@ -73,13 +61,5 @@ returns-3 c =
 pub write-record-spec : {M : Type 1} → statement M
 write-record-spec =
     tie.close
-    (tie.spec
-    sound-requires
-    returns
-    has-room-requires
-    record-length-requires
-    has-room-requires-2
-    returns-2
-    put-record-requires
-    same-length
-    returns-3)
+    (tie.spec (λ c κs. search needs) returns (λ c κs. search needs) record-length-requires (λ c κs. search needs)
+    returns-2 put-record-requires (λ c. search needs) returns-3)

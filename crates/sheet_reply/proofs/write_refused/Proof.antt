@@ -19,12 +19,6 @@ asked c = c .has-room .ensures
 needed : (c : tie.After-has-room) → c .before .refused-length .result ≡ length (refusedText (start c .args .line) (start c .args .column) (start c .args .r))
 needed c = c .before .refused-length .ensures
 
-refused-length-requires : tie.Need-refused-length-requires
-refused-length-requires c κs = search needs
-
-has-room-requires : tie.Need-has-room-requires
-has-room-requires c κs = search needs
-
 returns : tie.Need-returns
 returns c =
     let h = c .before in
@@ -38,9 +32,6 @@ fits c =
 put-refused-requires : tie.Need-put-refused-requires
 put-refused-requires c κs = fits (c .before)
 
-same-length : tie.Need-same-length
-same-length c = search needs
-
 returns-2 : tie.Need-returns-2
 returns-2 c =
     let e = c .before .before .before .before in
@@ -49,10 +40,4 @@ returns-2 c =
 pub write-refused-spec : {M : Type 1} → statement M
 write-refused-spec =
     tie.close
-    (tie.spec
-    refused-length-requires
-    has-room-requires
-    returns
-    put-refused-requires
-    same-length
-    returns-2)
+    (tie.spec (λ c κs. search needs) (λ c κs. search needs) returns put-refused-requires (λ c. search needs) returns-2)

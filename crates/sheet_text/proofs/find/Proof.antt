@@ -36,23 +36,8 @@ waits-at c = c .before .before .before
 step-is : (c : tie.After-line) → stepping (c .before .before .before .before .before .before .before .args .s) (firstLine (Rest (c .before .before .before .before .before))) ≡ c .line .result
 step-is c = rw (← first (c .before .before .before .before .before)) (sym (c .line .ensures))
 
-line-end-requires : tie.Need-line-end-requires
-line-end-requires c κs = search needs
-
-sub-waits : tie.Need-sub-waits
-sub-waits c = search needs
-
-part-waits-start : tie.Need-part-waits-start
-part-waits-start c = search needs
-
 part-waits-end : tie.Need-part-waits-end
 part-waits-end c = within c
-
-waits-requires : tie.Need-waits-requires
-waits-requires c κs = search needs
-
-sub-bytes : tie.Need-sub-bytes
-sub-bytes c = search needs
 
 returns : tie.Need-returns
 unfolding found
@@ -60,23 +45,8 @@ returns c =
     let e = c .before .before .before in
     rw (waits-is (c .before) ∙ c .if1 .taken, part-length (now (e .before .before .args .text)) (e .before .before .args .at) (e .line-end .result) (end-is e))
 
-sub-line : tie.Need-sub-line
-sub-line c = search needs
-
-part-line-start : tie.Need-part-line-start
-part-line-start c = search needs
-
 part-line-end : tie.Need-part-line-end
 part-line-end c = within (c .before .before .before)
-
-line-requires : tie.Need-line-requires
-line-requires c κs = search needs
-
-enum-known-t : tie.Need-enum-known-t
-enum-known-t c = search needs
-
-enum-known-line : tie.Need-enum-known-line
-enum-known-line c = search needs
 
 returns-2 : tie.Need-returns-2
 unfolding found
@@ -94,19 +64,6 @@ returns-3 c =
 pub find-spec : {M : Type 1} → statement M
 find-spec =
     tie.close
-    (tie.spec
-    line-end-requires
-    sub-waits
-    part-waits-start
-    part-waits-end
-    waits-requires
-    sub-bytes
-    returns
-    sub-line
-    part-line-start
-    part-line-end
-    line-requires
-    enum-known-t
-    enum-known-line
-    returns-2
-    returns-3)
+    (tie.spec (λ c κs. search needs) (λ c. search needs) (λ c. search needs) part-waits-end (λ c κs. search needs)
+    (λ c. search needs) returns (λ c. search needs) (λ c. search needs) part-line-end (λ c κs. search needs)
+    (λ c. search needs) (λ c. search needs) returns-2 returns-3)

@@ -6,12 +6,6 @@ use Rattle.sheet_text.proofs.last.Tie as tie
 returns : tie.Need-returns
 returns c = rw (c .if1 .taken)
 
-enum-told : tie.Need-enum-told
-enum-told c = search needs
-
-enum-known-s : tie.Need-enum-known-s
-enum-known-s c = search needs
-
 returns-2 : tie.Need-returns-2
 returns-2 c = rw (c .before .before .if1 .left, c .enum-told .given .1)
 
@@ -19,4 +13,4 @@ returns-3 : tie.Need-returns-3
 returns-3 c = rw (c .before .before .before .if1 .left, c .before .s .given .1)
 
 pub last-spec : {M : Type 1} → statement M
-last-spec = tie.close (tie.spec returns enum-told enum-known-s returns-2 returns-3)
+last-spec = tie.close (tie.spec returns (λ c. search needs) (λ c. search needs) returns-2 returns-3)

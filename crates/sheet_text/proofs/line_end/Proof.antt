@@ -49,15 +49,5 @@ returns-2 c = sym (reached-end (now (c .before .before .before .before .args .te
 pub line-end-spec : {M : Type 1} → statement M
 line-end-spec =
     tie.close
-    (tie.spec
-    Inv-loop
-    μ-loop
-    furthest-requires
-    loop-holds
-    shared-slice-read-if1
-    add-result
-    returns
-    add-i
-    loop-less
-    loop-again
-    returns-2)
+    (tie.spec Inv-loop μ-loop furthest-requires loop-holds shared-slice-read-if1 add-result returns add-i loop-less
+    loop-again returns-2)

@@ -128,23 +128,6 @@ returns-3 c =
 pub pass-spec : {M : Type 1} → statement M
 pass-spec =
     tie.close
-    (tie.spec
-    Inv-loop
-    μ-loop
-    loop-holds
-    find-requires
-    enum-known-t
-    put-sheet-requires
-    loop-less
-    loop-again
-    enum-known-left
-    same-length
-    returns
-    enum-known-line
-    put-end-requires
-    same-length-2
-    returns-2
-    last-requires
-    put-end-requires-2
-    same-length-3
-    returns-3)
+    (tie.spec Inv-loop μ-loop loop-holds find-requires enum-known-t put-sheet-requires loop-less loop-again
+    enum-known-left same-length returns enum-known-line put-end-requires same-length-2 returns-2 last-requires
+    put-end-requires-2 same-length-3 returns-3)

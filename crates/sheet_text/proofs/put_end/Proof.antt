@@ -22,28 +22,13 @@ place : (c : tie.After-write-refused) → let e = end-of c in
     behindOf (start e .args .at) (c .write-refused .result) ≡ start e .args .at + length (refusedText (e .end .given .0 .0) (e .end .given .0 .1 .0) (e .end .given .0 .1 .1 .0))
 place c = behind-writing (now (start (end-of c) .args .out)) (start (end-of c) .args .at) _ (c .write-refused .ensures .0)
 
-enum-told : tie.Need-enum-told
-enum-told c = search needs
-
-enum-known-end : tie.Need-enum-known-end
-enum-known-end c = search needs
-
-write-refused-requires : tie.Need-write-refused-requires
-write-refused-requires c κs = search needs
-
 behind-requires : tie.Need-behind-requires
 behind-requires c κs =
     let w = c .before .before in
     omega (arith, place w, ap (λ e. length (endText e)) (end-of w .end .given .1), start (end-of w) .pre)
 
-enum-told-2 : tie.Need-enum-told-2
-enum-told-2 c = search needs
-
 returns : tie.Need-returns
 returns c = rw (c .enum-told .given .1) (none-written (now (c .before .before .before .args .out)) (c .before .before .before .args .at))
-
-same-length : tie.Need-same-length
-same-length c = search needs
 
 returns-2 : tie.Need-returns-2
 returns-2 c =
@@ -56,13 +41,5 @@ returns-3 c = rw (c .enum-told2 .given .1) (none-written (now (c .before .before
 pub put-end-spec : {M : Type 1} → statement M
 put-end-spec =
     tie.close
-    (tie.spec
-    enum-told
-    enum-known-end
-    write-refused-requires
-    behind-requires
-    enum-told-2
-    returns
-    same-length
-    returns-2
-    returns-3)
+    (tie.spec (λ c. search needs) (λ c. search needs) (λ c κs. search needs) behind-requires (λ c. search needs) returns
+    (λ c. search needs) returns-2 returns-3)

@@ -25,25 +25,13 @@ place c =
     let s = sheet-of c in
     behind-writing (now (start s .args .out)) (start s .args .at) _ (rw (rw (s .s .given .1) at (start s .pre .0)) at (c .write-record .ensures .0))
 
-enum-known-s : tie.Need-enum-known-s
-enum-known-s c = search needs
-
-enum-told : tie.Need-enum-told
-enum-told c = search needs
-
 returns : tie.Need-returns
 returns c = rw (c .enum-told .given .1) (none-written (now (c .before .before .before .args .out)) (c .before .before .before .args .at))
-
-write-record-requires : tie.Need-write-record-requires
-write-record-requires c κs = search needs
 
 behind-requires : tie.Need-behind-requires
 behind-requires c κs =
     let w = c .before .before in
     omega (arith, place w, ap (λ s. length (textOf s)) (sheet-of w .s .given .1), start (sheet-of w) .pre .1)
-
-same-length : tie.Need-same-length
-same-length c = search needs
 
 returns-2 : tie.Need-returns-2
 unfolding recordLeft
@@ -55,11 +43,5 @@ returns-2 c =
 pub put-sheet-spec : {M : Type 1} → statement M
 put-sheet-spec =
     tie.close
-    (tie.spec
-    enum-known-s
-    enum-told
-    returns
-    write-record-requires
-    behind-requires
-    same-length
+    (tie.spec (λ c. search needs) (λ c. search needs) returns (λ c κs. search needs) behind-requires (λ c. search needs)
     returns-2)

@@ -100,19 +100,5 @@ returns-4 c =
 pub read-spec : {M : Type 1} → statement M
 read-spec =
     tie.close
-    (tie.spec
-    Inv-loop
-    μ-loop
-    sound-requires
-    returns
-    loop-holds
-    find-requires
-    enum-known-t
-    loop-less
-    loop-again
-    enum-known-left
-    returns-2
-    enum-known-line
-    returns-3
-    last-requires
-    returns-4)
+    (tie.spec Inv-loop μ-loop sound-requires returns loop-holds find-requires enum-known-t loop-less loop-again
+    enum-known-left returns-2 enum-known-line returns-3 last-requires returns-4)

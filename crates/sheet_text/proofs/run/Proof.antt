@@ -33,16 +33,10 @@ fits c =
     (λ w. omega (arith, enough (a .more) (now (a .text)) (a .s) (from-sound e), c .before .has-any-room .ensures (not-false _ (w .left))))
     (c .if2 .came)
 
-sound-requires : tie.Need-sound-requires
-sound-requires c κs = search needs
-
 returns : tie.Need-returns
 returns c =
     let a = c .before .before .before .before .args in
     run-broken (a .more) (now (a .text)) (a .s) (now (a .out)) (said-no (c .before .sound .ensures) (c .if1 .taken))
-
-has-any-room-requires : tie.Need-has-any-room-requires
-has-any-room-requires c κs = search needs
 
 needed-requires : tie.Need-needed-requires
 needed-requires c κs = from-sound (c .before .before)
@@ -56,9 +50,6 @@ returns-2 c =
 pass-requires : tie.Need-pass-requires
 pass-requires c κs = from-sound (c .before .before .before)
 
-same-length : tie.Need-same-length
-same-length c = search needs
-
 returns-3 : tie.Need-returns-3
 returns-3 c =
     let j = c .before .before .before .before in
@@ -69,12 +60,5 @@ returns-3 c =
 pub run-spec : {M : Type 1} → statement M
 run-spec =
     tie.close
-    (tie.spec
-    sound-requires
-    returns
-    has-any-room-requires
-    needed-requires
-    returns-2
-    pass-requires
-    same-length
-    returns-3)
+    (tie.spec (λ c κs. search needs) returns (λ c κs. search needs) needed-requires returns-2 pass-requires
+    (λ c. search needs) returns-3)

@@ -20,15 +20,9 @@ returns-2 c = let a = c .before .before .args in rw (le-ltb (length (now (a .lin
 returns-3 : tie.Need-returns-3
 returns-3 c = let a = c .before .before .before .args in rw (not-false (a .more) (c .before .before .if1 .left), lt-ltb (length (now (a .line))) longestLine (c .before .if2 .left), List·getD-eq-default (now (a .line)) 0 {n = length (now (a .line)) - 1} (omega arith))
 
-sub-result : tie.Need-sub-result
-sub-result c = search needs
-
-shared-slice-read-result : tie.Need-shared-slice-read-result
-shared-slice-read-result c = search needs
-
 returns-4 : tie.Need-returns-4
 returns-4 c = let a = c .before .before .before .before .args in rw (not-false (a .more) (c .before .before .before .if1 .left), lt-ltb (length (now (a .line))) longestLine (c .before .before .if2 .left)) (sym (and-true (not (endsLine (now (a .line))))))
 
 pub waits-spec : {M : Type 1} → statement M
 waits-spec =
-    tie.close (tie.spec returns returns-2 returns-3 sub-result shared-slice-read-result returns-4)
+    tie.close (tie.spec returns returns-2 returns-3 (λ c. search needs) (λ c. search needs) returns-4)

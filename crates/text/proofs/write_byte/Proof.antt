@@ -15,15 +15,6 @@ returns c =
     let a = c .before .args in
     wrote-short (now (a .out)) (a .at) (a .b ∷ []) (omega arith)
 
-slice-write-out : tie.Need-slice-write-out
-slice-write-out c = search needs
-
-add-result : tie.Need-add-result
-add-result c = search needs
-
-same-length : tie.Need-same-length
-same-length c = search needs
-
 returns-2 : tie.Need-returns-2
 returns-2 c =
     let a = c .before .args in
@@ -31,4 +22,4 @@ returns-2 c =
     wrote-laid out (a .at) (a .b ∷ []) (set out (a .at) (a .b)) (a .at + 1) (omega arith) (sym (laid-one out (a .at) (a .b) (omega arith))) refl
 
 pub write-byte-spec : {M : Type 1} → statement M
-write-byte-spec = tie.close (tie.spec returns slice-write-out add-result same-length returns-2)
+write-byte-spec = tie.close (tie.spec returns (λ c. search needs) (λ c. search needs) (λ c. search needs) returns-2)

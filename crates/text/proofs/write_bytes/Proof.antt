@@ -85,18 +85,5 @@ returns-2 c =
 pub write-bytes-spec : {M : Type 1} → statement M
 write-bytes-spec =
     tie.close
-    (tie.spec
-    Inv-loop
-    μ-loop
-    has-room-requires
-    returns
-    loop-holds
-    sub-i
-    shared-slice-read-out
-    add-out
-    slice-write-out
-    loop-less
-    loop-again
-    add-result
-    same-length
-    returns-2)
+    (tie.spec Inv-loop μ-loop has-room-requires returns loop-holds sub-i shared-slice-read-out add-out slice-write-out
+    loop-less loop-again add-result same-length returns-2)

@@ -10,15 +10,9 @@ use borrow.Author.Needs.{needs}
 use Rattle.binomial_sum.proofs.Sum.add.Statement.{statement}
 use Rattle.binomial_sum.proofs.Sum.add.Tie as tie
 
-sound-requires : tie.Need-sound-requires
-sound-requires c κs = search needs
-
 returns : tie.Need-returns
 unfolding adding
 returns c = rw (said-no (c .before .sound .ensures) (c .if1 .taken))
-
-sound-requires-2 : tie.Need-sound-requires-2
-sound-requires-2 c κs = search needs
 
 returns-2 : tie.Need-returns-2
 unfolding adding
@@ -35,9 +29,6 @@ returns-4 : tie.Need-returns-4
 unfolding adding
 returns-4 c = rw (said-yes (c .before .before .before .before .before .before .before .before .before .sound .ensures) (c .before .before .before .before .before .before .before .before .if1 .left), said-yes (c .before .before .before .before .before .before .before .sound2 .ensures) (c .before .before .before .before .before .before .if2 .left), le-ltb _ _ (c .before .before .before .if3 .left), ne-eqb _ _ (c .if4 .taken))
 
-sub-take : tie.Need-sub-take
-sub-take c = search needs
-
 take-requires : tie.Need-take-requires
 take-requires c κs =
     let a = c .before .before .before .before .before .before .before .before .before .before .before .args in
@@ -53,14 +44,5 @@ returns-5 c =
 pub add-spec : {M : Type 1} → statement M
 add-spec =
     tie.close
-    (tie.spec
-    sound-requires
-    returns
-    sound-requires-2
-    returns-2
-    add-if3
-    returns-3
-    returns-4
-    sub-take
-    take-requires
-    returns-5)
+    (tie.spec (λ c κs. search needs) returns (λ c κs. search needs) returns-2 add-if3 returns-3 returns-4
+    (λ c. search needs) take-requires returns-5)

@@ -9,15 +9,9 @@ use borrow.Author.Needs.{needs}
 use Rattle.campaign_state.proofs.Campaign.enter.Statement.{statement}
 use Rattle.campaign_state.proofs.Campaign.enter.Tie as tie
 
-sound-requires : tie.Need-sound-requires
-sound-requires c κs = search needs
-
 returns : tie.Need-returns
 unfolding entering
 returns c = rw (said-no (c .before .sound .ensures) (c .if1 .taken))
-
-both-requires : tie.Need-both-requires
-both-requires c κs = search needs
 
 returns-2 : tie.Need-returns-2
 unfolding entering
@@ -37,4 +31,4 @@ returns-3 c = rw (said-yes (c .before .before .before .before .before .before .s
 
 pub enter-spec : {M : Type 1} → statement M
 enter-spec =
-    tie.close (tie.spec sound-requires returns both-requires returns-2 take-requires returns-3)
+    tie.close (tie.spec (λ c κs. search needs) returns (λ c κs. search needs) returns-2 take-requires returns-3)

@@ -5,18 +5,6 @@ use borrow.Author.Needs.{needs}
 use Rattle.sheet_line.proofs.Sheet.line.Statement.{statement}
 use Rattle.sheet_line.proofs.Sheet.line.Tie as tie
 
-enum-told : tie.Need-enum-told
-enum-told c = search needs
-
-standard-line-requires : tie.Need-standard-line-requires
-standard-line-requires c κs = search needs
-
-enum-known-self : tie.Need-enum-known-self
-enum-known-self c = search needs
-
-sound-requires : tie.Need-sound-requires
-sound-requires c κs = search needs
-
 returns : tie.Need-returns
 unfolding stepping
 returns c = rw (c .before .before .before .self .given .1, said-no (c .before .sound .ensures) (c .if1 .taken))
@@ -35,12 +23,5 @@ returns-3 c = rw (c .before .before .before .before .self .given .1, said-yes (c
 pub line-spec : {M : Type 1} → statement M
 line-spec =
     tie.close
-    (tie.spec
-    enum-told
-    standard-line-requires
-    enum-known-self
-    sound-requires
-    returns
-    record-line-requires
-    returns-2
-    returns-3)
+    (tie.spec (λ c. search needs) (λ c κs. search needs) (λ c. search needs) (λ c κs. search needs) returns
+    record-line-requires returns-2 returns-3)

@@ -1,5 +1,6 @@
--- The half-width: there is one least number and no other, trying one number after the other finds it, and that of at most 10,000 failures is at most 196,000. Without a
--- failure, and where every sample failed, it is 0. Squares grow, so a number that is too small makes every smaller one too small. Assumes nothing.
+-- The half-width: there is one least number and no other, trying one number after the other finds it, and that of at
+-- most 10,000 failures is at most 196,000. Without a failure, and where every sample failed, it is 0. Squares grow, so
+-- a number that is too small makes every smaller one too small. Assumes nothing.
 use mathlib.Core.Path.{_≡_}
 use Prim.Native.Nat.{ℕ, zero, suc, _+_, _-_, _*_, _≤_, _<_}
 use native.Mathlib.Nat.{mul-le-mul, mul-le-mul-left, mul-le-mul-right}

@@ -1,5 +1,6 @@
--- The search for the least number whose square times p is at least a, by halving: the numbers below `low` are too small, and `high` is not. The middle one becomes the
--- new high, or the next one the new low; where they meet stands the least. Assumes nothing.
+-- The search for the least number whose square times p is at least a, by halving: the numbers below `low` are too
+-- small, and `high` is not. The middle one becomes the new high, or the next one the new low; where they meet stands
+-- the least. Assumes nothing.
 use Prim.Native.Nat.{ℕ, _+_, _*_, _/_, _≤_, _<_}
 use native.Mathlib.Nat.{mul-le-mul}
 use native.Mathlib.Omega.{arith}

@@ -1,5 +1,5 @@
--- What each entry answers: refusal 8, or whether there is a record beside the figures. A sum has a timed sample as soon as it has a record, so P = 0 is "no record".
--- Assumes nothing.
+-- What each entry answers: refusal 8, or whether there is a record beside the figures. A sum has a timed sample as soon
+-- as it has a record, so P = 0 is "no record". Assumes nothing.
 use mathlib.Core.Bool.{Bool, cond, not}
 use lib.Dec.{eqb}
 use Rattle.refusal.specs.declared.Refusal.the-variants.{BrokenState}

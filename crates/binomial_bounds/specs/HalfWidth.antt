@@ -16,7 +16,8 @@ scatter N P = 1960 * 1960 * N * (P - N)
 abbrev pub HalfWidth : ℕ → ℕ → ℕ → Type 0
 HalfWidth N P m = Least (scatter N P) P m
 
--- the same, found by trying one number after the other (proofs/HalfWidth): the first of k numbers from m on whose square times p is at least a, else the next
+-- the same, found by trying one number after the other (proofs/HalfWidth): the first of k numbers from m on whose
+-- square times p is at least a, else the next
 unfoldable pub firstFrom : ℕ → ℕ → ℕ → ℕ → ℕ
 firstFrom a p m zero = m
 firstFrom a p m (suc k) = cond (leb a (m * m * p)) m (firstFrom a p (suc m) k)

@@ -1,5 +1,5 @@
-// What a sum of records says by the binomial method (document 02, [7]): its bounds in thousandths of a failure, by the normal approximation, and its rates. A state
-// that breaks a sum's relations is refused.
+// What a sum of records says by the binomial method (document 02, [7]): its bounds in thousandths of a failure, by
+// the normal approximation, and its rates. A state that breaks a sum's relations is refused.
 ghost use mathlib.Core.Path.{_≡_};
 ghost use Prim.Native.Nat.{_-_, _*_, _≤_};
 ghost use Rattle.binomial_sum.specs.Kept.{Kept};

@@ -1,5 +1,6 @@
--- What an answer tells of the question, and back: a record that was added met every test on the way, and one that meets them all is added. So what is handed out keeps
--- the relations, and a sum grown by adding is never refused with 8. Assumes nothing.
+-- What an answer tells of the question, and back: a record that was added met every test on the way, and one that meets
+-- them all is added. So what is handed out keeps the relations, and a sum grown by adding is never refused with 8.
+-- Assumes nothing.
 use mathlib.Core.Path.{_≡_, ap, refl, sym}
 use mathlib.Core.Bool.{Bool, cond, false, not, true, _||_}
 use Prim.Native.Nat.{ℕ, _+_, _≤_}

@@ -1,6 +1,6 @@
--- However many records are added, the sum is that of the list of them; it has a timed sample as soon as it has a record; and records that are all taken are all
--- taken in any other order, with the same sum. Neighbours may change places: what is left of both limits after two records is left for either of them first. Assumes
--- nothing.
+-- However many records are added, the sum is that of the list of them; it has a timed sample as soon as it has a
+-- record; and records that are all taken are all taken in any other order, with the same sum. Neighbours may change
+-- places: what is left of both limits after two records is left for either of them first. Assumes nothing.
 use mathlib.Core.Path.{_≡_, ap, refl, _∙_}
 use mathlib.Core.List.{List, [], _∷_, _++_}
 use Prim.Native.Nat.{ℕ, _+_}

@@ -1,5 +1,5 @@
--- The test of a sum's relations and the facts that it finds are the same thing; and what a sound record brings to a sum: no more groups than timed samples, and
--- no more of these than fit. Assumes nothing.
+-- The test of a sum's relations and the facts that it finds are the same thing; and what a sound record brings to a
+-- sum: no more groups than timed samples, and no more of these than fit. Assumes nothing.
 use mathlib.Core.Path.{_≡_}
 use mathlib.Core.Bool.{false, true}
 use mathlib.Core.Logic.{_⊎_, inl, inr}

@@ -1,4 +1,5 @@
--- A sum's relations for refusal 8 again, as facts about numbers: what the test `sound` finds (`kept-from`, `sound-from`). Assumes nothing.
+-- A sum's relations for refusal 8 again, as facts about numbers: what the test `sound` finds (`kept-from`,
+-- `sound-from`). Assumes nothing.
 use Prim.Native.Nat.{_≤_}
 use Rattle.binomial_sum.specs.declared.Sum.{Sum}
 

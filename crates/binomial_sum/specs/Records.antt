@@ -1,4 +1,5 @@
--- A sum over the whole list of its records: document 02, [7], "add up N, the counted groups, and P, the timed samples". Assumes nothing.
+-- A sum over the whole list of its records: document 02, [7], "add up N, the counted groups, and P, the timed samples".
+-- Assumes nothing.
 use mathlib.Core.Path.{_≡_}
 use mathlib.Core.List.{List, [], _∷_}
 use Prim.Native.Nat.{ℕ, _+_}

@@ -1,4 +1,5 @@
--- Document 02, [7]: a sum's state, what it has to keep for refusal 8, and what adding a record does. N is the counted groups, P the timed samples. Assumes nothing.
+-- Document 02, [7]: a sum's state, what it has to keep for refusal 8, and what adding a record does. N is the counted
+-- groups, P the timed samples. Assumes nothing.
 use mathlib.Core.Bool.{Bool, _&&_, _||_}
 use Prim.Native.Nat.{ℕ, _+_, _-_}
 use lib.Dec.{leb, ltb}

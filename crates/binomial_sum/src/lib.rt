@@ -1,6 +1,6 @@
-// A sum of records by the binomial method (document 003, the third procedure; document 02, [7]): records go on past a failure, and what is added up of each is its
-// counted groups and its timed samples. Opening, and adding a record. The state goes in by value and comes back in the answer, so a refusal leaves the caller's as it
-// stood.
+// A sum of records by the binomial method (document 003, the third procedure; document 02, [7]): records go on past a
+// failure, and what is added up of each is its counted groups and its timed samples. Opening, and adding a record.
+// The state goes in by value and comes back in the answer, so a refusal leaves the caller's as it stood.
 ghost use mathlib.Core.Path.{_≡_};
 ghost use Prim.Native.Nat.{_≤_};
 ghost use Rattle.binomial_sum.specs.Kept.{Kept};
@@ -72,7 +72,8 @@ fn take(s: Sum, groups: u64, timed: u64) -> Answer
 }
 
 impl Sum {
-    // The sum with a record added; or refusal 8 for the sum or for the record, 4 for a record that is too short, 1 with item 1 for another step, 11.
+    // The sum with a record added; or refusal 8 for the sum or for the record, 4 for a record that is too short, 1
+    // with item 1 for another step, 11.
     pub fn add(self, r: Record) -> Answer
         ensures { λ a. ⌜ a ≡ adding self r ⌝ }
     {

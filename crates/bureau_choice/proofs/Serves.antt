@@ -1,5 +1,5 @@
--- The survey and the clerk's steps come to what a call is said to answer and leave (bench: Calls): the choice and the work are the call's tests in their order,
--- by what the survey has found. Assumes nothing.
+-- The survey and the clerk's steps come to what a call is said to answer and leave (bench: Calls): the choice and the
+-- work are the call's tests in their order, by what the survey has found. Assumes nothing.
 use mathlib.Core.Path.{_≡_, refl, ap, _∙_}
 use mathlib.Core.Bool.{Bool, cond, false, true}
 use mathlib.Core.List.{List}

@@ -1,5 +1,5 @@
--- The clerk's steps for a call after the survey, by value, and what all come to over a table of places. That this is what the call is said to answer and leave
--- is proofs/Serves. Assumes nothing.
+-- The clerk's steps for a call after the survey, by value, and what all come to over a table of places. That this is
+-- what the call is said to answer and leave is proofs/Serves. Assumes nothing.
 use mathlib.Core.Bool.{Bool, cond, not, _&&_}
 use mathlib.Core.List.{List}
 use Prim.Native.Nat.{ℕ}

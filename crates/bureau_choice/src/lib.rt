@@ -1,7 +1,7 @@
-// A call at the bureaus' table, by value, once the table is surveyed: a place is chosen by what was seen, and the job in it
-// is worked on; its owner may ask for a record's outcome to be entered, the verdict, the rates, and to give the place back.
-// All refusals are decided here. Whoever holds the table, as places or as numbers, has these steps to take
-// (proofs/Serves.antt: they come to what the call is said to answer and leave).
+// A call at the bureaus' table, by value, once the table is surveyed: a place is chosen by what was seen, and the job
+// in it is worked on; its owner may ask for a record's outcome to be entered, the verdict, the rates, and to give the
+// place back. All refusals are decided here. Whoever holds the table, as places or as numbers, has these steps to
+// take (proofs/Serves.antt: they come to what the call is said to answer and leave).
 ghost use mathlib.Core.Path.{_≡_};
 ghost use Rattle.bureau_table.specs.declared.Answer.the-variants.{Freed, Refused};
 ghost use Rattle.bureau_table.specs.Table.{free, owned, isBureau};
@@ -15,7 +15,8 @@ ghost use mathlib.Core.Bool.{cond};
 ghost use lib.Dec.{eqb};
 ghost use Rattle.refusal.specs.declared.Refusal.the-variants.{NotItsOwn};
 ghost use Rattle.bureau_table.specs.declared.Ask.the-variants.{Take};
-ghost use Rattle.bureau_choice.specs.Steps.{acted, acting, choosing, chosen, fine, opening, ownCount, refusing, taking};
+ghost use Rattle.bureau_choice.specs.Steps.{acted, acting, choosing, chosen, fine, opening, ownCount, refusing};
+ghost use Rattle.bureau_choice.specs.Steps.{taking};
 use bureau_survey::Seen;
 use bureau_table::Ask;
 use bureau_table::Call;
@@ -90,7 +91,8 @@ fn given_back() -> Worked
     }
 }
 
-// The answer, and what stands in the place then: the campaign with the record entered, the campaign as it was, or nothing.
+// The answer, and what stands in the place then: the campaign with the record entered, the campaign as it was, or
+// nothing.
 pub fn work(b: u64, c: Campaign, w: Work) -> Worked
     ensures { λ r. ⌜ r ≡ worked b c w ⌝ }
 {
@@ -172,7 +174,8 @@ fn fine(s: Seen, n: usize) -> bool
     )
 }
 
-// What the call comes to, after the survey of n places: refusal 8, then 13, 14 or what opening refuses; else the place to work on.
+// What the call comes to, after the survey of n places: refusal 8, then 13, 14 or what opening refuses; else the
+// place to work on.
 pub fn choose(c: Call, s: Seen, n: usize) -> Choice
     ensures { λ x. ⌜ x ≡ chosen c s n ⌝ }
 {
@@ -205,7 +208,8 @@ fn placing(b: u64, p: Place, answer: Answer, a: campaign_state::Answer) -> Worke
 }
 
 fn working(b: u64, p: Place, w: Work) -> Worked
-    ensures { λ r. ⌜ r ≡ cond (eqb (p .owner) b) (worked b (p .campaign) w) (record { answer = Refused NotItsOwn; place = p }) ⌝ }
+    ensures { λ r. ⌜ r ≡ cond (eqb (p .owner) b) (worked b (p .campaign) w)
+        (record { answer = Refused NotItsOwn; place = p }) ⌝ }
 {
     if p.owner != b {
         return Worked {

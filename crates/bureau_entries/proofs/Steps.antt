@@ -1,5 +1,5 @@
--- What the walks share: the rows of the types, that a place's offset fits, and the clerk's steps as callees, each with what it is handed and what it says.
--- Assumes nothing.
+-- What the walks share: the rows of the types, that a place's offset fits, and the clerk's steps as callees, each with
+-- what it is handed and what it says. Assumes nothing.
 use mathlib.Core.Path.{_≡_, refl}
 use Prim.Native.Nat.{ℕ, _<_, _*_, _^_}
 use native.Mathlib.Omega.{arith}

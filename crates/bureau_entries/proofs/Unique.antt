@@ -1,5 +1,5 @@
--- Two answers that a promise allows are the same answer, and leave the same table: every promise of this crate equates both with what a call is said to answer and
--- leave. Assumes nothing.
+-- Two answers that a promise allows are the same answer, and leave the same table: every promise of this crate equates
+-- both with what a call is said to answer and leave. Assumes nothing.
 use mathlib.Core.Path.{_≡_}
 use mathlib.Core.List.{List}
 use Prim.Native.Nat.{ℕ}

@@ -1,5 +1,5 @@
-// A call served at the lent table: the clerk's steps (clerk) over a slice of places. Only the functions of this crate touch a table; none of them decides
-// anything. `serve` takes any call; the five entries name theirs.
+// A call served at the lent table: the clerk's steps (clerk) over a slice of places. Only the functions of this crate
+// touch a table; none of them decides anything. `serve` takes any call; the five entries name theirs.
 ghost use mathlib.Core.Path.{_≡_};
 ghost use Rattle.bureau_table.specs.declared.Ask.the-variants.{On, Take};
 ghost use Rattle.bureau_table.specs.declared.Work.the-variants.{Enter, GiveBack, Judge, Rate};
@@ -13,7 +13,8 @@ use record_end::Outcome;
 
 // The call's answer; the table is as the call leaves it. Refusals 8, 13, 14 or 15, then document 01's.
 pub fn serve(t: &mut [Place], c: Call) -> Answer
-    ensures { λ r. ⌜ (r ≡ called (now (t .entry)) (c .bureau) (c .ask) .answer) × (now (t .exit) ≡ called (now (t .entry)) (c .bureau) (c .ask) .table) ⌝ }
+    ensures { λ r. ⌜ (r ≡ called (now (t .entry)) (c .bureau) (c .ask) .answer)
+        × (now (t .exit) ≡ called (now (t .entry)) (c .bureau) (c .ask) .table) ⌝ }
 {
     let mut s = bureau_survey::unseen();
     let mut i: usize = 0;
@@ -78,35 +79,41 @@ fn for_entering(bureau: u64, place: u64, o: Outcome) -> Call
 
 // A job: the lowest free place, with a fresh campaign at this standard in it. Refusals 8, 13, 14, 1 with item 5.
 pub fn take(t: &mut [Place], bureau: u64, standard: u64) -> Answer
-    ensures { λ r. ⌜ (r ≡ called (now (t .entry)) bureau (Take standard) .answer) × (now (t .exit) ≡ called (now (t .entry)) bureau (Take standard) .table) ⌝ }
+    ensures { λ r. ⌜ (r ≡ called (now (t .entry)) bureau (Take standard) .answer)
+        × (now (t .exit) ≡ called (now (t .entry)) bureau (Take standard) .table) ⌝ }
 {
     serve(t, for_a_job(bureau, standard))
 }
 
 // The verdict of the campaign in a place of the bureau. Refusals 8, 13, 15.
 pub fn verdict(t: &mut [Place], bureau: u64, place: u64) -> Answer
-    ensures { λ r. ⌜ (r ≡ called (now (t .entry)) bureau (On place Judge) .answer) × (now (t .exit) ≡ called (now (t .entry)) bureau (On place Judge) .table) ⌝ }
+    ensures { λ r. ⌜ (r ≡ called (now (t .entry)) bureau (On place Judge) .answer)
+        × (now (t .exit) ≡ called (now (t .entry)) bureau (On place Judge) .table) ⌝ }
 {
     serve(t, for_a_verdict(bureau, place))
 }
 
 // The rates of the campaign in a place of the bureau. Refusals 8, 13, 15.
 pub fn rates(t: &mut [Place], bureau: u64, place: u64) -> Answer
-    ensures { λ r. ⌜ (r ≡ called (now (t .entry)) bureau (On place Rate) .answer) × (now (t .exit) ≡ called (now (t .entry)) bureau (On place Rate) .table) ⌝ }
+    ensures { λ r. ⌜ (r ≡ called (now (t .entry)) bureau (On place Rate) .answer)
+        × (now (t .exit) ≡ called (now (t .entry)) bureau (On place Rate) .table) ⌝ }
 {
     serve(t, for_rates(bureau, place))
 }
 
 // The place is free and all zeros again. Refusals 8, 13, 15.
 pub fn give_back(t: &mut [Place], bureau: u64, place: u64) -> Answer
-    ensures { λ r. ⌜ (r ≡ called (now (t .entry)) bureau (On place GiveBack) .answer) × (now (t .exit) ≡ called (now (t .entry)) bureau (On place GiveBack) .table) ⌝ }
+    ensures { λ r. ⌜ (r ≡ called (now (t .entry)) bureau (On place GiveBack) .answer)
+        × (now (t .exit) ≡ called (now (t .entry)) bureau (On place GiveBack) .table) ⌝ }
 {
     serve(t, for_giving_back(bureau, place))
 }
 
-// What a campaign takes of a record's result, entered into the campaign in a place of the bureau. Refusals 8, 13, 15, 8 for the result, 5, 6.
+// What a campaign takes of a record's result, entered into the campaign in a place of the bureau. Refusals 8, 13, 15,
+// 8 for the result, 5, 6.
 pub fn enter(t: &mut [Place], bureau: u64, place: u64, o: Outcome) -> Answer
-    ensures { λ r. ⌜ (r ≡ called (now (t .entry)) bureau (On place (Enter o)) .answer) × (now (t .exit) ≡ called (now (t .entry)) bureau (On place (Enter o)) .table) ⌝ }
+    ensures { λ r. ⌜ (r ≡ called (now (t .entry)) bureau (On place (Enter o)) .answer)
+        × (now (t .exit) ≡ called (now (t .entry)) bureau (On place (Enter o)) .table) ⌝ }
 {
     serve(t, for_entering(bureau, place, o))
 }
@@ -117,9 +124,11 @@ pub struct Served {
     pub answer: Answer,
 }
 
-// The call served at a table by value, which is lent to `serve` and handed back: for callers that keep their table in a local.
+// The call served at a table by value, which is lent to `serve` and handed back: for callers that keep their table in
+// a local.
 pub fn lent(t: [Place; 32], c: Call) -> Served
-    ensures { λ r. ⌜ (r .answer ≡ called t (c .bureau) (c .ask) .answer) × (r .places ≡ called t (c .bureau) (c .ask) .table) ⌝ }
+    ensures { λ r. ⌜ (r .answer ≡ called t (c .bureau) (c .ask) .answer)
+        × (r .places ≡ called t (c .bureau) (c .ask) .table) ⌝ }
 {
     let mut u = t;
     let r = serve(&mut u, c);

@@ -1,5 +1,5 @@
--- What was seen of a whole table are the figures of its relations: the test of every place, how many places each bureau has, and the lowest free one.
--- Each by induction along the table, for any start. Assumes nothing.
+-- What was seen of a whole table are the figures of its relations: the test of every place, how many places each bureau
+-- has, and the lowest free one. Each by induction along the table, for any start. Assumes nothing.
 use mathlib.Core.Path.{_≡_, refl, sym, ap, _∙_}
 use mathlib.Core.Bool.{Bool, cond, false, true, _&&_}
 use mathlib.Core.List.{List, [], _∷_}

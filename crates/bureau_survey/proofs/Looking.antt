@@ -1,4 +1,5 @@
--- The survey of what is left of a table from place i on: one place more, and the end. For whoever goes through a table place by place. Assumes nothing.
+-- The survey of what is left of a table from place i on: one place more, and the end. For whoever goes through a table
+-- place by place. Assumes nothing.
 use mathlib.Core.Path.{_≡_, refl}
 use mathlib.Core.List.{List}
 use Prim.Native.Nat.{ℕ, _+_, _≤_, _<_}

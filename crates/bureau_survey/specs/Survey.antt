@@ -1,4 +1,5 @@
--- What is seen of a table, place by place. That it comes to the figures of the table's relations is proofs/Found. Assumes nothing.
+-- What is seen of a table, place by place. That it comes to the figures of the table's relations is proofs/Found.
+-- Assumes nothing.
 use mathlib.Core.Bool.{cond, false, true, _&&_, _||_}
 use mathlib.Core.List.{List, [], _∷_}
 use Prim.Native.Nat.{ℕ, suc, _+_}

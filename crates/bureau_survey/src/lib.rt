@@ -1,12 +1,14 @@
-// The survey of a bench's table, place by place and by value: whether every place keeps its relations, which is the lowest free one, and how many places each
-// bureau has. Nearly all the time of a call is spent here, so a place is told apart by its owner first.
+// The survey of a bench's table, place by place and by value: whether every place keeps its relations, which is the
+// lowest free one, and how many places each bureau has. Nearly all the time of a call is spent here, so a place is
+// told apart by its owner first.
 ghost use mathlib.Core.Path.{_≡_};
 ghost use Rattle.bureau_table.specs.Table.{zeros};
 ghost use Rattle.bureau_survey.specs.Survey.{more, surveyed, unseen};
 use bureau_table::Place;
 use campaign_state::Campaign;
 
-// What was found so far: whether every place is as it should be, the lowest free place if one was found, and how many places each bureau has, up to 17.
+// What was found so far: whether every place is as it should be, the lowest free place if one was found, and how many
+// places each bureau has, up to 17.
 pub struct Seen {
     pub whole: bool,
     pub found: bool,

@@ -1,9 +1,9 @@
--- Whatever calls the other bureau makes, the answers about a bureau's own campaigns are the same.
---
--- The bureau's script names its jobs, not places; its book, kept from the answers alone, turns one into the other (History). The answers to the script are those
--- that it would get at a desk of its own, where there is no other bureau (`at-a-desk`); so they are the same in any two histories, and as when the script
--- runs alone. The proof follows a history move by move and keeps `Booked`: through its book the bureau sees in the table what stands at its desk. A call of the
--- other's stores in a place that is free or the other's own, which is in no entry of the book. Assumes nothing.
+-- Whatever calls the other bureau makes, the answers about a bureau's own campaigns are the same.  The bureau's script
+-- names its jobs, not places; its book, kept from the answers alone, turns one into the other (History). The answers to
+-- the script are those that it would get at a desk of its own, where there is no other bureau (`at-a-desk`); so they
+-- are the same in any two histories, and as when the script runs alone. The proof follows a history move by move and
+-- keeps `Booked`: through its book the bureau sees in the table what stands at its desk. A call of the other's stores
+-- in a place that is free or the other's own, which is in no entry of the book. Assumes nothing.
 use mathlib.Core.Path.{_≡_, refl, sym, ap, _∙_}
 use mathlib.Core.Bool.{true}
 use mathlib.Core.List.{List, [], _∷_}

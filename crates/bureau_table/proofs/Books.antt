@@ -1,6 +1,7 @@
--- A bureau's book and its desk: `Booked` says that through its book the bureau sees in the table what stands at its desk. Here: a store of the other's, a store
--- in a place of its own, freeing one and taking one leave it so. Two entries of a book are never the same place, so a store is seen in one job alone; and a
--- place that is free or the other's is in no entry. Assumes nothing.
+-- A bureau's book and its desk: `Booked` says that through its book the bureau sees in the table what stands at its
+-- desk. Here: a store of the other's, a store in a place of its own, freeing one and taking one leave it so. Two
+-- entries of a book are never the same place, so a store is seen in one job alone; and a place that is free or the
+-- other's is in no entry. Assumes nothing.
 use mathlib.Core.Path.{_≡_, refl, sym, ap, _∙_}
 use mathlib.Core.Bool.{true}
 use mathlib.Core.List.{List, [], _∷_, _++_}

@@ -1,5 +1,6 @@
--- A call does one of five things: it refuses, places a job, reads, enters a record, or frees a place (`called-made`). What is proved of calls goes through
--- these cases. The proof follows the tests of `called` in their order; a place that is stored as it was leaves the table as it was. Assumes nothing.
+-- A call does one of five things: it refuses, places a job, reads, enters a record, or frees a place (`called-made`).
+-- What is proved of calls goes through these cases. The proof follows the tests of `called` in their order; a place
+-- that is stored as it was leaves the table as it was. Assumes nothing.
 use mathlib.Core.Path.{_≡_, refl, sym, ap, _∙_}
 use mathlib.Core.Bool.{Bool, true}
 use mathlib.Core.List.{List}

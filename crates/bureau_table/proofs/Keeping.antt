@@ -1,7 +1,7 @@
--- Every call keeps the table's relations; a refusal, a verdict and rates leave the table as it was; and no call changes a place of another bureau.
---
--- By the five cases of a call. A job is placed only where the bureau has fewer than 16, so the count stays in bounds; and there is a free place for it, since
--- the others have at most 16 and 15 + 16 is less than 32. Assumes nothing.
+-- Every call keeps the table's relations; a refusal, a verdict and rates leave the table as it was; and no call changes
+-- a place of another bureau.  By the five cases of a call. A job is placed only where the bureau has fewer than 16, so
+-- the count stays in bounds; and there is a free place for it, since the others have at most 16 and 15 + 16 is less
+-- than 32. Assumes nothing.
 use mathlib.Core.Path.{_≡_, refl, sym, ap, _∙_}
 use mathlib.Core.Bool.{true}
 use mathlib.Core.List.{List}

@@ -1,8 +1,8 @@
--- From its taking to its return, the campaign in a place is the one that its own entries make, whatever else happens at the table; so demands 2 and 3 hold
--- of it.
---
--- Follows the calls one by one. A call of another bureau, or at another place, leaves the place as it was; the owner's entry, where it is taken, does what
--- `entering` does, and is the list's next record; that a list of records makes the campaign of document 000 is the crate `campaign_state`'s. Assumes nothing.
+-- From its taking to its return, the campaign in a place is the one that its own entries make, whatever else happens at
+-- the table; so demands 2 and 3 hold of it.  Follows the calls one by one. A call of another bureau, or at another
+-- place, leaves the place as it was; the owner's entry, where it is taken, does what `entering` does, and is the list's
+-- next record; that a list of records makes the campaign of document 000 is the crate `campaign_state`'s. Assumes
+-- nothing.
 use mathlib.Core.Path.{_≡_, refl, sym, ap, _∙_}
 use mathlib.Core.Bool.{Bool, false, not, true, _||_}
 use mathlib.Core.List.{List, [], _∷_, _++_, append-assoc, append-nil}
@@ -42,7 +42,8 @@ use Rattle.bureau_table.proofs.Keeping.{calls-keep, opened-is}
 use Rattle.bureau_table.proofs.Taking.{owner-called, taken-at}
 
 -- ---- the statement
--- place i of the table is bureau b's, its records at the standard q are os, and what it is told of them is document 000's and 01's over that list
+-- place i of the table is bureau b's, its records at the standard q are os, and what it is told of them is document
+-- 000's and 01's over that list
 pub record Reads (t : List Place) (b q i : ℕ) (os : List Outcome) : Type 0 where
   pub stands : at t i ≡ owned b (campaignOf q os)
   pub censored : censored (at t i .campaign) ≡ censoredIn os

@@ -1,5 +1,5 @@
--- Laws of a list of places: what a store does to the relations and to the count of jobs, and what the lowest free place is. Each by induction along the
--- list. Assumes nothing.
+-- Laws of a list of places: what a store does to the relations and to the count of jobs, and what the lowest free place
+-- is. Each by induction along the list. Assumes nothing.
 use mathlib.Core.Path.{_≡_, refl, sym}
 use mathlib.Core.Bool.{Bool, cond, false, true, _&&_, _||_}
 use mathlib.Core.List.{List, [], _∷_, _++_}

@@ -1,5 +1,5 @@
--- The table's relations as facts: what the test `kept` finds (`kept-from`, `kept-to`), what they say of one place, and when a store keeps them.
--- Assumes nothing.
+-- The table's relations as facts: what the test `kept` finds (`kept-from`, `kept-to`), what they say of one place, and
+-- when a store keeps them. Assumes nothing.
 use mathlib.Core.Path.{_≡_, sym, ap, _∙_}
 use mathlib.Core.Bool.{false, not, true}
 use mathlib.Core.List.{List}

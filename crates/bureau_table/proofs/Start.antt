@@ -1,5 +1,6 @@
--- Any table that keeps its relations has a book of a bureau's jobs: their places, lowest first (`own-booked`). By induction along the table; what stands at the
--- entries is shown for any way r of reading places, from place i on. Assumes nothing.
+-- Any table that keeps its relations has a book of a bureau's jobs: their places, lowest first (`own-booked`). By
+-- induction along the table; what stands at the entries is shown for any way r of reading places, from place i on.
+-- Assumes nothing.
 use mathlib.Core.Path.{_≡_, refl, sym, ap, _∙_}
 use mathlib.Core.Bool.{true}
 use mathlib.Core.List.{List, [], _∷_}

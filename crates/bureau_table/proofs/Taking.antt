@@ -1,5 +1,6 @@
--- Taking a job and giving it back. Taking gives the lowest free place with a fresh campaign in it, and a bureau under 16 jobs always gets one for a standard in
--- range; the owner's work on a place is what document 01 makes of the campaign in it. Assumes nothing.
+-- Taking a job and giving it back. Taking gives the lowest free place with a fresh campaign in it, and a bureau under
+-- 16 jobs always gets one for a standard in range; the owner's work on a place is what document 01 makes of the
+-- campaign in it. Assumes nothing.
 use mathlib.Core.Path.{_≡_, ap, refl}
 use mathlib.Core.Bool.{true}
 use mathlib.Core.List.{List}

@@ -1,4 +1,5 @@
--- Request 9: calls of two bureaus one after the other, "each call finding the table as the last one left it". Assumes nothing.
+-- Request 9: calls of two bureaus one after the other, "each call finding the table as the last one left it". Assumes
+-- nothing.
 use mathlib.Core.Path.{_≡_}
 use mathlib.Core.Bool.{Bool, cond, false, true, _||_}
 use mathlib.Core.List.{List, [], _∷_, _++_}
@@ -22,9 +23,10 @@ use Rattle.bureau_table.specs.Table.{jobs, mostJobs, owned, places}
 use Rattle.bureau_table.specs.Calls.{Done, called, refused, working}
 
 -- ---- one bureau's script among the other's calls
--- A script names no place, since which it gets depends on both: in it `On k w` is work on the k-th job that the bureau took, counted from 0. The bureau
--- keeps a book, the place of each job that it took, in the order of taking. 32, which is no place, stands for a job that it gave back or never took. Of the jobs
--- that it has in the table at the start the lowest place counts as taken first.
+-- A script names no place, since which it gets depends on both: in it `On k w` is work on the k-th job that the bureau
+-- took, counted from 0. The bureau keeps a book, the place of each job that it took, in the order of taking. 32, which
+-- is no place, stands for a job that it gave back or never took. Of the jobs that it has in the table at the start the
+-- lowest place counts as taken first.
 abbrev pub bookPlace : List ℕ → ℕ → ℕ
 bookPlace book k = getD book k places
 

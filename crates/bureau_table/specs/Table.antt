@@ -39,7 +39,8 @@ bare = replicate places free
 abbrev pub zeros : Campaign → Bool
 zeros c = eqb (c .standard) 0 && (eqb (c .records) 0 && (eqb (c .failures) 0 && (eqb (c .exposure) 0 && not (c .failed))))
 
--- a place is free and all zeros, or owned by bureau 1 or 2; then it holds a campaign, which keeps document 01's relations
+-- a place is free and all zeros, or owned by bureau 1 or 2; then it holds a campaign, which keeps document 01's
+-- relations
 abbrev pub placeKept : Place → Bool
 placeKept p = cond (eqb (p .owner) 0) (zeros (p .campaign)) (isBureau (p .owner) && sound (p .campaign))
 

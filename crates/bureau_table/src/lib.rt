@@ -1,5 +1,5 @@
-// The bench: one table of 32 places that two bureaus share (document 02, request 9). Here are the types alone: specs/ says what a call answers and leaves,
-// proofs/ what follows from it.
+// The bench: one table of 32 places that two bureaus share (document 02, request 9). Here are the types alone: specs/
+// says what a call answers and leaves, proofs/ what follows from it.
 use campaign_state::Campaign;
 use campaign_verdict::Rates;
 use campaign_verdict::Verdict;
@@ -12,7 +12,8 @@ pub struct Place {
     pub campaign: Campaign,
 }
 
-// What the owner of a place may ask for: enter what a campaign takes of a record's result, the verdict, the rates, give the place back.
+// What the owner of a place may ask for: enter what a campaign takes of a record's result, the verdict, the rates,
+// give the place back.
 pub enum Work {
     Enter(Outcome),
     Judge,

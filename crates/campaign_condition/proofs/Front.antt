@@ -1,5 +1,5 @@
--- A turn of a loop over the campaigns at the start of an array: what is left at i is the campaign at i and what is left at i + 1; at the end nothing is left.
--- Assumes nothing.
+-- A turn of a loop over the campaigns at the start of an array: what is left at i is the campaign at i and what is left
+-- at i + 1; at the end nothing is left. Assumes nothing.
 use Prim.Native.Nat.{ℕ, _+_, _≤_, _<_}
 use mathlib.Core.Path.{_≡_}
 use mathlib.Core.List.{List, [], _∷_}

@@ -1,5 +1,5 @@
--- The look at the campaigns on its way: what was seen and what is left to see add up to what there is (`Along`). A campaign more keeps that, and at the end
--- all is seen. Assumes nothing.
+-- The look at the campaigns on its way: what was seen and what is left to see add up to what there is (`Along`). A
+-- campaign more keeps that, and at the end all is seen. Assumes nothing.
 use Prim.Native.Nat.{ℕ, _+_, _≤_}
 use mathlib.Core.Path.{_≡_, refl, sym, _∙_}
 use mathlib.Core.Bool.{Bool, cond, false, true, _&&_, _||_}

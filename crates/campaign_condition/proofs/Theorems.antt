@@ -1,5 +1,6 @@
--- What a standing says: one rejected situation is enough, an accepted condition has every situation accepted, so none without a record, and the order of situations
--- does not matter. The situation that is named by refusal 8 is the lowest. Assumes nothing.
+-- What a standing says: one rejected situation is enough, an accepted condition has every situation accepted, so none
+-- without a record, and the order of situations does not matter. The situation that is named by refusal 8 is the
+-- lowest. Assumes nothing.
 use Prim.Native.Nat.{ℕ, _+_, _≤_}
 use mathlib.Core.Path.{_≡_, refl, sym, _∙_}
 use mathlib.Core.Bool.{Bool, false, true, _&&_, _||_}

@@ -1,4 +1,5 @@
--- Campaigns that all keep their relations: what is known at the one that is due in a loop over them, and that a standing is given for no others. Assumes nothing.
+-- Campaigns that all keep their relations: what is known at the one that is due in a loop over them, and that a
+-- standing is given for no others. Assumes nothing.
 use Prim.Native.Nat.{ℕ, _+_, _≤_, _<_}
 use mathlib.Core.Path.{_≡_}
 use mathlib.Core.Bool.{true}

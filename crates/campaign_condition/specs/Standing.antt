@@ -1,4 +1,5 @@
--- Document 02 [13]: where a loading condition stands, from the verdicts on its campaigns, one for each design situation. Assumes nothing.
+-- Document 02 [13]: where a loading condition stands, from the verdicts on its campaigns, one for each design
+-- situation. Assumes nothing.
 use mathlib.Core.Path.{_≡_}
 use mathlib.Core.Bool.{Bool, cond, false, true, _&&_, _||_}
 use mathlib.Core.List.{List, [], _∷_}

@@ -1,5 +1,6 @@
-// A loading condition, by document 02 [13]: up to 64 design situations, a campaign for each, and one answer for all of them. The campaigns come by value, so
-// many of them as `number` says, at the start of 64 places; the places behind them are not looked at.
+// A loading condition, by document 02 [13]: up to 64 design situations, a campaign for each, and one answer for all
+// of them. The campaigns come by value, so many of them as `number` says, at the start of 64 places; the places
+// behind them are not looked at.
 ghost use mathlib.Core.Path.{_≡_};
 ghost use Prim.Native.Nat.{_≤_};
 ghost use lib.ListN.{take};
@@ -30,7 +31,8 @@ struct Told {
     accepted: bool,
 }
 
-// What is seen of the campaigns, one after the other: the lowest broken one, counted from 1, or 0; whether one is rejected; whether all are accepted.
+// What is seen of the campaigns, one after the other: the lowest broken one, counted from 1, or 0; whether one is
+// rejected; whether all are accepted.
 struct Seen {
     broken: u64,
     rejected: bool,
@@ -112,8 +114,8 @@ fn look(campaigns: [Campaign; 64], number: usize) -> Seen
     }
 }
 
-// Where the loading condition stands: rejected if a campaign is, accepted if all are, else open. Or refusal 18 for no campaign or more than 64, then 8 with
-// the lowest situation whose campaign breaks a relation.
+// Where the loading condition stands: rejected if a campaign is, accepted if all are, else open. Or refusal 18 for no
+// campaign or more than 64, then 8 with the lowest situation whose campaign breaks a relation.
 pub fn judge(campaigns: [Campaign; 64], number: usize) -> Answer
     ensures { λ r. ⌜ r ≡ judging number (take number campaigns) ⌝ }
 {

@@ -1,4 +1,5 @@
--- A report that is written has at most 28 bytes in each situation's line and 40 in the last: a number of 2 digits, N, N* and blocks of 2, T of 13; sums of 7, 4, 14 and
+-- A report that is written has at most 28 bytes in each situation's line and 40 in the last: a number of 2 digits, N,
+-- N* and blocks of 2, T of 13; sums of 7, 4, 14 and
 -- 3. So 1,832 bytes are room for any. Assumes nothing.
 use Prim.Native.Nat.{ℕ, _+_, _*_, _≤_, _<_}
 use mathlib.Core.Path.{_≡_, refl}

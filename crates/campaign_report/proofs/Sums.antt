@@ -1,4 +1,5 @@
--- The sums on their way through the campaigns: what was added up and what is left are the whole, and each is small. Assumes nothing.
+-- The sums on their way through the campaigns: what was added up and what is left are the whole, and each is small.
+-- Assumes nothing.
 use Prim.Native.Nat.{ℕ, _+_, _*_, _≤_}
 use mathlib.Core.Path.{_≡_, refl, ap, _∙_}
 use mathlib.Core.List.{List, [], _∷_}

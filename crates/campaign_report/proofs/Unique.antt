@@ -1,4 +1,5 @@
--- Two answers that the promise allows are the same answer and leave the same bytes: it equates both with a definition's value. Assumes nothing.
+-- Two answers that the promise allows are the same answer and leave the same bytes: it equates both with a definition's
+-- value. Assumes nothing.
 use mathlib.Core.Path.{_≡_}
 use mathlib.Core.List.{List}
 use Prim.Native.Nat.{ℕ}

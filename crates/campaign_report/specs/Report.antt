@@ -1,5 +1,5 @@
--- Document 02 [13]: the report on a loading condition, a line for each design situation and a last one for all. Fields are parted by a tab and a line ends with LF,
--- as on the sheet. Assumes nothing.
+-- Document 02 [13]: the report on a loading condition, a line for each design situation and a last one for all. Fields
+-- are parted by a tab and a line ends with LF, as on the sheet. Assumes nothing.
 use Prim.Native.Nat.{ℕ, _+_, _/_}
 use mathlib.Core.List.{List, [], _∷_, _++_}
 use Rattle.campaign_state.specs.declared.Campaign.{Campaign}

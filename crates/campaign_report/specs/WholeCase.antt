@@ -1,4 +1,5 @@
--- Document 02 [13], the case that it gives whole: document 01's campaign after two records, then an empty one. Assumes nothing.
+-- Document 02 [13], the case that it gives whole: document 01's campaign after two records, then an empty one. Assumes
+-- nothing.
 use Prim.Native.Nat.{ℕ}
 use mathlib.Core.Bool.{false, true}
 use mathlib.Core.List.{List, [], _∷_}

@@ -1,5 +1,5 @@
-// The report on a loading condition, by document 02 [13]: a line for each design situation and a last one for all, written into lent bytes once the condition is
-// judged. The campaigns come as `campaign_condition` takes them.
+// The report on a loading condition, by document 02 [13]: a line for each design situation and a last one for all,
+// written into lent bytes once the condition is judged. The campaigns come as `campaign_condition` takes them.
 ghost use mathlib.Core.Path.{_≡_};
 ghost use mathlib.Core.Bool.{true};
 ghost use Prim.Native.Nat.{_+_, _≤_};
@@ -7,7 +7,8 @@ ghost use lib.ListN.{length, take};
 ghost use Rattle.text.specs.Write.{placeAfter, written};
 ghost use Rattle.campaign_state.specs.State.{censored, sound};
 ghost use Rattle.campaign_condition.specs.Answers.{lowestBroken};
-ghost use Rattle.campaign_report.specs.Report.{blocks, fourText, letterFor, lineText, linesFrom, reportText, standingLetter, totalOf, totalText, verdictLetter};
+ghost use Rattle.campaign_report.specs.Report.{blocks, fourText, letterFor, lineText, linesFrom, reportText};
+ghost use Rattle.campaign_report.specs.Report.{standingLetter, totalOf, totalText, verdictLetter};
 ghost use Rattle.campaign_report.specs.Answers.{laidBy, writing};
 use campaign_condition::Answer;
 use campaign_condition::Standing;
@@ -184,7 +185,8 @@ fn put_line(number: u64, c: Campaign, out: &mut [u8], at: usize) -> usize
 
 // Puts the situations' lines into `out`.
 fn put_lines(campaigns: [Campaign; 64], number: usize, out: &mut [u8]) -> usize
-    requires { ⌜ (number ≤ 64) × (lowestBroken (take number campaigns) ≡ 0) × (length (linesFrom 1 (take number campaigns)) ≤ length (now out)) ⌝ }
+    requires { ⌜ (number ≤ 64) × (lowestBroken (take number campaigns) ≡ 0)
+        × (length (linesFrom 1 (take number campaigns)) ≤ length (now out)) ⌝ }
     ensures { λ r. ⌜ r ≡ placeAfter (now (out .entry)) 0 (linesFrom 1 (take number campaigns)) ⌝ }
     ensures { λ _. ⌜ now (out .exit) ≡ written (now (out .entry)) 0 (linesFrom 1 (take number campaigns)) ⌝ }
 {
@@ -210,8 +212,8 @@ fn put_total(t: Total, letter: u8, out: &mut [u8], at: usize) -> usize
     text::write_byte(LF, out, feed)
 }
 
-// Writes the report on a loading condition into `out`, whose rest stays, and answers its bytes; or refusal 18, 8 with the lowest situation, then 7 with the bytes
-// needed, and `out` as it stood.
+// Writes the report on a loading condition into `out`, whose rest stays, and answers its bytes; or refusal 18, 8 with
+// the lowest situation, then 7 with the bytes needed, and `out` as it stood.
 pub fn write(campaigns: [Campaign; 64], number: usize, out: &mut [u8]) -> Writing
     ensures { λ r. ⌜ r ≡ writing number (take number campaigns) (now (out .entry)) ⌝ }
     ensures { λ r. ⌜ now (out .exit) ≡ laidBy r (reportText (take number campaigns)) (now (out .entry)) ⌝ }

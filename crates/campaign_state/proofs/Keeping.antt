@@ -1,4 +1,5 @@
--- What is handed out keeps document 01's relations: opening and entering do, so a campaign grown by them is never refused with 8. Assumes nothing.
+-- What is handed out keeps document 01's relations: opening and entering do, so a campaign grown by them is never
+-- refused with 8. Assumes nothing.
 use mathlib.Core.Path.{_≡_}
 use mathlib.Core.Bool.{Bool, false, true}
 use Prim.Native.Nat.{ℕ, _≤_, zero-le}

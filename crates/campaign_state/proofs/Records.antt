@@ -1,5 +1,6 @@
--- However many results are entered, the campaign's figures are those of document 000, section 4.2, over the list of them. One more record at the list's
--- end does to the figures what `entered` does; the rest is by induction along the records still to come. Assumes nothing.
+-- However many results are entered, the campaign's figures are those of document 000, section 4.2, over the list of
+-- them. One more record at the list's end does to the figures what `entered` does; the rest is by induction along the
+-- records still to come. Assumes nothing.
 use mathlib.Core.Path.{_≡_, ap, refl, sym, _∙_}
 use mathlib.Core.Bool.{Bool, cond, false, true}
 use mathlib.Core.List.{List, [], _∷_, _++_, append-assoc, append-nil, map}

@@ -1,4 +1,5 @@
--- The test of the relations and the facts that it finds are the same thing; and what the facts say of the censored count. Assumes nothing.
+-- The test of the relations and the facts that it finds are the same thing; and what the facts say of the censored
+-- count. Assumes nothing.
 use mathlib.Core.Path.{_≡_}
 use mathlib.Core.Bool.{Bool, cond, false, not, true, _&&_, _||_}
 use Prim.Native.Nat.{ℕ, suc, _+_, _-_, _*_, _≤_, zero-le}

@@ -1,4 +1,5 @@
--- The campaign's relations for refusal 8 again, as facts about numbers: what the test `sound` finds (`kept-from`, `sound-from`). Assumes nothing.
+-- The campaign's relations for refusal 8 again, as facts about numbers: what the test `sound` finds (`kept-from`,
+-- `sound-from`). Assumes nothing.
 use mathlib.Core.Path.{_≡_}
 use mathlib.Core.Bool.{not}
 use Prim.Native.Nat.{_*_, _≤_, _<_}

@@ -1,4 +1,5 @@
--- A campaign's figures over the whole list of its records, oldest first: document 000, section 4.2, with document 01 deciding. Assumes nothing.
+-- A campaign's figures over the whole list of its records, oldest first: document 000, section 4.2, with document 01
+-- deciding. Assumes nothing.
 use mathlib.Core.Path.{_≡_}
 use mathlib.Core.Bool.{Bool, cond, false}
 use mathlib.Core.List.{List, [], _∷_}

@@ -1,4 +1,5 @@
--- A campaign's state: what it counts, document 01's relations for refusal 8, and what entering a record does. Assumes nothing.
+-- A campaign's state: what it counts, document 01's relations for refusal 8, and what entering a record does. Assumes
+-- nothing.
 use mathlib.Core.Bool.{Bool, cond, false, not, _&&_, _||_}
 use Prim.Native.Nat.{ℕ, _+_, _-_, _*_}
 use lib.Dec.{eqb, leb, ltb}

@@ -1,6 +1,6 @@
-// The campaign: many records by the exponential method (document 000, section 4), with document 01 deciding. Opening, and entering a record's outcome, which
-// is all that a campaign takes of a record (document 02, [4]). The state goes in by value and comes back in the answer, so a refusal leaves the caller's as it
-// stood.
+// The campaign: many records by the exponential method (document 000, section 4), with document 01 deciding. Opening,
+// and entering a record's outcome, which is all that a campaign takes of a record (document 02, [4]). The state goes
+// in by value and comes back in the answer, so a refusal leaves the caller's as it stood.
 ghost use mathlib.Core.Path.{_≡_};
 ghost use Prim.Native.Nat.{_≤_};
 ghost use Rattle.sample_items.specs.Limits.{longestTime};
@@ -115,7 +115,8 @@ fn take(c: Campaign, failed: bool, exposure: u64) -> Answer
 }
 
 impl Campaign {
-    // The campaign with a record's outcome entered; or refusal 8 for the campaign, or for an exposure that is not from 1 to 10,000,000 ms, 5, 6.
+    // The campaign with a record's outcome entered; or refusal 8 for the campaign, or for an exposure that is not
+    // from 1 to 10,000,000 ms, 5, 6.
     pub fn enter(self, o: Outcome) -> Answer
         ensures { λ r. ⌜ r ≡ entering self o ⌝ }
     {

@@ -1,5 +1,5 @@
--- Accept and reject never both hold in a state that keeps the relations and has a record: the two rows lie apart (poisson: Exposure). So one verdict is allowed,
--- and it is the one that `judging` computes. Assumes nothing.
+-- Accept and reject never both hold in a state that keeps the relations and has a record: the two rows lie apart
+-- (poisson: Exposure). So one verdict is allowed, and it is the one that `judging` computes. Assumes nothing.
 use mathlib.Core.Path.{_≡_, ap, refl, sym}
 use mathlib.Core.Bool.{Bool, cond, false, not, true, _&&_}
 use Prim.Native.Nat.{_≤_}

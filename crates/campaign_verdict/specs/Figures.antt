@@ -1,5 +1,5 @@
--- Document 01, "The campaign": the rates and the verdict of a campaign's state. u and l are the upper and the lower rows, proved to meet their rule in
--- the crate `poisson`. Assumes nothing.
+-- Document 01, "The campaign": the rates and the verdict of a campaign's state. u and l are the upper and the lower
+-- rows, proved to meet their rule in the crate `poisson`. Assumes nothing.
 use mathlib.Core.Path.{_≡_}
 use mathlib.Core.Bool.{Bool, cond, false, not, true, _&&_}
 use Prim.Native.Nat.{ℕ, _*_, _≤_}
@@ -47,7 +47,8 @@ rejects c = ltb (c .exposure * million) (l (c .failures) * c .standard)
 abbrev pub accepts : Campaign → Bool
 accepts c = ltb (u (censored c) * c .standard) (c .exposure * million)
 
--- which verdict a campaign has, and the rates that it carries. The two tests never both hold in a state that we take, so there is one (proofs/Only)
+-- which verdict a campaign has, and the rates that it carries. The two tests never both hold in a state that we take,
+-- so there is one (proofs/Only)
 abbrev pub IsVerdict : Campaign → Verdict → Type 0
 IsVerdict c (Reject x) = (1 ≤ c .records) × (rejects c ≡ true) × (x ≡ lowerRate c)
 IsVerdict c (Accept y) = (1 ≤ c .records) × (accepts c ≡ true) × (y ≡ upperRate c)

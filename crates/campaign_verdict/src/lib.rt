@@ -1,5 +1,5 @@
-// What a campaign says: its censored count, its verdict and its rates (document 01, "The campaign"), by the rows of the quantile table. A state that breaks
-// the campaign's relations is refused.
+// What a campaign says: its censored count, its verdict and its rates (document 01, "The campaign"), by the rows of
+// the quantile table. A state that breaks the campaign's relations is refused.
 ghost use mathlib.Core.Path.{_≡_};
 ghost use Prim.Native.Nat.{_*_, _≤_};
 ghost use Rattle.poisson.specs.Tables.{l, u};

@@ -1,4 +1,5 @@
--- The code of a sample: what the two functions compute is the definition, by cases on the sign, and the code read back is the sample. Assumes nothing.
+-- The code of a sample: what the two functions compute is the definition, by cases on the sign, and the code read back
+-- is the sample. Assumes nothing.
 use Prim.Native.Nat.{ℕ, zero, suc, _+_, _-_, _/_, _%_, _≤_}
 use mathlib.Core.Path.{_≡_, refl, ap, _∙_}
 use mathlib.Core.Bool.{false, true}

@@ -1,4 +1,5 @@
--- Arrays and states: what was written into an array is read back from it, and an array of other numbers holds no sound state. Assumes nothing.
+-- Arrays and states: what was written into an array is read back from it, and an array of other numbers holds no sound
+-- state. Assumes nothing.
 use Prim.Native.Nat.{ℕ}
 use mathlib.Core.Path.{_≡_, refl}
 use mathlib.Core.Bool.{Bool, cond, false, true}
@@ -19,7 +20,9 @@ use Rattle.campaign_state.specs.State.{sound}
 use Rattle.campaign_state.specs.declared.Answer.{Answer}
 use Rattle.campaign_state.specs.declared.Answer.the-variants.{Taken}
 use Rattle.campaign_state.specs.declared.Campaign.{Campaign}
-use Rattle.capi.specs.Numbers.{campaignAt, campaignNumbers, campaignOf, codeOf, flag, highestCode, isCampaign, isRecord, noCampaign, ofCampaign, ofRecord, ofResult, recordNumbers, recordOf, resultOf}
+use Rattle.capi.specs.Numbers.{campaignAt, campaignNumbers, campaignOf, codeOf, flag, highestCode, isCampaign}
+use Rattle.capi.specs.Numbers.{isRecord, noCampaign, ofCampaign, ofRecord, ofResult, recordNumbers, recordOf}
+use Rattle.capi.specs.Numbers.{resultOf}
 use Rattle.capi.specs.Told.{campaignKept, campaignTold, recordKept, recordTold}
 use Rattle.capi.proofs.Codes.{code-high, read-back}
 

@@ -1,5 +1,5 @@
--- Two answers that a promise allows are the same answer, with the same later contents of everything that was lent: each promise says that they are the value
--- of a definition at what was handed in. Assumes nothing.
+-- Two answers that a promise allows are the same answer, with the same later contents of everything that was lent: each
+-- promise says that they are the value of a definition at what was handed in. Assumes nothing.
 use Prim.Native.Nat.{ℕ}
 use mathlib.Core.Path.{_≡_, ap}
 use mathlib.Core.Bool.{Bool}

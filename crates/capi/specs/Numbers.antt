@@ -1,5 +1,6 @@
--- A state as the numbers of a lent array, in both directions: fourteen for a record, five for a campaign; and a result as five. An array that holds no state stands for one whose
--- first number is 0, which no state has, so that every entry refuses it by 8. Assumes nothing.
+-- A state as the numbers of a lent array, in both directions: fourteen for a record, five for a campaign; and a result
+-- as five. An array that holds no state stands for one whose first number is 0, which no state has, so that every entry
+-- refuses it by 8. Assumes nothing.
 use Prim.Native.Nat.{ℕ, _+_, _/_, _%_}
 use mathlib.Core.Bool.{Bool, cond, false, _&&_}
 use mathlib.Core.List.{List, [], _∷_}

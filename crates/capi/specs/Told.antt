@@ -1,5 +1,6 @@
--- What a C function leaves: the number that it answers, what it carries, and the later contents of the lent array. 0 is answered for an entry that is taken,
--- and for one that is refused the number of document 01, "Refusal numbers"; a refusal leaves the array as it stood. Assumes nothing.
+-- What a C function leaves: the number that it answers, what it carries, and the later contents of the lent array. 0 is
+-- answered for an entry that is taken, and for one that is refused the number of document 01, "Refusal numbers"; a
+-- refusal leaves the array as it stood. Assumes nothing.
 use Prim.Native.Nat.{ℕ}
 use mathlib.Core.Bool.{cond}
 use mathlib.Core.List.{List}

@@ -1,10 +1,12 @@
-// States as numbers, for C and whatever calls C: a record's state is an array of fourteen numbers, a campaign's of five, a result of five. Here is what a lent array holds, what it
-// is left with after an answer, and how a refusal is told: its number is answered, and what goes with it is written to `carried`. Any numbers are taken: those
-// that are no state are read as one that every entry refuses by 8.
+// States as numbers, for C and whatever calls C: a record's state is an array of fourteen numbers, a campaign's of
+// five, a result of five. Here is what a lent array holds, what it is left with after an answer, and how a refusal is
+// told: its number is answered, and what goes with it is written to `carried`. Any numbers are taken: those that are
+// no state are read as one that every entry refuses by 8.
 ghost use mathlib.Core.Path.{_≡_};
 ghost use Prim.Native.Nat.{_≤_};
 ghost use Rattle.refusal.specs.Numbers.{numberOf, valueOf};
-ghost use Rattle.capi.specs.Numbers.{codeOf, sampleOf, highestCode, noRecord, recordOf, ofRecord, ofResult, noCampaign, campaignOf, ofCampaign, flag};
+ghost use Rattle.capi.specs.Numbers.{codeOf, sampleOf, highestCode, noRecord, recordOf, ofRecord, ofResult};
+ghost use Rattle.capi.specs.Numbers.{noCampaign, campaignOf, ofCampaign, flag};
 ghost use Rattle.capi.specs.Told.{told, placed, channelIn, recordKept, resultKept, campaignKept};
 use campaign_state::Campaign;
 use record_end::Ended;

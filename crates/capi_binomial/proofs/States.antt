@@ -1,4 +1,5 @@
--- Arrays and sums: what was written into an array is read back from it, and an array of another length holds no sound sum. Assumes nothing.
+-- Arrays and sums: what was written into an array is read back from it, and an array of another length holds no sound
+-- sum. Assumes nothing.
 use Prim.Native.Nat.{ℕ}
 use mathlib.Core.Path.{_≡_, refl}
 use mathlib.Core.Bool.{false}

@@ -1,5 +1,6 @@
--- A sum as the three numbers of a lent array, its bounds as four, and what each C function leaves, from the answers that `binomial_sum` and `binomial_bounds` give of what the arrays hold.
--- An array that holds no sum stands for one whose first number is 0, which every entry refuses by 8. Assumes nothing.
+-- A sum as the three numbers of a lent array, its bounds as four, and what each C function leaves, from the answers
+-- that `binomial_sum` and `binomial_bounds` give of what the arrays hold. An array that holds no sum stands for one
+-- whose first number is 0, which every entry refuses by 8. Assumes nothing.
 use Prim.Native.Nat.{ℕ}
 use mathlib.Core.Bool.{cond}
 use mathlib.Core.List.{List, [], _∷_}

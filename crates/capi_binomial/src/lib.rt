@@ -1,9 +1,11 @@
-// A sum of records for C, by the binomial method: a state of three numbers, D, N and P. Each function answers 0 or the refusal number and writes what goes with it to
-// `carried`; a refusal leaves everything else that was lent as it stood. Any numbers are an answer, 8 where they are no sum or no record.
+// A sum of records for C, by the binomial method: a state of three numbers, D, N and P. Each function answers 0 or
+// the refusal number and writes what goes with it to `carried`; a refusal leaves everything else that was lent as it
+// stood. Any numbers are an answer, 8 where they are no sum or no record.
 ghost use mathlib.Core.Path.{_≡_};
 ghost use Rattle.capi.specs.Told.{told};
 ghost use Rattle.capi_verdict.specs.Told.{rates, ratings};
-ghost use Rattle.capi_binomial.specs.Told.{noSum, ofBounds, ofSum, sumAdded, sumBounded, sumKept, sumOf, sumOpened, sumRated};
+ghost use Rattle.capi_binomial.specs.Told.{noSum, ofBounds, ofSum, sumAdded, sumBounded, sumKept, sumOf};
+ghost use Rattle.capi_binomial.specs.Told.{sumOpened, sumRated};
 use binomial_bounds::Bounds;
 use binomial_sum::Sum;
 use refusal::Refusal;
@@ -77,17 +79,20 @@ pub extern "C" fn chim_sum_open(step: u64, state: &mut [u64], carried: &mut u64)
 // The sum in `state` with a record added; or refusal 8, 4, 1 with item 1 for a record of another step, 11.
 #[no_mangle]
 pub extern "C" fn chim_sum_add(state: &mut [u64], added: &[u64], carried: &mut u64) -> u64
-    ensures { λ n. ⌜ told n (now (carried .exit)) (now (state .exit)) ≡ sumAdded (now (state .entry)) (now (added .entry)) ⌝ }
+    ensures { λ n. ⌜ told n (now (carried .exit)) (now (state .exit))
+        ≡ sumAdded (now (state .entry)) (now (added .entry)) ⌝ }
 {
     let s = sum_of(state);
     let r = capi::record_of(added);
     keep_sum(s.add(r), state, carried)
 }
 
-// The bounds in thousandths of a failure and P·D in `bounds`, and 1 in `carried`; 0 and bounds of 0 while there is no record; or refusal 8.
+// The bounds in thousandths of a failure and P·D in `bounds`, and 1 in `carried`; 0 and bounds of 0 while there is no
+// record; or refusal 8.
 #[no_mangle]
 pub extern "C" fn chim_sum_bounds(state: &[u64], bounds: &mut [u64], carried: &mut u64) -> u64
-    ensures { λ n. ⌜ told n (now (carried .exit)) (now (bounds .exit)) ≡ sumBounded (now (state .entry)) (now (bounds .entry)) ⌝ }
+    ensures { λ n. ⌜ told n (now (carried .exit)) (now (bounds .exit))
+        ≡ sumBounded (now (state .entry)) (now (bounds .entry)) ⌝ }
 {
     if bounds.len() != BOUNDS_NUMBERS {
         return capi::refuse(Refusal::BrokenState, carried);
@@ -112,7 +117,9 @@ pub extern "C" fn chim_sum_rates(
     upper: &mut f64,
     carried: &mut u64,
 ) -> u64
-    ensures { λ n. ⌜ ratings n (now (carried .exit)) (rates (now (estimate .exit)) (now (lower .exit)) (now (upper .exit))) ≡ sumRated (now (state .entry)) (rates (now (estimate .entry)) (now (lower .entry)) (now (upper .entry))) ⌝ }
+    ensures { λ n. ⌜ ratings n (now (carried .exit))
+        (rates (now (estimate .exit)) (now (lower .exit)) (now (upper .exit)))
+        ≡ sumRated (now (state .entry)) (rates (now (estimate .entry)) (now (lower .entry)) (now (upper .entry))) ⌝ }
 {
     let a = binomial_bounds::rate(sum_of(state));
     match a {

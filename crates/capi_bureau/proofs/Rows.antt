@@ -1,5 +1,6 @@
--- Rows and the places that they stand for. A call stores in one place at most; so the rows that it leaves (`rowsLeft`) are the rows, with that one's set if it
--- changed. And they stand for the places that it left, so that the next call finds these. Assumes nothing.
+-- Rows and the places that they stand for. A call stores in one place at most; so the rows that it leaves (`rowsLeft`)
+-- are the rows, with that one's set if it changed. And they stand for the places that it left, so that the next call
+-- finds these. Assumes nothing.
 use mathlib.Core.Path.{_≡_, refl, sym, ap, _∙_}
 use mathlib.Core.Bool.{Bool, cond, true, false}
 use mathlib.Core.List.{List, [], _∷_}

@@ -1,5 +1,5 @@
--- Two sets of numbers and tables that a promise allows are the same: each promise equates them with what is told of the call's answer, and with the rows that it
--- leaves. Assumes nothing.
+-- Two sets of numbers and tables that a promise allows are the same: each promise equates them with what is told of the
+-- call's answer, and with the rows that it leaves. Assumes nothing.
 use mathlib.Core.Path.{_≡_}
 use mathlib.Core.List.{List}
 use Prim.Native.Nat.{ℕ}

@@ -1,5 +1,6 @@
--- A table as rows of six numbers, in both directions: the owner, and the five numbers of its campaign as capi has them. A row whose last number is no flag stands for
--- a place of bureau 3, which no table has, so that every entry refuses it by 8. Assumes nothing.
+-- A table as rows of six numbers, in both directions: the owner, and the five numbers of its campaign as capi has them.
+-- A row whose last number is no flag stands for a place of bureau 3, which no table has, so that every entry refuses it
+-- by 8. Assumes nothing.
 use mathlib.Core.Bool.{Bool, cond, false, _&&_}
 use mathlib.Core.List.{List, [], _∷_, map}
 use Prim.Native.Nat.{ℕ}
@@ -42,7 +43,8 @@ sameCampaign c d =
 abbrev pub samePlace : Place → Place → Bool
 samePlace p q = eqb (p .owner) (q .owner) && sameCampaign (p .campaign) (q .campaign)
 
--- the rows after a call that leaves the places ps: a place that is left as it was keeps its numbers, another has those of what stands there now
+-- the rows after a call that leaves the places ps: a place that is left as it was keeps its numbers, another has those
+-- of what stands there now
 unfoldable pub rowsLeft : List (List ℕ) → List Place → List (List ℕ)
 rowsLeft [] ps = []
 rowsLeft (r ∷ rs) [] = r ∷ rs

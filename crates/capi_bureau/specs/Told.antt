@@ -1,5 +1,5 @@
--- What each C function tells of a call's answer: the number, what it carries, and lent rates, which a refusal leaves as they stood. Of an answer that the call
--- never gets, nothing. Assumes nothing.
+-- What each C function tells of a call's answer: the number, what it carries, and lent rates, which a refusal leaves as
+-- they stood. Of an answer that the call never gets, nothing. Assumes nothing.
 use lib.Ieee.{Float}
 use Rattle.refusal.specs.Numbers.{numberOf, valueOf}
 use Rattle.campaign_verdict.specs.declared.Rates.{Rates}

@@ -1,6 +1,7 @@
-// The bench for C and whatever calls C: a table is 32 rows of six numbers, and the five entries work on it through the clerk's steps (clerk), as `bureau_entries` does
-// on a table of places. Each function answers 0 or the refusal's number and writes what goes with it to `carried`; a refusal leaves the table and the rates as
-// they stood. Any numbers in the rows are an answer, 8 where they are no table.
+// The bench for C and whatever calls C: a table is 32 rows of six numbers, and the five entries work on it through
+// the clerk's steps (clerk), as `bureau_entries` does on a table of places. Each function answers 0 or the refusal's
+// number and writes what goes with it to `carried`; a refusal leaves the table and the rates as they stood. Any
+// numbers in the rows are an answer, 8 where they are no table.
 ghost use mathlib.Core.Path.{_≡_};
 ghost use mathlib.Core.Bool.{cond};
 ghost use Prim.Native.Nat.{_<_};
@@ -10,7 +11,8 @@ ghost use Rattle.bureau_survey.specs.Survey.{looked, unseen};
 ghost use Rattle.bureau_table.specs.declared.Ask.the-variants.{On, Take};
 ghost use Rattle.bureau_table.specs.declared.Work.the-variants.{Enter, GiveBack, Judge, Rate};
 ghost use Rattle.capi_verdict.specs.Told.{count, judgement, rates, ratings};
-ghost use Rattle.capi_bureau.specs.Rows.{ofPlace, outcomeOf, placeOf, placesOf, rowsLeft, sameCampaign, samePlace};
+ghost use Rattle.capi_bureau.specs.Rows.{ofPlace, outcomeOf, placeOf, placesOf, rowsLeft, sameCampaign};
+ghost use Rattle.capi_bureau.specs.Rows.{samePlace};
 ghost use Rattle.capi_bureau.specs.Told.{judged, plain, rated};
 use bureau_survey::Seen;
 use bureau_table::Answer;
@@ -93,7 +95,8 @@ fn look(table: &[[u64; 6]]) -> Seen
 // A place that changed is written, another is left.
 fn put(table: &mut [[u64; 6]], i: usize, p: Place, q: Place)
     requires { ⌜ i < length (now table) ⌝ }
-    ensures { λ _. ⌜ now (table .exit) ≡ cond (samePlace p q) (now (table .entry)) (set (now (table .entry)) i (ofPlace q)) ⌝ }
+    ensures { λ _. ⌜ now (table .exit)
+        ≡ cond (samePlace p q) (now (table .entry)) (set (now (table .entry)) i (ofPlace q)) ⌝ }
 {
     if same_place(p, q) {
         return;
@@ -102,7 +105,9 @@ fn put(table: &mut [[u64; 6]], i: usize, p: Place, q: Place)
 }
 
 fn serve(table: &mut [[u64; 6]], c: Call) -> Answer
-    ensures { λ r. ⌜ (r ≡ called (placesOf (now (table .entry))) (c .bureau) (c .ask) .answer) × (now (table .exit) ≡ rowsLeft (now (table .entry)) (called (placesOf (now (table .entry))) (c .bureau) (c .ask) .table)) ⌝ }
+    ensures { λ r. ⌜ (r ≡ called (placesOf (now (table .entry))) (c .bureau) (c .ask) .answer)
+        × (now (table .exit)
+        ≡ rowsLeft (now (table .entry)) (called (placesOf (now (table .entry))) (c .bureau) (c .ask) .table)) ⌝ }
 {
     let n = table.len();
     let d = bureau_choice::choose(c, look(table), n);
@@ -133,7 +138,8 @@ fn tell(a: Answer, carried: &mut u64) -> u64
 }
 
 fn tell_verdict(a: Answer, lower: &mut f64, upper: &mut f64, carried: &mut u64) -> u64
-    ensures { λ n. ⌜ judgement n (now (carried .exit)) (now (lower .exit)) (now (upper .exit)) ≡ judged a (now (lower .entry)) (now (upper .entry)) ⌝ }
+    ensures { λ n. ⌜ judgement n (now (carried .exit)) (now (lower .exit)) (now (upper .exit))
+        ≡ judged a (now (lower .entry)) (now (upper .entry)) ⌝ }
 {
     match a {
         Answer::Judged(v) => capi_verdict::tell(v, lower, upper, carried),
@@ -152,7 +158,9 @@ fn tell_rates(
     upper: &mut f64,
     carried: &mut u64,
 ) -> u64
-    ensures { λ n. ⌜ ratings n (now (carried .exit)) (rates (now (estimate .exit)) (now (lower .exit)) (now (upper .exit))) ≡ rated a (rates (now (estimate .entry)) (now (lower .entry)) (now (upper .entry))) ⌝ }
+    ensures { λ n. ⌜ ratings n (now (carried .exit))
+        (rates (now (estimate .exit)) (now (lower .exit)) (now (upper .exit)))
+        ≡ rated a (rates (now (estimate .entry)) (now (lower .entry)) (now (upper .entry))) ⌝ }
 {
     match a {
         Answer::Rated(b, r) => {
@@ -192,7 +200,10 @@ pub extern "C" fn chim_bench_take(
     standard: u64,
     carried: &mut u64,
 ) -> u64
-    ensures { λ n. ⌜ (count n (now (carried .exit)) ≡ plain (called (placesOf (now (table .entry))) bureau (Take standard) .answer)) × (now (table .exit) ≡ rowsLeft (now (table .entry)) (called (placesOf (now (table .entry))) bureau (Take standard) .table)) ⌝ }
+    ensures { λ n. ⌜ (count n (now (carried .exit))
+        ≡ plain (called (placesOf (now (table .entry))) bureau (Take standard) .answer))
+        × (now (table .exit)
+        ≡ rowsLeft (now (table .entry)) (called (placesOf (now (table .entry))) bureau (Take standard) .table)) ⌝ }
 {
     let c = Call {
         bureau: bureau,
@@ -201,8 +212,8 @@ pub extern "C" fn chim_bench_take(
     tell(serve(table, c), carried)
 }
 
-// A result entered into the campaign in the bureau's place: whether there is a first failure (1) or not (0), and the exposure. Refusals 8, 13, 15, 8 for the
-// result, 5, 6.
+// A result entered into the campaign in the bureau's place: whether there is a first failure (1) or not (0), and the
+// exposure. Refusals 8, 13, 15, 8 for the result, 5, 6.
 #[no_mangle]
 pub extern "C" fn chim_bench_enter(
     table: &mut [[u64; 6]],
@@ -212,7 +223,12 @@ pub extern "C" fn chim_bench_enter(
     exposure: u64,
     carried: &mut u64,
 ) -> u64
-    ensures { λ n. ⌜ (count n (now (carried .exit)) ≡ plain (called (placesOf (now (table .entry))) bureau (On place (Enter (outcomeOf failed exposure))) .answer)) × (now (table .exit) ≡ rowsLeft (now (table .entry)) (called (placesOf (now (table .entry))) bureau (On place (Enter (outcomeOf failed exposure))) .table)) ⌝ }
+    ensures { λ n. ⌜ (count n (now (carried .exit))
+        ≡ plain (called (placesOf (now (table .entry))) bureau (On place (Enter (outcomeOf failed exposure)))
+        .answer))
+        × (now (table .exit)
+        ≡ rowsLeft (now (table .entry))
+        (called (placesOf (now (table .entry))) bureau (On place (Enter (outcomeOf failed exposure))) .table)) ⌝ }
 {
     let o = outcome_of(failed, exposure);
     let c = Call {
@@ -230,7 +246,10 @@ pub extern "C" fn chim_bench_give_back(
     place: u64,
     carried: &mut u64,
 ) -> u64
-    ensures { λ n. ⌜ (count n (now (carried .exit)) ≡ plain (called (placesOf (now (table .entry))) bureau (On place GiveBack) .answer)) × (now (table .exit) ≡ rowsLeft (now (table .entry)) (called (placesOf (now (table .entry))) bureau (On place GiveBack) .table)) ⌝ }
+    ensures { λ n. ⌜ (count n (now (carried .exit))
+        ≡ plain (called (placesOf (now (table .entry))) bureau (On place GiveBack) .answer))
+        × (now (table .exit)
+        ≡ rowsLeft (now (table .entry)) (called (placesOf (now (table .entry))) bureau (On place GiveBack) .table)) ⌝ }
 {
     let c = Call {
         bureau: bureau,
@@ -249,7 +268,11 @@ pub extern "C" fn chim_bench_verdict(
     upper: &mut f64,
     carried: &mut u64,
 ) -> u64
-    ensures { λ n. ⌜ (judgement n (now (carried .exit)) (now (lower .exit)) (now (upper .exit)) ≡ judged (called (placesOf (now (table .entry))) bureau (On place Judge) .answer) (now (lower .entry)) (now (upper .entry))) × (now (table .exit) ≡ rowsLeft (now (table .entry)) (called (placesOf (now (table .entry))) bureau (On place Judge) .table)) ⌝ }
+    ensures { λ n. ⌜ (judgement n (now (carried .exit)) (now (lower .exit)) (now (upper .exit))
+        ≡ judged (called (placesOf (now (table .entry))) bureau (On place Judge) .answer) (now (lower .entry))
+        (now (upper .entry)))
+        × (now (table .exit)
+        ≡ rowsLeft (now (table .entry)) (called (placesOf (now (table .entry))) bureau (On place Judge) .table)) ⌝ }
 {
     let c = Call {
         bureau: bureau,
@@ -269,7 +292,12 @@ pub extern "C" fn chim_bench_rates(
     upper: &mut f64,
     carried: &mut u64,
 ) -> u64
-    ensures { λ n. ⌜ (ratings n (now (carried .exit)) (rates (now (estimate .exit)) (now (lower .exit)) (now (upper .exit))) ≡ rated (called (placesOf (now (table .entry))) bureau (On place Rate) .answer) (rates (now (estimate .entry)) (now (lower .entry)) (now (upper .entry)))) × (now (table .exit) ≡ rowsLeft (now (table .entry)) (called (placesOf (now (table .entry))) bureau (On place Rate) .table)) ⌝ }
+    ensures { λ n. ⌜ (ratings n (now (carried .exit))
+        (rates (now (estimate .exit)) (now (lower .exit)) (now (upper .exit)))
+        ≡ rated (called (placesOf (now (table .entry))) bureau (On place Rate) .answer)
+        (rates (now (estimate .entry)) (now (lower .entry)) (now (upper .entry))))
+        × (now (table .exit)
+        ≡ rowsLeft (now (table .entry)) (called (placesOf (now (table .entry))) bureau (On place Rate) .table)) ⌝ }
 {
     let c = Call {
         bureau: bureau,

@@ -1,4 +1,5 @@
--- What each C function of a campaign leaves, from the answers that the crates below give to the states that the arrays hold. Assumes nothing.
+-- What each C function of a campaign leaves, from the answers that the crates below give to the states that the arrays
+-- hold. Assumes nothing.
 use Prim.Native.Nat.{ℕ}
 use mathlib.Core.Bool.{cond}
 use mathlib.Core.List.{List}

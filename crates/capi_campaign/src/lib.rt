@@ -17,8 +17,8 @@ pub extern "C" fn chim_campaign_open(standard: u64, state: &mut [u64], carried: 
     capi::keep_campaign(campaign_state::open(standard), state, carried)
 }
 
-// The campaign in `state` with a result entered: whether there is a first failure (1) or not (0), and the exposure; or refusal 8, for another flag or an
-// exposure that is not from 1 to 10,000,000 too, 5, 6.
+// The campaign in `state` with a result entered: whether there is a first failure (1) or not (0), and the exposure;
+// or refusal 8, for another flag or an exposure that is not from 1 to 10,000,000 too, 5, 6.
 #[no_mangle]
 pub extern "C" fn chim_campaign_enter(
     state: &mut [u64],
@@ -26,7 +26,8 @@ pub extern "C" fn chim_campaign_enter(
     exposure: u64,
     carried: &mut u64,
 ) -> u64
-    ensures { λ n. ⌜ told n (now (carried .exit)) (now (state .exit)) ≡ campaignEntered (now (state .entry)) failed exposure ⌝ }
+    ensures { λ n. ⌜ told n (now (carried .exit)) (now (state .exit))
+        ≡ campaignEntered (now (state .entry)) failed exposure ⌝ }
 {
     if failed > 1 {
         return capi::refuse(Refusal::BrokenState, carried);
@@ -76,7 +77,8 @@ pub extern "C" fn chim_campaign_enter_result(
     result: &[u64],
     carried: &mut u64,
 ) -> u64
-    ensures { λ n. ⌜ told n (now (carried .exit)) (now (state .exit)) ≡ campaignResultEntered (now (state .entry)) (now (result .entry)) ⌝ }
+    ensures { λ n. ⌜ told n (now (carried .exit)) (now (state .exit))
+        ≡ campaignResultEntered (now (state .entry)) (now (result .entry)) ⌝ }
 {
     let c = capi::campaign_of(state);
     let x = result_of(result);

@@ -1,4 +1,5 @@
--- What each C function of a comma file leaves, from the answers that `comma_read` and `comma_write` give. The number of samples or bytes is carried. Assumes nothing.
+-- What each C function of a comma file leaves, from the answers that `comma_read` and `comma_write` give. The number of
+-- samples or bytes is carried. Assumes nothing.
 use Prim.Native.Nat.{ℕ}
 use mathlib.Core.List.{List, []}
 use lib.IntN.{ℤ}

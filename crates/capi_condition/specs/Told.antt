@@ -1,4 +1,5 @@
--- What each C function leaves, from the answers that `campaign_condition` and `campaign_report` give of the campaigns in the rows. Assumes nothing.
+-- What each C function leaves, from the answers that `campaign_condition` and `campaign_report` give of the campaigns
+-- in the rows. Assumes nothing.
 use Prim.Native.Nat.{ℕ}
 use mathlib.Core.List.{List, [], map}
 use lib.ListN.{length}

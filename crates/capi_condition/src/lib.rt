@@ -1,6 +1,7 @@
-// A loading condition for C and whatever calls C: a row of five numbers for each design situation's campaign, as everywhere in this interface. Each function answers
-// 0 or the refusal number and writes what goes with it to `carried`; a refusal leaves the lent bytes as they stood. Any numbers in the rows are an answer, 8
-// where a row is no campaign.
+// A loading condition for C and whatever calls C: a row of five numbers for each design situation's campaign, as
+// everywhere in this interface. Each function answers 0 or the refusal number and writes what goes with it to
+// `carried`; a refusal leaves the lent bytes as they stood. Any numbers in the rows are an answer, 8 where a row is
+// no campaign.
 ghost use mathlib.Core.Path.{_≡_};
 ghost use mathlib.Core.List.{[]};
 ghost use Prim.Native.Nat.{_≤_};
@@ -74,7 +75,8 @@ pub extern "C" fn chim_condition_report(
     out: &mut [u8],
     carried: &mut u64,
 ) -> u64
-    ensures { λ n. ⌜ told n (now (carried .exit)) (now (out .exit)) ≡ conditionReported (now (campaigns .entry)) (now (out .entry)) ⌝ }
+    ensures { λ n. ⌜ told n (now (carried .exit)) (now (out .exit))
+        ≡ conditionReported (now (campaigns .entry)) (now (out .entry)) ⌝ }
 {
     if campaigns.len() > campaign_condition::MOST_SITUATIONS {
         return capi::refuse(Refusal::Situations, carried);

@@ -1,4 +1,5 @@
--- What the C function of envelope peaks leaves: the answer of `peak_envelope::find`, told by a number and what it carries, and both lent arrays. Assumes nothing.
+-- What the C function of envelope peaks leaves: the answer of `peak_envelope::find`, told by a number and what it
+-- carries, and both lent arrays. Assumes nothing.
 use Prim.Native.Nat.{ℕ}
 use mathlib.Core.List.{List, map}
 use lib.ListN.{length}

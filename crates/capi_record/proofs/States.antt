@@ -1,4 +1,5 @@
--- What opening and feeding leave in an array is the record that they answer; an array that is no record is refused by 8 and stays. Assumes nothing.
+-- What opening and feeding leave in an array is the record that they answer; an array that is no record is refused by 8
+-- and stays. Assumes nothing.
 use Prim.Native.Nat.{ℕ}
 use mathlib.Core.Path.{_≡_, refl}
 use mathlib.Core.Bool.{Bool, cond, false, true}

@@ -1,4 +1,5 @@
--- What each C function of a record leaves, from the answers that the crates below give to the record that the array holds. Assumes nothing.
+-- What each C function of a record leaves, from the answers that the crates below give to the record that the array
+-- holds. Assumes nothing.
 use Prim.Native.Nat.{ℕ}
 use mathlib.Core.List.{List}
 use lib.IntN.{ℤ}

@@ -1,5 +1,5 @@
--- What reading a whole sheet leaves: the campaign that its meaning ends in, in the lent array, or the number of its first refusal, the line that it
--- stands on and its column. Assumes nothing.
+-- What reading a whole sheet leaves: the campaign that its meaning ends in, in the lent array, or the number of its
+-- first refusal, the line that it stands on and its column. Assumes nothing.
 use Prim.Native.Nat.{ℕ}
 use mathlib.Core.Bool.{cond}
 use mathlib.Core.List.{List}

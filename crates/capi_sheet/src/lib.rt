@@ -39,8 +39,8 @@ fn column_of(end: Reading) -> u64
     }
 }
 
-// The campaign of a whole job sheet in `state`; or refusal 8 for an array of another length, else the sheet's first refusal, with its line in `line` and its
-// column, or 0, in `column`.
+// The campaign of a whole job sheet in `state`; or refusal 8 for an array of another length, else the sheet's first
+// refusal, with its line in `line` and its column, or 0, in `column`.
 #[no_mangle]
 pub extern "C" fn chim_sheet_read(
     text: &[u8],
@@ -49,7 +49,8 @@ pub extern "C" fn chim_sheet_read(
     column: &mut u64,
     carried: &mut u64,
 ) -> u64
-    ensures { λ n. ⌜ told n (now (carried .exit)) (now (state .exit)) ≡ sheetRead (now (text .entry)) (now (state .entry)) ⌝ }
+    ensures { λ n. ⌜ told n (now (carried .exit)) (now (state .exit))
+        ≡ sheetRead (now (text .entry)) (now (state .entry)) ⌝ }
     ensures { λ _. ⌜ now (line .exit) ≡ sheetLine (now (text .entry)) (now (state .entry)) ⌝ }
     ensures { λ _. ⌜ now (column .exit) ≡ sheetColumn (now (text .entry)) (now (state .entry)) ⌝ }
 {

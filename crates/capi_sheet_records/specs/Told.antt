@@ -1,4 +1,5 @@
--- What each C function leaves, from the answers that `sheet_records` gives. The number of bytes or records is carried. Assumes nothing.
+-- What each C function leaves, from the answers that `sheet_records` gives. The number of bytes or records is carried.
+-- Assumes nothing.
 use Prim.Native.Nat.{ℕ}
 use mathlib.Core.List.{List, []}
 use lib.IntN.{ℤ}

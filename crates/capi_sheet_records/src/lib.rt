@@ -1,11 +1,13 @@
-// The job sheet written, and its records read, for C. Each function answers 0 or the refusal number and writes what goes with it to `carried`; a refusal leaves
-// the lent memory as it stood.
+// The job sheet written, and its records read, for C. Each function answers 0 or the refusal number and writes what
+// goes with it to `carried`; a refusal leaves the lent memory as it stood.
 ghost use mathlib.Core.Path.{_≡_};
 ghost use mathlib.Core.List.{[]};
 ghost use Rattle.capi.specs.Told.{told};
-ghost use Rattle.capi_sheet_records.specs.Told.{recordsColumn, recordsLeft, recordsLine, recordsRead, recordsStandard, sheetWritten};
+ghost use Rattle.capi_sheet_records.specs.Told.{recordsColumn, recordsLeft, recordsLine, recordsRead};
+ghost use Rattle.capi_sheet_records.specs.Told.{recordsStandard, sheetWritten};
 
-// The sheet of a standard and its records in `out`, its bytes in `carried`; or refusal 1 with item 5, record by record 4, 3, 5, 6, then 7 with the bytes needed.
+// The sheet of a standard and its records in `out`, its bytes in `carried`; or refusal 1 with item 5, record by
+// record 4, 3, 5, 6, then 7 with the bytes needed.
 #[no_mangle]
 pub extern "C" fn chim_sheet_write(
     standard: u64,
@@ -13,7 +15,8 @@ pub extern "C" fn chim_sheet_write(
     out: &mut [u8],
     carried: &mut u64,
 ) -> u64
-    ensures { λ n. ⌜ told n (now (carried .exit)) (now (out .exit)) ≡ sheetWritten standard (now (records .entry)) (now (out .entry)) ⌝ }
+    ensures { λ n. ⌜ told n (now (carried .exit)) (now (out .exit))
+        ≡ sheetWritten standard (now (records .entry)) (now (out .entry)) ⌝ }
 {
     match sheet_records::write(standard, records, out) {
         sheet_records::Writing::Bytes(n) => capi::give(n, carried),
@@ -21,8 +24,9 @@ pub extern "C" fn chim_sheet_write(
     }
 }
 
-// The records of a sheet in `records`, their number in `carried` and the sheet's standard in `standard`; or the sheet's first refusal, with its line in `line`
-// and its column, or 0, in `column`, then 7 with the places needed, on no line.
+// The records of a sheet in `records`, their number in `carried` and the sheet's standard in `standard`; or the
+// sheet's first refusal, with its line in `line` and its column, or 0, in `column`, then 7 with the places needed, on
+// no line.
 #[no_mangle]
 pub extern "C" fn chim_sheet_records(
     text: &[u8],

@@ -1,4 +1,5 @@
--- What the C function of a tail leaves: an answer that `peak_tail::fit` may give, told by a number and what it carries. Assumes nothing.
+-- What the C function of a tail leaves: an answer that `peak_tail::fit` may give, told by a number and what it carries.
+-- Assumes nothing.
 use Prim.Native.Nat.{ℕ}
 use mathlib.Core.Path.{_≡_}
 use mathlib.Core.List.{List}

@@ -1,5 +1,5 @@
--- What each C function leaves that reads figures off the campaign that an array holds: the number that it answers, what it carries, and the lent rates
--- afterwards, which a refusal leaves as they stood. Assumes nothing.
+-- What each C function leaves that reads figures off the campaign that an array holds: the number that it answers, what
+-- it carries, and the lent rates afterwards, which a refusal leaves as they stood. Assumes nothing.
 use Prim.Native.Nat.{ℕ}
 use mathlib.Core.List.{List}
 use lib.Ieee.{Float}
@@ -42,7 +42,8 @@ pub record Judgement : Type 0 where
 abbrev pub judgement : ℕ → ℕ → Float → Float → Judgement
 judgement n v x y = record { number = n; carried = v; lower = x; upper = y }
 
--- "The campaign": accept carries the upper rate, reject the lower, continue both; a rate that the verdict does not carry is 0
+-- "The campaign": accept carries the upper rate, reject the lower, continue both; a rate that the verdict does not
+-- carry is 0
 unfoldable pub verdictTold : Verdict → Judgement
 verdictTold NoRecord = judgement 0 0 zero64 zero64
 verdictTold (Accept y) = judgement 0 1 zero64 y
@@ -56,7 +57,8 @@ judgedTold (judged.Refused f) x y = judgement (numberOf f) (valueOf f) x y
 abbrev pub campaignJudged : List ℕ → Float → Float → Judgement
 campaignJudged s x y = judgedTold (judging (campaignOf s)) x y
 
--- the number, 1 if there is a record and else 0, which is 01's "no record" without a number, and three lent rates afterwards
+-- the number, 1 if there is a record and else 0, which is 01's "no record" without a number, and three lent rates
+-- afterwards
 pub record Rating : Type 0 where
   pub number : ℕ
   pub carried : ℕ

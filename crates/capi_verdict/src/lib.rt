@@ -1,8 +1,10 @@
-// What a campaign says, for C: the censored count, the verdict, the rates, and the rows that they are made of. No array is written. A function that may refuse
-// answers 0 or document 01's refusal number and writes what goes with it to `carried`; a refusal leaves every lent rate as it stood.
+// What a campaign says, for C: the censored count, the verdict, the rates, and the rows that they are made of. No
+// array is written. A function that may refuse answers 0 or document 01's refusal number and writes what goes with it
+// to `carried`; a refusal leaves every lent rate as it stood.
 ghost use mathlib.Core.Path.{_≡_};
 ghost use Rattle.poisson.specs.Rows.{LowerRow, UpperRow};
-ghost use Rattle.capi_verdict.specs.Told.{campaignCensored, campaignJudged, campaignRated, count, judgement, rates, ratings, verdictTold};
+ghost use Rattle.capi_verdict.specs.Told.{campaignCensored, campaignJudged, campaignRated, count, judgement};
+ghost use Rattle.capi_verdict.specs.Told.{rates, ratings, verdictTold};
 use campaign_verdict::Verdict;
 
 // The censored count N* in `carried`; or refusal 8.
@@ -45,7 +47,8 @@ pub fn tell(v: Verdict, lower: &mut f64, upper: &mut f64, carried: &mut u64) -> 
     }
 }
 
-// The verdict in `carried`: 0 no record, 1 accept, 2 reject, 3 continue, with the rates that it carries and 0 for one that it does not; or refusal 8.
+// The verdict in `carried`: 0 no record, 1 accept, 2 reject, 3 continue, with the rates that it carries and 0 for one
+// that it does not; or refusal 8.
 #[no_mangle]
 pub extern "C" fn chim_campaign_verdict(
     state: &[u64],
@@ -53,7 +56,8 @@ pub extern "C" fn chim_campaign_verdict(
     upper: &mut f64,
     carried: &mut u64,
 ) -> u64
-    ensures { λ n. ⌜ judgement n (now (carried .exit)) (now (lower .exit)) (now (upper .exit)) ≡ campaignJudged (now (state .entry)) (now (lower .entry)) (now (upper .entry)) ⌝ }
+    ensures { λ n. ⌜ judgement n (now (carried .exit)) (now (lower .exit)) (now (upper .exit))
+        ≡ campaignJudged (now (state .entry)) (now (lower .entry)) (now (upper .entry)) ⌝ }
 {
     let a = campaign_verdict::judge(capi::campaign_of(state));
     match a {
@@ -71,7 +75,10 @@ pub extern "C" fn chim_campaign_rates(
     upper: &mut f64,
     carried: &mut u64,
 ) -> u64
-    ensures { λ n. ⌜ ratings n (now (carried .exit)) (rates (now (estimate .exit)) (now (lower .exit)) (now (upper .exit))) ≡ campaignRated (now (state .entry)) (rates (now (estimate .entry)) (now (lower .entry)) (now (upper .entry))) ⌝ }
+    ensures { λ n. ⌜ ratings n (now (carried .exit))
+        (rates (now (estimate .exit)) (now (lower .exit)) (now (upper .exit)))
+        ≡ campaignRated (now (state .entry)) (rates (now (estimate .entry)) (now (lower .entry)) (now (upper .entry)))
+        ⌝ }
 {
     let a = campaign_verdict::rate(capi::campaign_of(state));
     match a {

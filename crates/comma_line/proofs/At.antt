@@ -1,4 +1,5 @@
--- What a line at a place of a text is, test by test: the number there, the comma behind it, the degrees, the LF. Assumes nothing.
+-- What a line at a place of a text is, test by test: the number there, the comma behind it, the degrees, the LF.
+-- Assumes nothing.
 use mathlib.Core.Path.{_≡_, sym, ap}
 use mathlib.Core.Bool.{Bool, true, false, and-false}
 use mathlib.Core.List.{List}

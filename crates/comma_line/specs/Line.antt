@@ -1,4 +1,5 @@
--- Document 02 [1]: one line of a comma file, one sample: time in ms, comma, roll in degrees, LF. A line is its bytes, the LF with them. Assumes nothing.
+-- Document 02 [1]: one line of a comma file, one sample: time in ms, comma, roll in degrees, LF. A line is its bytes,
+-- the LF with them. Assumes nothing.
 use Prim.Native.Nat.{ℕ, _+_}
 use mathlib.Core.Bool.{Bool, cond, _&&_}
 use mathlib.Core.List.{List, [], _∷_, _++_}
@@ -39,7 +40,8 @@ right time line = isLine line && eqb (timeOf line) time
 unfoldable pub lineLength : List ℕ → ℕ
 lineLength line = length (leading line) + (1 + (degreesLength (roll line) + 1))
 
--- what stands at a place of a text, read as the line of a time: the sign and the thousandths of its sample, and the place behind it
+-- what stands at a place of a text, read as the line of a time: the sign and the thousandths of its sample, and the
+-- place behind it
 unfoldable pub lineAt : List ℕ → ℕ → ℕ → Line
 lineAt text at time =
     cond (right time (drop at text))

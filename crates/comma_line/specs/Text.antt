@@ -6,7 +6,8 @@ use lib.IntN.{ℤ}
 use Rattle.degrees.specs.Degrees.{sampleOf}
 use Rattle.comma_line.specs.Line.{roll, right, lineText}
 
--- the place of the first line that is malformed or has a wrong time, from the time of the first on; their number where there is none. Times grow by D
+-- the place of the first line that is malformed or has a wrong time, from the time of the first on; their number where
+-- there is none. Times grow by D
 unfoldable pub firstWrong : ℕ → ℕ → List (List ℕ) → ℕ
 firstWrong D time [] = 0
 firstWrong D time (line ∷ lines) = cond (right time line) (suc (firstWrong D (time + D) lines)) 0

@@ -1,5 +1,5 @@
-// Comma files, by document 02 [1]: one sample a line, time in ms, comma, roll in degrees, each line ended by LF. Here one line is read, for whole texts (`comma_read`)
-// and for programs that read a file piece by piece.
+// Comma files, by document 02 [1]: one sample a line, time in ms, comma, roll in degrees, each line ended by LF. Here
+// one line is read, for whole texts (`comma_read`) and for programs that read a file piece by piece.
 ghost use mathlib.Core.Path.{_≡_};
 ghost use Rattle.sample_items.specs.Limits.{stepInRange};
 ghost use Rattle.degrees.specs.Degrees.{degreesAt};

@@ -1,5 +1,5 @@
--- A reader on its way through the lines of a text. `Along`: what was counted so far and what the lines that are left come to make up what all lines come to.
--- Assumes nothing.
+-- A reader on its way through the lines of a text. `Along`: what was counted so far and what the lines that are left
+-- come to make up what all lines come to. Assumes nothing.
 use mathlib.Core.Path.{_≡_, refl, sym, ap, _∙_}
 use mathlib.Core.Bool.{Bool, true, false, cond, _&&_}
 use mathlib.Core.List.{List, [], _∷_}

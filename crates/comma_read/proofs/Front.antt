@@ -1,4 +1,5 @@
--- The plain lines that a text starts with: runs of them one behind the other, and from the first to the last. Assumes nothing.
+-- The plain lines that a text starts with: runs of them one behind the other, and from the first to the last. Assumes
+-- nothing.
 use mathlib.Core.Path.{_≡_, refl, subst}
 use mathlib.Core.List.{List}
 use Prim.Native.Nat.{ℕ, _+_, _*_, _≤_, _<_}

@@ -1,4 +1,5 @@
--- The lines of a text, one at a time: a right line is the text's first line, and so is a wrong one; what is behind it is the rest. Assumes nothing.
+-- The lines of a text, one at a time: a right line is the text's first line, and so is a wrong one; what is behind it
+-- is the rest. Assumes nothing.
 use mathlib.Core.Path.{_≡_, refl, sym, ap, subst, _∙_}
 use mathlib.Core.Bool.{Bool, true, false}
 use mathlib.Core.List.{List, [], _∷_, _++_, append-assoc}

@@ -1,4 +1,5 @@
--- A plain line: the digits of the time that is due, a comma, and plain degrees are the line of that time, its sample in range. Assumes nothing.
+-- A plain line: the digits of the time that is due, a comma, and plain degrees are the line of that time, its sample in
+-- range. Assumes nothing.
 use mathlib.Core.Path.{_≡_, refl, sym, ap}
 use mathlib.Core.Bool.{true, false, not, _&&_, and-false}
 use mathlib.Core.List.{List, _∷_}

@@ -1,5 +1,5 @@
--- A line taken apart and put together: a text that starts with the line of a time is a front without LF, an LF and the rest; and behind such a front and an
--- LF anything may stand. Assumes nothing.
+-- A line taken apart and put together: a text that starts with the line of a time is a front without LF, an LF and the
+-- rest; and behind such a front and an LF anything may stand. Assumes nothing.
 use mathlib.Core.Path.{_≡_, refl, ap, _∙_}
 use mathlib.Core.Bool.{Bool, true}
 use mathlib.Core.List.{List, _∷_, _++_, append-assoc}

@@ -1,5 +1,5 @@
--- The time of a line by its width. In a right line it is the digits of the time that is due, so a width that is not too large and has the comma behind it is
--- theirs; and times that grow get no narrower. Assumes nothing.
+-- The time of a line by its width. In a right line it is the digits of the time that is due, so a width that is not too
+-- large and has the comma behind it is theirs; and times that grow get no narrower. Assumes nothing.
 use mathlib.Core.Path.{_≡_, refl, sym, ap, _∙_}
 use mathlib.Core.Bool.{Bool, true, false, _&&_}
 use mathlib.Core.List.{List, [], _∷_}

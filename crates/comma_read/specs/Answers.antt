@@ -1,4 +1,5 @@
--- Document 02 [1]: what reading a text answers and leaves, in its order of refusals, each judged over all lines. Assumes nothing.
+-- Document 02 [1]: what reading a text answers and leaves, in its order of refusals, each judged over all lines.
+-- Assumes nothing.
 use Prim.Native.Nat.{ℕ, _+_}
 use mathlib.Core.Bool.{cond, not}
 use mathlib.Core.List.{List, _++_}
@@ -13,7 +14,8 @@ use Rattle.comma_line.specs.Text.{firstWrong, samplesOf}
 use Rattle.comma_read.specs.declared.Reading.{Reading}
 use Rattle.comma_read.specs.declared.Reading.the-variants.{Samples, Refused}
 
--- reading a text into so many places: 1 for the step; 10 with the line number; 2 with the sample's place; 7 with the samples
+-- reading a text into so many places: 1 for the step; 10 with the line number; 2 with the sample's place; 7 with the
+-- samples
 unfoldable pub readingLines : ℕ → List (List ℕ) → ℕ → Reading
 readingLines D lines places =
     cond (not (stepInRange D)) (Refused (Item 1))

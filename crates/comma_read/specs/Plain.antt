@@ -1,4 +1,5 @@
--- Plain lines, the lines that most files are made of: what the private functions that look for them promise where they stand. Assumes nothing.
+-- Plain lines, the lines that most files are made of: what the private functions that look for them promise where they
+-- stand. Assumes nothing.
 use Prim.Native.Nat.{ℕ, _+_, _*_, _≤_}
 use mathlib.Core.Path.{_≡_}
 use mathlib.Core.Bool.{true}
@@ -26,7 +27,8 @@ pub record RollLine (s : List ℕ) (at time next : ℕ) : Type 0 where
   pub roll : ℕ
   pub found : PlainRoll s (at + length (digitsOf time)) roll
 
--- plain lines stand one behind the other from a place on, the first of a time; this is the place behind the last of them, and their number
+-- plain lines stand one behind the other from a place on, the first of a time; this is the place behind the last of
+-- them, and their number
 pub data PlainLines (s : List ℕ) (D at time : ℕ) : ℕ → ℕ → Type 0 where
   none : PlainLines s D at time at 0
   more : {next lines end : ℕ} → PlainLines s D at time next lines → RollLine s next (time + lines * D) end → PlainLines s D at time end (lines + 1)

@@ -1,4 +1,5 @@
--- Plain degrees behind a comma: what the private functions that look for them promise where they stand. Assumes nothing.
+-- Plain degrees behind a comma: what the private functions that look for them promise where they stand. Assumes
+-- nothing.
 use Prim.Native.Nat.{ℕ, _+_, _-_, _/_, _%_}
 use mathlib.Core.Path.{_≡_}
 use mathlib.Core.List.{List}
@@ -9,7 +10,8 @@ use Rattle.degrees.specs.Degrees.{signLength, size, signed}
 use Rattle.comma_word.specs.Plain.{Plain}
 use Rattle.comma_line.specs.Line.{comma}
 
--- a comma stands at a place, a minus or none, plain degrees and an LF; the number is twice their bytes, and one more for the minus
+-- a comma stands at a place, a minus or none, plain degrees and an LF; the number is twice their bytes, and one more
+-- for the minus
 pub record PlainRoll (s : List ℕ) (c roll : ℕ) : Type 0 where
   pub mark : getD s c 0 ≡ comma
   pub sign : signLength (drop (c + 1) s) ≡ roll % 2

@@ -58,7 +58,8 @@ struct Run {
 }
 
 // ---- plain lines: a time as wide as the last one, and plain degrees
-// How wide the time of the line at `at` is, where it is the line of the time `due`: as wide as the last time, or else as wide as its digits.
+// How wide the time of the line at `at` is, where it is the line of the time `due`: as wide as the last time, or else
+// as wide as its digits.
 fn width_in(text: &[u8], at: usize, width: usize, due: u64) -> usize
     requires { ⌜ (at + width < length (now text)) × Narrow width due ⌝ }
     ensures { λ r. ⌜ Narrow r due × (right due (drop at (now (text .entry))) ≡ true → r ≡ length (digitsOf due)) ⌝ }
@@ -80,9 +81,11 @@ fn width_at(text: &[u8], at: usize, width: usize, due: u64) -> usize
     width_in(text, at, width, due)
 }
 
-// Four bytes, and the eight bytes of `s` from `at` on, side by side in one number. Joined one by one they are one load to the compiler.
+// Four bytes, and the eight bytes of `s` from `at` on, side by side in one number. Joined one by one they are one
+// load to the compiler.
 fn four(a: u8, b: u8, c: u8, d: u8) -> u64
-    ensures { λ r. ⌜ (r ≡ word (a ∷ b ∷ c ∷ d ∷ [])) × (r < 4294967296) × (a < 256) × (b < 256) × (c < 256) × (d < 256) ⌝ }
+    ensures { λ r. ⌜ (r ≡ word (a ∷ b ∷ c ∷ d ∷ [])) × (r < 4294967296) × (a < 256) × (b < 256) × (c < 256)
+        × (d < 256) ⌝ }
 {
     ((a as u64 * 256 + b as u64) * 256 + c as u64) * 256 + d as u64
 }
@@ -95,9 +98,11 @@ fn eight(s: &[u8], at: usize) -> u64
         + four(s[at + 4], s[at + 5], s[at + 6], s[at + 7])
 }
 
-// Whether eight bytes side by side are held by a form: of its bits nothing is left under its mask, nor with the digits moved on.
+// Whether eight bytes side by side are held by a form: of its bits nothing is left under its mask, nor with the
+// digits moved on.
 fn held(v: u64, bits: u64, mask: u64, more: u64) -> bool
-    ensures { λ r. ⌜ (r ≡ true → (bitAnd (bitXor v bits) mask ≡ 0) × (bitAnd ((bitXor v bits + more) % 2 ^ 64) mask ≡ 0)) ⌝ }
+    ensures { λ r. ⌜ (r ≡ true → (bitAnd (bitXor v bits) mask ≡ 0)
+        × (bitAnd ((bitXor v bits + more) % 2 ^ 64) mask ≡ 0)) ⌝ }
 {
     let x = v ^ bits;
     if x & mask != 0 {
@@ -108,7 +113,8 @@ fn held(v: u64, bits: u64, mask: u64, more: u64) -> bool
 
 // Whether it is ,4.250 and LF.
 fn plus_short(v: u64) -> bool
-    ensures { λ r. ⌜ (r ≡ true → (bitAnd (bitXor v (bits plusShort)) (mask plusShort) ≡ 0) × (bitAnd ((bitXor v (bits plusShort) + more plusShort) % 2 ^ 64) (mask plusShort) ≡ 0)) ⌝ }
+    ensures { λ r. ⌜ (r ≡ true → (bitAnd (bitXor v (bits plusShort)) (mask plusShort) ≡ 0)
+        × (bitAnd ((bitXor v (bits plusShort) + more plusShort) % 2 ^ 64) (mask plusShort) ≡ 0)) ⌝ }
 {
     held(
         v,
@@ -118,9 +124,10 @@ fn plus_short(v: u64) -> bool
     )
 }
 
-// The comma at `c`, plain degrees and their LF: twice their bytes, and one more where a minus stands before the degrees; 0 where others stand there. A first digit
-// of two is no 0: ,10.000 passes ,09.999, and so does ,1.000; what does not is below zero, where ,-10.000 passes ,-09.999, or less than a degree.
-// The eight bytes at the comma are held against ,41.500 LF and ,4.250 LF, or against ,-41.500 and ,-4.250 LF.
+// The comma at `c`, plain degrees and their LF: twice their bytes, and one more where a minus stands before the
+// degrees; 0 where others stand there. A first digit of two is no 0: ,10.000 passes ,09.999, and so does ,1.000; what
+// does not is below zero, where ,-10.000 passes ,-09.999, or less than a degree. The eight bytes at the comma are
+// held against ,41.500 LF and ,4.250 LF, or against ,-41.500 and ,-4.250 LF.
 fn plain_roll(s: &[u8], c: usize) -> usize
     requires { ⌜ c + 9 ≤ length (now s) ⌝ }
     ensures { λ r. ⌜ (1 ≤ r → PlainRoll (now (s .entry)) c r) ⌝ }
@@ -172,8 +179,9 @@ fn no_lines(at: usize) -> Run
     Run { at: at, lines: 0 }
 }
 
-// The plain lines of a text from `at` on, the first of the time `due`, whose times are `width` wide. The digits of the time that is due are compared with a line's
-// all at once, and moved on by the step. They are eight at most, and so are those of the next time where this one is before the latest.
+// The plain lines of a text from `at` on, the first of the time `due`, whose times are `width` wide. The digits of
+// the time that is due are compared with a line's all at once, and moved on by the step. They are eight at most, and
+// so are those of the next time where this one is before the latest.
 fn plain_run(text: &[u8], at: usize, width: usize, due: u64, step: u64) -> Run
     requires { ⌜ (at + 17 ≤ length (now text)) × Narrow width due × (width ≤ 8) × (step ≤ 10000) ⌝ }
     ensures { λ r. ⌜ PlainLines (now (text .entry)) step at due (r .at) (r .lines) ⌝ }
@@ -217,7 +225,8 @@ fn plain_run(text: &[u8], at: usize, width: usize, due: u64, step: u64) -> Run
     }
 }
 
-// The same, where the first is looked at before the digits are laid out: a file whose lines are not plain pays for no more.
+// The same, where the first is looked at before the digits are laid out: a file whose lines are not plain pays for no
+// more.
 fn plain_lines(text: &[u8], at: usize, width: usize, due: u64, step: u64) -> Run
     requires { ⌜ Narrow width due × (step ≤ 10000) ⌝ }
     ensures { λ r. ⌜ PlainLines (now (text .entry)) step at due (r .at) (r .lines) ⌝ }
@@ -345,7 +354,8 @@ fn signed_size(minus: bool, size: u64) -> i32
     if minus { 0 - x } else { x }
 }
 
-// The sample of the plain degrees behind the comma at `c`, of which `plain_roll` said so much: each of its four answers goes a way of its own.
+// The sample of the plain degrees behind the comma at `c`, of which `plain_roll` said so much: each of its four
+// answers goes a way of its own.
 fn plain_sample(s: &[u8], c: usize, roll: usize) -> i32
     requires { ⌜ PlainRoll (now s) c roll ⌝ }
     ensures { λ r. ⌜ r ≡ rollSample (now (s .entry)) c roll ⌝ }
@@ -362,7 +372,8 @@ fn plain_sample(s: &[u8], c: usize, roll: usize) -> i32
     signed_size(true, plain_size(s, c + 2, 5))
 }
 
-// Which of the four forms the plain degrees behind the comma at `c` have: those of a plain line are told apart by two bytes.
+// Which of the four forms the plain degrees behind the comma at `c` have: those of a plain line are told apart by two
+// bytes.
 fn form_of(s: &[u8], c: usize) -> usize
     requires { ⌜ AnyRoll (now s) c ⌝ }
     ensures { λ r. ⌜ PlainRoll (now (s .entry)) c r ⌝ }
@@ -389,8 +400,10 @@ fn store(x: i32, samples: &mut [i32], i: usize)
 
 // Puts the samples of the front, whose lines are plain.
 fn fill_front(text: &[u8], step: u64, front: usize, lines: u64, samples: &mut [i32])
-    requires { ⌜ (step ≤ 10000) × AllGood step (linesOf (now text)) × PlainLines (now text) step 0 0 front lines × (1 ≤ step) × (lines ≤ length (now samples)) ⌝ }
-    ensures { λ _. ⌜ sets (now (samples .exit)) lines (samplesOf (linesOf (drop front (now (text .entry))))) ≡ sets (now (samples .entry)) 0 (samplesOf (linesOf (now (text .entry)))) ⌝ }
+    requires { ⌜ (step ≤ 10000) × AllGood step (linesOf (now text)) × PlainLines (now text) step 0 0 front lines
+        × (1 ≤ step) × (lines ≤ length (now samples)) ⌝ }
+    ensures { λ _. ⌜ sets (now (samples .exit)) lines (samplesOf (linesOf (drop front (now (text .entry)))))
+        ≡ sets (now (samples .entry)) 0 (samplesOf (linesOf (now (text .entry)))) ⌝ }
 {
     let mut at = 0;
     let mut width = 1;
@@ -411,7 +424,8 @@ fn fill_front(text: &[u8], step: u64, front: usize, lines: u64, samples: &mut [i
 // Puts the samples of the lines behind the front, which are right and in range. Their times are passed over.
 fn fill_rest(text: &[u8], step: u64, front: usize, lines: u64, samples: &mut [i32])
     requires { ⌜ (step ≤ 10000) × AllGood step (linesOf (now text)) × PlainLines (now text) step 0 0 front lines ⌝ }
-    ensures { λ _. ⌜ now (samples .exit) ≡ sets (now (samples .entry)) lines (samplesOf (linesOf (drop front (now (text .entry))))) ⌝ }
+    ensures { λ _. ⌜ now (samples .exit)
+        ≡ sets (now (samples .entry)) lines (samplesOf (linesOf (drop front (now (text .entry))))) ⌝ }
 {
     let mut at = front;
     let mut time = lines * step;
@@ -445,18 +459,21 @@ fn fill_rest(text: &[u8], step: u64, front: usize, lines: u64, samples: &mut [i3
 
 // Puts the samples of a text whose lines are all right and in range.
 fn fill(text: &[u8], step: u64, front: usize, lines: u64, samples: &mut [i32])
-    requires { ⌜ (step ≤ 10000) × AllGood step (linesOf (now text)) × PlainLines (now text) step 0 0 front lines × (1 ≤ step) × (lines ≤ length (now samples)) ⌝ }
+    requires { ⌜ (step ≤ 10000) × AllGood step (linesOf (now text)) × PlainLines (now text) step 0 0 front lines
+        × (1 ≤ step) × (lines ≤ length (now samples)) ⌝ }
     ensures { λ _. ⌜ now (samples .exit) ≡ sets (now (samples .entry)) 0 (samplesOf (linesOf (now (text .entry)))) ⌝ }
 {
     fill_front(text, step, front, lines, samples);
     fill_rest(text, step, front, lines, samples);
 }
 
-// Reads a text into `samples`, thousandths of a degree, whose rest stays, and answers their number; or refusal 1, 10 with the line number, 2 with the
-// sample's place, 7 with the number of samples, each judged over all lines, and `samples` as it stood.
+// Reads a text into `samples`, thousandths of a degree, whose rest stays, and answers their number; or refusal 1, 10
+// with the line number, 2 with the sample's place, 7 with the number of samples, each judged over all lines, and
+// `samples` as it stood.
 pub fn read(text: &[u8], step: u64, samples: &mut [i32]) -> Reading
     ensures { λ r. ⌜ r ≡ reading step (now (text .entry)) (length (now (samples .entry))) ⌝ }
-    ensures { λ r. ⌜ now (samples .exit) ≡ filledBy r (samplesOf (linesOf (now (text .entry)))) (now (samples .entry)) ⌝ }
+    ensures { λ r. ⌜ now (samples .exit)
+        ≡ filledBy r (samplesOf (linesOf (now (text .entry)))) (now (samples .entry)) ⌝ }
 {
     if !comma_line::step_in_range(step) {
         return Reading::Refused(Refusal::Item(1));

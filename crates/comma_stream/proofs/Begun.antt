@@ -1,4 +1,5 @@
--- A line that may not have begun stays wrong, whatever comes behind it: a line has 31 bytes at most, and no LF before its last. Assumes nothing.
+-- A line that may not have begun stays wrong, whatever comes behind it: a line has 31 bytes at most, and no LF before
+-- its last. Assumes nothing.
 use Prim.Native.Nat.{ℕ, zero, suc, _+_, _≤_, _<_}
 use mathlib.Core.Path.{_≡_, refl, sym, ap, _∙_}
 use mathlib.Core.Bool.{Bool, true, false}

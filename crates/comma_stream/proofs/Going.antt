@@ -1,5 +1,5 @@
--- A reader on its way through a piece. `Going`: the lines that were taken stand before those that are left, and what was noted and put is what they say. Assumes
--- nothing.
+-- A reader on its way through a piece. `Going`: the lines that were taken stand before those that are left, and what
+-- was noted and put is what they say. Assumes nothing.
 use Prim.Native.Nat.{ℕ, suc, _+_, _*_, _≤_, _<_, _^_}
 use mathlib.Core.Path.{_≡_, refl, sym, ap, _∙_}
 use mathlib.Core.Bool.{Bool, true, false, cond, _&&_}

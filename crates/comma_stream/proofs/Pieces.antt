@@ -1,5 +1,6 @@
--- The pieces in which a file comes make no difference: whatever they are, the same lines are taken and the same bytes are left as if it came whole, and it ends as
--- `comma_read` reads it (`followed-whole`). And a line that is told to be wrong before it has ended does not become right (`wrong-stays`). Assumes nothing.
+-- The pieces in which a file comes make no difference: whatever they are, the same lines are taken and the same bytes
+-- are left as if it came whole, and it ends as `comma_read` reads it (`followed-whole`). And a line that is told to be
+-- wrong before it has ended does not become right (`wrong-stays`). Assumes nothing.
 use Prim.Native.Nat.{ℕ, zero, suc, _+_, _-_, _*_, _≤_, _<_}
 use mathlib.Core.Path.{_≡_, refl, sym, ap, subst, _∙_}
 use mathlib.Core.Bool.{true, false, cond}

@@ -1,4 +1,5 @@
--- Document 02 [1]: a comma file read as it comes. A text here is what is left of the pieces so far, and the next piece behind it. Assumes nothing.
+-- Document 02 [1]: a comma file read as it comes. A text here is what is left of the pieces so far, and the next piece
+-- behind it. Assumes nothing.
 use Prim.Native.Nat.{ℕ, _+_, _*_}
 use mathlib.Core.Bool.{Bool, true, cond, not, _&&_}
 use mathlib.Core.List.{List, [], _∷_, _++_, map}

@@ -1,5 +1,6 @@
-// A comma file read as it comes, by document 02 [1]: piece after piece, whose lines need not end where the pieces do. A piece's right lines are taken; what is left of
-// it goes before the next piece. That the pieces make no difference is the theorem `Pieces.followed-whole`.
+// A comma file read as it comes, by document 02 [1]: piece after piece, whose lines need not end where the pieces do.
+// A piece's right lines are taken; what is left of it goes before the next piece. That the pieces make no difference
+// is the theorem `Pieces.followed-whole`.
 ghost use mathlib.Core.Path.{_≡_};
 ghost use mathlib.Core.Bool.{true, cond, _&&_};
 ghost use Prim.Native.Nat.{_≤_, _<_};
@@ -59,7 +60,8 @@ fn unended(text: &[u8], at: usize) -> bool
     true
 }
 
-// What stands at `at`, where no right line does, and whether more may come: a line may have begun that has no LF yet and fewer bytes than a line may have.
+// What stands at `at`, where no right line does, and whether more may come: a line may have begun that has no LF yet
+// and fewer bytes than a line may have.
 pub fn left(text: &[u8], at: usize, more: bool) -> Rest
     ensures { λ r. ⌜ r ≡ resting (drop at (now (text .entry))) more ⌝ }
     ensures { λ r. ⌜ waitingFor r < 31 ⌝ }
@@ -126,8 +128,8 @@ fn along(f: Follow, text: &[u8], samples: &mut [i32]) -> Followed
     )
 }
 
-// Takes the right lines that `text` starts with, as many as `samples` has places, and puts their samples there, a 0 for one out of range; the rest of `samples` stays. Or
-// refusal 1 for the step.
+// Takes the right lines that `text` starts with, as many as `samples` has places, and puts their samples there, a 0
+// for one out of range; the rest of `samples` stays. Or refusal 1 for the step.
 pub fn take(f: Follow, text: &[u8], samples: &mut [i32]) -> Followed
     ensures { λ r. ⌜ r ≡ taking f (now (text .entry)) (length (now (samples .entry))) ⌝ }
     ensures { λ r. ⌜ now (samples .exit) ≡ leaving r (now (text .entry)) (now (samples .entry)) ⌝ }

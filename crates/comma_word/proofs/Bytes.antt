@@ -1,4 +1,5 @@
--- Laws of bytes side by side, whose list is one of numbers below 256: one more byte behind them, and how large they get. Assumes nothing.
+-- Laws of bytes side by side, whose list is one of numbers below 256: one more byte behind them, and how large they
+-- get. Assumes nothing.
 use mathlib.Core.Path.{_≡_, ap, _∙_}
 use mathlib.Core.List.{List, [], _∷_, _++_, foldl-append}
 use Prim.Native.Nat.{ℕ, zero, suc, _+_, _*_, _/_, _^_, _≤_, _<_}

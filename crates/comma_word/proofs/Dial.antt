@@ -1,4 +1,5 @@
--- Laws of digits side by side: their parts, how large they get with 246 in every byte, and that they are 0 for 0 alone. Assumes nothing.
+-- Laws of digits side by side: their parts, how large they get with 246 in every byte, and that they are 0 for 0 alone.
+-- Assumes nothing.
 use mathlib.Core.Path.{_≡_}
 use Prim.Native.Nat.{ℕ, zero, suc, _+_, _*_, _/_, _^_, _<_}
 use native.Mathlib.Nat.{pow-suc, add-zero, add-suc, mul-comm, div-one, div-div-eq-div-mul}

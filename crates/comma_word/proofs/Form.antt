@@ -1,5 +1,5 @@
--- Bytes held against a form: where nothing of their turned bits meets the mask, nor with the digits moved on by six, each byte is of its kind. Byte by byte, with
--- what stands before as an accumulator. Assumes nothing.
+-- Bytes held against a form: where nothing of their turned bits meets the mask, nor with the digits moved on by six,
+-- each byte is of its kind. Byte by byte, with what stands before as an accumulator. Assumes nothing.
 use mathlib.Core.Path.{_≡_, refl, sym, ap, _∙_}
 use mathlib.Core.Bool.{Bool, true, not, _&&_, _||_}
 use mathlib.Core.List.{List, [], _∷_, map, foldl}

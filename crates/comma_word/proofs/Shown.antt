@@ -1,5 +1,6 @@
--- Bytes that are a number's digits side by side, each with the byte of 0 on it, read as that number. By induction on how many of the bytes are looked at: the
--- last one's digit is the number's last, and those before it show the number without it. Assumes nothing.
+-- Bytes that are a number's digits side by side, each with the byte of 0 on it, read as that number. By induction on
+-- how many of the bytes are looked at: the last one's digit is the number's last, and those before it show the number
+-- without it. Assumes nothing.
 use mathlib.Core.Path.{_≡_, refl, _∙_}
 use mathlib.Core.Bool.{true}
 use mathlib.Core.List.{List}
@@ -33,7 +34,8 @@ pub shown : (bytes : List ℕ) (n : ℕ) → Bytes bytes → word bytes ≡ dial
     → (allDigits bytes ≡ true) × (valueOf bytes ≡ n)
 shown bytes n hs e h = rw (take-length bytes) at (first bytes hs (length bytes) n (omega arith) (rw (take-length bytes) e) h)
 
--- the same of more digits than there are bytes: the digits before them would make the number too large, so there are none
+-- the same of more digits than there are bytes: the digits before them would make the number too large, so there are
+-- none
 wide : (bytes : List ℕ) (j n : ℕ) → Bytes bytes → word bytes ≡ dial (j + length bytes) n + each 48 (length bytes) → n < 10 ^ (j + length bytes)
     → (allDigits bytes ≡ true) × (valueOf bytes ≡ n)
 wide bytes j n hs e h = shown bytes n hs (rw (parts j k n, none) at e ∙ omega arith) few

@@ -1,6 +1,7 @@
--- A dial moved on shows the sum. Two dials, 246 in every byte and a carry are added; by induction from the lowest byte, whose digits with the carry are t:
--- where t is below ten the byte is t + 246, its top bit is set and nothing is carried; else it is t - 10, its top bit is clear and one is carried. So what is left
--- above the sum's digits is 246 in each byte whose top bit is set. Assumes nothing.
+-- A dial moved on shows the sum. Two dials, 246 in every byte and a carry are added; by induction from the lowest byte,
+-- whose digits with the carry are t: where t is below ten the byte is t + 246, its top bit is set and nothing is
+-- carried; else it is t - 10, its top bit is clear and one is carried. So what is left above the sum's digits is 246 in
+-- each byte whose top bit is set. Assumes nothing.
 use mathlib.Core.Path.{_≡_, _∙_}
 use Prim.Native.Nat.{ℕ, zero, suc, _+_, _-_, _*_, _/_, _%_, _^_, _≤_, _<_}
 use native.Mathlib.Nat.{pow-suc, zero-add}

@@ -1,5 +1,5 @@
--- The digits of a number side by side in one number of 64 bits, one a byte, like the wheels of a counter; and the step by which another such number moves them
--- on, all at once. Assumes nothing.
+-- The digits of a number side by side in one number of 64 bits, one a byte, like the wheels of a counter; and the step
+-- by which another such number moves them on, all at once. Assumes nothing.
 use Prim.Native.Nat.{ℕ, zero, suc, _+_, _-_, _*_, _/_, _%_, _^_}
 use lib.Bits.{bitAnd}
 
@@ -21,7 +21,8 @@ tops x = bitAnd x (each 128 8) / 128
 abbrev pub less : ℕ → ℕ → ℕ
 less x y = (x + (2 ^ 64 - y)) % 2 ^ 64
 
--- one number moved on by another whose bytes stand 246 above its digits. Where two digits make ten or more, their byte passes 256 and the next one is moved on
--- by one; where they do not, the 246 is left in it, its top bit shows that, and it is taken away again.
+-- one number moved on by another whose bytes stand 246 above its digits. Where two digits make ten or more, their byte
+-- passes 256 and the next one is moved on by one; where they do not, the 246 is left in it, its top bit shows that, and
+-- it is taken away again.
 unfoldable pub turned : ℕ → ℕ → ℕ
 turned q d = less ((q + d) % 2 ^ 64) (tops ((q + d) % 2 ^ 64) * 246)

@@ -1,4 +1,5 @@
--- A form: what may stand in each of a row of bytes; and the three numbers by which bytes side by side are held against it. Assumes nothing.
+-- A form: what may stand in each of a row of bytes; and the three numbers by which bytes side by side are held against
+-- it. Assumes nothing.
 use Prim.Native.Nat.{ℕ}
 use mathlib.Core.List.{List, map}
 use Rattle.comma_word.specs.Word.{word}

@@ -39,7 +39,8 @@ pub record Plain (s : List ℕ) (at bytes : ℕ) : Type 0 where
   pub room : at + 7 ≤ length s
   pub form : Form s at bytes
 
--- how many bytes the plain degrees at a place have: 6 for 41.500, 5 for 4.250; 0 where other degrees stand there, or less than seven bytes
+-- how many bytes the plain degrees at a place have: 6 for 41.500, 5 for 4.250; 0 where other degrees stand there, or
+-- less than seven bytes
 unfoldable pub plainBytes : List ℕ → ℕ → ℕ
 plainBytes s at =
     cond (leb (at + 7) (length s))

@@ -1,9 +1,9 @@
-// What readers of comma files share to be quick. Plain degrees, by document 02 [1]: 4.250 and 41.500 before an LF, the
-// forms that simulators write, read with no loop; their length and their thousandths are two answers of one number each,
-// since an enum that goes through memory would keep the reader of the next line waiting. And bytes and digits side by side
-// in 64 bits: a reader of times that are due one after the other compares eight bytes at once with those that it expects,
-// which a step moves on all at once, and holds eight more against a form (specs/Form). A function that reads eight bytes
-// asks for room, and who looks for room is the reader (`comma_read`).
+// What readers of comma files share to be quick. Plain degrees, by document 02 [1]: 4.250 and 41.500 before an LF,
+// the forms that simulators write, read with no loop; their length and their thousandths are two answers of one
+// number each, since an enum that goes through memory would keep the reader of the next line waiting. And bytes and
+// digits side by side in 64 bits: a reader of times that are due one after the other compares eight bytes at once
+// with those that it expects, which a step moves on all at once, and holds eight more against a form (specs/Form). A
+// function that reads eight bytes asks for room, and who looks for room is the reader (`comma_read`).
 ghost use mathlib.Core.Path.{_≡_};
 ghost use mathlib.Core.List.{[], _∷_};
 ghost use Prim.Native.Nat.{_+_, _-_, _≤_, _<_};
@@ -112,8 +112,8 @@ fn long_size(s: &[u8], at: usize) -> u64
     digit_value(s[at]) * 10000 + four_value(s[at + 1], s[at + 3], s[at + 4], s[at + 5])
 }
 
-// The thousandths of the plain degrees of `bytes` bytes at `at`. Where others stand there their bytes are taken all the same, so that the form is not tested
-// twice; 0 where less than seven bytes do.
+// The thousandths of the plain degrees of `bytes` bytes at `at`. Where others stand there their bytes are taken all
+// the same, so that the form is not tested twice; 0 where less than seven bytes do.
 pub fn size_at(s: &[u8], at: usize, bytes: usize) -> u64
     ensures { λ r. ⌜ r ≡ plainSize (now (s .entry)) at bytes ⌝ }
 {
@@ -147,8 +147,8 @@ pub fn set(n: u64) -> u64
     four(n / 10000) * 0x1_0000_0000 + four(n)
 }
 
-// The digits `q` moved on by `d`, whose bytes stand 246 above its digits: a carry into the next byte is one into the next digit, and a byte that makes none keeps
-// its top bit, by which the 246 is found and taken away.
+// The digits `q` moved on by `d`, whose bytes stand 246 above its digits: a carry into the next byte is one into the
+// next digit, and a byte that makes none keeps its top bit, by which the 246 is found and taken away.
 pub fn turned(q: u64, d: u64) -> u64
     ensures { λ r. ⌜ r ≡ turned q d ⌝ }
 {

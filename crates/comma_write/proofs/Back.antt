@@ -1,4 +1,5 @@
--- Reading what was written gives the samples back (`read-back`); and what a text reads as, written and read again, is the same (`read-again`). Assumes nothing.
+-- Reading what was written gives the samples back (`read-back`); and what a text reads as, written and read again, is
+-- the same (`read-again`). Assumes nothing.
 use mathlib.Core.Path.{_≡_, refl, sym, ap, subst, _∙_}
 use mathlib.Core.Bool.{Bool, true, false}
 use mathlib.Core.List.{List, [], _∷_, _++_, append-assoc}

@@ -1,4 +1,5 @@
--- Document 02 [1]: what writing samples answers and leaves, in its order of refusals, each judged over all samples. Assumes nothing.
+-- Document 02 [1]: what writing samples answers and leaves, in its order of refusals, each judged over all samples.
+-- Assumes nothing.
 use Prim.Native.Nat.{ℕ, _-_, _*_, _^_}
 use mathlib.Core.Bool.{cond, not}
 use mathlib.Core.List.{List, _++_}

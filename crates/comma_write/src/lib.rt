@@ -59,7 +59,8 @@ fn put_line(time: u64, x: i32, out: &mut [u8], at: usize) -> usize
 
 // Puts all lines into `out`.
 fn put_text(samples: &[i32], step: u64, out: &mut [u8])
-    requires { ⌜ (step ≤ 10000) × (length (now samples) ≤ 1000000000000) × (length (textOf step (now samples)) ≤ length (now out)) ⌝ }
+    requires { ⌜ (step ≤ 10000) × (length (now samples) ≤ 1000000000000)
+        × (length (textOf step (now samples)) ≤ length (now out)) ⌝ }
     ensures { λ _. ⌜ now (out .exit) ≡ laid (now (out .entry)) 0 (textOf step (now (samples .entry))) ⌝ }
 {
     let mut time: u64 = 0;
@@ -83,8 +84,8 @@ fn too_long(n: u64, step: u64) -> bool
     n - 1 > LONGEST_TIME / step
 }
 
-// Writes samples as a text into `out`, whose rest stays, and answers its bytes; or refusal 1, 2 with the sample's place, 3 where the last time needs more than
-// 12 digits, 7 with the bytes needed, and `out` as it stood.
+// Writes samples as a text into `out`, whose rest stays, and answers its bytes; or refusal 1, 2 with the sample's
+// place, 3 where the last time needs more than 12 digits, 7 with the bytes needed, and `out` as it stood.
 pub fn write(samples: &[i32], step: u64, out: &mut [u8]) -> Writing
     ensures { λ r. ⌜ r ≡ writing step (now (samples .entry)) (now (out .entry)) ⌝ }
     ensures { λ r. ⌜ now (out .exit) ≡ laidBy r (textOf step (now (samples .entry))) (now (out .entry)) ⌝ }

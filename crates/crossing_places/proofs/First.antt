@@ -63,7 +63,8 @@ module _ (f : ℕ → Bool) where
       go true t e i = let z : k ≡ c = cc in (ap f (sym z) ∙ t, omega arith)
       go false t e i = let j = i e in (j .0, omega (arith, j .1))
 
--- where there is a crossing, the default does not matter, and 0, which is no place of a crossing, says that there is none
+-- where there is a crossing, the default does not matter, and 0, which is no place of a crossing, says that there is
+-- none
 module _ (R : ℕ) (a : Levels) (xs : List Moment) where
   abbrev Searched : List ℕ → Type 0
   Searched cs = (not (eqb (firstOf 0 cs) 0) ≡ true → (firstOf (length xs) cs ≡ firstOf 0 cs) × (firstOf 0 cs < length xs)) × (not (eqb (firstOf 0 cs) 0) ≡ false → firstOf (length xs) cs ≡ length xs)

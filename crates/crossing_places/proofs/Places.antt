@@ -1,5 +1,5 @@
--- The crossings' places are in order, so that the walk over them finds a largest set; and times of places apart are apart.
--- Assumes nothing.
+-- The crossings' places are in order, so that the walk over them finds a largest set; and times of places apart are
+-- apart. Assumes nothing.
 use Prim.Native.Nat.{ℕ, zero, suc, _+_, _-_, _≤_}
 use mathlib.Core.Bool.{Bool, true, false, cond}
 use mathlib.Core.List.{List, [], _∷_, map}

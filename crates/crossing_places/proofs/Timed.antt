@@ -1,5 +1,6 @@
--- Only the timed samples are counted: the counted times of a record are those of its samples from R on, taken as a record without a ramp. Where groups start
--- is told by the crossings' moments alone (`counted-from`), and the crossings' moments are the same (`crossing-times`). Assumes nothing.
+-- Only the timed samples are counted: the counted times of a record are those of its samples from R on, taken as a
+-- record without a ramp. Where groups start is told by the crossings' moments alone (`counted-from`), and the
+-- crossings' moments are the same (`crossing-times`). Assumes nothing.
 use Prim.Native.Nat.{ℕ, zero, suc, _+_, _-_, _*_, _≤_, _<_}
 use mathlib.Core.Path.{_≡_, refl, sym, ap, _∙_}
 use mathlib.Core.Bool.{Bool, true, false, cond, _&&_}

@@ -1,5 +1,6 @@
--- Document 01, "Reading a record", with document 02's [5] and [8], over the whole list xs of samples, each a moment of both channels: D is the step, R the ramp, a the two levels, τ the
--- decorrelation time. Samples are numbered from 0. Assumes nothing.
+-- Document 01, "Reading a record", with document 02's [5] and [8], over the whole list xs of samples, each a moment of
+-- both channels: D is the step, R the ramp, a the two levels, τ the decorrelation time. Samples are numbered from 0.
+-- Assumes nothing.
 use Prim.Native.Nat.{ℕ, zero, suc, _+_, _-_, _*_}
 use mathlib.Core.Bool.{Bool, cond, not, _&&_}
 use mathlib.Core.List.{List, [], _∷_, map}
@@ -58,7 +59,8 @@ groups D R a τ xs = grouping.groups (grouping.near (timeAt D R) τ) (crossings 
 abbrev pub counted : ℕ → ℕ → Levels → ℕ → List Moment → List ℕ
 counted D R a τ xs = grouping.firsts (groups D R a τ xs)
 
--- the places of the largest set: the first crossing, and a later one if its time is at least τ after that of the last one in it
+-- the places of the largest set: the first crossing, and a later one if its time is at least τ after that of the last
+-- one in it
 abbrev pub largestSet : ℕ → ℕ → Levels → ℕ → List Moment → List ℕ
 largestSet D R a τ xs = walk (timeAt D R) τ (crossings R a xs)
 

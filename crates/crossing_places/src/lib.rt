@@ -1,5 +1,5 @@
-// Document 01, "Reading a record": its definitions over a whole list of samples in specs/, the laws of crossings in proofs/, and the one test that all
-// passes over samples share.
+// Document 01, "Reading a record": its definitions over a whole list of samples in specs/, the laws of crossings in
+// proofs/, and the one test that all passes over samples share.
 ghost use mathlib.Core.Path.{_≡_};
 ghost use Rattle.crossing_places.specs.Reading.{rises};
 use sample_channels::Levels;

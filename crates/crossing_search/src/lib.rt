@@ -1,4 +1,5 @@
-// The search for the place of the first crossing of a whole record: the record's first failure. Only the places that both channels have are looked at.
+// The search for the place of the first crossing of a whole record: the record's first failure. Only the places that
+// both channels have are looked at.
 ghost use mathlib.Core.Path.{_≡_};
 ghost use Prim.Native.Nat.{_≤_, min};
 ghost use lib.ListN.{length};
@@ -7,7 +8,8 @@ ghost use Rattle.crossing_places.specs.Reading.{firstCrossing};
 ghost use Rattle.crossing_search.specs.Rise.{FirstRise};
 use sample_channels::Levels;
 
-// The place of the first crossing from `from` on and before `end`; `end` if there is none. A quiet block is passed over.
+// The place of the first crossing from `from` on and before `end`; `end` if there is none. A quiet block is passed
+// over.
 fn rise_in(roll: &[i32], acceleration: &[i32], levels: Levels, from: usize, end: usize) -> usize
     requires { ⌜ (1 ≤ from) × (from ≤ end) × (end ≤ length (now roll)) × (end ≤ length (now acceleration)) ⌝ }
     ensures { λ r. ⌜ FirstRise levels (moments (now (roll .entry)) (now (acceleration .entry))) from end r ⌝ }
@@ -35,7 +37,8 @@ fn shorter(m: usize, n: usize) -> usize
 
 // The place of the first crossing of a whole record; its length, which is no place in it, if there is none.
 pub fn first_crossing(roll: &[i32], acceleration: &[i32], ramp: u64, levels: Levels) -> usize
-    ensures { λ r. ⌜ r ≡ firstCrossing (length (moments (now (roll .entry)) (now (acceleration .entry)))) ramp levels (moments (now (roll .entry)) (now (acceleration .entry))) ⌝ }
+    ensures { λ r. ⌜ r ≡ firstCrossing (length (moments (now (roll .entry)) (now (acceleration .entry)))) ramp levels
+        (moments (now (roll .entry)) (now (acceleration .entry))) ⌝ }
 {
     let n = shorter(roll.len(), acceleration.len());
     if n as u64 <= ramp {

@@ -1,5 +1,5 @@
--- Groups never exceed the largest set. Their first members are a choice, and two of them are at least τ apart: the later one is so far after the member just
--- before it, which is not before the earlier one. Assumes nothing.
+-- Groups never exceed the largest set. Their first members are a choice, and two of them are at least τ apart: the
+-- later one is so far after the member just before it, which is not before the earlier one. Assumes nothing.
 use Prim.Native.Nat.{ℕ, _+_, _≤_}
 use mathlib.Core.Path.{_≡_, refl, sym, ap, _∙_}
 use mathlib.Core.Bool.{Bool, true, false, cond}

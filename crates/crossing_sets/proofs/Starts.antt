@@ -1,5 +1,5 @@
--- The groups' first members found in one pass: with x the last member read, the rest of the list starts a group at each member that is at least τ after the
--- one just before it (`starts`). Assumes nothing.
+-- The groups' first members found in one pass: with x the last member read, the rest of the list starts a group at each
+-- member that is at least τ after the one just before it (`starts`). Assumes nothing.
 use Prim.Native.Nat.{ℕ, _+_}
 use mathlib.Core.Path.{_≡_, refl, ap, _∙_}
 use mathlib.Core.Bool.{Bool, true, false, cond}

@@ -1,6 +1,7 @@
--- The walk finds a largest set. It is a choice, its members are apart, and no choice of members apart is longer: by induction on the
--- list, a choice that lies wholly after p is no longer than what the walk finds after p (`Bound`). Where the walk takes x, a choice
--- without x loses only its first member when cut down to those after x (`one-more`), and the walk has gained x. Assumes nothing.
+-- The walk finds a largest set. It is a choice, its members are apart, and no choice of members apart is longer: by
+-- induction on the list, a choice that lies wholly after p is no longer than what the walk finds after p (`Bound`).
+-- Where the walk takes x, a choice without x loses only its first member when cut down to those after x (`one-more`),
+-- and the walk has gained x. Assumes nothing.
 use Prim.Native.Nat.{ℕ, suc, _+_, _≤_, zero-le, suc-le-suc}
 use mathlib.Core.Path.{_≡_, refl}
 use mathlib.Core.List.{List, [], _∷_}

@@ -1,5 +1,6 @@
--- What "in groups" means, said without the way they are found: a list parted into runs of successive members, each of which joins the one just before it,
--- while the first of a run does not join the last of the run before. Assumes nothing.
+-- What "in groups" means, said without the way they are found: a list parted into runs of successive members, each of
+-- which joins the one just before it, while the first of a run does not join the last of the run before. Assumes
+-- nothing.
 use mathlib.Core.Path.{_≡_}
 use mathlib.Core.Bool.{Bool, true, false}
 use mathlib.Core.List.{List, [], _∷_, _++_}

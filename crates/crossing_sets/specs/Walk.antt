@@ -1,5 +1,5 @@
--- Document 01, "Reading a record": the walk that counts failures. `time` gives the moment of a place, τ is the decorrelation time.
--- Assumes nothing.
+-- Document 01, "Reading a record": the walk that counts failures. `time` gives the moment of a place, τ is the
+-- decorrelation time. Assumes nothing.
 use Prim.Native.Nat.{ℕ, _+_}
 use mathlib.Core.Bool.{Bool, cond}
 use mathlib.Core.List.{List, [], _∷_}

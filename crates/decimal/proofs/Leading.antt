@@ -1,5 +1,5 @@
--- Laws of the number that a text starts with. The reader takes at most 12 digits and looks at the byte behind them: is it no digit, they are all the
--- digits that the text starts with; is it one, there are more than 12. Assumes nothing.
+-- Laws of the number that a text starts with. The reader takes at most 12 digits and looks at the byte behind them: is
+-- it no digit, they are all the digits that the text starts with; is it one, there are more than 12. Assumes nothing.
 use mathlib.Core.Path.{_≡_, refl, sym, ap, _∙_}
 use mathlib.Core.Bool.{Bool, true, false, cond, not, _&&_, and-false, true≢false}
 use mathlib.Core.List.{List, [], _∷_, _++_, append-nil}

@@ -1,5 +1,5 @@
--- Laws of a number's decimal text. `digits-one` and `digits-more` are its definition without the count of steps, and `by-digits` is
--- induction along it, from v / 10 to v; the laws after them go by those three. Assumes nothing.
+-- Laws of a number's decimal text. `digits-one` and `digits-more` are its definition without the count of steps, and
+-- `by-digits` is induction along it, from v / 10 to v; the laws after them go by those three. Assumes nothing.
 use mathlib.Core.Path.{_≡_, refl, sym, _∙_}
 use mathlib.Core.Bool.{true, false, _&&_, and-assoc, and-false}
 use mathlib.Core.List.{List, [], _∷_, _++_, foldl, foldl-append, append-assoc, append-nil}

@@ -1,4 +1,5 @@
--- The number that a text starts with, whatever stands behind it: its digits are all the digits at the text's start. Assumes nothing.
+-- The number that a text starts with, whatever stands behind it: its digits are all the digits at the text's start.
+-- Assumes nothing.
 use Prim.Native.Nat.{ℕ, _+_}
 use mathlib.Core.Bool.{Bool, cond, _&&_}
 use mathlib.Core.List.{List, [], _∷_}
@@ -21,6 +22,7 @@ leading (b ∷ text) = cond (isDigit b) (b ∷ leading text) []
 abbrev pub behind : List ℕ → List ℕ
 behind text = drop (length (leading text)) text
 
--- what stands at a place of a text, read as a number up to the first byte that is no digit: its number and the place of that byte
+-- what stands at a place of a text, read as a number up to the first byte that is no digit: its number and the place of
+-- that byte
 unfoldable pub leadingAt : List ℕ → ℕ → Lead
 leadingAt text at = cond (isNumber (leading (drop at text))) (Number (valueOf (leading (drop at text))) (at + length (leading (drop at text)))) Nothing

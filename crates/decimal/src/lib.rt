@@ -1,11 +1,13 @@
-// Numbers in text, by document 01, "The job sheet": decimal, 1 to 12 digits, no leading zero but for 0 itself.
-// The reader makes one pass over a number's bytes and divides nothing; the writer stores a number's digits from the last to the first.
+// Numbers in text, by document 01, "The job sheet": decimal, 1 to 12 digits, no leading zero but for 0 itself. The
+// reader makes one pass over a number's bytes and divides nothing; the writer stores a number's digits from the last
+// to the first.
 ghost use mathlib.Core.Path.{_≡_};
 ghost use mathlib.Core.Bool.{cond};
 ghost use Prim.Native.Nat.{_+_, _%_, _≤_, min};
 ghost use lib.ListN.{length, drop, getD};
 ghost use Rattle.text.specs.Write.{written, placeAfter};
-ghost use Rattle.decimal.specs.Decimal.{zeroByte, longest, isDigit, isNumber, leadingDigits, valueOf, digitsOf, widest};
+ghost use Rattle.decimal.specs.Decimal.{zeroByte, longest, isDigit, isNumber, leadingDigits, valueOf, digitsOf};
+ghost use Rattle.decimal.specs.Decimal.{widest};
 ghost use Rattle.decimal.specs.Field.{fieldText};
 ghost use Rattle.decimal.specs.Leading.{leadingAt, standsAt};
 
@@ -144,7 +146,8 @@ pub fn digits(v: u64) -> usize
     count
 }
 
-// Writes the decimal text of `v` into `out` from `at` on. Answers the place after it, or `at` where it has no room and `out` is kept.
+// Writes the decimal text of `v` into `out` from `at` on. Answers the place after it, or `at` where it has no room
+// and `out` is kept.
 pub fn write_number(v: u64, out: &mut [u8], at: usize) -> usize
     ensures { λ r. ⌜ r ≡ placeAfter (now (out .entry)) at (digitsOf v) ⌝ }
     ensures { λ _. ⌜ now (out .exit) ≡ written (now (out .entry)) at (digitsOf v) ⌝ }

@@ -1,5 +1,6 @@
--- Degrees taken apart and put together: a text that starts with degrees is a sign, the bytes of a size and what follows; and such a text starts with those
--- degrees, whatever follows, if it is neither a digit nor a point. Assumes nothing.
+-- Degrees taken apart and put together: a text that starts with degrees is a sign, the bytes of a size and what
+-- follows; and such a text starts with those degrees, whatever follows, if it is neither a digit nor a point. Assumes
+-- nothing.
 use mathlib.Core.Path.{_≡_, refl, ap, _∙_}
 use mathlib.Core.Bool.{Bool, true, false, cond, _&&_}
 use mathlib.Core.List.{List, [], _∷_, _++_, append-assoc}

@@ -1,4 +1,5 @@
--- Laws of degrees without a sign at a place of a text, by the number that stands there, the byte behind it and the digits behind a point. Assumes nothing.
+-- Laws of degrees without a sign at a place of a text, by the number that stands there, the byte behind it and the
+-- digits behind a point. Assumes nothing.
 use mathlib.Core.Path.{_≡_, refl, sym}
 use mathlib.Core.Bool.{Bool, true, false, cond, _&&_, and-false}
 use mathlib.Core.List.{List, [], _∷_}

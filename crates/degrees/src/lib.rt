@@ -1,5 +1,5 @@
-// Degrees in text, by document 02 [1]: a minus or none, whole degrees as a number of the sheet, and a point with one to three digits or none. A sample is
-// in thousandths of a degree.
+// Degrees in text, by document 02 [1]: a minus or none, whole degrees as a number of the sheet, and a point with one
+// to three digits or none. A sample is in thousandths of a degree.
 ghost use mathlib.Core.Path.{_≡_};
 ghost use mathlib.Core.Bool.{cond};
 ghost use mathlib.Core.List.{_∷_};
@@ -7,7 +7,8 @@ ghost use Prim.Native.Nat.{_+_, _*_, _≤_, _<_};
 ghost use lib.ListN.{length, drop};
 ghost use lib.Dec.{eqb, leb};
 ghost use lib.IntN.{pos};
-ghost use Rattle.degrees.specs.Degrees.{point, signLength, degreesAt, sizeAt, sign, signed, threeDigits, degreesText, longestDegrees, largestSize};
+ghost use Rattle.degrees.specs.Degrees.{point, signLength, degreesAt, sizeAt, sign, signed, threeDigits};
+ghost use Rattle.degrees.specs.Degrees.{degreesText, longestDegrees, largestSize};
 ghost use Rattle.text.specs.Write.{written, placeAfter};
 use decimal::Lead;
 
@@ -113,8 +114,8 @@ pub fn degrees_length(x: i32) -> usize
     whole + 4
 }
 
-// Writes the degrees of a sample into `out` from `at` on: always three decimals, a minus only below zero. Answers the place after them, or `at` where
-// they have no room and `out` is kept.
+// Writes the degrees of a sample into `out` from `at` on: always three decimals, a minus only below zero. Answers the
+// place after them, or `at` where they have no room and `out` is kept.
 pub fn write_degrees(x: i32, out: &mut [u8], at: usize) -> usize
     ensures { λ r. ⌜ r ≡ placeAfter (now (out .entry)) at (degreesText x) ⌝ }
     ensures { λ _. ⌜ now (out .exit) ≡ written (now (out .entry)) at (degreesText x) ⌝ }

@@ -1,17 +1,15 @@
 -- Demand 1: whatever is handed in, each public entry answers or refuses by a number of document 01, under exactly the
--- stated condition, and a refusal leaves everything as it stood.
---
--- Each entry has its tests in document 01's order, a test being a condition and the refusal that it gives. The statement
--- is that the entry's answer is what the tests decide: the refusal of the first test that holds, or the answer proper if
--- none does (`Decides`, which says so without the definition). A record or a campaign goes in by value and a refusal
--- hands none out, so the caller's stays; of the one slice that is lent, a refusal leaves every place as it was (`kept`).
--- The proof goes through the cases of the tests.
---
--- Here stand the entries of a record (open, feed, end, list), of a campaign (open, enter) and of its verdict (judge, rate,
--- censored). The same form is used for a sheet's line in Refusal9, for read, run and the writers of replies in JobSheet,
--- and for what document 02 added in Request1 (comma files), Request2 (the sheet written and resumed), Request7 (sums),
--- Request9 (the table of two bureaus), Request11 (envelope peaks), Request13 (conditions and reports) and Tail.
--- tests/statements fails where a public entry that can refuse has no such statement. Assumes nothing.
+-- stated condition, and a refusal leaves everything as it stood.  Each entry has its tests in document 01's order, a
+-- test being a condition and the refusal that it gives. The statement is that the entry's answer is what the tests
+-- decide: the refusal of the first test that holds, or the answer proper if none does (`Decides`, which says so without
+-- the definition). A record or a campaign goes in by value and a refusal hands none out, so the caller's stays; of the
+-- one slice that is lent, a refusal leaves every place as it was (`kept`). The proof goes through the cases of the
+-- tests.  Here stand the entries of a record (open, feed, end, list), of a campaign (open, enter) and of its verdict
+-- (judge, rate, censored). The same form is used for a sheet's line in Refusal9, for read, run and the writers of
+-- replies in JobSheet, and for what document 02 added in Request1 (comma files), Request2 (the sheet written and
+-- resumed), Request7 (sums), Request9 (the table of two bureaus), Request11 (envelope peaks), Request13 (conditions and
+-- reports) and Tail. tests/statements fails where a public entry that can refuse has no such statement. Assumes
+-- nothing.
 use mathlib.Core.Path.{_≡_, refl, sym, _∙_}
 use mathlib.Core.Bool.{Bool, cond, false, not, true}
 use mathlib.Core.List.{List, [], _∷_, foldl}
@@ -80,7 +78,8 @@ pub data None : List Test → Type 0 where
   end : None []
   not-it : {t : Test} {ts : List Test} → t .holds ≡ false → None ts → None (t ∷ ts)
 
--- the answer x is what the tests decide: it is the refusal r exactly if r is that of the first test that holds, and `proper` if none does
+-- the answer x is what the tests decide: it is the refusal r exactly if r is that of the first test that holds, and
+-- `proper` if none does
 pub record Decides {A : Type 0} (refused : Refusal → A) (ts : List Test) (proper x : A) : Type 0 where
   pub refuses : (r : Refusal) → First ts r → x ≡ refused r
   pub only-then : (r : Refusal) → x ≡ refused r → First ts r
@@ -148,8 +147,8 @@ pub record Demand1 : Type 0 where
       → Decides rating.Refused (not (campaigning.sound c) gives BrokenState ∷ []) (rating.Given (not (eqb (c .records) 0)) (ratesOf c)) (verdicts.rating c)
   pub censored : (c : Campaign) → Decides counting.Refused (not (campaigning.sound c) gives BrokenState ∷ []) (counting.Count (censored c)) (verdicts.counting c)
   -- a job sheet: however the text is cut into pieces, what is written and what the reading ends in are those of its
-  -- meaning; of a record that a line tells of, exposure 0 gives 4, above 10,000,000 gives 3, then 5, 6; and the line of a
-  -- record that was ended comes to what entering its result answers, refusals and all
+  -- meaning; of a record that a line tells of, exposure 0 gives 4, above 10,000,000 gives 3, then 5, 6; and the line of
+  -- a record that was ended comes to what entering its result answers, refusals and all
   pub sheet : (pieces : List (List ℕ)) → feeding pieces Fresh [] ≡ meaning (joined pieces)
   pub sheet-record :
       (c : Campaign) (f : Bool) (t : ℕ)

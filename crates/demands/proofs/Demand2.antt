@@ -1,10 +1,9 @@
--- Demand 2, read with document 02's [5] and [8]: a record's figures are those of its whole list of samples of both channels, however it was cut into pieces; the counted failures are
--- the groups of crossings, each listed by its first; they never exceed the largest set of crossings pairwise at least the decorrelation time apart; and a
--- campaign's figures are document 000's over its list of records. So is a record's time; and pieces are cut anywhere
--- from any sound state on, an empty one changing nothing.
---
--- D is the step, R the ramp, a the levels and τ the decorrelation time. The proof gathers what the crates `record_feed`, `record_list` and `campaign_state` show. Assumes
--- nothing.
+-- Demand 2, read with document 02's [5] and [8]: a record's figures are those of its whole list of samples of both
+-- channels, however it was cut into pieces; the counted failures are the groups of crossings, each listed by its first;
+-- they never exceed the largest set of crossings pairwise at least the decorrelation time apart; and a campaign's
+-- figures are document 000's over its list of records. So is a record's time; and pieces are cut anywhere from any
+-- sound state on, an empty one changing nothing.  D is the step, R the ramp, a the levels and τ the decorrelation time.
+-- The proof gathers what the crates `record_feed`, `record_list` and `campaign_state` show. Assumes nothing.
 use mathlib.Core.Path.{_≡_, ap, _∙_}
 use mathlib.Core.Bool.{false, true}
 use mathlib.Core.List.{List, [], _∷_, map, _++_}
@@ -48,16 +47,19 @@ use Rattle.campaign_state.specs.State.{censored}
 use Rattle.campaign_state.proofs.Records.{censored-grown, grown-by-results}
 
 -- ---- the statement
--- a record opened as s and fed pieces, each taken, up to the state t; p is the joined record, channel by channel, and xs its samples
+-- a record opened as s and fed pieces, each taken, up to the state t; p is the joined record, channel by channel, and
+-- xs its samples
 pub record ReadsWhole (D R : ℕ) (a : Levels) (τ : ℕ) (s t : Record) (p : Piece) (xs : List Moment) : Type 0 where
-  -- crossings, groups, largest set, first failure, the places kept, n and the last sample are those of the joined record
+  -- crossings, groups, largest set, first failure, the places kept, n and the last sample are those of the joined
+  -- record
   pub figures : t ≡ stateOf D R a τ xs
-  -- the groups part the crossings into runs, each crossing of a run but its first less than τ after the one just before it, the first of the next run not; no
-  -- other parting does; the state has their number
+  -- the groups part the crossings into runs, each crossing of a run but its first less than τ after the one just before
+  -- it, the first of the next run not; no other parting does; the state has their number
   pub grouped : Parting (near (timeAt D R) τ) (crossings R a xs) (groups D R a τ xs)
   pub only : (gs : List (List ℕ)) → Parting (near (timeAt D R) τ) (crossings R a xs) gs → gs ≡ groups D R a τ xs
   pub number : t .groups ≡ length (groups D R a τ xs)
-  -- the largest set is a choice of the crossings, pairwise τ apart, and no such choice has more members; the state has their number
+  -- the largest set is a choice of the crossings, pairwise τ apart, and no such choice has more members; the state has
+  -- their number
   pub largest : LargestSet (timeAt D R) τ (crossings R a xs) (largestSet D R a τ xs)
   pub set : t .largest ≡ length (largestSet D R a τ xs)
   -- which is never below that of the groups
@@ -67,7 +69,8 @@ pub record ReadsWhole (D R : ℕ) (a : Levels) (τ : ℕ) (s t : Record) (p : Pi
   pub full-time : wholeTime t ≡ fullTime D R (length xs)
   pub exposed : (k : ℕ) (ks : List ℕ) → crossings R a xs ≡ k ∷ ks → exposureOf t ≡ timeAt D R k
   pub unfailing : crossings R a xs ≡ [] → exposureOf t ≡ fullTime D R (length xs)
-  -- any other cutting of the joined record, of both channels at the same places, is taken too, and ends in the same state
+  -- any other cutting of the joined record, of both channels at the same places, is taken too, and ends in the same
+  -- state
   pub cuttings : (qs : List Piece) → Even qs → joined qs ≡ p → AllTaken s qs t
   -- the state is never refused as broken
   pub unbroken : (us vs : List ℤ) → ¬ (fed t us vs ≡ Refused BrokenState)
@@ -81,8 +84,8 @@ pub record Resumed (r : Record) (ps : List Piece) (t : Record) : Type 0 where
 pub record Demand2 : Type 0 where
   pub pieces : (D R : ℕ) (a : Levels) (τ : ℕ) (s t : Record) (ps : List Piece) → opened D R a τ ≡ Taken s → AllTaken s ps t → ReadsWhole D R a τ s t (joined ps) (samplesOf (joined ps))
   -- from any state that keeps the relations, opened here or not: an empty piece is taken and changes nothing; pieces
-  -- that are all taken are taken as one, and in any other cutting of both channels at the same places, and end in the same
-  -- state, which keeps them
+  -- that are all taken are taken as one, and in any other cutting of both channels at the same places, and end in the
+  -- same state, which keeps them
   pub nothing : (r : Record) → sound r ≡ true → fed r [] [] ≡ Taken r
   pub resumed : (r t : Record) (ps : List Piece) → sound r ≡ true → AllTaken r ps t → Resumed r ps t
   -- the listed times are those of the groups' first crossings, as many as there are groups, and pairwise τ apart
@@ -92,7 +95,8 @@ pub record Demand2 : Type 0 where
   -- the search finds the state's first failure, or the length of the record where there is none
   pub found : (D R : ℕ) (a : Levels) (τ : ℕ) (xs : List Moment) → failed (stateOf D R a τ xs) ≡ true → (firstCrossing (length xs) R a xs ≡ stateOf D R a τ xs .first) × (stateOf D R a τ xs .first < length xs)
   pub missed : (D R : ℕ) (a : Levels) (τ : ℕ) (xs : List Moment) → failed (stateOf D R a τ xs) ≡ false → firstCrossing (length xs) R a xs ≡ length xs
-  -- records ended and their results entered, one after the other: the campaign's figures over the list of them, and its censored count by document 000's recurrence
+  -- records ended and their results entered, one after the other: the campaign's figures over the list of them, and its
+  -- censored count by document 000's recurrence
   pub campaign : (q : ℕ) (c d : Campaign) (rs : List Record) → campaigns.opened q ≡ campaigned.Taken c → AllEnded c rs d → d ≡ campaignOf q (map outcome rs)
   pub censored : (q : ℕ) (c d : Campaign) (rs : List Record) → campaigns.opened q ≡ campaigned.Taken c → AllEnded c rs d → censored d ≡ censoredIn (map outcome rs)
 

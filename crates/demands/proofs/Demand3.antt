@@ -1,9 +1,7 @@
--- Demand 3: what accept and reject say of the standard, with exact chances.
---
--- Of a campaign that keeps document 01's relations and has a record, with N failures, the censored count N* and T ms of exposure at a standard of one
--- failure in q ms, a Poisson stream at the standard rate expects T/q failures.
---
--- The proof reads the verdict's two tests off the answer (verdict: Only); what they say of the chances is said by the rows (poisson: Exposure). Assumes nothing.
+-- Demand 3: what accept and reject say of the standard, with exact chances.  Of a campaign that keeps document 01's
+-- relations and has a record, with N failures, the censored count N* and T ms of exposure at a standard of one failure
+-- in q ms, a Poisson stream at the standard rate expects T/q failures.  The proof reads the verdict's two tests off the
+-- answer (verdict: Only); what they say of the chances is said by the rows (poisson: Exposure). Assumes nothing.
 use mathlib.Core.Path.{_≡_, refl}
 use mathlib.Core.Bool.{Bool, not, true}
 use Prim.Native.Nat.{ℕ, zero, suc, _*_, _≤_, _<_}

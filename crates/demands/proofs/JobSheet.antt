@@ -123,7 +123,8 @@ pub record JobSheet : Type 0 where
   pub read-sound : (more : Bool) (text : List ℕ) (s : Sheet) → soundSheet s ≡ true
       → readingEnd more text s ≡ reading more (linesOf text) s .end
   pub read-whole : (text : List ℕ) → readingEnd false text Fresh ≡ meaning text .end
-  -- a text run: 8, then 7 with the bytes needed; a refusal leaves the lent bytes, and else they start with what is written
+  -- a text run: 8, then 7 with the bytes needed; a refusal leaves the lent bytes, and else they start with what is
+  -- written
   pub run : (more : Bool) (text : List ℕ) (s : Sheet) (out : List ℕ) → let a = reading more (linesOf text) s in
       Decides Declined
       (not (soundSheet s) gives BrokenState ∷ (not (leb (length (a .text)) (length out)) gives Room (length (a .text)) ∷ []))

@@ -1,6 +1,6 @@
--- Document 02, [1]: comma files. Reading and writing are decided by their tests in 02's order, each over all lines or samples (demand 1), and a refusal leaves what was
--- lent as it stood; what was written reads back, and what a text reads as, written and read again, is the same. A file that comes in pieces ends as it reads whole.
--- Assumes nothing.
+-- Document 02, [1]: comma files. Reading and writing are decided by their tests in 02's order, each over all lines or
+-- samples (demand 1), and a refusal leaves what was lent as it stood; what was written reads back, and what a text
+-- reads as, written and read again, is the same. A file that comes in pieces ends as it reads whole. Assumes nothing.
 use mathlib.Core.Path.{_≡_, refl}
 use mathlib.Core.Bool.{not, true, false}
 use mathlib.Core.List.{List, [], _∷_, _++_, map}
@@ -116,7 +116,8 @@ pub record Request1 : Type 0 where
   -- what a text reads as, written and read again, is the same
   pub again : (D : ℕ) (text : List ℕ) (places n : ℕ) → reading D text places ≡ Samples n
       → (reading D (textOf D (samplesOf (linesOf text))) places ≡ Samples n) × (samplesOf (linesOf (textOf D (samplesOf (linesOf text)))) ≡ samplesOf (linesOf text))
-  -- in whatever pieces a file comes, it ends as it reads whole, with the same samples; and a line that is told to be wrong before its end is wrong with anything behind it
+  -- in whatever pieces a file comes, it ends as it reads whole, with the same samples; and a line that is told to be
+  -- wrong before its end is wrong with anything behind it
   pub pieces : (D places : ℕ) (pieces : List (List ℕ)) → stepInRange D ≡ true → length (linesOf (joined pieces)) ≤ places
       → ending (passing (nothing D) pieces) ≡ reading D (joined pieces) places
   pub same-samples : (D : ℕ) (pieces : List (List ℕ)) → let p = passing (nothing D) pieces in p .left ≡ [] → p .samples ≡ samplesOf (linesOf (joined pieces))

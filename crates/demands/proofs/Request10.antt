@@ -2,8 +2,9 @@
 -- fault, at column 0, exactly if it is not its two or three fields, parted by tabs, ended by LF, in 64 bytes; and that
 -- is judged first. Else the first bad field from the left tells: the column of its first byte that is no digit, else
 -- that of its first byte, or of the place where an empty field should start. A whole line is malformed exactly if one
--- of its fields is bad, so exactly if its column is not 0: this ties what `sheet_line` reads to what `sheet_line` tells. What the
--- number reader tells of a field, in 02's order: FieldIs. Which texts are refused: Refusal9. Assumes nothing.
+-- of its fields is bad, so exactly if its column is not 0: this ties what `sheet_line` reads to what `sheet_line`
+-- tells. What the number reader tells of a field, in 02's order: FieldIs. Which texts are refused: Refusal9. Assumes
+-- nothing.
 use mathlib.Core.Path.{_≡_, ap, refl, sym, subst, _∙_}
 use mathlib.Core.Bool.{true}
 use mathlib.Core.List.{List, [], _∷_, _++_, append-assoc}

@@ -3,8 +3,8 @@
 -- the peaks handed out and the rest stays. And of the definitions: there is one way to part a list into groups of
 -- neighbours that join; a run starts with a sample that is not zero and has none of the other sign; a peak is kept
 -- exactly if it is the first largest of a high stretch with a peak that is not high on both sides; what is handed out
--- is more than the decorrelation time apart. The proof only puts together what `peak_groups`, `peak_groups` and `peak_envelope`
--- have. Assumes nothing.
+-- is more than the decorrelation time apart. The proof only puts together what `peak_groups`, `peak_groups` and
+-- `peak_envelope` have. Assumes nothing.
 use mathlib.Core.Path.{_≡_, refl}
 use mathlib.Core.Bool.{Bool, true, false, cond, not, _||_}
 use mathlib.Core.List.{List, [], _∷_, _++_, map}

@@ -1,6 +1,7 @@
--- Document 02, [2]: the job sheet written, and its records read. Writing is decided by its tests in 02's order, record by record (demand 1); reading refuses as the
--- sheet does, then for room; a refusal leaves what was lent as it stood. Reading what was written gives the campaign of those records; a sheet that reads
--- cleanly comes out of the writer as it stood, byte for byte; and the records of what was written are the records. Assumes nothing.
+-- Document 02, [2]: the job sheet written, and its records read. Writing is decided by its tests in 02's order, record
+-- by record (demand 1); reading refuses as the sheet does, then for room; a refusal leaves what was lent as it stood.
+-- Reading what was written gives the campaign of those records; a sheet that reads cleanly comes out of the writer as
+-- it stood, byte for byte; and the records of what was written are the records. Assumes nothing.
 use mathlib.Core.Path.{_≡_, refl, ap, sym, _∙_}
 use mathlib.Core.Bool.{cond, not, true}
 use mathlib.Core.List.{List, [], _∷_, map}
@@ -63,7 +64,8 @@ pub record Request2 : Type 0 where
   pub enough : (q : ℕ) (xs : List ℤ) (out : List ℕ) (n : ℕ) → writing q xs out ≡ Bytes n → n ≤ 22 + 18 * length xs
   -- the least number of 32 bits is a failed record, and too long
   pub least : (failedIn (negsuc 2147483647) ≡ true) × (ltb longestTime (exposureIn (negsuc 2147483647)) ≡ true)
-  -- the sheet's own refusals with their line and column; then 7 with the places needed, on no line; else the standard and the number of records
+  -- the sheet's own refusals with their line and column; then 7 with the places needed, on no line; else the standard
+  -- and the number of records
   pub refused-sheet : (text : List ℕ) (places line column : ℕ) (r : Refusal) → meaning text .end ≡ Stopped line column r → resuming text places ≡ Bad line column r
   pub clean-sheet : (text : List ℕ) (places : ℕ) (c : Campaign) → meaning text .end ≡ Read c
       → Decides (Bad 0 0) (ltb places (c .records) gives Room (c .records) ∷ []) (Records (c .standard) (c .records))

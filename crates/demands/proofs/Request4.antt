@@ -1,6 +1,7 @@
--- Document 02, [4]: closing is two steps. Where neither state is broken, ending a record and then entering its result is the old closing, whose definition stays here
--- for this statement alone; a result that ending gives is never refused as broken; entering reads only the exposure and whether there is a first failure. Demand 1
--- has the order of refusals of each step, and demand 2 the campaign that results build. Assumes nothing.
+-- Document 02, [4]: closing is two steps. Where neither state is broken, ending a record and then entering its result
+-- is the old closing, whose definition stays here for this statement alone; a result that ending gives is never refused
+-- as broken; entering reads only the exposure and whether there is a first failure. Demand 1 has the order of refusals
+-- of each step, and demand 2 the campaign that results build. Assumes nothing.
 use mathlib.Core.Path.{_≡_, ap, refl}
 use mathlib.Core.Bool.{Bool, cond, false, not, true}
 use mathlib.Core.List.{List, [], _∷_}

@@ -1,5 +1,6 @@
--- Document 02, [5]: a record keeps its last crossing's place and its groups, and refusal 8 asks about them what the request says, in addition to document 01's
--- relations; whatever is handed out keeps them. Demand 2 has what groups are, that they never exceed the largest set, and how they are listed. Assumes nothing.
+-- Document 02, [5]: a record keeps its last crossing's place and its groups, and refusal 8 asks about them what the
+-- request says, in addition to document 01's relations; whatever is handed out keeps them. Demand 2 has what groups
+-- are, that they never exceed the largest set, and how they are listed. Assumes nothing.
 use Prim.Native.Nat.{ℕ, _≤_, _<_}
 use mathlib.Core.Path.{_≡_, refl, _∙_}
 use mathlib.Core.Bool.{Bool, cond, false, not, true, _&&_}

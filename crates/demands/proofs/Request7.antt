@@ -1,9 +1,10 @@
--- Document 02, [7]: the binomial method. Opening a sum, adding a record, bounds and rates are decided by their tests in 02's order (demand 1); a sum goes in by value and a
--- refusal hands none out, so nothing is added. N is the counted groups and P the timed samples of the records that were added, in whatever order, and a record in
--- pieces, cut anywhere, adds what the whole one does: the groups of its joined samples, and how many of them stand at the ramp's end or behind it. The half-width is the least
--- whole number whose square times P is at least 1,960² · N · (P - N), and there is one. "No record" is answered exactly while nothing was added.
---
--- D is the step, R the ramp, a the levels and τ the decorrelation time. Assumes nothing.
+-- Document 02, [7]: the binomial method. Opening a sum, adding a record, bounds and rates are decided by their tests in
+-- 02's order (demand 1); a sum goes in by value and a refusal hands none out, so nothing is added. N is the counted
+-- groups and P the timed samples of the records that were added, in whatever order, and a record in pieces, cut
+-- anywhere, adds what the whole one does: the groups of its joined samples, and how many of them stand at the ramp's
+-- end or behind it. The half-width is the least whole number whose square times P is at least 1,960² · N · (P - N), and
+-- there is one. "No record" is answered exactly while nothing was added.  D is the step, R the ramp, a the levels and τ
+-- the decorrelation time. Assumes nothing.
 use mathlib.Core.Path.{_≡_, ap, refl}
 use mathlib.Core.Bool.{Bool, cond, false, not, true}
 use mathlib.Core.List.{List, [], _∷_, _++_}
@@ -65,10 +66,12 @@ pub record Request7 : Type 0 where
   -- a sum that is handed out is never refused as broken
   pub opened-sound : (D : ℕ) (s : Sum) → opened D ≡ Taken s → sound s ≡ true
   pub added-sound : (s : Sum) (r : Record) (t : Sum) → adding s r ≡ Taken t → sound t ≡ true
-  -- N and P over the list of the records; neighbours may change places, and by such changes any order comes from any other
+  -- N and P over the list of the records; neighbours may change places, and by such changes any order comes from any
+  -- other
   pub totals : (D : ℕ) (s t : Sum) (rs : List Record) → opened D ≡ Taken s → AllAdded s rs t → t ≡ sumOf D rs
   pub in-any-order : (before : List Record) (a b : Record) (behind : List Record) (s t : Sum) → AllAdded s (before ++ (a ∷ (b ∷ behind))) t → AllAdded s (before ++ (b ∷ (a ∷ behind))) t
-  -- the pieces rule: what is answered for a record in pieces is answered for the whole one, refusals too; and what that adds
+  -- the pieces rule: what is answered for a record in pieces is answered for the whole one, refusals too; and what that
+  -- adds
   pub pieces : (D R : ℕ) (a : Levels) (τ : ℕ) (s t : Record) (ps : List Piece) (x : Sum) → records.opened D R a τ ≡ read.Taken s → AllTaken s ps t → adding x t ≡ adding x (stateOf D R a τ (samplesOf (joined ps)))
   pub adds : (D R : ℕ) (a : Levels) (τ : ℕ) (xs : List Moment) (x y : Sum) → adding x (stateOf D R a τ xs) ≡ Taken y → y ≡ grown x (length (groups D R a τ xs)) (length xs - R)
   -- the half-width is the least such number, and the only one; it is 0 without a failure and where every sample failed

@@ -1,6 +1,9 @@
--- Document 02, [8]: roll and acceleration watched together. What a crossing is, of the two slices; that a one-channel job, of roll or of acceleration, which lends zeros for the other, is read as document 01 reads it; what
--- refusal 8 asks of a record's levels and last samples; which sample refusal 2 names; that pieces which are all taken are cut at the same places in both channels. The order of the
--- refusals is `Demand1 .feed`, `.list` and `.open-record`; what pieces come to is `Demand2`. a are the two levels, xs the samples of the roll, ys those of the acceleration. Assumes nothing.
+-- Document 02, [8]: roll and acceleration watched together. What a crossing is, of the two slices; that a one-channel
+-- job, of roll or of acceleration, which lends zeros for the other, is read as document 01 reads it; what refusal 8
+-- asks of a record's levels and last samples; which sample refusal 2 names; that pieces which are all taken are cut at
+-- the same places in both channels. The order of the refusals is `Demand1 .feed`, `.list` and `.open-record`; what
+-- pieces come to is `Demand2`. a are the two levels, xs the samples of the roll, ys those of the acceleration. Assumes
+-- nothing.
 use Prim.Native.Nat.{ℕ, zero, suc, _-_, _≤_, _<_, min}
 use mathlib.Core.Path.{_≡_, refl, sym}
 use mathlib.Core.Bool.{Bool, true, false, cond, not, _&&_, _||_}
@@ -33,7 +36,8 @@ use Rattle.record_feed.proofs.Fed.{taken}
 abbrev at : List ℤ → ℕ → ℤ
 at xs i = getD xs i (pos 0)
 
--- a crossing stands at sample i: it is past the first timed sample, the sample before is above in neither channel, and it is above in one
+-- a crossing stands at sample i: it is past the first timed sample, the sample before is above in neither channel, and
+-- it is above in one
 pub record Crossing (R : ℕ) (a : Levels) (xs ys : List ℤ) (i : ℕ) : Type 0 where
   pub timed : R < i
   pub roll-before : above (a .roll) (at xs (i - 1)) ≡ false
@@ -63,7 +67,8 @@ pub record Request8 : Type 0 where
       (R : ℕ) (a : Levels) (ys : List ℤ) (i : ℕ)
       → crossesAt R a (moments (zeros ys) ys) i
       ≡ (ltb R i && (not (above (a .acceleration) (at ys (i - 1))) && above (a .acceleration) (at ys i)))
-  -- both levels and both last samples are in range in a state that is taken, and before the first sample both last samples are 0
+  -- both levels and both last samples are in range in a state that is taken, and before the first sample both last
+  -- samples are 0
   pub both : (r : Record) → sound r ≡ true → Both r
   -- refusal 2 names the lower place and its channel, roll first on a tie
   pub lower : (p q : ℕ) → valueOf (badSample p q) ≡ min p q

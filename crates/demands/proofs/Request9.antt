@@ -1,9 +1,9 @@
--- Document 02, [9]: a second bureau at the same bench. Read the definitions first: bench's specs, Table (the table and its relations), Calls (what a call
--- answers and leaves) and History (calls of both bureaus one after the other). The statement has four parts: of each call (order of refusals, what it leaves), of
--- taking and giving back, of a bureau's script whatever the other does, and of a place from its taking to its return.
---
--- The order of refusals goes by the cases of the tests, as in demand 1; a campaign in a table that keeps its relations keeps document 01's, so that the tests after
--- 15 have no broken campaign among them. The rest is the crate bench's. Assumes nothing.
+-- Document 02, [9]: a second bureau at the same bench. Read the definitions first: bench's specs, Table (the table and
+-- its relations), Calls (what a call answers and leaves) and History (calls of both bureaus one after the other). The
+-- statement has four parts: of each call (order of refusals, what it leaves), of taking and giving back, of a bureau's
+-- script whatever the other does, and of a place from its taking to its return.  The order of refusals goes by the
+-- cases of the tests, as in demand 1; a campaign in a table that keeps its relations keeps document 01's, so that the
+-- tests after 15 have no broken campaign among them. The rest is the crate bench's. Assumes nothing.
 use mathlib.Core.Path.{_≡_, refl}
 use mathlib.Core.Bool.{Bool, cond, false, not, true, _&&_}
 use mathlib.Core.List.{List, [], _∷_}
@@ -83,7 +83,8 @@ pub record EachCall (t : List Place) (b : ℕ) : Type 0 where
   -- verdict and rates only read
   pub verdict-leaves : (i : ℕ) → called t b (On i Judge) .table ≡ t
   pub rates-leave : (i : ℕ) → called t b (On i Rate) .table ≡ t
-  -- taking a job gives the lowest free place and a fresh campaign; a bureau under 16 jobs always gets one for a q in range
+  -- taking a job gives the lowest free place and a fresh campaign; a bureau under 16 jobs always gets one for a q in
+  -- range
   pub taken : (q i : ℕ) → called t b (Take q) .answer ≡ Placed i → TakenAt t b q i (called t b (Take q))
   pub always : (q : ℕ) → kept t ≡ true → isBureau b ≡ true → jobs b t < 16 → standardInRange q ≡ true → (i : ℕ) × (called t b (Take q) .answer ≡ Placed i)
   -- giving it back frees the place
@@ -97,7 +98,8 @@ pub record Undisturbed (b : ℕ) : Type 0 where
   pub desk : (t : List Place) → kept t ≡ true → (ms : List (Move b)) → answersFrom b t ms ≡ deskAnswers b (ownJobs b t) (script ms)
   -- they are those that the script gets alone
   pub alone : (t : List Place) → kept t ≡ true → (ms : List (Move b)) → answersFrom b t ms ≡ answersFrom b t (alone ms)
-  -- they depend on the bureau's jobs at the start and its script, on nothing else in the table and nothing else that happens
+  -- they depend on the bureau's jobs at the start and its script, on nothing else in the table and nothing else that
+  -- happens
   pub same :
       (t u : List Place)
       → kept t ≡ true
@@ -107,8 +109,8 @@ pub record Undisturbed (b : ℕ) : Type 0 where
       → script ms ≡ script ns
       → answersFrom b t ms ≡ answersFrom b u ns
 
--- place i of the table is bureau b's; its campaign is that of the records os which were entered there, at the standard q; what the bureau is told of it is
--- document 01's over that list (demand 2), and the chances are demand 3's
+-- place i of the table is bureau b's; its campaign is that of the records os which were entered there, at the standard
+-- q; what the bureau is told of it is document 01's over that list (demand 2), and the chances are demand 3's
 pub record Holds (t : List Place) (b q i : ℕ) (os : List Outcome) : Type 0 where
   pub stands : at t i ≡ owned b (campaignOf q os)
   pub censored : censored (at t i .campaign) ≡ censoredIn os
@@ -121,7 +123,8 @@ pub record Request9 : Type 0 where
   pub bare : kept bare ≡ true
   pub call : (t : List Place) (b : ℕ) → EachCall t b
   pub undisturbed : (b : ℕ) → isBureau b ≡ true → Undisturbed b
-  -- demands 2 and 3 hold for each place from its taking to its return: b took place i, and then calls of anyone's, none of which gave it back
+  -- demands 2 and 3 hold for each place from its taking to its return: b took place i, and then calls of anyone's, none
+  -- of which gave it back
   pub life :
       (t : List Place) (b q i : ℕ) (cs : List Call)
       → called t b (Take q) .answer ≡ Placed i

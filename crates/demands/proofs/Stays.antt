@@ -1,8 +1,8 @@
--- What a customer may rely on later (document 02, [6]), of a campaign that keeps document 01's relations and has a record: which verdicts stay when the standard is
--- changed afterwards, or when one more record comes in. After a failed record an accept need not stay: the slate has the request's numbers (demands_slate: Shown).
---
--- The proof: a shorter q lowers u(N*)·q, a longer one raises l(N)·q, and neither moves a rate; a record without failure after one leaves N* and raises T. Accept and
--- reject never both hold, since the rows lie apart (verdict: Only). Assumes nothing.
+-- What a customer may rely on later (document 02, [6]), of a campaign that keeps document 01's relations and has a
+-- record: which verdicts stay when the standard is changed afterwards, or when one more record comes in. After a failed
+-- record an accept need not stay: the slate has the request's numbers (demands_slate: Shown).  The proof: a shorter q
+-- lowers u(N*)·q, a longer one raises l(N)·q, and neither moves a rate; a record without failure after one leaves N*
+-- and raises T. Accept and reject never both hold, since the rows lie apart (verdict: Only). Assumes nothing.
 use mathlib.Core.Path.{_≡_, refl}
 use mathlib.Core.Bool.{Bool, false, true}
 use Prim.Native.Nat.{ℕ, _+_, _*_, _≤_, _<_}
@@ -39,7 +39,8 @@ pub record Stays (c : Campaign) : Type 0 where
   pub accepted-shorter : (x : Float) (q : ℕ) → T (standardInRange q) → q ≤ c .standard → judging c ≡ Given (Accept x) → judging (atStandard q c) ≡ Given (Accept x)
   -- rejected at q stays rejected at every longer one, with the same rate
   pub rejected-longer : (x : Float) (q : ℕ) → T (standardInRange q) → c .standard ≤ q → judging c ≡ Given (Reject x) → judging (atStandard q c) ≡ Given (Reject x)
-  -- if the last record did not fail and the verdict is accept, one more record without failure, if taken, leaves it accept, with the upper rate of then
+  -- if the last record did not fail and the verdict is accept, one more record without failure, if taken, leaves it
+  -- accept, with the upper rate of then
   pub accepted-on : (x : Float) (o : Outcome) (d : Campaign) → c .failed ≡ false → judging c ≡ Given (Accept x) → o .failed ≡ false → entering c o ≡ Taken d
       → judging d ≡ Given (Accept (upperRate d))
   -- accept and reject never both hold

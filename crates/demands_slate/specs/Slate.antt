@@ -1,4 +1,5 @@
--- Document 01, "Sums on the slate", and document 02, [5], [6] and [8]: the marked cases as one table, and what makes a row right. Assumes nothing.
+-- Document 01, "Sums on the slate", and document 02, [5], [6] and [8]: the marked cases as one table, and what makes a
+-- row right. Assumes nothing.
 use Prim.Native.Nat.{ℕ}
 use mathlib.Core.Bool.{Bool, true, false, _&&_}
 use mathlib.Core.List.{List, [], _∷_, map}
@@ -19,10 +20,12 @@ use Rattle.crossing_places.specs.Reading.{timeAt, crossings, groups, countedTim
 
 -- a marked case
 pub data Row : Type 0 where
-  -- samples of a one-channel job, read by a step D, a ramp R, a level a and a decorrelation time τ: the times of the crossings; the number of groups, the times of their first
-  -- crossings; the number in the largest set, its times; and the full time
+  -- samples of a one-channel job, read by a step D, a ramp R, a level a and a decorrelation time τ: the times of the
+  -- crossings; the number of groups, the times of their first crossings; the number in the largest set, its times; and
+  -- the full time
   reading : (D R a τ : ℕ) → List ℤ → List ℕ → ℕ → List ℕ → ℕ → List ℕ → ℕ → Row
-  -- samples of the roll and of the acceleration, read by a step D, a ramp R, the levels a and b and a decorrelation time τ: the times of the crossings, and the number of groups
+  -- samples of the roll and of the acceleration, read by a step D, a ramp R, the levels a and b and a decorrelation
+  -- time τ: the times of the crossings, and the number of groups
   watching : (D R a b τ : ℕ) → List ℤ → List ℤ → List ℕ → ℕ → Row
   -- the upper and the lower row of a count
   bounds : (n upper lower : ℕ) → Row
@@ -86,7 +89,8 @@ twice =
 abbrev pub at : ℕ → ℕ → Bool → ℕ → Campaign
 at M N f T = record { standard = 7200000; records = M; failures = N; exposure = T; failed = f }
 
--- A to H, seven crossings in two groups; either channel alone, at its level, and one after the other; I to K, then document 02's case of [6]
+-- A to H, seven crossings in two groups; either channel alone, at its level, and one after the other; I to K, then
+-- document 02's case of [6]
 unfoldable pub slate : List Row
 slate =
     reading 500 0 40000 2000 bobbing (500 ∷ 1500 ∷ 2500 ∷ []) 1 (500 ∷ []) 2 (500 ∷ 2500 ∷ []) 3000

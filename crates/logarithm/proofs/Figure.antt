@@ -1,5 +1,5 @@
--- From the bits taken to the exact figure: they are reached and two more are not, so the greatest number that is reached is theirs or one
--- more. Assumes nothing.
+-- From the bits taken to the exact figure: they are reached and two more are not, so the greatest number that is
+-- reached is theirs or one more. Assumes nothing.
 use mathlib.Core.Path.{_≡_, ap, refl}
 use Prim.Native.Nat.{ℕ, zero, suc, _+_, _*_, _^_, _≤_, _<_, zero-le}
 use native.Mathlib.Nat.{le-refl, lt-of-not-le, mul-le-mul-right, one-le-pow, pow-suc}

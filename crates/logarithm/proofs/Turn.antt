@@ -1,5 +1,6 @@
--- One turn of the code's loop, from the state at 2 ^ i to the state at 2 ^ (i + 1). The square of a number from one up to two lies from one up
--- to four: its top bit says whether it is halved, and is the next bit of the figure. Assumes nothing.
+-- One turn of the code's loop, from the state at 2 ^ i to the state at 2 ^ (i + 1). The square of a number from one up
+-- to two lies from one up to four: its top bit says whether it is halved, and is the next bit of the figure. Assumes
+-- nothing.
 use mathlib.Core.Path.{_≡_, refl}
 use Prim.Native.Nat.{ℕ, zero, suc, _+_, _-_, _*_, _^_, _≤_, _<_}
 use native.Mathlib.Nat.{le-of-lt, le-of-suc-le-suc, mul-le-mul, two-pow-succ}

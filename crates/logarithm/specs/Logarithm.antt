@@ -24,7 +24,8 @@ pub record Near (a b r : ℕ) : Type 0 where
   pub equal : a ≡ b → r ≡ 0
   pub ours : r ≡ ourFigure a b
 
--- the answer for any two values: near the exact figure for a ≥ b ≥ 1, else 0; always below 32 whole units of the logarithm
+-- the answer for any two values: near the exact figure for a ≥ b ≥ 1, else 0; always below 32 whole units of the
+-- logarithm
 pub record Logarithm (a b r : ℕ) : Type 0 where
   pub near : 1 ≤ b → b ≤ a → Near a b r
   pub no-ratio : b ≡ 0 → r ≡ 0

@@ -1,5 +1,5 @@
--- What is still to come from a pass: its peaks keep some (`standingLeft`), and those make chains (`toCome`). Each step's law is that of its groups; a machine
--- that is fed nothing stays as it is and gives nothing. Assumes nothing.
+-- What is still to come from a pass: its peaks keep some (`standingLeft`), and those make chains (`toCome`). Each
+-- step's law is that of its groups; a machine that is fed nothing stays as it is and gives nothing. Assumes nothing.
 use Prim.Native.Nat.{ℕ}
 use mathlib.Core.Path.{_≡_, refl, ap, _∙_}
 use mathlib.Core.Bool.{Bool, true, false, cond, _&&_}

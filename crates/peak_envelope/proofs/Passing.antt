@@ -1,6 +1,7 @@
--- A pass from run to run: where it stands (`Passing`), that it stands so at the second run, that it does after a run's peak was taken, and what it comes to behind
--- the last. What was handed out and what is to come make what is handed out in all; and what is to come, put into the places from the open chain's on, leaves
--- the slices as the whole would. Assumes nothing.
+-- A pass from run to run: where it stands (`Passing`), that it stands so at the second run, that it does after a run's
+-- peak was taken, and what it comes to behind the last. What was handed out and what is to come make what is handed out
+-- in all; and what is to come, put into the places from the open chain's on, leaves the slices as the whole would.
+-- Assumes nothing.
 use Prim.Native.Nat.{ℕ, _+_, _-_, _*_, _≤_, _<_}
 use mathlib.Core.Path.{_≡_, refl, sym, ap, _∙_}
 use mathlib.Core.Bool.{cond}

@@ -1,4 +1,5 @@
--- Two answers that the promise allows are the same answer, and so are the two later contents of either slice. Assumes nothing.
+-- Two answers that the promise allows are the same answer, and so are the two later contents of either slice. Assumes
+-- nothing.
 use Prim.Native.Nat.{ℕ}
 use mathlib.Core.Path.{_≡_, sym, ap, _∙_}
 use mathlib.Core.List.{List, map}

@@ -1,4 +1,5 @@
--- Document 02 [11], what the call answers: its refusals, in listing's order, and what it leaves in the two slices. Assumes nothing.
+-- Document 02 [11], what the call answers: its refusals, in listing's order, and what it leaves in the two slices.
+-- Assumes nothing.
 use Prim.Native.Nat.{ℕ}
 use mathlib.Core.Path.{_≡_}
 use mathlib.Core.Bool.{cond, not}
@@ -23,7 +24,8 @@ sizeOf p = p .size
 abbrev pub momentOf : Peak → ℕ
 momentOf p = p .time
 
--- the lowest of the items 1, 2 and 4 outside its range, 0 if there is none: items 3 and 6, the levels, are not asked for, and 1 is a level in range
+-- the lowest of the items 1, 2 and 4 outside its range, 0 if there is none: items 3 and 6, the levels, are not asked
+-- for, and 1 is a level in range
 abbrev pub anyLevels : Levels
 anyLevels = record { roll = 1; acceleration = 1 }
 

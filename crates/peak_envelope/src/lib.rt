@@ -1,6 +1,8 @@
-// Envelope peaks of one channel (document 02, request 11): runs of one sign give peaks, stretches of high peaks keep their largest, and of kept peaks close in
-// time the largest is handed out. The record is gone over from run to run: once for the number of peaks and their sum, which say what is high; once for the
-// places needed, since refusal 7 is judged before anything is written; once to write. A pass holds the open stretch and the open chain, and needs no room.
+// Envelope peaks of one channel (document 02, request 11): runs of one sign give peaks, stretches of high peaks keep
+// their largest, and of kept peaks close in time the largest is handed out. The record is gone over from run to run:
+// once for the number of peaks and their sum, which say what is high; once for the places needed, since refusal 7 is
+// judged before anything is written; once to write. A pass holds the open stretch and the open chain, and needs no
+// room.
 ghost use mathlib.Core.Path.{_≡_};
 ghost use mathlib.Core.List.{map};
 ghost use Prim.Native.Nat.{ℕ, _+_, _*_, _/_, _<_, _≤_};
@@ -149,7 +151,8 @@ fn place(slice: &mut [u32], k: usize, v: u32)
 // Puts the largest of the open chain into its place, if the chain is closed where there are `opened`.
 fn hand(g: Group, opened: u64, sizes: &mut [u32], times: &mut [u32])
     requires { ⌜ g .opened ≤ 20000000 ⌝ }
-    ensures { λ r. ⌜ (now (sizes .exit) ≡ noting g opened (g .best .size) (now (sizes .entry))) × (now (times .exit) ≡ noting g opened (g .best .time) (now (times .entry))) ⌝ }
+    ensures { λ r. ⌜ (now (sizes .exit) ≡ noting g opened (g .best .size) (now (sizes .entry)))
+        × (now (times .exit) ≡ noting g opened (g .best .time) (now (times .entry))) ⌝ }
 {
     if !truth::both(0 < g.opened, g.opened != opened) {
         return;
@@ -171,7 +174,9 @@ fn onward(
     times: &mut [u32],
 ) -> Envelope
     requires { ⌜ Fits 19999999 e ⌝ }
-    ensures { λ f. ⌜ (f ≡ stepped n s decorrelation e p) × (now (sizes .exit) ≡ noting (e .chains) (f .chains .opened) (e .chains .best .size) (now (sizes .entry))) × (now (times .exit) ≡ noting (e .chains) (f .chains .opened) (e .chains .best .time) (now (times .entry))) ⌝ }
+    ensures { λ f. ⌜ (f ≡ stepped n s decorrelation e p)
+        × (now (sizes .exit) ≡ noting (e .chains) (f .chains .opened) (e .chains .best .size) (now (sizes .entry)))
+        × (now (times .exit) ≡ noting (e .chains) (f .chains .opened) (e .chains .best .time) (now (times .entry))) ⌝ }
 {
     let f = advance(n, s, decorrelation, e, p);
     let chains = e.chains;
@@ -194,7 +199,8 @@ fn add(t: Totals, size: u32) -> Totals
 // The first pass over the timed samples: from run to run, without the first and the last.
 fn count(timed: &[i32]) -> Totals
     requires { ⌜ length (now timed) ≤ 10000001 ⌝ }
-    ensures { λ r. ⌜ ((D : ℕ) → r .number ≡ length (peaks D (now (timed .entry)))) × ((D : ℕ) → r .sum ≡ sum (peaks D (now (timed .entry)))) ⌝ }
+    ensures { λ r. ⌜ ((D : ℕ) → r .number ≡ length (peaks D (now (timed .entry))))
+        × ((D : ℕ) → r .sum ≡ sum (peaks D (now (timed .entry)))) ⌝ }
 {
     let mut total = Totals { number: 0, sum: 0 };
     let mut i = peak_groups::second_run(timed);
@@ -218,7 +224,11 @@ fn pass(
     times: &mut [u32],
 ) -> u64
     requires { ⌜ length (now timed) ≤ 1 + 10000000 / step ⌝ }
-    ensures { λ r. ⌜ (r ≡ length (chosen n s step decorrelation (now (timed .entry)))) × (now (sizes .exit) ≡ sets (now (sizes .entry)) 0 (map sizeOf (chosen n s step decorrelation (now (timed .entry))))) × (now (times .exit) ≡ sets (now (times .entry)) 0 (map momentOf (chosen n s step decorrelation (now (timed .entry))))) ⌝ }
+    ensures { λ r. ⌜ (r ≡ length (chosen n s step decorrelation (now (timed .entry))))
+        × (now (sizes .exit)
+        ≡ sets (now (sizes .entry)) 0 (map sizeOf (chosen n s step decorrelation (now (timed .entry)))))
+        × (now (times .exit)
+        ≡ sets (now (times .entry)) 0 (map momentOf (chosen n s step decorrelation (now (timed .entry))))) ⌝ }
 {
     let mut e = fresh();
     let mut i = peak_groups::second_run(timed);
@@ -233,7 +243,8 @@ fn pass(
     chains.opened
 }
 
-// The number of peaks handed out, which stand in the slices then; or refusal 7 with the places needed, and the slices as they stood.
+// The number of peaks handed out, which stand in the slices then; or refusal 7 with the places needed, and the slices
+// as they stood.
 fn hand_out(
     step: u64,
     decorrelation: u64,
@@ -242,7 +253,8 @@ fn hand_out(
     times: &mut [u32],
 ) -> Found
     requires { ⌜ (length (now timed) ≤ 1 + 10000000 / step) × (decorrelation ≤ 10000000) ⌝ }
-    ensures { λ r. ⌜ HandsOut (tops (close decorrelation) (kept (peaks step (now (timed .entry))))) (now (sizes .entry)) (now (times .entry)) r (now (sizes .exit)) (now (times .exit)) ⌝ }
+    ensures { λ r. ⌜ HandsOut (tops (close decorrelation) (kept (peaks step (now (timed .entry)))))
+        (now (sizes .entry)) (now (times .entry)) r (now (sizes .exit)) (now (times .exit)) ⌝ }
 {
     let all = count(timed);
     let number = all.number;
@@ -258,8 +270,9 @@ fn hand_out(
     Found::Peaks(needed)
 }
 
-// The envelope peaks of a whole record: their magnitudes and times, in order, from the start of the two slices, whose rest stays, and their number; or
-// refusal 1 (items 1, 2 and 4: 1 stands for the levels, which are not asked for), 2, 3, 4, or 7 with the places needed, and the slices as they stood.
+// The envelope peaks of a whole record: their magnitudes and times, in order, from the start of the two slices, whose
+// rest stays, and their number; or refusal 1 (items 1, 2 and 4: 1 stands for the levels, which are not asked for), 2,
+// 3, 4, or 7 with the places needed, and the slices as they stood.
 pub fn find(
     step: u64,
     ramp: u64,
@@ -268,7 +281,8 @@ pub fn find(
     sizes: &mut [u32],
     times: &mut [u32],
 ) -> Found
-    ensures { λ r. ⌜ FindsTo step ramp decorrelation (now (samples .entry)) (now (sizes .entry)) (now (times .entry)) r (now (sizes .exit)) (now (times .exit)) ⌝ }
+    ensures { λ r. ⌜ FindsTo step ramp decorrelation (now (samples .entry)) (now (sizes .entry)) (now (times .entry))
+        r (now (sizes .exit)) (now (times .exit)) ⌝ }
 {
     let levels = Levels {
         roll: 1,

@@ -1,5 +1,6 @@
--- A run found sample by sample (`ahead`) is the first group of the samples: by induction on what is left, while each sample is on the run's side. Its largest
--- is kept as a place, so the same holds for any step D and any start t. Assumes nothing.
+-- A run found sample by sample (`ahead`) is the first group of the samples: by induction on what is left, while each
+-- sample is on the run's side. Its largest is kept as a place, so the same holds for any step D and any start t.
+-- Assumes nothing.
 use Prim.Native.Nat.{ℕ, suc, _+_, _*_, _≤_, _<_}
 use mathlib.Core.Path.{_≡_, refl, sym, ap, _∙_}
 use mathlib.Core.Bool.{Bool, true, false, cond}

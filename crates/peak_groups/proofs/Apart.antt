@@ -1,5 +1,6 @@
--- Document 001, 3.2: the time between the peaks handed out is more than the decorrelation time. The samples are in order of time, and what is left of
--- a list in order is in order; a chain ends more than τ before the next one starts. Assumes nothing.
+-- Document 001, 3.2: the time between the peaks handed out is more than the decorrelation time. The samples are in
+-- order of time, and what is left of a list in order is in order; a chain ends more than τ before the next one starts.
+-- Assumes nothing.
 use Prim.Native.Nat.{ℕ, _+_, _≤_}
 use mathlib.Core.Bool.{Bool, true, false, cond}
 use mathlib.Core.List.{List, [], _∷_}

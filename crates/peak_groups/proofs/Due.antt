@@ -1,5 +1,6 @@
--- All runs, found one after the other: what is due from place k on is the peak of the run that starts there, and what is due after it; of the last run
--- nothing is. What is due after the zeros and the first run are all peaks. Assumes nothing.
+-- All runs, found one after the other: what is due from place k on is the peak of the run that starts there, and what
+-- is due after it; of the last run nothing is. What is due after the zeros and the first run are all peaks. Assumes
+-- nothing.
 use Prim.Native.Nat.{ℕ, suc, _+_, _-_, _*_, _≤_, _<_}
 use mathlib.Core.Path.{_≡_, refl, sym, ap, _∙_, subst}
 use mathlib.Core.Bool.{Bool, true, false, cond}

@@ -1,7 +1,8 @@
--- An example worked by hand, computed of the definitions. R = 1 leaves the first sample out, and D = 500. A zero belongs to no run at the start, and is in
--- the run before it later. The runs are 3 5 0 5 | -2 -7 0 -7 | 1 | -9 | 8 | -1 | 9 | -9 | 1 | -8 | 2. Without the first and last the peaks are
--- 7 1 9 8 1 9 9 1 8, nine with the sum 53: from 6 on they are high. The stretches are 7 | 1 | 9 8 | 1 | 9 9 | 1 | 8, and the high ones with a peak that is not
--- high on both sides give 9 and 9, 1500 ms apart. Assumes nothing.
+-- An example worked by hand, computed of the definitions. R = 1 leaves the first sample out, and D = 500. A zero
+-- belongs to no run at the start, and is in the run before it later. The runs are 3 5 0 5 | -2 -7 0 -7 | 1 | -9 | 8 |
+-- -1 | 9 | -9 | 1 | -8 | 2. Without the first and last the peaks are 7 1 9 8 1 9 9 1 8, nine with the sum 53: from 6 on
+-- they are high. The stretches are 7 | 1 | 9 8 | 1 | 9 9 | 1 | 8, and the high ones with a peak that is not high on
+-- both sides give 9 and 9, 1500 ms apart. Assumes nothing.
 use Prim.Native.Nat.{ℕ}
 use mathlib.Core.Path.{_≡_, refl}
 use mathlib.Core.List.{List, [], _∷_, map}

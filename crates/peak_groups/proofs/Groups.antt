@@ -1,5 +1,6 @@
--- The groups' largest members found in one pass: with the largest so far, b, and the last member, x, of the open group, the rest of the list
--- decides what comes (`from`). By induction on the list, a group's list and this pass agree (`parted`). Assumes nothing.
+-- The groups' largest members found in one pass: with the largest so far, b, and the last member, x, of the open group,
+-- the rest of the list decides what comes (`from`). By induction on the list, a group's list and this pass agree
+-- (`parted`). Assumes nothing.
 use mathlib.Core.Path.{_≡_, refl, sym, ap, _∙_}
 use mathlib.Core.Bool.{Bool, true, false, cond}
 use mathlib.Core.List.{List, [], _∷_, map, foldl, dropLast}

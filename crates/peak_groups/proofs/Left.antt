@@ -1,5 +1,5 @@
--- What is still to come from a machine of groups, and the law of its step: what comes of y and the rest is what the step gives, if anything, and what
--- comes of the rest after it. Assumes nothing.
+-- What is still to come from a machine of groups, and the law of its step: what comes of y and the rest is what the
+-- step gives, if anything, and what comes of the rest after it. Assumes nothing.
 use Prim.Native.Nat.{ℕ, _+_, _≤_, _<_}
 use mathlib.Core.Path.{_≡_, refl}
 use mathlib.Core.Bool.{Bool, true, false, cond, not, _&&_}

@@ -1,4 +1,5 @@
--- Members in order of time stay so when some are left out, and the largest of each group stand apart as the groups do. Assumes nothing.
+-- Members in order of time stay so when some are left out, and the largest of each group stand apart as the groups do.
+-- Assumes nothing.
 use Prim.Native.Nat.{ℕ, _+_, _≤_, _<_}
 use mathlib.Core.Path.{_≡_, refl}
 use mathlib.Core.Bool.{Bool, true, false, cond}

@@ -1,5 +1,5 @@
--- Each peak that `standing` keeps is the first largest of a high stretch with a peak that is not high on both sides: the groups are gone over one by one, each
--- between the last peak before it and the first after it. Assumes nothing.
+-- Each peak that `standing` keeps is the first largest of a high stretch with a peak that is not high on both sides:
+-- the groups are gone over one by one, each between the last peak before it and the first after it. Assumes nothing.
 use Prim.Native.Nat.{ℕ}
 use mathlib.Core.Path.{_≡_, refl, sym, ap, _∙_, subst}
 use mathlib.Core.Bool.{Bool, true, false, cond}

@@ -1,4 +1,5 @@
--- Two answers that a promise allows are the same answer: the promise equates it with a definition's value. Assumes nothing.
+-- Two answers that a promise allows are the same answer: the promise equates it with a definition's value. Assumes
+-- nothing.
 use mathlib.Core.Path.{_≡_, sym, _∙_}
 use Rattle.peak_groups.specs.declared.Peak.{Peak}
 use Rattle.peak_groups.specs.Groups.{larger}

@@ -1,5 +1,5 @@
--- Document 02 [11], its sentences of peaks: which are high, which are kept, and which are handed out. D is the step, R the ramp, τ the
--- decorrelation time, xs all samples. Assumes nothing.
+-- Document 02 [11], its sentences of peaks: which are high, which are kept, and which are handed out. D is the step, R
+-- the ramp, τ the decorrelation time, xs all samples. Assumes nothing.
 use Prim.Native.Nat.{ℕ, _+_, _*_}
 use mathlib.Core.Bool.{Bool, _||_}
 use mathlib.Core.List.{List, [], _∷_}
@@ -23,7 +23,8 @@ high n s p = ltb s (p .size * n)
 abbrev pub alike : ℕ → ℕ → Peak → Peak → Bool
 alike n s p q = same (high n s p) (high n s q)
 
--- of n peaks with the sum s, the largest of each high stretch that has a peak which is not high on both sides: the first and the last stretch have not
+-- of n peaks with the sum s, the largest of each high stretch that has a peak which is not high on both sides: the
+-- first and the last stretch have not
 abbrev pub standing : ℕ → ℕ → List Peak → List Peak
 standing n s l = those (high n s) (inner (tops (alike n s) l))
 

@@ -1,5 +1,5 @@
--- Document 02 [11], its sentences of runs. D is the step; a sample is read as a `Peak`: its magnitude, its time in ms after the ramp, and
--- whether it is below zero. Assumes nothing.
+-- Document 02 [11], its sentences of runs. D is the step; a sample is read as a `Peak`: its magnitude, its time in ms
+-- after the ramp, and whether it is below zero. Assumes nothing.
 use Prim.Native.Nat.{ℕ, suc, _+_, _*_}
 use mathlib.Core.Bool.{Bool, false, cond, not}
 use mathlib.Core.List.{List, [], _∷_}
@@ -38,7 +38,8 @@ started (p ∷ l) = cond (eqb (p .size) 0) (started l) (p ∷ l)
 abbrev pub sameSide : Peak → Peak → Bool
 sameSide p q = same (p .below) (q .below)
 
--- the peaks of the timed samples: the largest magnitude of each run, at the first sample that has it, without the first and the last run's
+-- the peaks of the timed samples: the largest magnitude of each run, at the first sample that has it, without the first
+-- and the last run's
 unfoldable pub peaks : ℕ → List ℤ → List Peak
 peaks D timed = inner (tops sameSide (started (points D false 0 timed)))
 

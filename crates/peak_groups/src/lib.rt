@@ -1,8 +1,8 @@
-// What envelope peaks are made of (document 02, request 11). Members in a row are taken in groups of neighbours that join,
-// with the largest of each: samples in runs of one sign, peaks in high stretches, kept peaks in chains. The code is the
-// zeros before all runs and the first run of some samples, found in one pass that holds no more than the run so far, and
-// the tests by which a peak is high, joins the group before it, and fits the slices. Who goes over a record holds all
-// kinds of group at once (`peak_envelope`).
+// What envelope peaks are made of (document 02, request 11). Members in a row are taken in groups of neighbours that
+// join, with the largest of each: samples in runs of one sign, peaks in high stretches, kept peaks in chains. The
+// code is the zeros before all runs and the first run of some samples, found in one pass that holds no more than the
+// run so far, and the tests by which a peak is high, joins the group before it, and fits the slices. Who goes over a
+// record holds all kinds of group at once (`peak_envelope`).
 ghost use mathlib.Core.Path.{_≡_};
 ghost use Rattle.peak_groups.specs.Groups.{larger};
 ghost use mathlib.Core.Bool.{false};
@@ -85,7 +85,8 @@ fn longer(r: Run, x: i32) -> Run
     }
 }
 
-// The first run, on the side of its first sample. The side is an argument so that a call that knows it becomes a loop of its own, with one test less.
+// The first run, on the side of its first sample. The side is an argument so that a call that knows it becomes a loop
+// of its own, with one test less.
 fn run_on(below: bool, samples: &[i32]) -> Run
     requires { ⌜ (0 < length (now samples)) × (below ≡ side false (getD (now samples) 0 (pos 0))) ⌝ }
     ensures { λ r. ⌜ r ≡ firstRun (now (samples .entry)) ⌝ }
@@ -155,7 +156,8 @@ pub fn in_stretch(n: u32, s: u64, g: Group, p: Peak) -> bool
     same(high(n, s, last), high(n, s, p))
 }
 
-// Whether a kept peak goes on with the open chain g: the gap from the kept peak before it is not more than the decorrelation time.
+// Whether a kept peak goes on with the open chain g: the gap from the kept peak before it is not more than the
+// decorrelation time.
 pub fn in_chain(decorrelation: u32, g: Group, p: Peak) -> bool
     ensures { λ r. ⌜ r ≡ close decorrelation (g .last) p ⌝ }
 {

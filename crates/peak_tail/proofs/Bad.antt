@@ -1,4 +1,5 @@
--- The first bad peak of a list, as the search goes on; and that where no peak is bad none is 0, sorted or not. Assumes nothing.
+-- The first bad peak of a list, as the search goes on; and that where no peak is bad none is 0, sorted or not. Assumes
+-- nothing.
 use mathlib.Core.Path.{_≡_, refl}
 use mathlib.Core.Bool.{Bool, true, false, cond}
 use mathlib.Core.List.{List, [], _∷_}

@@ -1,5 +1,5 @@
--- Document 02 [12], "Fit the tail": what the entry answers, in the request's order of refusals, and what it leaves in the second slice.
--- Assumes nothing.
+-- Document 02 [12], "Fit the tail": what the entry answers, in the request's order of refusals, and what it leaves in
+-- the second slice. Assumes nothing.
 use mathlib.Core.Path.{_≡_}
 use mathlib.Core.Bool.{Bool, cond, _&&_, _||_}
 use mathlib.Core.List.{List, [], _∷_, _++_}

@@ -1,5 +1,6 @@
--- Document 02 [12], by document 001 formula (11): the Hill sum of values Y(1), Y(2), .. that lie downwards is the sum of the logarithms of
--- Y(i) / Y(k), i from 1 to k, in units of 1/65,536. Y(i) stands at place i - 1 of a list. Assumes nothing.
+-- Document 02 [12], by document 001 formula (11): the Hill sum of values Y(1), Y(2), .. that lie downwards is the sum
+-- of the logarithms of Y(i) / Y(k), i from 1 to k, in units of 1/65,536. Y(i) stands at place i - 1 of a list. Assumes
+-- nothing.
 use mathlib.Core.List.{List}
 use Prim.Native.Nat.{ℕ, suc, _+_, _-_}
 use lib.ListN.{getD}

@@ -1,5 +1,5 @@
-// The tail of a list of peaks: the list sorted downwards, and the Hill sum over its k largest. The bureau hands out the sum; what a customer makes of it,
-// the tail's index, is a division of his own.
+// The tail of a list of peaks: the list sorted downwards, and the Hill sum over its k largest. The bureau hands out
+// the sum; what a customer makes of it, the tail's index, is a division of his own.
 ghost use mathlib.Core.Path.{_≡_};
 ghost use mathlib.Core.List.{_++_};
 ghost use Prim.Native.Nat.{_≤_};
@@ -81,8 +81,8 @@ fn sum_of_largest(y: &mut [u32], k: usize) -> u64
     hill_sum(y, k)
 }
 
-// The Hill sum over the k largest peaks, which then stand sorted downwards from the start of `sorted`, whose rest stays; or refusal 16, 17 with the
-// first bad place, or 7 with the places needed, and `sorted` as it stood.
+// The Hill sum over the k largest peaks, which then stand sorted downwards from the start of `sorted`, whose rest
+// stays; or refusal 16, 17 with the first bad place, or 7 with the places needed, and `sorted` as it stood.
 pub fn fit(peaks: &[u32], k: u64, sorted: &mut [u32]) -> Fitted
     ensures { λ r. ⌜ FitsTo (now (peaks .entry)) k (now (sorted .entry)) r (now (sorted .exit)) ⌝ }
 {

@@ -1,6 +1,6 @@
--- What the rows say of any exposure, the core of demand 3: T ms at one failure in q ms expect T/q failures. A row bounds the whole numbers of
--- millionths, and the law about longer exposure brings the bound to T/q; what lies between two whole numbers is the millionth to spare.
--- Assumes nothing.
+-- What the rows say of any exposure, the core of demand 3: T ms at one failure in q ms expect T/q failures. A row
+-- bounds the whole numbers of millionths, and the law about longer exposure brings the bound to T/q; what lies between
+-- two whole numbers is the millionth to spare. Assumes nothing.
 use mathlib.Core.Path.{_≡_}
 use mathlib.Core.List.{List, [], _∷_}
 use Prim.Native.Nat.{ℕ, zero, suc, _+_, _-_, _*_, _≤_, _<_, zero-le}

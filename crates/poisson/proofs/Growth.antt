@@ -1,5 +1,6 @@
--- Laws of the sums over one denominator b: they grow with their terms, the terms past one of them are bounded by twice it, and the quotient
--- of a longer sum by a shorter one grows with x. Each is by induction on the number of further terms. Assumes nothing.
+-- Laws of the sums over one denominator b: they grow with their terms, the terms past one of them are bounded by twice
+-- it, and the quotient of a longer sum by a shorter one grows with x. Each is by induction on the number of further
+-- terms. Assumes nothing.
 use Prim.Native.Nat.{ℕ, zero, suc, _+_, _*_, _^_, _≤_}
 use native.Mathlib.Nat.{add-le-add, add-suc, add-zero, le-add-right, le-dest, le-of-eq, le-of-suc-le, le-refl, le-trans, mul-comm, mul-le-mul-right, pow-le-pow-left, pow-suc}
 use native.Mathlib.Omega.{arith}

@@ -1,6 +1,7 @@
--- The law about longer exposure, once over the row number, for any two fractions a/b ≤ a′/b′: what holds for accept at the smaller holds at the
--- larger, and what holds for reject at the larger holds at the smaller. Both fractions are brought over the denominator b b′, where the
--- quotient of the longer sum by the shorter grows with x; the second half is the first, read backwards. Assumes nothing.
+-- The law about longer exposure, once over the row number, for any two fractions a/b ≤ a′/b′: what holds for accept at
+-- the smaller holds at the larger, and what holds for reject at the larger holds at the smaller. Both fractions are
+-- brought over the denominator b b′, where the quotient of the longer sum by the shorter grows with x; the second half
+-- is the first, read backwards. Assumes nothing.
 use mathlib.Core.Path.{_≡_}
 use Prim.Native.Nat.{ℕ, zero, suc, _*_, _^_, _≤_, _<_}
 use native.Mathlib.Nat.{lt-of-mul-lt-mul-right, mul-comm, mul-le-mul, mul-le-mul-left, mul-le-mul-right, mul-lt-mul-of-pos-right, mul-pos, not-le-of-lt, not-suc-le-zero, pow-suc, pow-zero}

@@ -1,5 +1,6 @@
--- The two tables meet document 01's rule in every row. The checker computes one test over the rows of both; `carried` takes it to
--- the rule of either, by `Turn`, and `met` a table of rows to what is promised of an answer for any number. Assumes nothing.
+-- The two tables meet document 01's rule in every row. The checker computes one test over the rows of both; `carried`
+-- takes it to the rule of either, by `Turn`, and `met` a table of rows to what is promised of an answer for any number.
+-- Assumes nothing.
 use mathlib.Core.Path.{_≡_, ap, refl}
 use mathlib.Core.Bool.{Bool, false, _&&_}
 use mathlib.Core.List.{List}

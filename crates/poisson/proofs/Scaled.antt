@@ -1,6 +1,7 @@
--- S(j, a/b) over one denominator, b ^ j * j!. The sum in specs/ multiplies its denominators and soon is too large to compute; of this
--- form the laws are proved, and the checker computes it at every row. `same` says that the two forms are equal fractions, so that a
--- comparison of sums is one of whole numbers (`to-scaled`, `from-scaled`). Assumes nothing.
+-- S(j, a/b) over one denominator, b ^ j * j!. The sum in specs/ multiplies its denominators and soon is too large to
+-- compute; of this form the laws are proved, and the checker computes it at every row. `same` says that the two forms
+-- are equal fractions, so that a comparison of sums is one of whole numbers (`to-scaled`, `from-scaled`). Assumes
+-- nothing.
 use mathlib.Core.Path.{_≡_, ap, refl, subst, sym}
 use Prim.Native.Nat.{ℕ, zero, suc, _+_, _*_, _^_, _<_}
 use native.Mathlib.Nat.{lt-of-mul-lt-mul-right, mul-lt-mul-of-pos-right, mul-pos, pow-suc, pow-zero, zero-lt-suc}

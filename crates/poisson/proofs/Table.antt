@@ -1,4 +1,5 @@
--- A rule of a table, proved at all of its entries by one test that the checker computes, entry after entry. Assumes nothing.
+-- A rule of a table, proved at all of its entries by one test that the checker computes, entry after entry. Assumes
+-- nothing.
 use mathlib.Core.Path.{_∙_, subst, sym}
 use mathlib.Core.Bool.{Bool, true, _&&_}
 use mathlib.Core.List.{List, [], _∷_}

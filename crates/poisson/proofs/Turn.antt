@@ -1,6 +1,7 @@
--- Where a row stands: the number v of millionths at which q S(K) ≤ p S(n) for every K, while at v + 1 some K has p S(n) < q S(K).
--- The test computes both at one number of terms: at v the terms left out are bounded by twice the next one. By the law about longer
--- exposure what holds at v and v + 1 holds below and above them, so one lemma serves both tables. Assumes nothing.
+-- Where a row stands: the number v of millionths at which q S(K) ≤ p S(n) for every K, while at v + 1 some K has p S(n)
+-- < q S(K). The test computes both at one number of terms: at v the terms left out are bounded by twice the next one.
+-- By the law about longer exposure what holds at v and v + 1 holds below and above them, so one lemma serves both
+-- tables. Assumes nothing.
 use mathlib.Core.Bool.{Bool, _&&_}
 use Prim.Native.Nat.{ℕ, suc, _+_, _*_, _^_, _≤_, _<_}
 use native.Mathlib.Nat.{le-of-mul-le-mul-right, mul-le-mul-left, mul-le-mul-right, not-le-of-lt}

@@ -1,4 +1,5 @@
--- Two answers that a row's promise allows are the same answer: there is one least number, and one greatest, with a property. Assumes nothing.
+-- Two answers that a row's promise allows are the same answer: there is one least number, and one greatest, with a
+-- property. Assumes nothing.
 use mathlib.Core.Path.{_≡_, refl, sym, _∙_}
 use Prim.Native.Nat.{ℕ, zero, suc, _≤_, _<_}
 use native.Mathlib.Nat.{le-antisymm}

@@ -1,4 +1,5 @@
--- Fractions of two whole numbers. A bottom of 0 has no meaning; the theorems ask for bottoms of at least 1. Assumes nothing.
+-- Fractions of two whole numbers. A bottom of 0 has no meaning; the theorems ask for bottoms of at least 1. Assumes
+-- nothing.
 use Prim.Native.Nat.{ℕ, _+_, _*_, _≤_, _<_}
 
 pub record Fraction : Type 0 where

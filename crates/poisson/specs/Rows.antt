@@ -1,4 +1,5 @@
--- Document 01, "The campaign": what the upper and the lower row of a count are, and what is promised of an answer for any number. Assumes nothing.
+-- Document 01, "The campaign": what the upper and the lower row of a count are, and what is promised of an answer for
+-- any number. Assumes nothing.
 use mathlib.Core.Path.{_≡_}
 use Prim.Native.Nat.{ℕ, _+_, _-_, _*_, _≤_, _<_}
 use Rattle.poisson.specs.Fractions.{Fraction, over}

@@ -1,4 +1,5 @@
--- Document 01, "The campaign": S(j, x), the sum of the first j terms of 1 + x + x²/2! + x³/3! + .., exactly, at a fraction x. Assumes nothing.
+-- Document 01, "The campaign": S(j, x), the sum of the first j terms of 1 + x + x²/2! + x³/3! + .., exactly, at a
+-- fraction x. Assumes nothing.
 use Prim.Native.Nat.{ℕ, zero, suc, _*_, _^_}
 use Rattle.poisson.specs.Fractions.{Fraction, over, plus}
 

@@ -1,4 +1,5 @@
--- A reading leaves no more unread than there is, and less than a line: what it leaves is a single line that waits for its LF. Assumes nothing.
+-- A reading leaves no more unread than there is, and less than a line: what it leaves is a single line that waits for
+-- its LF. Assumes nothing.
 use Prim.Native.Nat.{ℕ, suc, _+_, _≤_, _<_}
 use mathlib.Core.Path.{_≡_, refl, ap, _∙_}
 use mathlib.Core.Bool.{Bool, true, not, _&&_}

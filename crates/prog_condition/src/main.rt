@@ -1,8 +1,10 @@
-// The clerk's program for a loading condition: job sheets from standard input, one behind the other, one for each design situation, and to standard output the
-// report on all of them; or refused, the situation at fault, its line, the refusal's number and, for 9, the column, and nothing of the report. The arguments are
-// the sheets' lengths in bytes, so their number is the number of situations. A sheet may have any length: it is read through a fixed buffer, and only its campaign
-// is kept. What a sheet comes to is `sheet_text::read`'s promise, what the report says is `campaign_report::write`'s; here bytes are only carried. How it ended goes as a digit to
-// a descriptor of its own, where bin/program waits for it.
+// The clerk's program for a loading condition: job sheets from standard input, one behind the other, one for each
+// design situation, and to standard output the report on all of them; or refused, the situation at fault, its line,
+// the refusal's number and, for 9, the column, and nothing of the report. The arguments are the sheets' lengths in
+// bytes, so their number is the number of situations. A sheet may have any length: it is read through a fixed buffer,
+// and only its campaign is kept. What a sheet comes to is `sheet_text::read`'s promise, what the report says is
+// `campaign_report::write`'s; here bytes are only carried. How it ended goes as a digit to a descriptor of its own,
+// where bin/program waits for it.
 ghost use mathlib.Core.Path.{_≡_};
 ghost use Prim.Native.Nat.{_≤_, _<_};
 ghost use lib.ListN.{length};
@@ -92,7 +94,8 @@ fn turn(s: Sheet, text: &mut [u8], kept: usize, coming: u64) -> After
     work(s, text, kept + more, coming - (more as u64))
 }
 
-// Reads a sheet of `size` bytes; where they cannot be read, the answer is that it waits. Each turn reads some of them, so the loop ends.
+// Reads a sheet of `size` bytes; where they cannot be read, the answer is that it waits. Each turn reads some of
+// them, so the loop ends.
 fn one(size: u64, text: &mut [u8]) -> Reading
     requires { ⌜ longestLine ≤ length (now text) ⌝ }
 {

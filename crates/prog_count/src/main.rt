@@ -1,10 +1,13 @@
-// The clerk's counter: a simulator's comma file from standard input, and one line to standard output: samples, crossings, groups, largest set, time of the first
-// failure or a dash, exposure; or refused, the line at fault or 0, and the refusal's number. The four items of the record come as arguments. The file may have any length: it is
-// read through a fixed buffer, its right lines are fed as they come, and what the file as a whole would be refused for is kept until its end, a malformed line
-// alone ending the reading. What the lines say is `comma_stream`'s promise, what feeding and ending make of them is `record_feed`'s and `record_end`'s; here bytes are only
-// carried. Behind the items may stand the lengths in bytes of several files, which then come one behind the other: each is counted and added to a sum (document 02, [7]), and
-// the line has N, P, the estimate and its bounds in thousandths of a failure, and P·D; or refused, the file's number, and the rest as for one file. How it ended goes as a
-// digit to a descriptor of its own, where bin/program waits for it.
+// The clerk's counter: a simulator's comma file from standard input, and one line to standard output: samples,
+// crossings, groups, largest set, time of the first failure or a dash, exposure; or refused, the line at fault or 0,
+// and the refusal's number. The four items of the record come as arguments. The file may have any length: it is read
+// through a fixed buffer, its right lines are fed as they come, and what the file as a whole would be refused for is
+// kept until its end, a malformed line alone ending the reading. What the lines say is `comma_stream`'s promise, what
+// feeding and ending make of them is `record_feed`'s and `record_end`'s; here bytes are only carried. Behind the
+// items may stand the lengths in bytes of several files, which then come one behind the other: each is counted and
+// added to a sum (document 02, [7]), and the line has N, P, the estimate and its bounds in thousandths of a failure,
+// and P·D; or refused, the file's number, and the rest as for one file. How it ended goes as a digit to a descriptor
+// of its own, where bin/program waits for it.
 ghost use mathlib.Core.Path.{_≡_};
 ghost use Prim.Native.Nat.{_≤_, _<_};
 ghost use lib.IntN.{pos};
@@ -57,7 +60,8 @@ struct Count {
     coming: u64,
 }
 
-// What a turn of the loop comes to: the bytes of a line begun are kept, or the file has ended, or a line is wrong, or nothing can be read.
+// What a turn of the loop comes to: the bytes of a line begun are kept, or the file has ended, or a line is wrong, or
+// nothing can be read.
 enum After {
     On(Count, usize),
     Over(Count),
@@ -203,7 +207,8 @@ fn refused(line: u64, r: Refusal) -> u8 {
     declined(&out, n, r)
 }
 
-// Samples, crossings, groups, largest set, time of the first failure or a dash, exposure. A failed record's exposure is the time of its first failure.
+// Samples, crossings, groups, largest set, time of the first failure or a dash, exposure. A failed record's exposure
+// is the time of its first failure.
 fn told(samples: u64, r: Result) -> u8 {
     let mut out = [0u8; 128];
     let crossings = decimal::write_field(samples, TAB, &mut out, 0);
@@ -250,8 +255,8 @@ fn live(before: u64, lines: u64, shown: bool) {
     say(STDERR_FILENO, &out, n);
 }
 
-// A file from its first byte to its end, or to its first wrong line. A proved loop has to end, and nothing says that the input does; so it counts its turns down, from a
-// number that no run uses up.
+// A file from its first byte to its end, or to its first wrong line. A proved loop has to end, and nothing says that
+// the input does; so it counts its turns down, from a number that no run uses up.
 fn serve(start: Count, text: &mut [u8], shown: bool) -> After
     requires { ⌜ 31 ≤ length (now text) ⌝ }
 {

@@ -1,9 +1,12 @@
-// The clerk's counter of two channels (document 02, [8]): the comma files of one record, the roll's from standard input and the acceleration's from a descriptor of its own, and one line to
-// standard output, as `prog_count` writes it: samples, crossings, groups, largest set, time of the first failure or a dash, exposure; or refused, the line at fault or 0, the refusal's number and,
-// for 10 and 2, the channel. The five items of the record come as arguments. Both files may have any length: each is read through a buffer of its own, and only when its next line is not whole
-// yet, so that one hand may write both. Each pair of right lines is fed as it comes; what the files as a whole would be refused for is kept until their end, a malformed line alone ending the
-// reading. What a line says is `comma_line::line_at`'s promise, what feeding and ending make of it is `record_feed`'s and `record_end`'s; here bytes are only carried. How it ended goes as a digit to a
-// descriptor of its own, where bin/program waits for it.
+// The clerk's counter of two channels (document 02, [8]): the comma files of one record, the roll's from standard
+// input and the acceleration's from a descriptor of its own, and one line to standard output, as `prog_count` writes
+// it: samples, crossings, groups, largest set, time of the first failure or a dash, exposure; or refused, the line at
+// fault or 0, the refusal's number and, for 10 and 2, the channel. The five items of the record come as arguments.
+// Both files may have any length: each is read through a buffer of its own, and only when its next line is not whole
+// yet, so that one hand may write both. Each pair of right lines is fed as it comes; what the files as a whole would
+// be refused for is kept until their end, a malformed line alone ending the reading. What a line says is
+// `comma_line::line_at`'s promise, what feeding and ending make of it is `record_feed`'s and `record_end`'s; here
+// bytes are only carried. How it ended goes as a digit to a descriptor of its own, where bin/program waits for it.
 ghost use Prim.Native.Nat.{_≤_};
 use comma_line::Line;
 use comma_stream::Rest;
@@ -51,14 +54,16 @@ struct Watch {
     unequal: bool,
 }
 
-// A file as far as it was read: from `at` to `end` of its buffer stands what is still to be taken, and whether nothing follows.
+// A file as far as it was read: from `at` to `end` of its buffer stands what is still to be taken, and whether
+// nothing follows.
 struct Part {
     at: usize,
     end: usize,
     over: bool,
 }
 
-// What stands next in a file: a right line, its sample and the place behind it; what may become one; nothing any more; or a wrong line.
+// What stands next in a file: a right line, its sample and the place behind it; what may become one; nothing any
+// more; or a wrong line.
 enum Seen {
     Right(i32, usize),
     Begun,
@@ -66,7 +71,8 @@ enum Seen {
     Wrong,
 }
 
-// What a turn of the loop comes to: lines were taken or bytes read; or one of the files has to be read first; or both have ended, or a line of a channel is wrong, or nothing can be read.
+// What a turn of the loop comes to: lines were taken or bytes read; or one of the files has to be read first; or both
+// have ended, or a line of a channel is wrong, or nothing can be read.
 enum After {
     On(Watch, Part, Part),
     RollShort,
@@ -230,7 +236,8 @@ fn alone(w: Watch, p: Part, q: Part, acceleration: Seen) -> After {
     }
 }
 
-// The roll goes first: of two wrong lines with one number its own is named, and nothing of the acceleration is waited for.
+// The roll goes first: of two wrong lines with one number its own is named, and nothing of the acceleration is waited
+// for.
 fn judged(w: Watch, p: Part, roll: Seen, q: Part, acceleration: Seen) -> After {
     match roll {
         Seen::Right(x, next) => beside(w, p, x, next, q, acceleration),
@@ -321,7 +328,8 @@ fn refused_in(line: u64, r: Refusal, channel: u64) -> u8 {
     declined(&out, n, r)
 }
 
-// Samples, crossings, groups, largest set, time of the first failure or a dash, exposure. A failed record's exposure is the time of its first failure.
+// Samples, crossings, groups, largest set, time of the first failure or a dash, exposure. A failed record's exposure
+// is the time of its first failure.
 fn told(samples: u64, r: Result) -> u8 {
     let mut out = [0u8; 128];
     let crossings = decimal::write_field(samples, TAB, &mut out, 0);
@@ -381,8 +389,8 @@ fn live(before: u64, lines: u64, shown: bool) {
     say(STDERR_FILENO, &out, n);
 }
 
-// Both files from their first bytes to their ends, or to the first wrong line. A proved loop has to end, and nothing says that the input does; so it counts its turns down, from a
-// number that no run uses up.
+// Both files from their first bytes to their ends, or to the first wrong line. A proved loop has to end, and nothing
+// says that the input does; so it counts its turns down, from a number that no run uses up.
 fn serve(start: Watch, roll: &mut [u8], acceleration: &mut [u8], shown: bool) -> After {
     let mut watch = start;
     let mut p = Part {

@@ -1,8 +1,10 @@
-// The clerk's search for envelope peaks: a simulator's comma file from standard input, and one line to standard output for each peak handed out: its magnitude in
-// degrees, its time in ms after the ramp; or refused, the line at fault or 0, and the refusal's number. Items 1, 2 and 4 come as arguments. Which peaks are high is
-// known only when all are, so the samples are held, as many as fit the stack that a process has; lines are read through a fixed buffer. A malformed line alone
-// ends the reading. What the lines say is `comma_stream`'s promise, what is handed out is `peak_envelope::find`'s; here bytes are only carried. How it ended goes
-// as a digit to a descriptor of its own, where bin/program waits for it.
+// The clerk's search for envelope peaks: a simulator's comma file from standard input, and one line to standard
+// output for each peak handed out: its magnitude in degrees, its time in ms after the ramp; or refused, the line at
+// fault or 0, and the refusal's number. Items 1, 2 and 4 come as arguments. Which peaks are high is known only when
+// all are, so the samples are held, as many as fit the stack that a process has; lines are read through a fixed
+// buffer. A malformed line alone ends the reading. What the lines say is `comma_stream`'s promise, what is handed out
+// is `peak_envelope::find`'s; here bytes are only carried. How it ended goes as a digit to a descriptor of its own,
+// where bin/program waits for it.
 ghost use Prim.Native.Nat.{_≤_, _<_};
 ghost use lib.ListN.{length};
 ghost use Rattle.prog_peaks.specs.Kept.{keptBy};
@@ -54,7 +56,8 @@ struct Count {
     follow: Follow,
 }
 
-// What a turn of the loop comes to: the bytes of a line begun are kept, or the file has ended, or a line is wrong, or nothing can be read.
+// What a turn of the loop comes to: the bytes of a line begun are kept, or the file has ended, or a line is wrong, or
+// nothing can be read.
 enum After {
     On(Count, usize),
     Over(Count),
@@ -265,7 +268,8 @@ fn live(before: u64, lines: u64, shown: bool) {
     say(STDERR_FILENO, &out, n);
 }
 
-// A proved loop has to end, and nothing says that the input does; so it counts its turns down, from a number that no run uses up.
+// A proved loop has to end, and nothing says that the input does; so it counts its turns down, from a number that no
+// run uses up.
 fn serve(start: Count, text: &mut [u8], samples: &mut [i32], shown: bool) -> u8
     requires { ⌜ 31 ≤ length (now text) ⌝ }
 {

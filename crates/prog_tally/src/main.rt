@@ -1,7 +1,8 @@
-// The clerk's program: a job sheet from standard input, and for each record of it a line to standard output, at the first refusal the refused line.
-// It reads what there is, works through the lines that are complete, writes what they give, and only then reads again, so that a line typed by hand is
-// answered at once. What the lines give is `sheet_text::run`'s promise; here bytes are only carried to it and from it. A program of the kit has no exit status, so
-// how it ended goes as a digit to a descriptor of its own, where bin/program waits for it.
+// The clerk's program: a job sheet from standard input, and for each record of it a line to standard output, at the
+// first refusal the refused line. It reads what there is, works through the lines that are complete, writes what they
+// give, and only then reads again, so that a line typed by hand is answered at once. What the lines give is
+// `sheet_text::run`'s promise; here bytes are only carried to it and from it. A program of the kit has no exit
+// status, so how it ended goes as a digit to a descriptor of its own, where bin/program waits for it.
 ghost use Prim.Native.Nat.{_≤_, _<_};
 ghost use lib.ListN.{length};
 ghost use Rattle.sheet_line.specs.Form.{longestLine};
@@ -13,7 +14,8 @@ use sheet_line::Sheet;
 use sheet_text::Ran;
 use sheet_text::Reading;
 
-// Where the program says how it ended, and what it says: the sheet was read to its end, was refused, or something could not be read or written.
+// Where the program says how it ended, and what it says: the sheet was read to its end, was refused, or something
+// could not be read or written.
 const END_FILENO: i32 = 3;
 
 const READ: u8 = b'0';
@@ -109,7 +111,8 @@ fn ended(s: Sheet, text: &[u8], reading: Reading) -> u8 {
     }
 }
 
-// Works through the lines of the first `end` bytes of `text`, and writes what they give; a line begun goes to the start of `text`.
+// Works through the lines of the first `end` bytes of `text`, and writes what they give; a line begun goes to the
+// start of `text`.
 fn work(s: Sheet, text: &mut [u8], end: usize, more: bool, out: &mut [u8]) -> After
     requires { ⌜ end ≤ length (now text) ⌝ }
     ensures { λ r. ⌜ keptBy r < longestLine ⌝ }
@@ -142,7 +145,8 @@ fn turn(s: Sheet, text: &mut [u8], kept: usize, out: &mut [u8]) -> After
     work(s, text, kept + more, more > 0, out)
 }
 
-// Answers how it ended. A proved loop has to end, and nothing says that the input does; so it counts its turns down, from a number that no run uses up.
+// Answers how it ended. A proved loop has to end, and nothing says that the input does; so it counts its turns down,
+// from a number that no run uses up.
 fn serve(text: &mut [u8], out: &mut [u8]) -> u8
     requires { ⌜ longestLine ≤ length (now text) ⌝ }
 {

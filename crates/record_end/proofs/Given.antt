@@ -1,4 +1,5 @@
--- What a result that was given tells: the record was sound and long enough, and the exposure is from 1 ms to the longest timed length. Assumes nothing.
+-- What a result that was given tells: the record was sound and long enough, and the exposure is from 1 ms to the
+-- longest timed length. Assumes nothing.
 use mathlib.Core.Path.{_≡_, refl}
 use mathlib.Core.Bool.{Bool, cond, false, not, true}
 use Prim.Native.Nat.{ℕ, _≤_}

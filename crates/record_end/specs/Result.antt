@@ -14,7 +14,8 @@ use Rattle.record_end.specs.declared.Result.{Result}
 abbrev pub exposureOf : Record → ℕ
 exposureOf r = cond (failed r) (firstTime r) (wholeTime r)
 
--- its crossings, count, first failure and exposure; the groups are what is counted, and the largest set stands beside it
+-- its crossings, count, first failure and exposure; the groups are what is counted, and the largest set stands beside
+-- it
 abbrev pub resultOf : Record → Result
 resultOf r =
     record { crossings = r .crossings; counted = r .groups; first = r .first; exposure = exposureOf r; largest = r .largest }

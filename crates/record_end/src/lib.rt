@@ -1,5 +1,6 @@
-// A record's result (document 02, [4]): a record is ended, and its crossings, count, first failure and exposure are there to be looked at before anything enters
-// a campaign. What a campaign takes of a result is its outcome, and a job sheet's line, which knows no place and no crossings, is an outcome as it stands.
+// A record's result (document 02, [4]): a record is ended, and its crossings, count, first failure and exposure are
+// there to be looked at before anything enters a campaign. What a campaign takes of a result is its outcome, and a
+// job sheet's line, which knows no place and no crossings, is an outcome as it stands.
 ghost use mathlib.Core.Path.{_≡_};
 ghost use mathlib.Core.Bool.{true};
 ghost use Prim.Native.Nat.{_+_, _≤_};
@@ -14,7 +15,8 @@ pub struct Outcome {
     pub exposure: u64,
 }
 
-// Crossings, counted failures, which are the groups, the place of the first failure, 0 for none, the exposure in ms, and the largest set.
+// Crossings, counted failures, which are the groups, the place of the first failure, 0 for none, the exposure in ms,
+// and the largest set.
 pub struct Result {
     pub crossings: u64,
     pub counted: u64,

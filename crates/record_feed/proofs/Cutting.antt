@@ -1,5 +1,6 @@
--- A piece cut in two: both parts are taken exactly if the piece is, and end in the same state. What is handed out is sound. The room that a
--- piece needs is that of its parts together, and its samples are in range if theirs are. Assumes nothing.
+-- A piece cut in two: both parts are taken exactly if the piece is, and end in the same state. What is handed out is
+-- sound. The room that a piece needs is that of its parts together, and its samples are in range if theirs are. Assumes
+-- nothing.
 use Prim.Native.Nat.{_+_, _≤_}
 use mathlib.Core.Path.{_≡_, refl, sym, ap, _∙_}
 use mathlib.Core.Bool.{true}

@@ -1,5 +1,5 @@
--- The decorrelation time in samples: a quotient rounded up is the fewest steps, and samples that many apart are as far apart as the time asks. Assumes
--- nothing.
+-- The decorrelation time in samples: a quotient rounded up is the fewest steps, and samples that many apart are as far
+-- apart as the time asks. Assumes nothing.
 use Prim.Native.Nat.{ℕ, suc, _+_, _-_, _*_, _/_, _≤_, _<_}
 use mathlib.Core.Path.{_≡_, refl, sym}
 use mathlib.Core.Bool.{Bool, true, false, cond}

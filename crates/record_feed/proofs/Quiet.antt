@@ -1,4 +1,5 @@
--- Samples at which no crossing stands, be it that they are at most the level or that the ramp is not over: only n and the last sample move. Assumes nothing.
+-- Samples at which no crossing stands, be it that they are at most the level or that the ramp is not over: only n and
+-- the last sample move. Assumes nothing.
 use Prim.Native.Nat.{suc, _+_, _-_, _≤_, _<_}
 use mathlib.Core.Path.{_≡_, refl, sym, ap, _∙_}
 use mathlib.Core.Bool.{Bool, true, false, not, _&&_}

@@ -1,5 +1,5 @@
--- A block that begins before the first sample at which a crossing can stand: its leading samples only move n and the last sample, and the rest goes on from
--- there. Assumes nothing.
+-- A block that begins before the first sample at which a crossing can stand: its leading samples only move n and the
+-- last sample, and the rest goes on from there. Assumes nothing.
 use Prim.Native.Nat.{ℕ, _+_, _-_, _≤_}
 use mathlib.Core.Path.{_≡_, sym, ap, _∙_}
 use mathlib.Core.Bool.{true}

@@ -1,5 +1,5 @@
--- What the entries add up to: the user's second demand for one record. D is the step, R the ramp, a the levels, τ the decorrelation time.
--- Assumes nothing.
+-- What the entries add up to: the user's second demand for one record. D is the step, R the ramp, a the levels, τ the
+-- decorrelation time. Assumes nothing.
 use Prim.Native.Nat.{ℕ, _≤_, _<_}
 use mathlib.Core.Path.{_≡_, refl, sym, _∙_}
 use mathlib.Core.Bool.{true, false}
@@ -77,7 +77,8 @@ module _ (D R : ℕ) (a : Levels) (τ : ℕ) (s : Record) (fresh : opened D R a 
   pub never-broken : {ps : List Piece} {t : Record} → AllTaken s ps t → (xs ys : List ℤ) → fed t xs ys ≡ Refused BrokenState → ⊥
   never-broken {t = t} f xs ys = not-broken t xs ys (all-sound (opened-sound D R a τ s fresh) f)
 
--- 3: the groups are the crossings' runs, and never exceed the largest set; the counted times are pairwise at least τ apart
+-- 3: the groups are the crossings' runs, and never exceed the largest set; the counted times are pairwise at least τ
+-- apart
 module _ (D R : ℕ) (a : Levels) (τ : ℕ) (xs : List Moment) where
   pub groups-parted : Parting (near (timeAt D R) τ) (crossings R a xs) (groups D R a τ xs)
   groups-parted = groups-part (near (timeAt D R) τ) (crossings R a xs)
@@ -91,7 +92,8 @@ module _ (D R : ℕ) (a : Levels) (τ : ℕ) (xs : List Moment) where
   pub times-apart : Apart itself τ (countedTimes D R a τ xs)
   times-apart = apart-times (timeAt D R) τ (counted D R a τ xs) (firsts-apart (timeAt D R) τ (crossings R a xs) (rising-passing D R (crossesAt R a xs) 0 (length xs)))
 
--- 4: the place found by the search over a whole record is its state's first failure, and a mark outside the record if that has none
+-- 4: the place found by the search over a whole record is its state's first failure, and a mark outside the record if
+-- that has none
 module _ (D R : ℕ) (a : Levels) (τ : ℕ) (xs : List Moment) where
   pub search-found : failed (stateOf D R a τ xs) ≡ true → (firstCrossing (length xs) R a xs ≡ stateOf D R a τ xs .first) × (stateOf D R a τ xs .first < length xs)
   unfolding stateOf

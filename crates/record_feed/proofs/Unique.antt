@@ -1,4 +1,5 @@
--- Two answers that a promise allows are the same answer: the promise says that the answer is the value of a definition at what was handed in. Assumes nothing.
+-- Two answers that a promise allows are the same answer: the promise says that the answer is the value of a definition
+-- at what was handed in. Assumes nothing.
 use mathlib.Core.Path.{_≡_, sym, _∙_}
 use mathlib.Core.List.{List}
 use lib.IntN.{ℤ}

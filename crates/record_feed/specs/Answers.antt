@@ -1,4 +1,5 @@
--- What feeding answers: document 01, "Refusal numbers", with document 02's [8], in the order of refusals. Assumes nothing.
+-- What feeding answers: document 01, "Refusal numbers", with document 02's [8], in the order of refusals. Assumes
+-- nothing.
 use Prim.Native.Nat.{_+_}
 use mathlib.Core.Bool.{cond, not}
 use mathlib.Core.List.{List, foldl}

@@ -1,4 +1,5 @@
--- Document 01, "Reading a record", with document 02's [8]: a record handed over in pieces of both channels. Assumes nothing.
+-- Document 01, "Reading a record", with document 02's [8]: a record handed over in pieces of both channels. Assumes
+-- nothing.
 use mathlib.Core.Path.{_≡_}
 use mathlib.Core.List.{List, [], _∷_, _++_}
 use lib.IntN.{ℤ}

@@ -1,4 +1,5 @@
-// Feeding a record: the samples of its two channels, handed over in pieces. The state goes in by value and comes back in the answer, so a refusal leaves the caller's as it stood.
+// Feeding a record: the samples of its two channels, handed over in pieces. The state goes in by value and comes back
+// in the answer, so a refusal leaves the caller's as it stood.
 ghost use mathlib.Core.Path.{_≡_};
 ghost use mathlib.Core.Bool.{true, false, cond};
 ghost use mathlib.Core.List.{foldl, map};
@@ -28,7 +29,8 @@ fn gap_of(r: Record) -> u64
     (r.decorrelation + (r.step - 1)) / r.step
 }
 
-// Whether a crossing at sample n is the first, or at least the decorrelation time, which is `gap` samples, after the place of an earlier one.
+// Whether a crossing at sample n is the first, or at least the decorrelation time, which is `gap` samples, after the
+// place of an earlier one.
 fn far(r: Record, gap: u64, place: u64) -> bool
     requires { ⌜ Gap (r .step) (r .decorrelation) gap × (place ≤ r .n) × (¬ (r .crossings ≡ 0) → r .ramp ≤ place) ⌝ }
     ensures { λ k. ⌜ k ≡ far r place ⌝ }
@@ -39,7 +41,8 @@ fn far(r: Record, gap: u64, place: u64) -> bool
     gap <= r.n - place
 }
 
-// The state after a crossing at sample n, which is x, that is near the largest set's last, and so near the crossing just before it: it joins the last group.
+// The state after a crossing at sample n, which is x, that is near the largest set's last, and so near the crossing
+// just before it: it joins the last group.
 fn joining(r: Record, x: Moment) -> Record
     requires { ⌜ (sound r ≡ true) × (r .ramp < r .n) × (counts r ≡ false) ⌝ }
     ensures { λ s. ⌜ s ≡ crossed r x ⌝ }
@@ -61,7 +64,8 @@ fn joining(r: Record, x: Moment) -> Record
     }
 }
 
-// The state after one that is far from it and joins the largest set; it starts a group if it is far from the crossing just before it.
+// The state after one that is far from it and joins the largest set; it starts a group if it is far from the crossing
+// just before it.
 fn counted(r: Record, gap: u64, x: Moment) -> Record
     requires { ⌜ (sound r ≡ true) × (r .ramp < r .n) × (counts r ≡ true) × Gap (r .step) (r .decorrelation) gap ⌝ }
     ensures { λ s. ⌜ s ≡ crossed r x ⌝ }
@@ -127,7 +131,8 @@ fn below(r: Record) -> bool
 
 // The state after sample n, which is x, of which it is known whether it crosses a level.
 fn step(r: Record, gap: u64, crossing: bool, x: Moment) -> Record
-    requires { ⌜ (sound r ≡ true) × (r .n < mostSamples (r .step) (r .ramp)) × (crossing ≡ crosses r x) × Gap (r .step) (r .decorrelation) gap ⌝ }
+    requires { ⌜ (sound r ≡ true) × (r .n < mostSamples (r .step) (r .ramp)) × (crossing ≡ crosses r x)
+        × Gap (r .step) (r .decorrelation) gap ⌝ }
     ensures { λ s. ⌜ s ≡ stepped r x ⌝ }
 {
     if crossing {
@@ -139,7 +144,8 @@ fn step(r: Record, gap: u64, crossing: bool, x: Moment) -> Record
 
 // The state after timed samples that are in range and not too many, of which it is known whether they are above.
 fn along(r: Record, ups: &[bool], roll: &[i32], acceleration: &[i32]) -> Record
-    requires { ⌜ Fits r (now roll) (now acceleration) × (r .ramp < r .n) × (now ups ≡ map (above (r .levels)) (moments (now roll) (now acceleration))) ⌝ }
+    requires { ⌜ Fits r (now roll) (now acceleration) × (r .ramp < r .n)
+        × (now ups ≡ map (above (r .levels)) (moments (now roll) (now acceleration))) ⌝ }
     ensures { λ s. ⌜ s ≡ foldl stepped r (moments (now (roll .entry)) (now (acceleration .entry))) ⌝ }
 {
     let gap = gap_of(r);
@@ -156,7 +162,8 @@ fn along(r: Record, ups: &[bool], roll: &[i32], acceleration: &[i32]) -> Record
     s
 }
 
-// The state after timed samples that are in range and not too many: all of them are looked at first, several at once, and then stepped one by one.
+// The state after timed samples that are in range and not too many: all of them are looked at first, several at once,
+// and then stepped one by one.
 fn run(r: Record, roll: &[i32], acceleration: &[i32]) -> Record
     requires { ⌜ Fits r (now roll) (now acceleration) × (r .ramp < r .n) ⌝ }
     ensures { λ s. ⌜ s ≡ foldl stepped r (moments (now (roll .entry)) (now (acceleration .entry))) ⌝ }
@@ -180,7 +187,8 @@ fn leading(r: Record, k: usize) -> usize
     if left < k as u64 { left as usize } else { k }
 }
 
-// The state after a block whose samples are in range and not too many: those of the ramp at once, the others one by one.
+// The state after a block whose samples are in range and not too many: those of the ramp at once, the others one by
+// one.
 fn step_all(r: Record, roll: &[i32], acceleration: &[i32]) -> Record
     requires { ⌜ Fits r (now roll) (now acceleration) × (0 < length (now roll)) ⌝ }
     ensures { λ s. ⌜ s ≡ foldl stepped r (moments (now (roll .entry)) (now (acceleration .entry))) ⌝ }
@@ -197,10 +205,11 @@ fn step_all(r: Record, roll: &[i32], acceleration: &[i32]) -> Record
     run(s, &roll[lead..], &acceleration[lead..])
 }
 
-// The same for a block of which it is known whether a sample is above its level. Where none is, no sample of it crosses, and only n and the last sample
-// move.
+// The same for a block of which it is known whether a sample is above its level. Where none is, no sample of it
+// crosses, and only n and the last sample move.
 fn advance(r: Record, loud: bool, roll: &[i32], acceleration: &[i32]) -> Record
-    requires { ⌜ Fits r (now roll) (now acceleration) × (loud ≡ anyAbove (r .levels) (now roll) (now acceleration)) × (0 < length (now roll)) ⌝ }
+    requires { ⌜ Fits r (now roll) (now acceleration) × (loud ≡ anyAbove (r .levels) (now roll) (now acceleration))
+        × (0 < length (now roll)) ⌝ }
     ensures { λ s. ⌜ s ≡ foldl stepped r (moments (now (roll .entry)) (now (acceleration .entry))) ⌝ }
 {
     if loud {
@@ -217,7 +226,9 @@ fn advance(r: Record, loud: bool, roll: &[i32], acceleration: &[i32]) -> Record
 // The answer to a piece that is not taken: a bad sample of it goes before its length.
 fn fault(roll: &[i32], acceleration: &[i32]) -> Answer
     requires { ⌜ length (now roll) ≡ length (now acceleration) ⌝ }
-    ensures { λ a. ⌜ a ≡ cond (anyBad (now (roll .entry)) (now (acceleration .entry))) (Refused (badSample (firstBad (now (roll .entry))) (firstBad (now (acceleration .entry))))) (Refused TooLong) ⌝ }
+    ensures { λ a. ⌜ a ≡ cond (anyBad (now (roll .entry)) (now (acceleration .entry)))
+        (Refused (badSample (firstBad (now (roll .entry))) (firstBad (now (acceleration .entry))))) (Refused TooLong)
+        ⌝ }
 {
     let look = sample_channels::look_over(roll, acceleration);
     if let Look::Bad(f) = look {
@@ -226,10 +237,11 @@ fn fault(roll: &[i32], acceleration: &[i32]) -> Answer
     Answer::Refused(Refusal::TooLong)
 }
 
-// The answer to a piece that there is room for, block by block. The ends of a block say whether a sample of it is out of range, and whether one is above its level:
-// a quiet block is passed over at the speed of `ends_of`.
+// The answer to a piece that there is room for, block by block. The ends of a block say whether a sample of it is out
+// of range, and whether one is above its level: a quiet block is passed over at the speed of `ends_of`.
 fn pass(r: Record, roll: &[i32], acceleration: &[i32]) -> Answer
-    requires { ⌜ (sound r ≡ true) × (length (now roll) ≡ length (now acceleration)) × (r .n + length (now roll) ≤ mostSamples (r .step) (r .ramp)) ⌝ }
+    requires { ⌜ (sound r ≡ true) × (length (now roll) ≡ length (now acceleration))
+        × (r .n + length (now roll) ≤ mostSamples (r .step) (r .ramp)) ⌝ }
     ensures { λ a. ⌜ a ≡ fed r (now (roll .entry)) (now (acceleration .entry)) ⌝ }
 {
     let mut s = r;
@@ -254,7 +266,8 @@ fn pass(r: Record, roll: &[i32], acceleration: &[i32]) -> Answer
     Answer::Taken(s)
 }
 
-// The record after the piece; or refusal 8, then 12, then 2 with the lower bad place in the piece and its channel, then 3.
+// The record after the piece; or refusal 8, then 12, then 2 with the lower bad place in the piece and its channel,
+// then 3.
 pub fn feed(r: Record, roll: &[i32], acceleration: &[i32]) -> Answer
     ensures { λ a. ⌜ a ≡ fed r (now (roll .entry)) (now (acceleration .entry)) ⌝ }
 {

@@ -1,5 +1,6 @@
--- The times noted one by one are the counted times: from any walk on, what is noted are the moments at which the crossings still to come start a group, from
--- the moment that is due on (`walks`, by induction on the samples). Assumes nothing.
+-- The times noted one by one are the counted times: from any walk on, what is noted are the moments at which the
+-- crossings still to come start a group, from the moment that is due on (`walks`, by induction on the samples). Assumes
+-- nothing.
 use Prim.Native.Nat.{ℕ, _+_, _-_, _*_}
 use mathlib.Core.Path.{_≡_, refl, sym, ap, _∙_}
 use mathlib.Core.Bool.{Bool, true, false, cond, not, _&&_}

@@ -1,5 +1,6 @@
--- A walk over the timed samples of both channels, block by block, between two blocks: how it starts, what a block does to it, and what it ends in. D is the step, a the levels, τ the
--- decorrelation time, xs the roll and ys the acceleration. Assumes nothing.
+-- A walk over the timed samples of both channels, block by block, between two blocks: how it starts, what a block does
+-- to it, and what it ends in. D is the step, a the levels, τ the decorrelation time, xs the roll and ys the
+-- acceleration. Assumes nothing.
 use Prim.Native.Nat.{ℕ, _-_, _≤_}
 use mathlib.Core.Path.{_≡_, refl, sym, ap, _∙_}
 use mathlib.Core.List.{List, [], foldl, foldl-append}
@@ -15,7 +16,8 @@ use Rattle.record_list.specs.declared.Walk.{Walk}
 use Rattle.record_list.specs.Walk.{start, Noting, noting, noted, Ready}
 use Rattle.record_list.proofs.Steps.{ready-after, walked-length}
 
--- sample i is the next: the walk is ready for what is left, the slice has its length, and what is left, noted from here, leaves what the whole would
+-- sample i is the next: the walk is ready for what is left, the slice has its length, and what is left, noted from
+-- here, leaves what the whole would
 pub record Underway (D : ℕ) (a : Levels) (τ : ℕ) (xs ys : List ℤ) (before ts : List ℕ) (w : Walk) (i : ℕ) : Type 0 where
   pub within : i ≤ length xs
   pub ready : Ready D τ w (length xs - i)

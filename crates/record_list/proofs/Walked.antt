@@ -1,4 +1,5 @@
--- A walk over all timed samples: it counts the counted times and leaves them in the slice, and half as many as samples are the most. Assumes nothing.
+-- A walk over all timed samples: it counts the counted times and leaves them in the slice, and half as many as samples
+-- are the most. Assumes nothing.
 use Prim.Native.Nat.{ℕ, suc, _+_, _*_, _≤_}
 use mathlib.Core.Path.{_≡_, _∙_}
 use mathlib.Core.Bool.{Bool, true, false, cond, not, _&&_}

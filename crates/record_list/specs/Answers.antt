@@ -1,4 +1,5 @@
--- What listing answers and leaves: document 01, "Refusal numbers", with document 02's [8], in the order of refusals. Assumes nothing.
+-- What listing answers and leaves: document 01, "Refusal numbers", with document 02's [8], in the order of refusals.
+-- Assumes nothing.
 use Prim.Native.Nat.{ℕ}
 use mathlib.Core.Path.{_≡_}
 use mathlib.Core.Bool.{cond, not, true, false}
@@ -17,7 +18,8 @@ use Rattle.record_list.specs.declared.Listed.the-variants.{Times, Refuse
 use Rattle.record_list.specs.declared.Settled.{Settled}
 use Rattle.record_list.specs.declared.Settled.the-variants.{Done, Spoilt}
 
--- Listing takes a whole record at once, xs of the roll and ys of the acceleration, 1, 12, 2, 3, 4, 7: the number of counted times, into a slice of so many places
+-- Listing takes a whole record at once, xs of the roll and ys of the acceleration, 1, 12, 2, 3, 4, 7: the number of
+-- counted times, into a slice of so many places
 unfoldable pub listed : ℕ → ℕ → Levels → ℕ → List ℤ → List ℤ → ℕ → Listed
 listed D R a τ xs ys places =
     cond (not (eqb (itemOutside D R a τ) 0)) (Refused (Item (itemOutside D R a τ)))

@@ -1,4 +1,5 @@
--- What a pass over the timed samples finds: D is the step, a the levels, τ the decorrelation time, xs the roll and ys the acceleration. Assumes nothing.
+-- What a pass over the timed samples finds: D is the step, a the levels, τ the decorrelation time, xs the roll and ys
+-- the acceleration. Assumes nothing.
 use Prim.Native.Nat.{ℕ}
 use mathlib.Core.Path.{_≡_}
 use mathlib.Core.Bool.{true, false}
@@ -11,7 +12,8 @@ use Rattle.record_list.specs.Walk.{start, noting, noted}
 use Rattle.record_list.specs.declared.Found.{Found}
 use Rattle.record_list.specs.declared.Found.the-variants.{Count, Bad}
 
--- the timed samples, noted into a slice: how many failures are counted, and the slice afterwards; or that a sample is bad
+-- the timed samples, noted into a slice: how many failures are counted, and the slice afterwards; or that a sample is
+-- bad
 abbrev pub Passes : ℕ → Levels → ℕ → List ℤ → List ℤ → List ℕ → Found → List ℕ → Type 0
 Passes D a τ xs ys before (Count n) after =
     (anyBad xs ys ≡ false) × (n ≡ foldl (noted D a τ) (noting start before) (moments xs ys) .walk .count) × (after ≡ foldl (noted D a τ) (noting start before) (moments xs ys) .times)

@@ -1,9 +1,9 @@
-// The counted times of a whole record, each group's by its first crossing, listed into lent memory. The timed samples are
-// read once, block by block, and a quiet block is passed over. The times found on the way are kept aside, since refusal 7
-// must know their number before anything is written; only if they are too many is the record read again. Where that is to
-// be expected, and the lent slice has room for half as many times as there are samples, which are the most, they are not
-// counted first. specs/Walk says what a sample does to the walk and to the times noted on the way, proofs/Walked that
-// these are the counted times.
+// The counted times of a whole record, each group's by its first crossing, listed into lent memory. The timed samples
+// are read once, block by block, and a quiet block is passed over. The times found on the way are kept aside, since
+// refusal 7 must know their number before anything is written; only if they are too many is the record read again.
+// Where that is to be expected, and the lent slice has room for half as many times as there are samples, which are
+// the most, they are not counted first. specs/Walk says what a sample does to the walk and to the times noted on the
+// way, proofs/Walked that these are the counted times.
 ghost use mathlib.Core.Path.{_≡_};
 ghost use Rattle.record_list.specs.Walk.{starts, passed, start, noting, marked, noted, Ready};
 ghost use mathlib.Core.Bool.{true, false};
@@ -22,8 +22,8 @@ use refusal::Refusal;
 use sample_channels::Levels;
 use sample_channels::Look;
 
-// The walk before a timed sample: its time, whether a timed sample that is above in neither channel stands before it, how many groups were counted, and from what time
-// on a crossing starts a group.
+// The walk before a timed sample: its time, whether a timed sample that is above in neither channel stands before it,
+// how many groups were counted, and from what time on a crossing starts a group.
 pub struct Walk {
     pub below: bool,
     pub time: u64,
@@ -46,7 +46,8 @@ pub enum Listed {
 // How many times are kept aside: with a decorrelation time of 5 s or more no record has more.
 const KEPT: usize = 2_048;
 
-// So many samples in the middle of a record are looked at, and if so many of them are counted, more times than are kept aside are expected.
+// So many samples in the middle of a record are looked at, and if so many of them are counted, more times than are
+// kept aside are expected.
 const LOOK: usize = 1_024;
 
 const CROWD: u64 = 256;
@@ -98,7 +99,8 @@ fn put(time: u64, place: u64, times: &mut [u32])
     }
 }
 
-// The walk after a sample at which a level is crossed; the time of a group that starts there is put into the next place.
+// The walk after a sample at which a level is crossed; the time of a group that starts there is put into the next
+// place.
 fn crossed(step: u64, decorrelation: u64, w: Walk, times: &mut [u32]) -> Walk
     requires { ⌜ Ready step decorrelation w 1 × (w .below ≡ true) ⌝ }
     ensures { λ v. ⌜ noting v (now (times .exit)) ≡ marked step decorrelation (noting w (now (times .entry))) true ⌝ }
@@ -139,7 +141,8 @@ fn stepped(step: u64, decorrelation: u64, w: Walk, up: bool, times: &mut [u32]) 
 // The walk over samples of which it is known whether they are above.
 fn along(step: u64, decorrelation: u64, w: Walk, ups: &[bool], times: &mut [u32]) -> Walk
     requires { ⌜ Ready step decorrelation w (length (now ups)) ⌝ }
-    ensures { λ v. ⌜ noting v (now (times .exit)) ≡ foldl (marked step decorrelation) (noting w (now (times .entry))) (now (ups .entry)) ⌝ }
+    ensures { λ v. ⌜ noting v (now (times .exit))
+        ≡ foldl (marked step decorrelation) (noting w (now (times .entry))) (now (ups .entry)) ⌝ }
 {
     let mut v = w;
     let mut i = 0;
@@ -160,8 +163,11 @@ fn walk_block(
     acceleration: &[i32],
     times: &mut [u32],
 ) -> Walk
-    requires { ⌜ Ready step decorrelation w (length (now roll)) × (length (now roll) ≡ length (now acceleration)) × (length (now roll) ≤ 64) ⌝ }
-    ensures { λ v. ⌜ noting v (now (times .exit)) ≡ foldl (noted step levels decorrelation) (noting w (now (times .entry))) (moments (now (roll .entry)) (now (acceleration .entry))) ⌝ }
+    requires { ⌜ Ready step decorrelation w (length (now roll)) × (length (now roll) ≡ length (now acceleration))
+        × (length (now roll) ≤ 64) ⌝ }
+    ensures { λ v. ⌜ noting v (now (times .exit))
+        ≡ foldl (noted step levels decorrelation) (noting w (now (times .entry)))
+        (moments (now (roll .entry)) (now (acceleration .entry))) ⌝ }
 {
     let mut ups = [false; sample_block::BLOCK];
     sample_channels::mark(levels, roll, acceleration, &mut ups);
@@ -179,8 +185,12 @@ fn advance(
     acceleration: &[i32],
     times: &mut [u32],
 ) -> Walk
-    requires { ⌜ Ready step decorrelation w (length (now roll)) × (length (now roll) ≡ length (now acceleration)) × (length (now roll) ≤ 64) × (loud ≡ anyAbove levels (now roll) (now acceleration)) × (1 ≤ length (now roll)) ⌝ }
-    ensures { λ v. ⌜ noting v (now (times .exit)) ≡ foldl (noted step levels decorrelation) (noting w (now (times .entry))) (moments (now (roll .entry)) (now (acceleration .entry))) ⌝ }
+    requires { ⌜ Ready step decorrelation w (length (now roll)) × (length (now roll) ≡ length (now acceleration))
+        × (length (now roll) ≤ 64) × (loud ≡ anyAbove levels (now roll) (now acceleration))
+        × (1 ≤ length (now roll)) ⌝ }
+    ensures { λ v. ⌜ noting v (now (times .exit))
+        ≡ foldl (noted step levels decorrelation) (noting w (now (times .entry)))
+        (moments (now (roll .entry)) (now (acceleration .entry))) ⌝ }
 {
     if loud {
         return walk_block(step, levels, decorrelation, w, roll, acceleration, times);
@@ -188,7 +198,8 @@ fn advance(
     passed(step, decorrelation, w, roll.len())
 }
 
-// The walk over timed samples, block by block, up to one with a bad sample. The ends of a block say whether it has one, and whether a sample is above its level.
+// The walk over timed samples, block by block, up to one with a bad sample. The ends of a block say whether it has
+// one, and whether a sample is above its level.
 fn pass(
     step: u64,
     levels: Levels,
@@ -197,8 +208,10 @@ fn pass(
     acceleration: &[i32],
     times: &mut [u32],
 ) -> Found
-    requires { ⌜ Ready step decorrelation start (length (now roll)) × (length (now roll) ≡ length (now acceleration)) ⌝ }
-    ensures { λ r. ⌜ Passes step levels decorrelation (now (roll .entry)) (now (acceleration .entry)) (now (times .entry)) r (now (times .exit)) ⌝ }
+    requires { ⌜ Ready step decorrelation start (length (now roll))
+        × (length (now roll) ≡ length (now acceleration)) ⌝ }
+    ensures { λ r. ⌜ Passes step levels decorrelation (now (roll .entry)) (now (acceleration .entry))
+        (now (times .entry)) r (now (times .exit)) ⌝ }
 {
     let mut w = start();
     let mut i = 0;
@@ -239,7 +252,8 @@ fn copy(kept: &[u32], k: usize, times: &mut [u32])
     }
 }
 
-// Writes the counted times, if there are places for them: those kept aside, if they are all there, else by a second pass.
+// Writes the counted times, if there are places for them: those kept aside, if they are all there, else by a second
+// pass.
 fn write(
     step: u64,
     levels: Levels,
@@ -250,8 +264,14 @@ fn write(
     kept: &[u32],
     times: &mut [u32],
 ) -> Listed
-    requires { ⌜ Ready step decorrelation start (length (now roll)) × (length (now roll) ≡ length (now acceleration)) × (anyBad (now roll) (now acceleration) ≡ false) × (count ≡ length (countedTimes step 0 levels decorrelation (moments (now roll) (now acceleration)))) × (count ≤ length (now kept) → take count (now kept) ≡ countedTimes step 0 levels decorrelation (moments (now roll) (now acceleration))) ⌝ }
-    ensures { λ r. ⌜ WritesTo (countedTimes step 0 levels decorrelation (moments (now (roll .entry)) (now (acceleration .entry)))) (now (times .entry)) r (now (times .exit)) ⌝ }
+    requires { ⌜ Ready step decorrelation start (length (now roll)) × (length (now roll) ≡ length (now acceleration))
+        × (anyBad (now roll) (now acceleration) ≡ false)
+        × (count ≡ length (countedTimes step 0 levels decorrelation (moments (now roll) (now acceleration))))
+        × (count ≤ length (now kept) → take count (now kept)
+        ≡ countedTimes step 0 levels decorrelation (moments (now roll) (now acceleration))) ⌝ }
+    ensures { λ r. ⌜ WritesTo
+        (countedTimes step 0 levels decorrelation (moments (now (roll .entry)) (now (acceleration .entry))))
+        (now (times .entry)) r (now (times .exit)) ⌝ }
 {
     if (times.len() as u64) < count {
         return Listed::Refused(Refusal::Room(count));
@@ -264,7 +284,8 @@ fn write(
     Listed::Times(count)
 }
 
-// Whether the times are written straight into a slice of so many places. Room for half as many as samples it must have; the rest is a guess, on which only the time that it takes depends.
+// Whether the times are written straight into a slice of so many places. Room for half as many as samples it must
+// have; the rest is a guess, on which only the time that it takes depends.
 fn straightway(
     step: u64,
     levels: Levels,
@@ -273,7 +294,8 @@ fn straightway(
     acceleration: &[i32],
     places: usize,
 ) -> bool
-    requires { ⌜ Ready step decorrelation start (length (now roll)) × (length (now roll) ≡ length (now acceleration)) ⌝ }
+    requires { ⌜ Ready step decorrelation start (length (now roll))
+        × (length (now roll) ≡ length (now acceleration)) ⌝ }
     ensures { λ r. ⌜ (r ≡ true → length (now (roll .entry)) ≤ 2 * places + 1) ⌝ }
 {
     let half = roll.len() / 2;
@@ -309,8 +331,10 @@ fn settle(
     kept: &[u32],
     times: &mut [u32],
 ) -> Settled
-    requires { ⌜ Ready step decorrelation start (length (now roll)) × (length (now roll) ≡ length (now acceleration)) × Heard step levels decorrelation (now roll) (now acceleration) found (now kept) ⌝ }
-    ensures { λ r. ⌜ SettlesTo step levels decorrelation (now (roll .entry)) (now (acceleration .entry)) (now (times .entry)) r (now (times .exit)) ⌝ }
+    requires { ⌜ Ready step decorrelation start (length (now roll)) × (length (now roll) ≡ length (now acceleration))
+        × Heard step levels decorrelation (now roll) (now acceleration) found (now kept) ⌝ }
+    ensures { λ r. ⌜ SettlesTo step levels decorrelation (now (roll .entry)) (now (acceleration .entry))
+        (now (times .entry)) r (now (times .exit)) ⌝ }
 {
     match found {
         Found::Bad => Settled::Spoilt,
@@ -336,8 +360,11 @@ fn walk_all(
     acceleration: &[i32],
     times: &mut [u32],
 ) -> Walk
-    requires { ⌜ Ready step decorrelation start (length (now roll)) × (length (now roll) ≡ length (now acceleration)) ⌝ }
-    ensures { λ v. ⌜ noting v (now (times .exit)) ≡ foldl (noted step levels decorrelation) (noting start (now (times .entry))) (moments (now (roll .entry)) (now (acceleration .entry))) ⌝ }
+    requires { ⌜ Ready step decorrelation start (length (now roll))
+        × (length (now roll) ≡ length (now acceleration)) ⌝ }
+    ensures { λ v. ⌜ noting v (now (times .exit))
+        ≡ foldl (noted step levels decorrelation) (noting start (now (times .entry)))
+        (moments (now (roll .entry)) (now (acceleration .entry))) ⌝ }
 {
     let mut w = start();
     let mut i = 0;
@@ -366,8 +393,10 @@ fn straight(
     acceleration: &[i32],
     times: &mut [u32],
 ) -> Settled
-    requires { ⌜ Ready step decorrelation start (length (now roll)) × (length (now roll) ≡ length (now acceleration)) × (length (now roll) ≤ 2 * length (now times) + 1) ⌝ }
-    ensures { λ r. ⌜ SettlesTo step levels decorrelation (now (roll .entry)) (now (acceleration .entry)) (now (times .entry)) r (now (times .exit)) ⌝ }
+    requires { ⌜ Ready step decorrelation start (length (now roll)) × (length (now roll) ≡ length (now acceleration))
+        × (length (now roll) ≤ 2 * length (now times) + 1) ⌝ }
+    ensures { λ r. ⌜ SettlesTo step levels decorrelation (now (roll .entry)) (now (acceleration .entry))
+        (now (times .entry)) r (now (times .exit)) ⌝ }
 {
     let look = sample_channels::look_over(roll, acceleration);
     if let Look::Bad(_) = look {
@@ -386,8 +415,10 @@ fn list_timed(
     acceleration: &[i32],
     times: &mut [u32],
 ) -> Settled
-    requires { ⌜ Ready step decorrelation start (length (now roll)) × (length (now roll) ≡ length (now acceleration)) ⌝ }
-    ensures { λ r. ⌜ SettlesTo step levels decorrelation (now (roll .entry)) (now (acceleration .entry)) (now (times .entry)) r (now (times .exit)) ⌝ }
+    requires { ⌜ Ready step decorrelation start (length (now roll))
+        × (length (now roll) ≡ length (now acceleration)) ⌝ }
+    ensures { λ r. ⌜ SettlesTo step levels decorrelation (now (roll .entry)) (now (acceleration .entry))
+        (now (times .entry)) r (now (times .exit)) ⌝ }
 {
     if straightway(step, levels, decorrelation, roll, acceleration, times.len()) {
         return straight(step, levels, decorrelation, roll, acceleration, times);
@@ -409,7 +440,8 @@ fn list_timed(
 // Refusal 2 of a record that has a bad sample, which is looked for from its start.
 fn fault(roll: &[i32], acceleration: &[i32]) -> Listed
     requires { ⌜ length (now roll) ≡ length (now acceleration) ⌝ }
-    ensures { λ r. ⌜ (anyBad (now (roll .entry)) (now (acceleration .entry)) ≡ true → r ≡ Refused (badSample (firstBad (now (roll .entry))) (firstBad (now (acceleration .entry))))) ⌝ }
+    ensures { λ r. ⌜ (anyBad (now (roll .entry)) (now (acceleration .entry)) ≡ true → r
+        ≡ Refused (badSample (firstBad (now (roll .entry))) (firstBad (now (acceleration .entry))))) ⌝ }
 {
     let look = sample_channels::look_over(roll, acceleration);
     if let Look::Bad(f) = look {
@@ -418,8 +450,8 @@ fn fault(roll: &[i32], acceleration: &[i32]) -> Listed
     Listed::Refused(Refusal::TooShort)
 }
 
-// A whole record at once: the counted times, in order, from the start of `times`, whose rest stays, and their number; or refusal 1, 12, 2, 3, 4
-// or 7 with the places needed, and `times` as it stood.
+// A whole record at once: the counted times, in order, from the start of `times`, whose rest stays, and their number;
+// or refusal 1, 12, 2, 3, 4 or 7 with the places needed, and `times` as it stood.
 pub fn list(
     step: u64,
     ramp: u64,
@@ -429,7 +461,8 @@ pub fn list(
     acceleration: &[i32],
     times: &mut [u32],
 ) -> Listed
-    ensures { λ r. ⌜ ListsTo step ramp levels decorrelation (now (roll .entry)) (now (acceleration .entry)) (now (times .entry)) r (now (times .exit)) ⌝ }
+    ensures { λ r. ⌜ ListsTo step ramp levels decorrelation (now (roll .entry)) (now (acceleration .entry))
+        (now (times .entry)) r (now (times .exit)) ⌝ }
 {
     let size = record_whole::judge(step, ramp, levels, decorrelation, roll, acceleration);
     if let Size::Refused(f) = size {

@@ -1,5 +1,5 @@
--- What follows from the relations of a sound state, whether it has a crossing or not: its items are in range, its counts are at most n, its places lie between the ramp
--- and n. Assumes nothing.
+-- What follows from the relations of a sound state, whether it has a crossing or not: its items are in range, its
+-- counts are at most n, its places lie between the ramp and n. Assumes nothing.
 use Prim.Native.Nat.{ℕ, _≤_}
 use mathlib.Core.Path.{_≡_}
 use mathlib.Core.Logic.{_⊎_, inl, inr}
@@ -34,7 +34,8 @@ crossings-below {r} k = go (k .figures)
     go (inl n) = omega (arith, n .crossings)
     go (inr f) = omega (arith, f .crossings)
 
--- the last crossing's place is not before the largest set's last, and groups are within the largest set, whether there is a crossing or not
+-- the last crossing's place is not before the largest set's last, and groups are within the largest set, whether there
+-- is a crossing or not
 pub recent-after : {r : Record} → Kept r → r .latest ≤ r .recent
 recent-after {r} k = go (k .figures)
   where

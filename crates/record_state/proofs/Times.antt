@@ -1,5 +1,6 @@
--- What closing a record may rely on: a sound state with at least R + 2 samples has its full time, and its first failure's time where it
--- failed, from 1 ms to the longest timed length. A place at most n - 1 is at most floor(10,000,000 / D) samples past R. Assumes nothing.
+-- What closing a record may rely on: a sound state with at least R + 2 samples has its full time, and its first
+-- failure's time where it failed, from 1 ms to the longest timed length. A place at most n - 1 is at most
+-- floor(10,000,000 / D) samples past R. Assumes nothing.
 use Prim.Native.Nat.{ℕ, _+_, _-_, _*_, _/_, _≤_}
 use mathlib.Core.Path.{_≡_, sym}
 use mathlib.Core.Bool.{true, false}

@@ -1,5 +1,5 @@
--- Two answers that a promise allows are the same answer: each promise says that the answer is the value of a definition at what was handed
--- in. Assumes nothing.
+-- Two answers that a promise allows are the same answer: each promise says that the answer is the value of a definition
+-- at what was handed in. Assumes nothing.
 use Prim.Native.Nat.{ℕ}
 use mathlib.Core.Path.{_≡_, sym, _∙_}
 use mathlib.Core.Bool.{Bool}

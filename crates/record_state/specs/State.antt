@@ -1,5 +1,5 @@
--- What is kept of a record between two pieces: the state of a list of samples, document 01's "Relations for 8" sentence by sentence, those that document 02's
--- [5] and [8] add, and what closing reads off a state. Assumes nothing.
+-- What is kept of a record between two pieces: the state of a list of samples, document 01's "Relations for 8" sentence
+-- by sentence, those that document 02's [5] and [8] add, and what closing reads off a state. Assumes nothing.
 use Prim.Native.Nat.{ℕ, _-_}
 use mathlib.Core.Bool.{Bool, cond, not, _&&_, _||_}
 use mathlib.Core.List.{List}
@@ -64,7 +64,8 @@ noneKept r = eqb (r .crossings) 0 && (eqb (r .largest) 0 && eqb (r .latest) 0)
 abbrev pub noGroups : Record → Bool
 noGroups r = eqb (r .recent) 0 && eqb (r .groups) 0
 
--- with one neither is 0; crossings at most n - 1 - R, its place above R and at most the largest set's last place, which is below n
+-- with one neither is 0; crossings at most n - 1 - R, its place above R and at most the largest set's last place, which
+-- is below n
 abbrev pub failureKept : Record → Bool
 failureKept r =
     leb 1 (r .largest) && (leb (r .crossings) (r .n - 1 - r .ramp) && (ltb (r .ramp) (r .first) && (leb (r .first) (r .latest) && ltb (r .latest) (r .n))))

@@ -1,17 +1,20 @@
-// A record: two channels of samples at a fixed step, roll and acceleration, with a level each, a ramp and a decorrelation time; what is kept of it between two pieces, and its opening.
-// A state goes in by value and comes back in an answer, so a refusal leaves the caller's as it stood.
+// A record: two channels of samples at a fixed step, roll and acceleration, with a level each, a ramp and a
+// decorrelation time; what is kept of it between two pieces, and its opening. A state goes in by value and comes back
+// in an answer, so a refusal leaves the caller's as it stood.
 ghost use mathlib.Core.Path.{_≡_};
 ghost use mathlib.Core.List.{[]};
 ghost use Prim.Native.Nat.{_-_};
 ghost use Rattle.sample_channels.specs.Channels.{inRange};
-ghost use Rattle.record_state.specs.State.{stateOf, isStill, lastKept, noneKept, noGroups, failureKept, groupsKept, figuresKept, sound};
+ghost use Rattle.record_state.specs.State.{stateOf, isStill, lastKept, noneKept, noGroups, failureKept};
+ghost use Rattle.record_state.specs.State.{groupsKept, figuresKept, sound};
 ghost use Rattle.record_state.specs.Answers.{opened};
 use refusal::Refusal;
 use sample_channels::Levels;
 use sample_channels::Moment;
 
-// The items, how many samples came and the last of both channels, and the figures so far: the crossings, the largest set of them, the groups. `first`, `latest` and
-// `recent` are places of samples, those of the first crossing, of the largest set's last and of the last crossing; places without a meaning yet hold 0.
+// The items, how many samples came and the last of both channels, and the figures so far: the crossings, the largest
+// set of them, the groups. `first`, `latest` and `recent` are places of samples, those of the first crossing, of the
+// largest set's last and of the last crossing; places without a meaning yet hold 0.
 pub struct Record {
     pub step: u64,
     pub ramp: u64,

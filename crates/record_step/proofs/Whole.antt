@@ -1,5 +1,5 @@
--- The state that the samples lead to one by one is the state of the whole list. From any state r, the samples ys with the crossings cs
--- among them lead to `finish r ys cs` (`whole`, by induction on ys). Assumes nothing.
+-- The state that the samples lead to one by one is the state of the whole list. From any state r, the samples ys with
+-- the crossings cs among them lead to `finish r ys cs` (`whole`, by induction on ys). Assumes nothing.
 use Prim.Native.Nat.{ℕ, _+_, _-_}
 use mathlib.Core.Path.{_≡_, refl, sym, ap, _∙_}
 use mathlib.Core.Bool.{Bool, true, false, cond, _||_}

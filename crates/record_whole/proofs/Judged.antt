@@ -1,5 +1,5 @@
--- What the answer tells its caller: a refusal is that of the tests; a record that fits has its items in range, slices of equal length, and so many samples.
--- Assumes nothing.
+-- What the answer tells its caller: a refusal is that of the tests; a record that fits has its items in range, slices
+-- of equal length, and so many samples. Assumes nothing.
 use Prim.Native.Nat.{ℕ, _+_, _≤_, _<_}
 use mathlib.Core.Path.{_≡_, refl}
 use mathlib.Core.Bool.{Bool, true, false, cond, not, _&&_}

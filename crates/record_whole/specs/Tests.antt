@@ -1,4 +1,5 @@
--- Document 01, "Refusal numbers", with document 02's [8]: a whole record at once, xs of the roll and ys of the acceleration, is tested for 1, 12, 2, 3, 4, in that order. Assumes nothing.
+-- Document 01, "Refusal numbers", with document 02's [8]: a whole record at once, xs of the roll and ys of the
+-- acceleration, is tested for 1, 12, 2, 3, 4, in that order. Assumes nothing.
 use Prim.Native.Nat.{ℕ, _+_}
 use mathlib.Core.Bool.{Bool, cond, not, _&&_}
 use mathlib.Core.List.{List}

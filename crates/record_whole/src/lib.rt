@@ -19,7 +19,9 @@ pub enum Size {
 // 2 for a record with a bad sample; else what its length is refused by.
 fn fault(roll: &[i32], acceleration: &[i32], long: bool) -> Size
     requires { ⌜ length (now roll) ≡ length (now acceleration) ⌝ }
-    ensures { λ r. ⌜ r ≡ cond (anyBad (now (roll .entry)) (now (acceleration .entry))) (Refused (badSample (firstBad (now (roll .entry))) (firstBad (now (acceleration .entry))))) (cond long (Refused TooLong) (Refused TooShort)) ⌝ }
+    ensures { λ r. ⌜ r ≡ cond (anyBad (now (roll .entry)) (now (acceleration .entry)))
+        (Refused (badSample (firstBad (now (roll .entry))) (firstBad (now (acceleration .entry)))))
+        (cond long (Refused TooLong) (Refused TooShort)) ⌝ }
 {
     let look = sample_channels::look_over(roll, acceleration);
     if let Look::Bad(f) = look {
@@ -32,8 +34,8 @@ fn fault(roll: &[i32], acceleration: &[i32], long: bool) -> Size
     }
 }
 
-// Refusal 1, then 12; for a record that is too long or too short 2, which goes before them, then 3 or 4; else that it fits, with no sample looked at yet, so that
-// who reads the samples next looks for a bad one on the way.
+// Refusal 1, then 12; for a record that is too long or too short 2, which goes before them, then 3 or 4; else that it
+// fits, with no sample looked at yet, so that who reads the samples next looks for a bad one on the way.
 pub fn judge(
     step: u64,
     ramp: u64,

@@ -2,7 +2,10 @@
 use Prim.Native.Nat.{_<_}
 use native.Mathlib.Omega.{arith}
 use Rattle.refusal.specs.declared.Refusal.{Refusal}
-use Rattle.refusal.specs.declared.Refusal.the-variants.{Item, Sample, TooLong, TooShort, CampaignFull, RowsUsedUp, Room, BrokenState, Line, CommaLine, SumFull, Unequal, NoBureau, BureauFull, NotItsOwn, Tail, Peak, Situations, Situation, Acceleration}
+use Rattle.refusal.specs.declared.Refusal.the-variants.{Item, Sample, TooLong, TooShort, CampaignFull, RowsUsedUp}
+use Rattle.refusal.specs.declared.Refusal.the-variants.{Room, BrokenState, Line, CommaLine, SumFull, Unequal}
+use Rattle.refusal.specs.declared.Refusal.the-variants.{NoBureau, BureauFull, NotItsOwn, Tail, Peak, Situations}
+use Rattle.refusal.specs.declared.Refusal.the-variants.{Situation, Acceleration}
 use Rattle.refusal.specs.Numbers.{numberOf}
 
 pub number-small : (r : Refusal) → numberOf r < 100

@@ -1,6 +1,7 @@
--- Two refusals with the same number, value and channel are the same refusal, so a promise that settles these settles the refusal.
--- The pairs of cases need no telling apart: `from` makes the refusal out of them. Number 8 has two cases, which the value tells apart, since situations are counted
--- from 1; number 2 has two, which the channel tells apart. Assumes nothing.
+-- Two refusals with the same number, value and channel are the same refusal, so a promise that settles these settles
+-- the refusal. The pairs of cases need no telling apart: `from` makes the refusal out of them. Number 8 has two cases,
+-- which the value tells apart, since situations are counted from 1; number 2 has two, which the channel tells apart.
+-- Assumes nothing.
 use mathlib.Core.Path.{_≡_, refl, sym, _∙_}
 use mathlib.Core.Bool.{cond}
 use Prim.Native.Nat.{ℕ, _≤_}
@@ -8,7 +9,10 @@ use native.Mathlib.Omega.{arith}
 use lib.Dec.{eqb}
 use borrow.Author.Tests.{ne-eqb}
 use Rattle.refusal.specs.declared.Refusal.{Refusal}
-use Rattle.refusal.specs.declared.Refusal.the-variants.{Item, Sample, TooLong, TooShort, CampaignFull, RowsUsedUp, Room, BrokenState, Line, CommaLine, SumFull, Unequal, NoBureau, BureauFull, NotItsOwn, Tail, Peak, Situations, Situation, Acceleration}
+use Rattle.refusal.specs.declared.Refusal.the-variants.{Item, Sample, TooLong, TooShort, CampaignFull, RowsUsedUp}
+use Rattle.refusal.specs.declared.Refusal.the-variants.{Room, BrokenState, Line, CommaLine, SumFull, Unequal}
+use Rattle.refusal.specs.declared.Refusal.the-variants.{NoBureau, BureauFull, NotItsOwn, Tail, Peak, Situations}
+use Rattle.refusal.specs.declared.Refusal.the-variants.{Situation, Acceleration}
 use Rattle.refusal.specs.Numbers.{numberOf, valueOf, channelOf}
 
 -- the refusal of a number, a value and a channel, row by row

@@ -1,7 +1,11 @@
--- Document 01, "Refusal numbers", and document 02: the number of each refusal, and what is returned with it. Assumes nothing.
+-- Document 01, "Refusal numbers", and document 02: the number of each refusal, and what is returned with it. Assumes
+-- nothing.
 use Prim.Native.Nat.{ℕ}
 use Rattle.refusal.specs.declared.Refusal.{Refusal}
-use Rattle.refusal.specs.declared.Refusal.the-variants.{Item, Sample, TooLong, TooShort, CampaignFull, RowsUsedUp, Room, BrokenState, Line, CommaLine, SumFull, Unequal, NoBureau, BureauFull, NotItsOwn, Tail, Peak, Situations, Situation, Acceleration}
+use Rattle.refusal.specs.declared.Refusal.the-variants.{Item, Sample, TooLong, TooShort, CampaignFull, RowsUsedUp}
+use Rattle.refusal.specs.declared.Refusal.the-variants.{Room, BrokenState, Line, CommaLine, SumFull, Unequal}
+use Rattle.refusal.specs.declared.Refusal.the-variants.{NoBureau, BureauFull, NotItsOwn, Tail, Peak, Situations}
+use Rattle.refusal.specs.declared.Refusal.the-variants.{Situation, Acceleration}
 
 -- the column "No."
 abbrev pub numberOf : Refusal → ℕ
@@ -49,7 +53,8 @@ valueOf Situations = 0
 valueOf (Situation k) = k
 valueOf (Acceleration p) = p
 
--- the channel that document 02, [8], names with 2: 1 for the roll, or the only one, 2 for the acceleration; 0 stands for nothing
+-- the channel that document 02, [8], names with 2: 1 for the roll, or the only one, 2 for the acceleration; 0 stands
+-- for nothing
 abbrev pub channelOf : Refusal → ℕ
 channelOf (Item i) = 0
 channelOf (Sample p) = 1

@@ -1,5 +1,5 @@
-// The refusals of documents 01 and 02: a case for each of their refusal numbers, with what is returned beside the number.
-// An enum and no bare number, so that a refusal cannot be made without the value that belongs to it.
+// The refusals of documents 01 and 02: a case for each of their refusal numbers, with what is returned beside the
+// number. An enum and no bare number, so that a refusal cannot be made without the value that belongs to it.
 ghost use mathlib.Core.Path.{_≡_};
 ghost use Rattle.refusal.specs.Numbers.{numberOf, valueOf, channelOf};
 
@@ -102,7 +102,8 @@ pub fn carried(r: Refusal) -> u64
     }
 }
 
-// The channel in which a sample is outside its range: 1 for the roll, or the only one, 2 for the acceleration; 0 for any other refusal.
+// The channel in which a sample is outside its range: 1 for the roll, or the only one, 2 for the acceleration; 0 for
+// any other refusal.
 pub fn channel(r: Refusal) -> u64
     ensures { λ k. ⌜ k ≡ channelOf r ⌝ }
 {

@@ -1,6 +1,7 @@
-// Two bureaus work through document 003's campaign side by side at one table (document 02, [9]): bureau 1 at one failure in two hours, bureau 2 at one in ten
-// minutes. A line for each record has the record's number and what each bureau is told of its own campaign after it; before and after stand the calls that one
-// bureau must not disturb the other with. bin/tally has bureau 1's column from examples/issw2022.sheet.
+// Two bureaus work through document 003's campaign side by side at one table (document 02, [9]): bureau 1 at one
+// failure in two hours, bureau 2 at one in ten minutes. A line for each record has the record's number and what each
+// bureau is told of its own campaign after it; before and after stand the calls that one bureau must not disturb the
+// other with. bin/tally has bureau 1's column from examples/issw2022.sheet.
 ghost use Prim.Native.Nat.{_<_};
 use bureau_table::Answer;
 use bureau_table::Ask;

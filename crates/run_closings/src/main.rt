@@ -1,6 +1,6 @@
-// Document 01's cases of a campaign, run through the code: a row of the table for each, and a line for each row. J and K are weighed on both sides of their
-// edge; the others end
-// records, show their results and enter them, until a refusal. D = 500, a = 40,000. demands_slate has J and K of the definitions.
+// Document 01's cases of a campaign, run through the code: a row of the table for each, and a line for each row. J
+// and K are weighed on both sides of their edge; the others end records, show their results and enter them, until a
+// refusal. D = 500, a = 40,000. demands_slate has J and K of the definitions.
 use campaign_state::Answer;
 use campaign_state::Campaign;
 use campaign_verdict::Counted;
@@ -14,8 +14,9 @@ use refusal::Refusal;
 use sample_channels::Levels;
 use sample_channels::Moment;
 
-// Of each row: the campaign's standard, M, N, T, and 1 if the last record failed; a campaign without a record is opened. Then a record, by its
-// number (`numbered`), and how often its result is entered; the number of one record more, 8 for an outcome told by hand, 9 for none; and that one's exposure.
+// Of each row: the campaign's standard, M, N, T, and 1 if the last record failed; a campaign without a record is
+// opened. Then a record, by its number (`numbered`), and how often its result is entered; the number of one record
+// more, 8 for an outcome told by hand, 9 for none; and that one's exposure.
 const ROWS: [[u64; 9]; 23] = [
     // J and K, and one ms more of each
     [7_200_000, 3, 0, 26_559_936, 0, 0, 0, 9, 0],

@@ -1,5 +1,6 @@
-// Document 01's marked cases A to H and the other cases that it names for a record, and cases of both channels, run through the code: a row of the table for each, and a line for each
-// row. demands_slate has A to H of the definitions.
+// Document 01's marked cases A to H and the other cases that it names for a record, and cases of both channels, run
+// through the code: a row of the table for each, and a line for each row. demands_slate has A to H of the
+// definitions.
 use record_list::Listed;
 use record_state::Answer;
 use record_state::Record;
@@ -7,8 +8,9 @@ use refusal::Refusal;
 use sample_channels::Levels;
 use sample_channels::Moment;
 
-// Of each row: step, ramp, the roll's level, decorrelation time; how often the first piece is fed, its samples, and all samples of the row, which the second piece ends;
-// the places lent for the times; the roll's row of SAMPLES; the acceleration's level and its row, of which row 6 has zeros for a one-channel job.
+// Of each row: step, ramp, the roll's level, decorrelation time; how often the first piece is fed, its samples, and
+// all samples of the row, which the second piece ends; the places lent for the times; the roll's row of SAMPLES; the
+// acceleration's level and its row, of which row 6 has zeros for a one-channel job.
 const ROWS: [[u64; 11]; 44] = [
     // A to H
     [500, 0, 40000, 2000, 1, 7, 7, 3, 0, 9810, 6],

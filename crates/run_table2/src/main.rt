@@ -1,6 +1,7 @@
-// Document 003's first procedure: Table 1's intervals between failures, read down its columns and cut into records of 1,800 s, entered one by one. After
-// each record a line as in Table 2: M, N, N*, T in ms, the estimate, the upper and the lower rate in 1/s. The rates are the f64s that `rates` answers,
-// printed to four digits by `four_digits`, which would print any rate of any campaign.
+// Document 003's first procedure: Table 1's intervals between failures, read down its columns and cut into records of
+// 1,800 s, entered one by one. After each record a line as in Table 2: M, N, N*, T in ms, the estimate, the upper and
+// the lower rate in 1/s. The rates are the f64s that `rates` answers, printed to four digits by `four_digits`, which
+// would print any rate of any campaign.
 use campaign_state::Answer;
 use campaign_state::Campaign;
 use campaign_verdict::Counted;
@@ -128,8 +129,8 @@ fn write_thousandths(n: u64) {
     write_number(n % 10);
 }
 
-// A rate above 0 to four digits, rounded to nearest: ten times the number, exactly, until its whole part has four digits; then up if the fraction is a half
-// or more.
+// A rate above 0 to four digits, rounded to nearest: ten times the number, exactly, until its whole part has four
+// digits; then up if the fraction is a half or more.
 fn four_digits(rate: f64)
     requires { ⌜ T (not (isNan rate)) ⌝ }
 {

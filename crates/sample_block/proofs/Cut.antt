@@ -1,5 +1,5 @@
--- A list cut in blocks: a block that starts within the list is not empty and ends within it, at most 64 samples on, and the samples from i on are the block from i to e and the
--- samples from e on. Assumes nothing.
+-- A list cut in blocks: a block that starts within the list is not empty and ends within it, at most 64 samples on, and
+-- the samples from i on are the block from i to e and the samples from e on. Assumes nothing.
 use Prim.Native.Nat.{ℕ, _+_, _-_, _≤_, _<_}
 use mathlib.Core.Path.{_≡_, refl, sym, ap, _∙_}
 use mathlib.Core.Bool.{Bool, true, false, cond}

@@ -1,4 +1,5 @@
--- Where no sample is above the level, the first is not, none of the others, and the one at a place is not. Assumes nothing.
+-- Where no sample is above the level, the first is not, none of the others, and the one at a place is not. Assumes
+-- nothing.
 use Prim.Native.Nat.{ℕ, zero, suc, _+_, _-_, _≤_, _<_}
 use mathlib.Core.Path.{_≡_, refl, sym, ap, _∙_}
 use mathlib.Core.Bool.{Bool, true, false, _||_}

@@ -1,5 +1,5 @@
--- The ends of samples say whether one of them is above a level: the lowest end grows deeper by samples below 0 alone, the highest by the others. Assumes
--- nothing.
+-- The ends of samples say whether one of them is above a level: the lowest end grows deeper by samples below 0 alone,
+-- the highest by the others. Assumes nothing.
 use Prim.Native.Nat.{ℕ, zero, suc}
 use mathlib.Core.Path.{_≡_, refl, sym, ap, _∙_}
 use mathlib.Core.Bool.{Bool, true, false, cond, _||_}

@@ -1,11 +1,13 @@
-// A block of samples that are looked at together: where it stops, and its two ends, the lowest sample and the highest, which say whether one of its samples is
-// above a level or out of range. Where none is above the level, nothing of the block crosses it, and a pass over samples goes on behind it.
+// A block of samples that are looked at together: where it stops, and its two ends, the lowest sample and the
+// highest, which say whether one of its samples is above a level or out of range. Where none is above the level,
+// nothing of the block crosses it, and a pass over samples goes on behind it.
 ghost use mathlib.Core.Path.{_≡_};
 ghost use mathlib.Core.Bool.{cond, _||_};
 ghost use Rattle.sample_size.specs.Above.{above};
 ghost use Rattle.sample_block.specs.Block.{blockEnd, lowest, highest, anyAbove};
 
-// Enough samples to be worth it; few enough that one above the level costs little, and that a processor fetches the next block while it steps through this one.
+// Enough samples to be worth it; few enough that one above the level costs little, and that a processor fetches the
+// next block while it steps through this one.
 pub const BLOCK: usize = 64;
 
 // Where the block that starts at i ends, of n samples.
@@ -31,7 +33,8 @@ fn chosen(b: bool, x: i32, y: i32) -> i32
     if b { x } else { y }
 }
 
-// The ends of the samples. It looks at every sample once, and compares numbers of 32 bits, which lets a machine take several at once.
+// The ends of the samples. It looks at every sample once, and compares numbers of 32 bits, which lets a machine take
+// several at once.
 pub fn ends_of(samples: &[i32]) -> Ends
     ensures { λ r. ⌜ r .lowest ≡ lowest (now (samples .entry)) ⌝ }
     ensures { λ r. ⌜ r .highest ≡ highest (now (samples .entry)) ⌝ }

@@ -1,4 +1,5 @@
--- A block of both channels, from i to e: its moments are those of the record, and whether a sample of it is bad is told of the record. Assumes nothing.
+-- A block of both channels, from i to e: its moments are those of the record, and whether a sample of it is bad is told
+-- of the record. Assumes nothing.
 use Prim.Native.Nat.{ℕ, _+_, _-_, _≤_, _<_}
 use mathlib.Core.Path.{_≡_, refl, sym, ap, _∙_}
 use mathlib.Core.Bool.{Bool, true, false, _||_}

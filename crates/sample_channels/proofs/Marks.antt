@@ -1,4 +1,5 @@
--- What is noted of a block's samples (`sample_channels::mark`): all of them, where there is room, and what stands at a place. Assumes nothing.
+-- What is noted of a block's samples (`sample_channels::mark`): all of them, where there is room, and what stands at a
+-- place. Assumes nothing.
 use Prim.Native.Nat.{ℕ, _+_, _≤_, min}
 use mathlib.Core.Path.{_≡_, sym, ap, _∙_}
 use mathlib.Core.Bool.{Bool, false}

@@ -1,4 +1,5 @@
--- The samples of two slices side by side: their number, the one at a place, a part of them, and a cut of both at the same place; and that none is out of range. Assumes nothing.
+-- The samples of two slices side by side: their number, the one at a place, a part of them, and a cut of both at the
+-- same place; and that none is out of range. Assumes nothing.
 use Prim.Native.Nat.{ℕ, zero, suc, _+_, _≤_, _<_, min}
 use mathlib.Core.Path.{_≡_, refl, ap}
 use mathlib.Core.Logic.{_⊎_, inl, inr}

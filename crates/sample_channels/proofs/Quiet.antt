@@ -1,4 +1,5 @@
--- Where no sample of either channel is above its level, no moment is; and the ends of both channels' blocks say so. Assumes nothing.
+-- Where no sample of either channel is above its level, no moment is; and the ends of both channels' blocks say so.
+-- Assumes nothing.
 use Prim.Native.Nat.{ℕ, _-_, _≤_, _<_}
 use mathlib.Core.Path.{_≡_, refl}
 use mathlib.Core.Bool.{Bool, true, false, _||_}

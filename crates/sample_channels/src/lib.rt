@@ -1,12 +1,14 @@
-// Roll and acceleration watched together: the levels of the two channels, what both show at one sample, whether that is above, whether anything of a block is, and which bad sample refusal 2
-// names. The slices of the two channels are looked at side by side, as far as both go.
+// Roll and acceleration watched together: the levels of the two channels, what both show at one sample, whether that
+// is above, whether anything of a block is, and which bad sample refusal 2 names. The slices of the two channels are
+// looked at side by side, as far as both go.
 ghost use mathlib.Core.Path.{_≡_};
 ghost use mathlib.Core.Bool.{cond, not, _||_};
 ghost use mathlib.Core.List.{map};
 ghost use Prim.Native.Nat.{_<_, min};
 ghost use lib.ListN.{getD, length};
 ghost use lib.Seq.{paste};
-ghost use Rattle.sample_channels.specs.Channels.{still, above, moments, pastEnds, outsideEnds, anyAbove, badSample, looked};
+ghost use Rattle.sample_channels.specs.Channels.{still, above, moments, pastEnds, outsideEnds, anyAbove};
+ghost use Rattle.sample_channels.specs.Channels.{badSample, looked};
 ghost use Rattle.refusal.specs.declared.Refusal.the-variants.{Sample, Acceleration};
 use refusal::Refusal;
 use sample_block::Ends;
@@ -100,9 +102,12 @@ fn fewer(m: usize, n: usize) -> usize
     if m < n { m } else { n }
 }
 
-// Notes of each sample of both channels whether one of them is above its level, from the start of `ups`, as far as it goes; the rest of it stays. A machine looks at several at once.
+// Notes of each sample of both channels whether one of them is above its level, from the start of `ups`, as far as it
+// goes; the rest of it stays. A machine looks at several at once.
 pub fn mark(levels: Levels, roll: &[i32], acceleration: &[i32], ups: &mut [bool])
-    ensures { λ u. ⌜ now (ups .exit) ≡ paste (now (ups .entry)) 0 (map (above levels) (moments (now (roll .entry)) (now (acceleration .entry)))) (min (length (now (ups .entry))) (length (moments (now (roll .entry)) (now (acceleration .entry))))) ⌝ }
+    ensures { λ u. ⌜ now (ups .exit)
+        ≡ paste (now (ups .entry)) 0 (map (above levels) (moments (now (roll .entry)) (now (acceleration .entry))))
+        (min (length (now (ups .entry))) (length (moments (now (roll .entry)) (now (acceleration .entry))))) ⌝ }
 {
     let n = fewer(ups.len(), fewer(roll.len(), acceleration.len()));
     let mut i = 0;

@@ -1,4 +1,5 @@
--- Document 01, "Numbers a job may carry", with document 02's [8]: items 1 to 4 and 6, and the timed length. Assumes nothing.
+-- Document 01, "Numbers a job may carry", with document 02's [8]: items 1 to 4 and 6, and the timed length. Assumes
+-- nothing.
 use Prim.Native.Nat.{ℕ, _+_, _/_}
 use mathlib.Core.Bool.{Bool, cond, not, _&&_}
 use lib.Dec.{leb}

@@ -1,4 +1,5 @@
-// Document 01, "Numbers a job may carry", with document 02's [8]: the five items that open a record, and how many samples it may have.
+// Document 01, "Numbers a job may carry", with document 02's [8]: the five items that open a record, and how many
+// samples it may have.
 ghost use mathlib.Core.Path.{_≡_};
 ghost use Rattle.sample_items.specs.Limits.{within, itemOutside, mostInRange};
 use sample_channels::Levels;

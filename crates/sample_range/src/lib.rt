@@ -36,7 +36,8 @@ fn first_of(block: &[i32]) -> usize
     i
 }
 
-// The place of the first sample outside its range, the length if there is none. Block by block, so that samples in range are passed over by their ends.
+// The place of the first sample outside its range, the length if there is none. Block by block, so that samples in
+// range are passed over by their ends.
 pub fn first_bad(samples: &[i32]) -> usize
     ensures { λ r. ⌜ r ≡ firstBad (now (samples .entry)) ⌝ }
 {

@@ -1,5 +1,5 @@
-// The size of a sample without its sign, and whether it is above a level. Here signed numbers end: all that stands on this crate
-// compares whole numbers.
+// The size of a sample without its sign, and whether it is above a level. Here signed numbers end: all that stands on
+// this crate compares whole numbers.
 ghost use mathlib.Core.Path.{_≡_};
 ghost use Prim.Native.Nat.{min};
 ghost use lib.IntN.{natAbs};
@@ -17,7 +17,8 @@ pub fn magnitude(x: i32) -> u32
     }
 }
 
-// The level in 32 bits; where it has more, their most, which no magnitude is above either. A loop over samples then compares numbers of 32 bits, several at once.
+// The level in 32 bits; where it has more, their most, which no magnitude is above either. A loop over samples then
+// compares numbers of 32 bits, several at once.
 fn narrow(level: u64) -> u32
     ensures { λ r. ⌜ r ≡ min level 4294967295 ⌝ }
 {

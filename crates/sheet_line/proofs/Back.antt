@@ -1,6 +1,6 @@
--- Reading and writing are inverse. `read-back`: the digits of a number below ten to the 12, in any text and followed by a tab, LF or the
--- end, read as that number. `read-only`: a field that reads as a number is its digits and nothing else, so that no two texts read as one
--- number. Assumes nothing.
+-- Reading and writing are inverse. `read-back`: the digits of a number below ten to the 12, in any text and followed by
+-- a tab, LF or the end, read as that number. `read-only`: a field that reads as a number is its digits and nothing
+-- else, so that no two texts read as one number. Assumes nothing.
 use mathlib.Core.Path.{_≡_, refl, sym, ap, _∙_}
 use mathlib.Core.Bool.{Bool, true, false, false≢true}
 use mathlib.Core.List.{List, [], _∷_, _++_}

@@ -1,5 +1,5 @@
--- What a line that is taken says, and which line a refusal names. A record's line is its number, flag and exposure and nothing else, and it enters
--- the campaign as `telling` says; so does line 1 open it. Assumes nothing.
+-- What a line that is taken says, and which line a refusal names. A record's line is its number, flag and exposure and
+-- nothing else, and it enters the campaign as `telling` says; so does line 1 open it. Assumes nothing.
 use Prim.Native.Nat.{ℕ, _+_, _≤_, _<_}
 use mathlib.Core.Path.{_≡_, refl, subst}
 use mathlib.Core.List.{List}

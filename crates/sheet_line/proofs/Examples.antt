@@ -1,5 +1,5 @@
--- The definitions at work, as one table: texts that a clerk could type, and what each reads as; and 01's last exposure, written. It
--- computes, so that a slip in a definition shows here. Assumes nothing.
+-- The definitions at work, as one table: texts that a clerk could type, and what each reads as; and 01's last exposure,
+-- written. It computes, so that a slip in a definition shows here. Assumes nothing.
 use mathlib.Core.Path.{_≡_, refl}
 use mathlib.Core.List.{List, [], _∷_, map}
 use Prim.Native.Nat.{ℕ}

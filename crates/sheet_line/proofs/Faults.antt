@@ -1,4 +1,5 @@
--- Laws of what is wrong with a field: its digits go up to the first byte that is none, which ends the field or is strange in it. Assumes nothing.
+-- Laws of what is wrong with a field: its digits go up to the first byte that is none, which ends the field or is
+-- strange in it. Assumes nothing.
 use mathlib.Core.Path.{_≡_, refl, sym, _∙_}
 use mathlib.Core.Bool.{true, false, true≢false}
 use mathlib.Core.List.{List, [], _∷_}

@@ -1,4 +1,5 @@
--- What a line that was taken is, byte for byte: a field that reads as a number is that number's digits and the byte behind them. Assumes nothing.
+-- What a line that was taken is, byte for byte: a field that reads as a number is that number's digits and the byte
+-- behind them. Assumes nothing.
 use Prim.Native.Nat.{ℕ, _+_, _^_, _<_}
 use mathlib.Core.Path.{_≡_, refl, sym, ap, _∙_}
 use mathlib.Core.Bool.{true, false≢true}

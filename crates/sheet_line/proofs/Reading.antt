@@ -1,5 +1,6 @@
--- Laws of a field's reading. The reader takes the digits that a text starts with, 12 at most, and looks at what comes after them: either
--- the field ends there, and is those digits, or the byte there makes it no number, being no digit or the 13th. Assumes nothing.
+-- Laws of a field's reading. The reader takes the digits that a text starts with, 12 at most, and looks at what comes
+-- after them: either the field ends there, and is those digits, or the byte there makes it no number, being no digit or
+-- the 13th. Assumes nothing.
 use mathlib.Core.Path.{_≡_, refl}
 use mathlib.Core.Bool.{Bool, true, false, not, _&&_, and-false, true≢false}
 use mathlib.Core.List.{List, [], _∷_}

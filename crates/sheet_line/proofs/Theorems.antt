@@ -1,6 +1,7 @@
--- A sheet's lines and results do the same. A line that is taken is a record number, a flag and an exposure, and any result with that failure and that exposure
--- enters to the same campaign (`line-results`); the line of a record that was ended is never malformed, and comes to what entering its result answers, refusals
--- and all (`result-line`). So is line 1 of a standard never malformed, and comes to what opening answers (`standard-back`). Assumes nothing.
+-- A sheet's lines and results do the same. A line that is taken is a record number, a flag and an exposure, and any
+-- result with that failure and that exposure enters to the same campaign (`line-results`); the line of a record that
+-- was ended is never malformed, and comes to what entering its result answers, refusals and all (`result-line`). So is
+-- line 1 of a standard never malformed, and comes to what opening answers (`standard-back`). Assumes nothing.
 use Prim.Native.Nat.{ℕ, _+_, _-_, _^_, _≤_, _<_}
 use mathlib.Core.Path.{_≡_, refl, ap, _∙_}
 use mathlib.Core.Bool.{Bool, true, false, cond}

@@ -1,5 +1,6 @@
--- Document 02, request 10: the column of what is wrong with a line, in bytes, 1 for the first. Where the line as a whole is at fault it is 0, and that is
--- judged first; else it is that of the first bad field from the left. Assumes nothing.
+-- Document 02, request 10: the column of what is wrong with a line, in bytes, 1 for the first. Where the line as a
+-- whole is at fault it is 0, and that is judged first; else it is that of the first bad field from the left. Assumes
+-- nothing.
 use Prim.Native.Nat.{ℕ, suc, _+_, _-_, _^_}
 use mathlib.Core.Bool.{Bool, cond, _&&_}
 use mathlib.Core.List.{List, [], _∷_}
@@ -26,8 +27,8 @@ abbrev pub isWhole : ℕ → List ℕ → Bool
 isWhole tabs line = isLine line && isParted tabs line
 
 -- ---- a field at a place
--- 0 for a number from `low` to `high`. Else that of the first strange byte, else that of the field's first byte, or of the place where an empty field
--- should start
+-- 0 for a number from `low` to `high`. Else that of the first strange byte, else that of the field's first byte, or of
+-- the place where an empty field should start
 abbrev pub columnIn : ℕ → ℕ → ℕ → Field → ℕ
 columnIn low high at (Number v next) = cond (leb low v && leb v high) 0 (at + 1)
 columnIn low high at (Strange place) = place + 1

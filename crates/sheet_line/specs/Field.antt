@@ -28,8 +28,8 @@ unfoldable pub strangeIn : List ℕ → ℕ
 strangeIn [] = 0
 strangeIn (b ∷ text) = cond (isDigit b) (suc (strangeIn text)) 0
 
--- what is wrong with a field that is no number, by document 02, request 10, in this order: it is empty, has a strange byte (the first one's place is
--- told), has a leading zero, or is too long
+-- what is wrong with a field that is no number, by document 02, request 10, in this order: it is empty, has a strange
+-- byte (the first one's place is told), has a leading zero, or is too long
 unfoldable pub faultIn : List ℕ → ℕ → Field
 faultIn field at =
     cond (eqb (length field) 0) Empty
@@ -37,7 +37,8 @@ faultIn field at =
     (cond (leadingZero field) LeadingZero
     TooLong))
 
--- what a field that starts at a place reads as: its number and the place of the byte that ended it, or what is wrong with it
+-- what a field that starts at a place reads as: its number and the place of the byte that ended it, or what is wrong
+-- with it
 unfoldable pub readAs : List ℕ → ℕ → Field
 readAs field at = cond (isNumber field) (Number (valueOf field) (at + length field)) (faultIn field at)
 

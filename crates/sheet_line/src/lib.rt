@@ -1,7 +1,7 @@
-// One line of a job sheet, by document 01's section of that name: a field read as a number, the line taken apart field by
-// field, and the record entered into the campaign. By document 02, request 10, a line that is none of a sheet's has the
-// column at which it is at fault. Where the reading stands goes in by value and comes back in the answer; the line's number
-// follows from the campaign's records.
+// One line of a job sheet, by document 01's section of that name: a field read as a number, the line taken apart
+// field by field, and the record entered into the campaign. By document 02, request 10, a line that is none of a
+// sheet's has the column at which it is at fault. Where the reading stands goes in by value and comes back in the
+// answer; the line's number follows from the campaign's records.
 ghost use mathlib.Core.Path.{_≡_};
 ghost use mathlib.Core.Bool.{false, true};
 ghost use Prim.Native.Nat.{_+_, _≤_};
@@ -9,9 +9,11 @@ ghost use lib.ListN.{drop, length};
 ghost use Rattle.decimal.specs.Decimal.{isNumber};
 ghost use Rattle.sheet_line.specs.Field.{endsHere, fieldAt, fieldOf, strangeIn};
 ghost use Rattle.sheet_line.specs.Form.{longestLine, isLine, begins};
-ghost use Rattle.sheet_line.specs.Column.{howMany, isParted, columnIn, behind, standardFields, recordFields, standardColumn, recordColumn};
+ghost use Rattle.sheet_line.specs.Column.{howMany, isParted, columnIn, behind, standardFields, recordFields};
+ghost use Rattle.sheet_line.specs.Column.{standardColumn, recordColumn};
 ghost use Rattle.campaign_state.specs.State.{sound};
-ghost use Rattle.sheet_line.specs.Line.{fieldThen, lineAfter, malformed, outcome, standardLine, recordLine, stepping, telling};
+ghost use Rattle.sheet_line.specs.Line.{fieldThen, lineAfter, malformed, outcome, standardLine, recordLine};
+ghost use Rattle.sheet_line.specs.Line.{stepping, telling};
 use campaign_state::Answer;
 use campaign_state::Campaign;
 use record_end::Outcome;
@@ -59,7 +61,8 @@ pub fn number_at(s: &[u8], at: usize) -> Field
     Field::Number(run.value, end)
 }
 
-// What is wrong with the field of `s` that starts at `at` and is no number. It is looked for anew, so that a number is not kept waiting.
+// What is wrong with the field of `s` that starts at `at` and is no number. It is looked for anew, so that a number
+// is not kept waiting.
 fn fault_at(s: &[u8], at: usize) -> Field
     requires { ⌜ isNumber (fieldOf (drop at (now s))) ≡ false ⌝ }
     ensures { λ r. ⌜ r ≡ fieldAt (now (s .entry)) at ⌝ }
@@ -385,7 +388,8 @@ fn outcome(line: u64, a: Answer) -> Step
 }
 
 impl Sheet {
-    // Takes the sheet's next line, its LF with it; or refuses it: 9; line 1: 1; later lines: 4, 3, 5, 6. A broken campaign is 8.
+    // Takes the sheet's next line, its LF with it; or refuses it: 9; line 1: 1; later lines: 4, 3, 5, 6. A broken
+    // campaign is 8.
     pub fn line(self, text: &[u8]) -> Step
         ensures { λ r. ⌜ r ≡ stepping self (now (text .entry)) ⌝ }
     {

@@ -1,5 +1,6 @@
--- The judge on its way through a sheet. `Along`: the whole sheet ends as the lines that are left do, from the campaign so far. A record that is taken keeps that;
--- where a line is none, or its record is not taken, the sheet does not read cleanly; and at the end it does. Assumes nothing.
+-- The judge on its way through a sheet. `Along`: the whole sheet ends as the lines that are left do, from the campaign
+-- so far. A record that is taken keeps that; where a line is none, or its record is not taken, the sheet does not read
+-- cleanly; and at the end it does. Assumes nothing.
 use mathlib.Core.Path.{_≡_, refl, ap, sym, _∙_}
 use mathlib.Core.Bool.{Bool, true, false, cond, not}
 use mathlib.Core.List.{List, [], _∷_, _++_, map}

@@ -1,5 +1,6 @@
--- A record's line and line 1 at a place of a text, from what the readers of numbers and bytes say there: number and tab, flag and tab, exposure and LF make up
--- the line, and where one of them fails no such line stands there. Assumes nothing.
+-- A record's line and line 1 at a place of a text, from what the readers of numbers and bytes say there: number and
+-- tab, flag and tab, exposure and LF make up the line, and where one of them fails no such line stands there. Assumes
+-- nothing.
 use mathlib.Core.Path.{_≡_, refl, ap, sym, _∙_}
 use mathlib.Core.Bool.{Bool, true, false, cond, _||_}
 use mathlib.Core.List.{List, _∷_, _++_, append-assoc}

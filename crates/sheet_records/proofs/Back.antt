@@ -1,5 +1,5 @@
--- Reading what was written: a sheet of records that are all judged clean reads as the campaign that they come to (`read-back`), and the records of a sheet that
--- was written are the records (`records-back`). Assumes nothing.
+-- Reading what was written: a sheet of records that are all judged clean reads as the campaign that they come to
+-- (`read-back`), and the records of a sheet that was written are the records (`records-back`). Assumes nothing.
 use mathlib.Core.Path.{_≡_, refl, ap, _∙_}
 use mathlib.Core.Bool.{Bool, true, false, cond}
 use mathlib.Core.List.{List, [], _∷_, _++_, map}

@@ -1,5 +1,6 @@
--- A sheet that reads cleanly is what is written of its standard and its records, byte for byte, and those are judged to the campaign that it reads as
--- (`written-again`). Line by line: a line that is taken is a record's line and nothing else. Assumes nothing.
+-- A sheet that reads cleanly is what is written of its standard and its records, byte for byte, and those are judged to
+-- the campaign that it reads as (`written-again`). Line by line: a line that is taken is a record's line and nothing
+-- else. Assumes nothing.
 use mathlib.Core.Path.{_≡_, refl, ap, sym, _∙_}
 use mathlib.Core.Bool.{Bool, true, false, cond}
 use mathlib.Core.List.{List, [], _∷_, _++_, map}

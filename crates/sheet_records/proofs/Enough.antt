@@ -1,5 +1,5 @@
--- A sheet that is written has at most 22 bytes in line 1 and 18 in each record's line: a standard of 12 digits, a record number of 6, an exposure of 8. Assumes
--- nothing.
+-- A sheet that is written has at most 22 bytes in line 1 and 18 in each record's line: a standard of 12 digits, a
+-- record number of 6, an exposure of 8. Assumes nothing.
 use mathlib.Core.Path.{_≡_, ap}
 use mathlib.Core.List.{List, [], _∷_}
 use Prim.Native.Nat.{ℕ, _+_, _*_, _^_, _≤_, _<_}

@@ -1,4 +1,5 @@
--- Records that are all judged clean enter one after the other, and come to document 000's campaign over the list of them. Assumes nothing.
+-- Records that are all judged clean enter one after the other, and come to document 000's campaign over the list of
+-- them. Assumes nothing.
 use mathlib.Core.Path.{_≡_, refl, ap, subst, _∙_}
 use mathlib.Core.List.{List, [], _∷_, map}
 use Prim.Native.Nat.{ℕ, _≤_}

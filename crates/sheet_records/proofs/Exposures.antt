@@ -1,4 +1,5 @@
--- An exposure at a place of a text, from its digits: at most seven whose first is not 0 are a number from 1 to 9,999,999; more are read. Assumes nothing.
+-- An exposure at a place of a text, from its digits: at most seven whose first is not 0 are a number from 1 to
+-- 9,999,999; more are read. Assumes nothing.
 use mathlib.Core.Path.{_≡_, refl, ap, sym, _∙_}
 use mathlib.Core.Bool.{true, false, and-false}
 use mathlib.Core.List.{List, [], _∷_, _++_}

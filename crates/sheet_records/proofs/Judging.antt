@@ -1,5 +1,6 @@
--- The judge on its way through the records: what is judged of all is what is judged of the rest, from a campaign of so many records and failures (`Along`). A
--- record that is taken keeps that, one at fault decides, and the end finds all of them clean. Assumes nothing.
+-- The judge on its way through the records: what is judged of all is what is judged of the rest, from a campaign of so
+-- many records and failures (`Along`). A record that is taken keeps that, one at fault decides, and the end finds all
+-- of them clean. Assumes nothing.
 use mathlib.Core.Path.{_≡_, refl, ap, sym, _∙_}
 use mathlib.Core.Bool.{Bool, true, false, cond}
 use mathlib.Core.List.{List}

@@ -1,5 +1,6 @@
--- The lines of a sheet as they are written: each is the first line of the text that starts with it (`entry-lines`, `head-lines`), and a record's line says
--- that record (`entry-says`). The lines of a text joined are the text. Assumes nothing.
+-- The lines of a sheet as they are written: each is the first line of the text that starts with it (`entry-lines`,
+-- `head-lines`), and a record's line says that record (`entry-says`). The lines of a text joined are the text. Assumes
+-- nothing.
 use mathlib.Core.Path.{_≡_, refl, ap, sym, _∙_}
 use mathlib.Core.List.{List, [], _∷_, _++_, append-assoc}
 use Prim.Native.Nat.{ℕ}

@@ -1,5 +1,6 @@
--- The second pass over a clean sheet: what stands at the places where a record's flag and exposure are, and how many digits a record number has. `Putting`: the
--- lines that are left read on from the campaign so far, and what they say goes into the places from here on. Assumes nothing.
+-- The second pass over a clean sheet: what stands at the places where a record's flag and exposure are, and how many
+-- digits a record number has. `Putting`: the lines that are left read on from the campaign so far, and what they say
+-- goes into the places from here on. Assumes nothing.
 use mathlib.Core.Path.{_≡_, refl, ap, sym, _∙_}
 use mathlib.Core.Bool.{Bool, true, false, cond}
 use mathlib.Core.List.{List, [], _∷_, _++_, append-assoc, map}

@@ -1,4 +1,5 @@
--- Document 02 [2]: the records of a campaign, each one number, and the job sheet that is written of them in document 01's form. Assumes nothing.
+-- Document 02 [2]: the records of a campaign, each one number, and the job sheet that is written of them in document
+-- 01's form. Assumes nothing.
 use Prim.Native.Nat.{ℕ, _+_}
 use mathlib.Core.Bool.{Bool, true, false, cond}
 use mathlib.Core.List.{List, [], _∷_, _++_}

@@ -1,4 +1,5 @@
--- What the reader's own functions answer: a record's line at a place of a text, and a pass over all lines of a sheet that reads cleanly. Assumes nothing.
+-- What the reader's own functions answer: a record's line at a place of a text, and a pass over all lines of a sheet
+-- that reads cleanly. Assumes nothing.
 use Prim.Native.Nat.{ℕ, _+_, _^_, _≤_, _<_}
 use mathlib.Core.Path.{_≡_}
 use mathlib.Core.Bool.{Bool, cond, false, not, true, _&&_}

@@ -1,4 +1,5 @@
--- Document 02 [2]: the records of a job sheet, in the form in which they are lent for writing, and what reading them answers and leaves. Assumes nothing.
+-- Document 02 [2]: the records of a job sheet, in the form in which they are lent for writing, and what reading them
+-- answers and leaves. Assumes nothing.
 use Prim.Native.Nat.{ℕ}
 use mathlib.Core.Bool.{cond}
 use mathlib.Core.List.{List, _++_, map}

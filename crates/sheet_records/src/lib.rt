@@ -1,7 +1,7 @@
-// The job sheet written and its records read back, by document 02 [2], so that the next day can start where the last one
-// stopped. Records are lent in order as exposures with a minus on the failed ones: they go into lent bytes in document 01's
-// form, once every record is judged as the sheet's reader would judge it. A clean sheet is read line by line as it would be
-// written; any other is left to the sheet's own reader, which knows its line, column and refusal.
+// The job sheet written and its records read back, by document 02 [2], so that the next day can start where the last
+// one stopped. Records are lent in order as exposures with a minus on the failed ones: they go into lent bytes in
+// document 01's form, once every record is judged as the sheet's reader would judge it. A clean sheet is read line by
+// line as it would be written; any other is left to the sheet's own reader, which knows its line, column and refusal.
 ghost use mathlib.Core.Path.{_≡_};
 ghost use mathlib.Core.Bool.{cond};
 ghost use Prim.Native.Nat.{_+_, _≤_, _<_};
@@ -18,7 +18,8 @@ ghost use Rattle.sample_items.specs.Limits.{longestTime};
 ghost use Rattle.decimal.specs.Leading.{leading};
 ghost use Rattle.degrees.specs.Degrees.{signed};
 ghost use Rattle.sheet_records.specs.Records.{filledBy, recordsOf, resuming};
-ghost use Rattle.sheet_records.specs.Pass.{CleanFrom, EntryAt, ExposureAt, HeadOf, Passes, flagAt, runEnd, runValue, stoppedFrom, takenAfter};
+ghost use Rattle.sheet_records.specs.Pass.{CleanFrom, EntryAt, ExposureAt, HeadOf, Passes, flagAt, runEnd};
+ghost use Rattle.sheet_records.specs.Pass.{runValue, stoppedFrom, takenAfter};
 use decimal::Lead;
 use sheet_line::Sheet;
 use sheet_text::Reading;
@@ -176,8 +177,8 @@ fn put_sheet(q: u64, records: &[i32], out: &mut [u8])
     put_lines(records, out, lines);
 }
 
-// Writes the sheet of a standard and its records into `out`, whose rest stays, and answers its bytes; or refusal 1 with item 5, record by record 4, 3, 5, 6, then
-// 7 with the bytes needed, and `out` as it stood.
+// Writes the sheet of a standard and its records into `out`, whose rest stays, and answers its bytes; or refusal 1
+// with item 5, record by record 4, 3, 5, 6, then 7 with the bytes needed, and `out` as it stood.
 pub fn write(q: u64, records: &[i32], out: &mut [u8]) -> Writing
     ensures { λ r. ⌜ r ≡ writing q (now (records .entry)) (now (out .entry)) ⌝ }
     ensures { λ r. ⌜ now (out .exit) ≡ laidBy r (sheetText q (now (records .entry))) (now (out .entry)) ⌝ }
@@ -396,8 +397,8 @@ fn record_at(text: &[u8], at: usize, width: usize) -> Record
     }
 }
 
-// Puts the records of a clean sheet, whose first line of a record starts at `begin`, into `places`, as many as there are places for. Their numbers were judged:
-// they are passed over by their digits.
+// Puts the records of a clean sheet, whose first line of a record starts at `begin`, into `places`, as many as there
+// are places for. Their numbers were judged: they are passed over by their digits.
 fn put_all(text: &[u8], begin: usize, places: &mut [i32])
     requires { ⌜ CleanFrom (now text) begin ⌝ }
     ensures { λ _. ⌜ now (places .exit) ≡ sets (now (places .entry)) 0 (recordsOf (now (text .entry))) ⌝ }
@@ -427,8 +428,9 @@ fn stopped(end: Reading) -> Resumed
     }
 }
 
-// Reads the records of a sheet into `places`, whose rest stays: the exposures, with a minus on the failed ones. Answers the standard and the number of records;
-// or the sheet's first refusal with its line and column, then 7 with the places needed, and `places` as it stood.
+// Reads the records of a sheet into `places`, whose rest stays: the exposures, with a minus on the failed ones.
+// Answers the standard and the number of records; or the sheet's first refusal with its line and column, then 7 with
+// the places needed, and `places` as it stood.
 pub fn records(text: &[u8], places: &mut [i32]) -> Resumed
     ensures { λ r. ⌜ r ≡ resuming (now (text .entry)) (length (now (places .entry))) ⌝ }
     ensures { λ r. ⌜ now (places .exit) ≡ filledBy r (recordsOf (now (text .entry))) (now (places .entry)) ⌝ }

@@ -1,5 +1,5 @@
--- A writer that asks for room first: with room the text is written and the place after it answered, without it refusal 7 and the bytes needed.
--- Assumes nothing.
+-- A writer that asks for room first: with room the text is written and the place after it answered, without it refusal
+-- 7 and the bytes needed. Assumes nothing.
 use Prim.Native.Nat.{ℕ, _+_, _≤_}
 use mathlib.Core.Path.{_≡_, ap}
 use mathlib.Core.Bool.{Bool, true, false, not}

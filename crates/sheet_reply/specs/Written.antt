@@ -1,5 +1,5 @@
--- Document 01, "The job sheet": the lines that the program writes, fields parted by a tab, ended by LF; and what writing one into lent bytes
--- answers and leaves. Assumes nothing.
+-- Document 01, "The job sheet": the lines that the program writes, fields parted by a tab, ended by LF; and what
+-- writing one into lent bytes answers and leaves. Assumes nothing.
 use Prim.Native.Nat.{ℕ, _+_}
 use mathlib.Core.Bool.{cond}
 use mathlib.Core.List.{List, [], _∷_, _++_}

@@ -1,12 +1,13 @@
-// The lines that the bureau writes about a job sheet, by document 01's section of that name: one for each record, and the refused line. Each is written
-// whole into lent bytes from a place on, or not at all.
+// The lines that the bureau writes about a job sheet, by document 01's section of that name: one for each record, and
+// the refused line. Each is written whole into lent bytes from a place on, or not at all.
 ghost use mathlib.Core.Path.{_≡_};
 ghost use mathlib.Core.Bool.{true};
 ghost use Prim.Native.Nat.{_+_, _≤_};
 ghost use lib.ListN.{length};
 ghost use Rattle.text.specs.Write.{written, placeAfter};
 ghost use Rattle.campaign_state.specs.State.{censored, sound};
-ghost use Rattle.sheet_reply.specs.Written.{letterFor, reasonText, recordText, recordLeft, recordWriting, refusedText, writing};
+ghost use Rattle.sheet_reply.specs.Written.{letterFor, reasonText, recordText, recordLeft, recordWriting};
+ghost use Rattle.sheet_reply.specs.Written.{refusedText, writing};
 use campaign_state::Campaign;
 use campaign_verdict::Counted;
 use campaign_verdict::Judged;
@@ -90,8 +91,8 @@ fn put_record(c: Campaign, out: &mut [u8], at: usize) -> usize
     text::write_byte(LF, out, end)
 }
 
-// Writes the line of the campaign's last record into `out` from `at` on: number, N, N*, T and A, R or C; without a record nothing. Or refusal 8; 7
-// with the bytes needed.
+// Writes the line of the campaign's last record into `out` from `at` on: number, N, N*, T and A, R or C; without a
+// record nothing. Or refusal 8; 7 with the bytes needed.
 pub fn write_record(c: Campaign, out: &mut [u8], at: usize) -> Written
     ensures { λ r. ⌜ r ≡ recordWriting c (now (out .entry)) at ⌝ }
     ensures { λ _. ⌜ now (out .exit) ≡ recordLeft c (now (out .entry)) at ⌝ }
@@ -150,8 +151,8 @@ fn put_refused(line: u64, column: u64, r: Refusal, out: &mut [u8], at: usize) ->
     put_reason(refusal::number(r), column, out, reason)
 }
 
-// Writes the refused line into `out` from `at` on: refused, the line's number, the refusal's, and the column where that is 9. Or refusal 7 with the bytes
-// needed.
+// Writes the refused line into `out` from `at` on: refused, the line's number, the refusal's, and the column where
+// that is 9. Or refusal 7 with the bytes needed.
 pub fn write_refused(line: u64, column: u64, r: Refusal, out: &mut [u8], at: usize) -> Written
     ensures { λ w. ⌜ w ≡ writing (now (out .entry)) at (refusedText line column r) ⌝ }
     ensures { λ _. ⌜ now (out .exit) ≡ written (now (out .entry)) at (refusedText line column r) ⌝ }

@@ -1,5 +1,6 @@
--- A reader on its way through a text: what the whole text comes to is what its lines so far gave, before what the rest comes to from where the
--- reading stands. It is the invariant of both readers; a turn keeps it, and an end of the rest is the whole text's end. Assumes nothing.
+-- A reader on its way through a text: what the whole text comes to is what its lines so far gave, before what the rest
+-- comes to from where the reading stands. It is the invariant of both readers; a turn keeps it, and an end of the rest
+-- is the whole text's end. Assumes nothing.
 use Prim.Native.Nat.{ℕ, _≤_, _<_}
 use mathlib.Core.Path.{_≡_, refl, _∙_}
 use mathlib.Core.Bool.{Bool, true}

@@ -1,5 +1,5 @@
--- Five bytes for each byte of a text, and 35, are room for anything that it may give: a record's line has at least 6 bytes and what is written for it at
--- most 30, the refused line at most 35. Assumes nothing.
+-- Five bytes for each byte of a text, and 35, are room for anything that it may give: a record's line has at least 6
+-- bytes and what is written for it at most 30, the refused line at most 35. Assumes nothing.
 use Prim.Native.Nat.{ℕ, _+_, _*_, _≤_}
 use mathlib.Core.Path.{_≡_, refl}
 use mathlib.Core.Bool.{Bool, true}

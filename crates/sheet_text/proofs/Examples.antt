@@ -1,5 +1,5 @@
--- Document 01's whole case, shown of the definitions: the text and what it means, byte for byte. It computes, so that a slip in a definition shows
--- here. Assumes nothing.
+-- Document 01's whole case, shown of the definitions: the text and what it means, byte for byte. It computes, so that a
+-- slip in a definition shows here. Assumes nothing.
 use mathlib.Core.Path.{_≡_, refl}
 use mathlib.Core.List.{List, [], _∷_, _++_}
 use Prim.Native.Nat.{ℕ}

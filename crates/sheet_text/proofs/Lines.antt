@@ -1,6 +1,6 @@
--- A text's lines, as a reader comes to them: it looks for the LF among the next 64 bytes and hands over what it finds, which is the first line,
--- or, where that is longer, its first 64 bytes. A longer line is refused either way, so the reading is the same (`reading-turn`).
--- Assumes nothing.
+-- A text's lines, as a reader comes to them: it looks for the LF among the next 64 bytes and hands over what it finds,
+-- which is the first line, or, where that is longer, its first 64 bytes. A longer line is refused either way, so the
+-- reading is the same (`reading-turn`). Assumes nothing.
 use Prim.Native.Nat.{ℕ, zero, suc, _+_, _-_, _≤_, _<_, min}
 use mathlib.Core.Path.{_≡_, refl, sym, ap, _∙_}
 use mathlib.Core.Bool.{Bool, true, false, cond, not, and-false, false≢true, true≢false}

@@ -1,6 +1,6 @@
--- However a sheet's text is cut into pieces, reading it piece by piece comes to what its meaning says (`cut-anywhere`). One cut first, by induction along
--- the lines of the piece before it: a line that is complete there is the same line in the whole text, and one that is not is read again with what
--- follows. Assumes nothing.
+-- However a sheet's text is cut into pieces, reading it piece by piece comes to what its meaning says (`cut-anywhere`).
+-- One cut first, by induction along the lines of the piece before it: a line that is complete there is the same line in
+-- the whole text, and one that is not is read again with what follows. Assumes nothing.
 use Prim.Native.Nat.{ℕ, zero, suc, _+_, _-_, _≤_, _<_}
 use mathlib.Core.Path.{_≡_, refl, sym, ap, _∙_}
 use mathlib.Core.Bool.{Bool, true, false, not}

@@ -1,4 +1,5 @@
--- What a run promises, from the pass that it makes: with room for all that is written it is the pass, without it refusal 7. Assumes nothing.
+-- What a run promises, from the pass that it makes: with room for all that is written it is the pass, without it
+-- refusal 7. Assumes nothing.
 use Prim.Native.Nat.{ℕ, _≤_, _<_}
 use mathlib.Core.Path.{_≡_, refl}
 use mathlib.Core.Bool.{Bool, true, false}

@@ -1,4 +1,5 @@
--- The place behind a text that a writer was to write is the same with room and without, and a text of no bytes changes nothing. Assumes nothing.
+-- The place behind a text that a writer was to write is the same with room and without, and a text of no bytes changes
+-- nothing. Assumes nothing.
 use Prim.Native.Nat.{ℕ, _+_}
 use mathlib.Core.Path.{_≡_, sym, _∙_}
 use mathlib.Core.List.{List, []}

@@ -1,5 +1,5 @@
--- A pass on its way through a text: the reader is `Along`, what its lines gave is counted, and where the lent bytes have room for it, it stands at their
--- start. Assumes nothing.
+-- A pass on its way through a text: the reader is `Along`, what its lines gave is counted, and where the lent bytes
+-- have room for it, it stands at their start. Assumes nothing.
 use Prim.Native.Nat.{ℕ, _+_, _^_, _≤_, _<_}
 use mathlib.Core.Path.{_≡_, refl, sym, _∙_}
 use mathlib.Core.Bool.{Bool, true, false}

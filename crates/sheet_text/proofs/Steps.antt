@@ -1,5 +1,5 @@
--- What a line that is taken leads to: a campaign that keeps its relations, and few bytes to write, at most five for each byte of the line and 30 for each
--- record; and which line a refusal names. Assumes nothing.
+-- What a line that is taken leads to: a campaign that keeps its relations, and few bytes to write, at most five for
+-- each byte of the line and 30 for each record; and which line a refusal names. Assumes nothing.
 use Prim.Native.Nat.{ℕ, _+_, _*_, _^_, _≤_, _<_}
 use mathlib.Core.Path.{_≡_, ap}
 use mathlib.Core.Bool.{true}

@@ -1,4 +1,5 @@
--- A reader's turn, by what it finds: the reading of what stands at a place is that of what stands behind the line, or it ends. Assumes nothing.
+-- A reader's turn, by what it finds: the reading of what stands at a place is that of what stands behind the line, or
+-- it ends. Assumes nothing.
 use Prim.Native.Nat.{ℕ, _+_, _-_, _^_, _≤_, _<_}
 use mathlib.Core.Path.{_≡_, refl, ap, _∙_}
 use mathlib.Core.Bool.{Bool, true, false, cond, not, _&&_}

@@ -1,5 +1,5 @@
--- What the readers' own functions answer, on the way to a sheet's meaning: the bytes of a text that a reader hands over as its first line, and what
--- they come to. Assumes nothing.
+-- What the readers' own functions answer, on the way to a sheet's meaning: the bytes of a text that a reader hands over
+-- as its first line, and what they come to. Assumes nothing.
 use Prim.Native.Nat.{ℕ, zero, suc, _+_, _^_, _≤_, _<_}
 use mathlib.Core.Path.{_≡_}
 use mathlib.Core.Bool.{Bool, cond}
@@ -36,7 +36,8 @@ abbrev pub foundAt : ℕ → Step → Found
 foundAt next (Next s) = Taken s next
 foundAt next (Stop line column r) = Bad line column r
 
--- what stands at a place of a text: a line that waits, with its bytes, or that is taken, with the place behind it, or that is bad
+-- what stands at a place of a text: a line that waits, with its bytes, or that is taken, with the place behind it, or
+-- that is bad
 unfoldable pub found : Bool → List ℕ → ℕ → Sheet → Found
 found more text at s =
     cond (waits more (firstLine (drop at text))) (Waits (length (firstLine (drop at text))))

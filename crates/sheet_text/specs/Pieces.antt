@@ -1,5 +1,5 @@
--- A sheet that is handed over in pieces, as the program reads it: the lines that are complete are taken, and the bytes of a line begun go before the
--- next piece. Assumes nothing.
+-- A sheet that is handed over in pieces, as the program reads it: the lines that are complete are taken, and the bytes
+-- of a line begun go before the next piece. Assumes nothing.
 use Prim.Native.Nat.{ℕ, _-_}
 use mathlib.Core.Bool.{true, false}
 use mathlib.Core.List.{List, [], _∷_, _++_}

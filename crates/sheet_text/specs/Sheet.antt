@@ -1,4 +1,5 @@
--- Document 01, "The job sheet": what a text means, from its bytes: what the program writes, and what the reading ends in. Assumes nothing.
+-- Document 01, "The job sheet": what a text means, from its bytes: what the program writes, and what the reading ends
+-- in. Assumes nothing.
 use Prim.Native.Nat.{ℕ}
 use mathlib.Core.Bool.{Bool, true, false, cond, not, _&&_}
 use mathlib.Core.List.{List, [], _∷_, _++_}
@@ -53,7 +54,8 @@ lastOf true s = Waiting s 0
 lastOf false Fresh = Stopped 1 0 (Line 1)
 lastOf false (Open c) = Read c
 
--- where more may follow, a line without its LF waits for it, its bytes unread; not one that is as long as a line may be without it
+-- where more may follow, a line without its LF waits for it, its bytes unread; not one that is as long as a line may be
+-- without it
 abbrev pub waits : Bool → List ℕ → Bool
 waits more line = more && (not (endsLine line) && ltb (length line) longestLine)
 

@@ -1,5 +1,6 @@
-// The job sheet as a whole, by document 01's section of that name: a text of lines, read line by line into a campaign, and what is written about them.
-// A text may be handed over in pieces; where the reading stands goes in by value and comes back in the answer.
+// The job sheet as a whole, by document 01's section of that name: a text of lines, read line by line into a
+// campaign, and what is written about them. A text may be handed over in pieces; where the reading stands goes in by
+// value and comes back in the answer.
 ghost use mathlib.Core.Path.{_≡_};
 ghost use mathlib.Core.Bool.{true};
 ghost use Prim.Native.Nat.{_+_, _*_, _^_, _≤_, _<_, min};
@@ -8,7 +9,8 @@ ghost use Rattle.text.specs.Write.{written};
 ghost use Rattle.sheet_line.specs.Form.{longestLine};
 ghost use Rattle.sheet_line.specs.Line.{soundSheet};
 ghost use Rattle.decimal.specs.Lines.{linesOf};
-ghost use Rattle.sheet_text.specs.Sheet.{endText, lastOf, leftBy, putBy, reading, readingEnd, runLeft, running, textOf, waits};
+ghost use Rattle.sheet_text.specs.Sheet.{endText, lastOf, leftBy, putBy, reading, readingEnd, runLeft, running};
+ghost use Rattle.sheet_text.specs.Sheet.{textOf, waits};
 ghost use Rattle.sheet_text.specs.Cut.{Passed, behindOf, cut, found};
 use campaign_state::Campaign;
 use refusal::Refusal;
@@ -130,8 +132,8 @@ fn sound(s: Sheet) -> bool
     }
 }
 
-// Reads the lines of `text` from where the reading stands; `more`: more of the sheet may follow. Ends in the campaign, in the first bad line's number
-// and refusal, or waiting for more. A broken campaign is refusal 8.
+// Reads the lines of `text` from where the reading stands; `more`: more of the sheet may follow. Ends in the
+// campaign, in the first bad line's number and refusal, or waiting for more. A broken campaign is refusal 8.
 pub fn read(s: Sheet, text: &[u8], more: bool) -> Reading
     ensures { λ r. ⌜ r ≡ readingEnd more (now (text .entry)) s ⌝ }
 {
@@ -202,7 +204,8 @@ struct End {
     put: usize,
 }
 
-// Works through the lines of `text`. What is written for them goes into `out`, from its start, where it has room for it all; else it is only counted.
+// Works through the lines of `text`. What is written for them goes into `out`, from its start, where it has room for
+// it all; else it is only counted.
 fn pass(s: Sheet, text: &[u8], more: bool, out: &mut [u8]) -> End
     requires { ⌜ soundSheet s ≡ true ⌝ }
     ensures { λ r. ⌜ Passed more (now (text .entry)) s (now (out .entry)) (r .came) (r .put) (now (out .exit)) ⌝ }
@@ -260,8 +263,9 @@ fn needed(s: Sheet, text: &[u8], more: bool) -> usize
     counted.put
 }
 
-// Reads the lines of `text` as `read` does, and writes into `out`, from its start, what the program writes for them. Answers what the reading came to
-// and the bytes that it wrote; or refusal 8; 7 with the bytes needed. They are counted first only where `out` might be too short.
+// Reads the lines of `text` as `read` does, and writes into `out`, from its start, what the program writes for them.
+// Answers what the reading came to and the bytes that it wrote; or refusal 8; 7 with the bytes needed. They are
+// counted first only where `out` might be too short.
 pub fn run(s: Sheet, text: &[u8], more: bool, out: &mut [u8]) -> Ran
     ensures { λ r. ⌜ r ≡ running more (now (text .entry)) s (now (out .entry)) ⌝ }
     ensures { λ _. ⌜ now (out .exit) ≡ runLeft more (now (text .entry)) s (now (out .entry)) ⌝ }

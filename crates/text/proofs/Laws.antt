@@ -1,5 +1,5 @@
--- Laws of writing a text, for the writers here and above. A writer stores from the text's end to its front: `laid-last` takes the last
--- byte off, and `laid-none` says that nothing is left to do. Assumes nothing.
+-- Laws of writing a text, for the writers here and above. A writer stores from the text's end to its front: `laid-last`
+-- takes the last byte off, and `laid-none` says that nothing is left to do. Assumes nothing.
 use mathlib.Core.Path.{_≡_}
 use mathlib.Core.List.{List, [], _∷_, _++_, append-assoc}
 use Prim.Native.Nat.{ℕ, zero, suc, _+_, _-_, _≤_, _<_}

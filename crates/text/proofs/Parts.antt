@@ -1,5 +1,6 @@
--- A text written part by part: `Left` says that all but the rest of a text stands in the lent bytes. Each part that is written takes itself off the
--- rest (`left-next`), has room (`left-room`), and with the last one the whole text is written (`left-last`). Assumes nothing.
+-- A text written part by part: `Left` says that all but the rest of a text stands in the lent bytes. Each part that is
+-- written takes itself off the rest (`left-next`), has room (`left-room`), and with the last one the whole text is
+-- written (`left-last`). Assumes nothing.
 use mathlib.Core.Path.{_≡_, refl, sym, ap, _∙_}
 use mathlib.Core.List.{List, [], _++_, append-assoc, append-nil}
 use Prim.Native.Nat.{ℕ, _+_, _≤_}
@@ -9,7 +10,8 @@ use lib.ListN.{length, length-append}
 use Rattle.text.specs.Write.{laid}
 use Rattle.text.proofs.Laws.{Wrote, laid-none, laid-join, length-laid, written-fits, after-fits, wrote-laid}
 
--- of `whole`, to be written into `out` at `at`, the rest is left; the lent bytes are `middle`, and the rest goes to `here`
+-- of `whole`, to be written into `out` at `at`, the rest is left; the lent bytes are `middle`, and the rest goes to
+-- `here`
 pub record Left (out : List ℕ) (at : ℕ) (whole rest middle : List ℕ) (here : ℕ) : Type 0 where
   pub front : List ℕ
   pub parts : front ++ rest ≡ whole

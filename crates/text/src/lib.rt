@@ -1,6 +1,6 @@
-// Texts written into lent bytes: whole from a place on, or, where there is no room, not at all. The answer is the place
-// after the text, so that writes follow one another; without room it is the place handed in. And a part of lent bytes moved
-// to their front: what a reader through a fixed buffer does with a line that has begun and not ended yet.
+// Texts written into lent bytes: whole from a place on, or, where there is no room, not at all. The answer is the
+// place after the text, so that writes follow one another; without room it is the place handed in. And a part of lent
+// bytes moved to their front: what a reader through a fixed buffer does with a line that has begun and not ended yet.
 ghost use mathlib.Core.Path.{_≡_};
 ghost use Rattle.text.specs.Front.{kept};
 ghost use mathlib.Core.List.{[], _∷_};

@@ -1,4 +1,5 @@
--- Laws of tests, for the proofs above: from a test that holds to its parts, and from an answer to the fact that it tests. Assumes nothing.
+-- Laws of tests, for the proofs above: from a test that holds to its parts, and from an answer to the fact that it
+-- tests. Assumes nothing.
 use mathlib.Core.Path.{_≡_, refl, subst, sym, _∙_}
 use mathlib.Core.Bool.{Bool, false, not, true, _&&_, _||_}
 use lib.Dec.{T}

@@ -1,4 +1,5 @@
--- A promise that equates the answer with a value allows one answer; and so of the three functions here. Assumes nothing.
+-- A promise that equates the answer with a value allows one answer; and so of the three functions here. Assumes
+-- nothing.
 use mathlib.Core.Path.{_≡_}
 use mathlib.Core.Bool.{Bool, cond, _&&_, _||_}
 use Prim.Native.Nat.{ℕ}

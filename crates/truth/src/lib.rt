@@ -1,5 +1,5 @@
-// And, or and a choice of two numbers as functions: each evaluates both sides, so a long test is one expression that meets its definition word
-// for word, with no branches to take apart in the proof.
+// And, or and a choice of two numbers as functions: each evaluates both sides, so a long test is one expression that
+// meets its definition word for word, with no branches to take apart in the proof.
 ghost use mathlib.Core.Path.{_≡_};
 ghost use mathlib.Core.Bool.{cond, _&&_, _||_};
 

@@ -1,4 +1,5 @@
--- `binomial_bounds::half_width` meets its contract: the least number that was found is the half-width, which is the only one. Assumes nothing.
+-- `binomial_bounds::half_width` meets its contract: the least number that was found is the half-width, which is the
+-- only one. Assumes nothing.
 use native.Mathlib.Omega.{arith}
 use Rattle.binomial_bounds.proofs.HalfWidth.{half-width, least-unique, scatter-fits, widest}
 use borrow.Author.Needs.{needs}

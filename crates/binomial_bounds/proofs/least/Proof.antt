@@ -1,4 +1,5 @@
--- `binomial_bounds::least` meets its contract. The invariant is that of halving (`Halving`), and the measure how far apart the two numbers are. Assumes nothing.
+-- `binomial_bounds::least` meets its contract. The invariant is that of halving (`Halving`), and the measure how far
+-- apart the two numbers are. Assumes nothing.
 use Prim.Native.Nat.{_-_}
 use native.Mathlib.Omega.{arith}
 use Rattle.binomial_bounds.proofs.Halving.{Between, downwards, ends, middle-high, middle-low, product, square, starts, upwards}

@@ -1,4 +1,5 @@
--- `binomial_bounds::three` meets its contract, rate by rate: the numbers are small enough to be exact in a float. Assumes nothing.
+-- `binomial_bounds::three` meets its contract, rate by rate: the numbers are small enough to be exact in a float.
+-- Assumes nothing.
 use native.Mathlib.Omega.{arith}
 use Rattle.binomial_bounds.proofs.Order.{small}
 use borrow.Author.Needs.{needs}

@@ -1,4 +1,5 @@
--- `bureau_entries::enter` meets its contract: the walk of the thin function (proofs/Thin) with one parameter more, what a campaign takes of a record. Assumes nothing.
+-- `bureau_entries::enter` meets its contract: the walk of the thin function (proofs/Thin) with one parameter more, what
+-- a campaign takes of a record. Assumes nothing.
 use mathlib.Core.Path.{_≡_, refl, ap, subst}
 use Prim.Native.Nat.{ℕ, _<_, _^_}
 use mathlib.Core.List.{List, [], _∷_}
@@ -145,7 +146,8 @@ module _ {M : Type 1} (𝓤 : URA M) (H : Heap 𝓤) (A : Atoms 𝓤) (W : Given
         split ! $ move ! (1 ∷ []) $ use1 W (some (λ (zs : List Place × (Unit {0} × Unit {0})). ‵ (lasts serve.ended (κ, tt) (x, (d, tt)) zs) ⊛ raw (fact 𝓤 (Says ys d r (zs .0))))) (id⊢ 𝓤 _) $ pick ! (λ zs.
         split ! $ move ! (1 ∷ []) $ heard ! (Says ys d r (zs .0)) (λ e. fsplit ! $ fsplit ! $ move ! (1 ∷ []) $ feqL ! (λ l.
         move ! (2 ∷ []) $ split ! $ move ! (1 ∷ []) $ peeks ! RE (Is RE) (shows 𝓤 H A RE) r (w ∷ []) (λ is.
-        -- [the answer's; the token; the last list; …; what the others own; _7; …; _6; …; _5; …; _4; …; _3; …; _2; …; _1; …; room for _0; …]
+        -- [the answer's; the token; the last list; …; what the others own; _7; …; _6; …; _5; …; _4; …; _3; …; _2; …;
+        -- _1; …; room for _0; …]
         land ! (from ! (stop !)) (init ! 19 refl (LE.lawful E.the-type E′.the-laws 𝓤 H A W tt .typed r _ is .0)) $
         returns ! (look ! 19 refl) $ forget ! 5 refl $ forget ! 7 refl $ forget ! 9 refl $ forget ! 11 refl $ forget ! 13 refl $ forget ! 15 refl $ forget ! 17 refl $ forget ! 19 refl $
         move ! (19 ∷ 20 ∷ []) $ free1 ! $ move ! (17 ∷ 18 ∷ []) $ free1 ! $ move ! (15 ∷ 16 ∷ []) $ free1 ! $ move ! (13 ∷ 14 ∷ []) $ free1 ! $ move ! (11 ∷ 12 ∷ []) $ free1 ! $ move ! (9 ∷ 10 ∷ []) $ free1 ! $ move ! (7 ∷ 8 ∷ []) $ free1 ! $ move ! (5 ∷ 6 ∷ []) $ free1 ! $ free0 ! $

@@ -1,5 +1,5 @@
--- `bureau_entries::lent` meets its contract: a walk of its MIR, by hand. The table by value is copied to memory, lent as a slice for a lifetime that is made here, and
--- taken back once `serve` has returned. Assumes nothing.
+-- `bureau_entries::lent` meets its contract: a walk of its MIR, by hand. The table by value is copied to memory, lent
+-- as a slice for a lifetime that is made here, and taken back once `serve` has returned. Assumes nothing.
 use mathlib.Core.Path.{_≡_, refl, sym, _∙_, ap, subst}
 use Prim.Native.Nat.{ℕ, _<_}
 use mathlib.Core.List.{List, [], _∷_}
@@ -17,7 +17,8 @@ use prog.Wp.{Heap, Calls, Loops, WpFn, Tables}
 use ghost.Atoms.{Atoms, sem}
 use contract.Monad.{Fun, fact}
 use contract.Running.{givenOf, tables, tablesOf}
-use types.Kit.{Given, ‵, raw, _⊛_, some, later, mean, _$_, _∵_, !, qed, by, move, keep, drop, use1, use2, use3, split, join, pick, rewrite, fsplit, fjoin, fpack, feqL, feqI, suffices, frame, await, done}
+use types.Kit.{Given, ‵, raw, _⊛_, some, later, mean, _$_, _∵_, !, qed, by, move, keep, drop, use1, use2, use3, split}
+use types.Kit.{join, pick, rewrite, fsplit, fjoin, fpack, feqL, feqI, suffices, frame, await, done}
 use types.Part.{agg}
 use types.Run.{look, init, forget, stop, from, load, lit, addr, of-opd, and-then, no-more, land, assigns, returns, enter, alloc1, alloc0, params1, pass1, pass0, free1, free0}
 use types.SemTy.{Arr, cells}
@@ -167,7 +168,8 @@ module _ {M : Type 1} (𝓤 : URA M) (H : Heap 𝓤) (A : Atoms 𝓤) (W : Given
         use1 W (‵ (arr-parts (shares R) 32 .part fullShare ys l₃ 0)) (array-apart 𝓤 H A W R fullShare tt 32 ys l₃ 0) $ fsplit ! $ feqL ! (λ len.
         use1 W (‵ (cells (mem R) ys l₃ 0)) (whole-in 𝓤 H A W R ys l₃ 0) $ lft-new ! tt (λ α. move ! (1 ∷ []) $
         use1 W (later (some (λ (γ : GName). ‵ (MutSlice (named 0) (α ∷ []) R .own (x l₃ α γ) (sliceVal (l₃, 0) (length ys) ∷ [])) ⊛ ‵ (flent (α ∷ []) (Held R (length ys) l₃ 0 γ))))) (lends-slice 𝓤 H A W R (named 0) (α ∷ []) ys l₃ 0 (subst (Room R) (sym len) (lit< tt, lit< tt))) $ await ! tt $ pick ! (λ γ. split ! $
-        -- [the slice; the lender's part; the token; what a owns; _7; …; _6; …; _5; …; _4; …; that _3 dies; _2; …; _1; …; room for _0; …]
+        -- [the slice; the lender's part; the token; what a owns; _7; …; _6; …; _5; …; _4; …; that _3 dies; _2; …; _1;
+        -- …; room for _0; …]
         rewrite ! 6 (λ (m : ℕ). ‵ (fat fullShare (sliceTy (tyRef erased mut (pointee (R .written)))) l₆ 0 (sliceVal (l₃, 0) m))) (sym len) refl $
         nothing ! $ move ! (3 ∷ 0 ∷ []) $ join ! $ use2 W (raw (Serve 𝓤 H A mem′ run .pre (to-serve l₃ α γ))) (goes l₃ α γ) $
         calls-at ! fm (Serve 𝓤 H A mem′ run) known (to-serve l₃ α γ) (and-then ! (load ! (from ! (stop !)) (look ! 5 refl)) (and-then ! (load ! (from ! (stop !)) (look ! 12 refl)) (no-more !))) (λ w.

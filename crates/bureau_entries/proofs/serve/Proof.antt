@@ -1,7 +1,8 @@
--- `bureau_entries::serve` meets its contract: a walk of its MIR, by hand. The borrow is opened once, before the loop, and closed once, where the function returns. The
--- loop copies each place out and calls `survey` with it; then `choose` says which place is worked on, if any, and `act` what stands there afterwards.
--- The invariant: the survey of what is left of the table goes on to the survey of the whole. That the steps come to what the call is said to answer and leave is
--- the clerk's `serves`. Assumes nothing.
+-- `bureau_entries::serve` meets its contract: a walk of its MIR, by hand. The borrow is opened once, before the loop,
+-- and closed once, where the function returns. The loop copies each place out and calls `survey` with it; then `choose`
+-- says which place is worked on, if any, and `act` what stands there afterwards. The invariant: the survey of what is
+-- left of the table goes on to the survey of the whole. That the steps come to what the call is said to answer and
+-- leave is the clerk's `serves`. Assumes nothing.
 use mathlib.Core.Path.{_≡_, refl, sym, _∙_, ap, subst}
 use Prim.Native.Nat.{ℕ, zero, suc, _<_, _≤_, _+_, _*_, _^_}
 use native.Mathlib.Omega.{arith}
@@ -23,9 +24,12 @@ use prog.Wp.{Heap, Out, Env, afterSeq, afterBlock, afterTurn, Calls, Loops, Wp, 
 use ghost.Atoms.{Atoms}
 use contract.Monad.{Fun, fact}
 use contract.Running.{givenOf, tables, tablesOf}
-use types.Kit.{Given, Item, ‵, raw, some, later, _⊛_, ⋆, prop, anyQ, atRet, Sq, runs, frees, _$_, _∵_, !, qed, by, move, keep, drop as leave, use0, use1, split, join, pick, rewrite, fsplit, fjoin, suffices, frame, await, done}
+use types.Kit.{Given, Item, ‵, raw, some, later, _⊛_, ⋆, prop, anyQ, atRet, Sq, runs, frees, _$_, _∵_, !, qed, by, move}
+use types.Kit.{keep, drop as leave, use0, use1, split, join, pick, rewrite, fsplit, fjoin, suffices, frame, await, done}
 use types.Part.{whole, sub, look-in}
-use types.Run.{look, look-raw, store, store-raw, init, forget, stop, hop, fld, from, load, lit, of-opd, bin, and-then, no-more, land, assigns, assigns-last, stays, leaves-loop, first, blocks, branches, skips, returns, returns-within, enter, alloc1, alloc0, params1, pass1, pass0, free1, free0, exec}
+use types.Run.{look, look-raw, store, store-raw, init, forget, stop, hop, fld, from, load, lit, of-opd, bin, and-then}
+use types.Run.{no-more, land, assigns, assigns-last, stays, leaves-loop, first, blocks, branches, skips, returns}
+use types.Run.{returns-within, enter, alloc1, alloc0, params1, pass1, pass0, free1, free0, exec}
 use sound.Loop.{loop-rule}
 use sound.WpLaws.{fmOf, WpFn-mono}
 use borrow.Author.Tests.{lt-ltb, le-ltb}
@@ -61,7 +65,9 @@ use Rattle.bureau_choice.specs.Steps.{acted, chosen, served, workedOn}
 use Rattle.bureau_survey.specs.Survey.{looked, surveyed, unseen}
 use Rattle.bureau_survey.proofs.Looking.{look-end, look-on}
 use Rattle.bureau_choice.proofs.Serves.{serves}
-use Rattle.bureau_entries.proofs.Steps.{R, RD, RE, RK, RP, RS, Act, Choose, Start, Survey, act-of, choose-of, goes-act, goes-choose, goes-start, goes-survey, offset-fits, start-of, survey-of, to-act, to-choose, to-start, to-survey}
+use Rattle.bureau_entries.proofs.Steps.{R, RD, RE, RK, RP, RS, Act, Choose, Start, Survey, act-of, choose-of}
+use Rattle.bureau_entries.proofs.Steps.{goes-act, goes-choose, goes-start, goes-survey, offset-fits, start-of}
+use Rattle.bureau_entries.proofs.Steps.{survey-of, to-act, to-choose, to-start, to-survey}
 use Rattle.bureau_table.proofs.Answer as E
 use Rattle.bureau_table.proofs.Answer.Laws as E′
 use Rattle.bureau_table.proofs.Call as P
@@ -265,7 +271,8 @@ module _ {M : Type 1} (𝓤 : URA M) (H : Heap 𝓤) (A : Atoms 𝓤) (W : Given
         assigns ! (bin ! (load ! (from ! (fld ! refl (stop !))) (look-in ! 7 (sub ! 0 refl (whole !)))) (load ! (from ! (stop !)) (look ! 15 refl)) tt) (from ! (stop !)) (init ! 16 refl (tt, tt)) $
         rewrite ! 16 (λ (m : ℕ). ‵ (fat fullShare tyPtr l₁₅ 0 (vptr b m))) (sym (place-is 48 o (d .at))) refl $
         elem-out ! R (Is R) (shows 𝓤 H A R) (LL.vals T.the-type T′.the-laws) (LL.tells T.the-type T′.the-laws) fullShare xs (d .at) free b o small (λ gp.
-        -- [the place; what it owns; the others; _3; _4; _8; _9; _10; _11; _1; _2; _0; _5; _6; _7; _12; _13; _14; _15; _16; _17; …]
+        -- [the place; what it owns; the others; _3; _4; _8; _9; _10; _11; _1; _2; _0; _5; _6; _7; _12; _13; _14; _15;
+        -- _16; _17; …]
         assigns ! (of-opd ! (load ! (from ! (hop ! (look ! 18 refl) (stop !))) (look-raw ! 0 refl))) (from ! (stop !)) (init ! 19 refl (LL.lawful T.the-type T′.the-laws 𝓤 H A W .typed (getD xs (d .at) free) (T′.lowered (getD xs (d .at) free) ∷ []) gp .0)) $
         use0 W (raw (Act 𝓤 H A mem run .pre (to-act 𝓤 H A mem run c₀ d (getD xs (d .at) free)))) (goes-act 𝓤 H A mem run W c₀ d (getD xs (d .at) free) gc gd gp) $
         calls-at ! (fmOf 𝓤 H (W .laws) 𝓣) (Act 𝓤 H A mem run) acts (to-act 𝓤 H A mem run c₀ d (getD xs (d .at) free)) (and-then ! (load ! (from ! (stop !)) (look ! 11 refl)) (and-then ! (load ! (from ! (stop !)) (look ! 13 refl)) (and-then ! (load ! (from ! (stop !)) (look ! 20 refl)) (no-more !)))) (λ u.

@@ -1,5 +1,5 @@
--- `campaign_condition::look` meets its contract: the invariant is `Along`, that what was seen and what is left add up to what there is. What is left falls. Assumes
--- nothing.
+-- `campaign_condition::look` meets its contract: the invariant is `Along`, that what was seen and what is left add up
+-- to what there is. What is left falls. Assumes nothing.
 use Prim.Native.Nat.{_-_, _≤_}
 use mathlib.Core.Path.{ap, _∙_}
 use mathlib.Core.Bool.{_&&_, _||_}

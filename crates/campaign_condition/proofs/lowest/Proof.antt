@@ -1,4 +1,5 @@
--- `campaign_condition::lowest` meets its contract: one that was found stays, else the campaign decides. Assumes nothing.
+-- `campaign_condition::lowest` meets its contract: one that was found stays, else the campaign decides. Assumes
+-- nothing.
 use borrow.Author.Needs.{needs}
 use borrow.Author.Tests.{eq-eqb, ne-eqb}
 use mathlib.Core.Path.{sym, _∙_}

@@ -1,4 +1,5 @@
--- `campaign_condition::said` meets its contract: the verdict that is answered is the campaign's only one. Assumes nothing.
+-- `campaign_condition::said` meets its contract: the verdict that is answered is the campaign's only one. Assumes
+-- nothing.
 use mathlib.Core.Path.{ap, sym, _∙_}
 use borrow.Author.Needs.{needs}
 use Rattle.campaign_verdict.specs.declared.Judged.{Judged}

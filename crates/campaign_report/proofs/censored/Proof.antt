@@ -1,4 +1,5 @@
--- `campaign_report::censored` meets its contract: of a state that keeps its relations the campaign answers the count. Assumes nothing.
+-- `campaign_report::censored` meets its contract: of a state that keeps its relations the campaign answers the count.
+-- Assumes nothing.
 use Rattle.campaign_verdict.proofs.Given.{count-not-refused, has-count}
 use borrow.Author.Needs.{needs}
 use Rattle.campaign_report.proofs.censored.Statement.{statement}

@@ -1,4 +1,5 @@
--- `campaign_report::letter` meets its contract: of a state that keeps its relations the campaign gives its verdict, which has its letter. Assumes nothing.
+-- `campaign_report::letter` meets its contract: of a state that keeps its relations the campaign gives its verdict,
+-- which has its letter. Assumes nothing.
 use mathlib.Core.Path.{ap, _∙_}
 use Rattle.campaign_verdict.proofs.Given.{has-verdict, not-refused}
 use Rattle.campaign_report.specs.Report.{letterFor, verdictLetter}

@@ -1,4 +1,5 @@
--- `campaign_report::lines_length` meets its contract: what was added up and what is left are the whole. What is left falls. Assumes nothing.
+-- `campaign_report::lines_length` meets its contract: what was added up and what is left are the whole. What is left
+-- falls. Assumes nothing.
 use Prim.Native.Nat.{_+_, _*_, _-_, _≤_}
 use mathlib.Core.Path.{_≡_, ap, _∙_}
 use mathlib.Core.List.{List}

@@ -1,4 +1,5 @@
--- `campaign_report::put_four` meets its contract: the fields one after the other, each taking itself off what is left of them. Assumes nothing.
+-- `campaign_report::put_four` meets its contract: the fields one after the other, each taking itself off what is left
+-- of them. Assumes nothing.
 use Prim.Native.Nat.{ℕ}
 use mathlib.Core.List.{List, _++_}
 use denote.Ref.{now}

@@ -1,4 +1,5 @@
--- `campaign_report::put_line` meets its contract: four numbers, the letter, a tab and the blocks, each taking itself off what is left. Assumes nothing.
+-- `campaign_report::put_line` meets its contract: four numbers, the letter, a tab and the blocks, each taking itself
+-- off what is left. Assumes nothing.
 use Prim.Native.Nat.{ℕ}
 use mathlib.Core.Path.{_≡_}
 use mathlib.Core.List.{List, [], _∷_, _++_}
@@ -13,7 +14,8 @@ use borrow.Author.Needs.{needs}
 use Rattle.campaign_report.proofs.put_line.Statement.{statement}
 use Rattle.campaign_report.proofs.put_line.Tie as tie
 
--- of the line so much is left, N*, the letter and the blocks being those that were answered, and the lent bytes are these
+-- of the line so much is left, N*, the letter and the blocks being those that were answered, and the lent bytes are
+-- these
 module _ (c : tie.After-blocks2) where
   abbrev start : tie.Start
   start = c .before .before .before .before

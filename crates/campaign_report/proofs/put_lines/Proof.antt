@@ -1,4 +1,5 @@
--- `campaign_report::put_lines` meets its contract: each line takes itself off what is left of them. What is left falls. Assumes nothing.
+-- `campaign_report::put_lines` meets its contract: each line takes itself off what is left of them. What is left falls.
+-- Assumes nothing.
 use Prim.Native.Nat.{ℕ, _+_, _-_, _≤_}
 use mathlib.Core.Path.{_≡_, ap, subst, _∙_}
 use mathlib.Core.List.{List, [], _++_}

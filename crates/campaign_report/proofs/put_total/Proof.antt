@@ -1,4 +1,5 @@
--- `campaign_report::put_total` meets its contract: the word, the four sums, the letter and the LF, each taking itself off what is left. Assumes nothing.
+-- `campaign_report::put_total` meets its contract: the word, the four sums, the letter and the LF, each taking itself
+-- off what is left. Assumes nothing.
 use Prim.Native.Nat.{ℕ}
 use mathlib.Core.List.{List, [], _∷_, _++_}
 use denote.Ref.{now}

@@ -1,4 +1,5 @@
--- `campaign_report::sum` meets its contract: the invariant is `Summed`, that what was added up and what is left are the whole. What is left falls. Assumes nothing.
+-- `campaign_report::sum` meets its contract: the invariant is `Summed`, that what was added up and what is left are the
+-- whole. What is left falls. Assumes nothing.
 use Prim.Native.Nat.{_+_, _-_, _≤_}
 use mathlib.Core.Path.{_≡_}
 use native.Mathlib.Omega.{arith}

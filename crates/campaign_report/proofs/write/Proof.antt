@@ -1,4 +1,5 @@
--- `campaign_report::write` meets its contract: each refusal has the tests that led to it, and then the lines are put, and the last one. Assumes nothing.
+-- `campaign_report::write` meets its contract: each refusal has the tests that led to it, and then the lines are put,
+-- and the last one. Assumes nothing.
 use Prim.Native.Nat.{ℕ, _+_, _≤_}
 use mathlib.Core.Path.{_≡_, refl, ap, subst, sym, _∙_}
 use mathlib.Core.List.{List, _++_}

@@ -1,5 +1,5 @@
--- `campaign_state::sound` meets its contract: too many records settle it, so that the exposure's bound fits; otherwise it follows the definition word for
--- word. Assumes nothing.
+-- `campaign_state::sound` meets its contract: too many records settle it, so that the exposure's bound fits; otherwise
+-- it follows the definition word for word. Assumes nothing.
 use borrow.Author.Tests.{le-leb, lt-leb}
 use Rattle.campaign_state.specs.State.{sound}
 use borrow.Author.Needs.{needs}

@@ -1,4 +1,5 @@
--- `campaign_verdict::censored_of` meets its contract. A last record that failed is one of the failures, so the subtraction stays above 0. Assumes nothing.
+-- `campaign_verdict::censored_of` meets its contract. A last record that failed is one of the failures, so the
+-- subtraction stays above 0. Assumes nothing.
 use borrow.Author.Tests.{eq-eqb, ne-eqb}
 use Rattle.campaign_state.specs.State.{censored}
 use Rattle.campaign_state.proofs.Relations.{before-fits}

@@ -1,4 +1,5 @@
--- `campaign_verdict::weigh` meets its contract: each answer follows from the tests that led to it, in whichever order they are made. Assumes nothing.
+-- `campaign_verdict::weigh` meets its contract: each answer follows from the tests that led to it, in whichever order
+-- they are made. Assumes nothing.
 use mathlib.Core.Path.{_≡_, sym, _∙_}
 use mathlib.Core.Bool.{false, true}
 use Prim.Native.Nat.{_≤_}

@@ -1,4 +1,5 @@
--- `capi::campaign_of` meets its contract: each answer is the case of `campaignOf` whose tests held on the way to it. Assumes nothing.
+-- `capi::campaign_of` meets its contract: each answer is the case of `campaignOf` whose tests held on the way to it.
+-- Assumes nothing.
 use borrow.Author.Tests.{eq-eqb, ne-eqb, le-leb, lt-leb}
 use Rattle.capi.specs.Numbers.{campaignNumbers, campaignOf}
 use borrow.Author.Needs.{needs}

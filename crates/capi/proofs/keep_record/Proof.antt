@@ -1,4 +1,5 @@
--- `capi::keep_record` meets its contract: a state that was taken is put into an array of its length, a refusal leaves it. Assumes nothing.
+-- `capi::keep_record` meets its contract: a state that was taken is put into an array of its length, a refusal leaves
+-- it. Assumes nothing.
 use mathlib.Core.Path.{ap, sym, _∙_}
 use lib.ListN.{length}
 use borrow.Author.Tests.{eq-eqb, ne-eqb}

@@ -1,4 +1,5 @@
--- `capi::of_record` meets its contract: twelve numbers, and the codes of the last samples between them. Assumes nothing.
+-- `capi::of_record` meets its contract: twelve numbers, and the codes of the last samples between them. Assumes
+-- nothing.
 use borrow.Author.Needs.{needs}
 use mir.Facts.{toZ-ofZ}
 use mir.Syntax.{w32}

@@ -1,5 +1,5 @@
--- `capi::put` meets its contract. Lists of the same length: the invariant is that they agree up to i, and the measure what is left
--- of them. Assumes nothing.
+-- `capi::put` meets its contract. Lists of the same length: the invariant is that they agree up to i, and the measure
+-- what is left of them. Assumes nothing.
 use mathlib.Core.Path.{_≡_, refl, sym, _∙_}
 use Prim.Native.Nat.{_≤_, _<_, _-_}
 use native.Mathlib.Omega.{arith}

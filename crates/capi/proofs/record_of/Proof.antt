@@ -1,4 +1,5 @@
--- `capi::record_of` meets its contract: each answer is the case of `recordOf` whose tests held on the way to it. Assumes nothing.
+-- `capi::record_of` meets its contract: each answer is the case of `recordOf` whose tests held on the way to it.
+-- Assumes nothing.
 use borrow.Author.Needs.{needs}
 use mir.Facts.{toZ-ofZ}
 use mir.Syntax.{w32}

@@ -1,4 +1,5 @@
--- `capi::sample_of` meets its contract: the half fits, and is the sample of an even code; -1 less the half that of an odd one. Assumes nothing.
+-- `capi::sample_of` meets its contract: the half fits, and is the sample of an even code; -1 less the half that of an
+-- odd one. Assumes nothing.
 use mathlib.Core.Path.{_≡_, ap, subst, sym, _∙_}
 use Prim.Native.Nat.{ℕ, _/_, _≤_}
 use native.Mathlib.Omega.{arith}

@@ -1,4 +1,5 @@
--- `capi_binomial::chim_sum_add` meets its contract: what adding answered the sum and the record of the arrays is kept. Assumes nothing.
+-- `capi_binomial::chim_sum_add` meets its contract: what adding answered the sum and the record of the arrays is kept.
+-- Assumes nothing.
 use borrow.Author.Needs.{needs}
 use Rattle.capi_binomial.proofs.chim_sum_add.Statement.{statement}
 use Rattle.capi_binomial.proofs.chim_sum_add.Tie as tie

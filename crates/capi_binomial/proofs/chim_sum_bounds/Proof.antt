@@ -1,4 +1,5 @@
--- `capi_binomial::chim_sum_bounds` meets its contract: bounds that were given are put into an array of their length, a refusal leaves it. Assumes nothing.
+-- `capi_binomial::chim_sum_bounds` meets its contract: bounds that were given are put into an array of their length, a
+-- refusal leaves it. Assumes nothing.
 use mathlib.Core.Path.{ap, sym, _∙_}
 use lib.ListN.{length}
 use borrow.Author.Tests.{eq-eqb, ne-eqb}

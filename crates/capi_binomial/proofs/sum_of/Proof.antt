@@ -1,4 +1,5 @@
--- `capi_binomial::sum_of` meets its contract: each answer is the case of `sumOf` whose test held on the way to it. Assumes nothing.
+-- `capi_binomial::sum_of` meets its contract: each answer is the case of `sumOf` whose test held on the way to it.
+-- Assumes nothing.
 use borrow.Author.Tests.{eq-eqb, ne-eqb}
 use Rattle.capi_binomial.specs.Told.{sumNumbers, sumOf}
 use borrow.Author.Needs.{needs}

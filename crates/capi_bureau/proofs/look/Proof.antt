@@ -1,4 +1,5 @@
--- `capi_bureau::look` meets its contract: the invariant: the survey of what is left of the table goes on to the survey of the whole. The measure is what is left. Assumes nothing.
+-- `capi_bureau::look` meets its contract: the invariant: the survey of what is left of the table goes on to the survey
+-- of the whole. The measure is what is left. Assumes nothing.
 use Prim.Native.Nat.{_+_, _≤_, _-_}
 use mathlib.Core.Path.{_≡_, ap, sym, _∙_}
 use native.Mathlib.Omega.{arith}

@@ -1,4 +1,5 @@
--- `capi_campaign::chim_campaign_enter` meets its contract: what entering answered the campaign of the array is kept. Assumes nothing.
+-- `capi_campaign::chim_campaign_enter` meets its contract: what entering answered the campaign of the array is kept.
+-- Assumes nothing.
 use borrow.Author.Tests.{le-leb, lt-leb}
 use Rattle.capi_campaign.specs.Told.{campaignEntered}
 use borrow.Author.Needs.{needs}

@@ -1,4 +1,5 @@
--- `capi_comma::chim_comma_read` meets its contract: what `read` answered is known in each arm, and the samples are as it left them. Assumes nothing.
+-- `capi_comma::chim_comma_read` meets its contract: what `read` answered is known in each arm, and the samples are as
+-- it left them. Assumes nothing.
 use Rattle.capi_comma.specs.Told.{readTold}
 use borrow.Author.Needs.{needs}
 use Rattle.capi_comma.proofs.chim_comma_read.Statement.{statement}

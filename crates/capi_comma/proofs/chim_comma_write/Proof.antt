@@ -1,4 +1,5 @@
--- `capi_comma::chim_comma_write` meets its contract: what `write` answered is known in each arm, and the bytes are as it left them. Assumes nothing.
+-- `capi_comma::chim_comma_write` meets its contract: what `write` answered is known in each arm, and the bytes are as
+-- it left them. Assumes nothing.
 use Rattle.capi_comma.specs.Told.{writeTold}
 use borrow.Author.Needs.{needs}
 use Rattle.capi_comma.proofs.chim_comma_write.Statement.{statement}

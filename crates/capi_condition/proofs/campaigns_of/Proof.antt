@@ -1,4 +1,5 @@
--- `capi_condition::campaigns_of` meets its contract: the campaigns stored are those of the rows passed. What is left falls. Assumes nothing.
+-- `capi_condition::campaigns_of` meets its contract: the campaigns stored are those of the rows passed. What is left
+-- falls. Assumes nothing.
 use Prim.Native.Nat.{_-_, _≤_}
 use mathlib.Core.Path.{_≡_, refl, ap, _∙_}
 use native.Mathlib.Omega.{arith}

@@ -1,5 +1,5 @@
--- `capi_condition::chim_condition_judge` meets its contract: too many rows are refused, and else what `judge` answered of their campaigns is known in each arm.
--- Assumes nothing.
+-- `capi_condition::chim_condition_judge` meets its contract: too many rows are refused, and else what `judge` answered
+-- of their campaigns is known in each arm. Assumes nothing.
 use mathlib.Core.Path.{_≡_, ap, _∙_}
 use lib.ListN.{length}
 use denote.Ref.{now}

@@ -1,5 +1,5 @@
--- `capi_condition::chim_condition_report` meets its contract: too many rows are refused, and else what `write` answered of their campaigns is known in each arm, and
--- the bytes are as it left them. Assumes nothing.
+-- `capi_condition::chim_condition_report` meets its contract: too many rows are refused, and else what `write` answered
+-- of their campaigns is known in each arm, and the bytes are as it left them. Assumes nothing.
 use mathlib.Core.Path.{_≡_, ap, _∙_}
 use mathlib.Core.List.{List}
 use lib.ListN.{length}

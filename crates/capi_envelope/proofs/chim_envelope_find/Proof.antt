@@ -1,4 +1,5 @@
--- `capi_envelope::chim_envelope_find` meets its contract: what `find` answered is known in each arm, and the slices are as it left them. Assumes nothing.
+-- `capi_envelope::chim_envelope_find` meets its contract: what `find` answered is known in each arm, and the slices are
+-- as it left them. Assumes nothing.
 use borrow.Author.Needs.{needs}
 use Rattle.capi_envelope.specs.Told.{foundTold}
 use Rattle.capi_envelope.proofs.chim_envelope_find.Statement.{statement}

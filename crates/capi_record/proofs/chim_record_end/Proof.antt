@@ -1,4 +1,5 @@
--- `capi_record::chim_record_end` meets its contract: what ending answered the record of the array is kept in the other. Assumes nothing.
+-- `capi_record::chim_record_end` meets its contract: what ending answered the record of the array is kept in the other.
+-- Assumes nothing.
 use borrow.Author.Needs.{needs}
 use Rattle.capi_record.proofs.chim_record_end.Statement.{statement}
 use Rattle.capi_record.proofs.chim_record_end.Tie as tie

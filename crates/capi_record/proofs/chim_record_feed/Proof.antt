@@ -1,4 +1,5 @@
--- `capi_record::chim_record_feed` meets its contract: what feeding answered the record of the array is kept in it, and the channel that it names is told. Assumes nothing.
+-- `capi_record::chim_record_feed` meets its contract: what feeding answered the record of the array is kept in it, and
+-- the channel that it names is told. Assumes nothing.
 use borrow.Author.Needs.{needs}
 use Rattle.capi_record.proofs.chim_record_feed.Statement.{statement}
 use Rattle.capi_record.proofs.chim_record_feed.Tie as tie

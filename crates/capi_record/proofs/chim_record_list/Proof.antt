@@ -1,4 +1,5 @@
--- `capi_record::chim_record_list` meets its contract: what `list` answered is known in each arm, and the slice is as it left it. Assumes nothing.
+-- `capi_record::chim_record_list` meets its contract: what `list` answered is known in each arm, and the slice is as it
+-- left it. Assumes nothing.
 use mathlib.Core.Path.{refl}
 use borrow.Author.Needs.{needs}
 use Rattle.capi_record.specs.Told.{listChannel, listTold}

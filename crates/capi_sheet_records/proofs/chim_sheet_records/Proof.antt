@@ -1,4 +1,5 @@
--- `capi_sheet_records::chim_sheet_records` meets its contract: what `records` answered is known in each arm, and the records are as it left them. Assumes nothing.
+-- `capi_sheet_records::chim_sheet_records` meets its contract: what `records` answered is known in each arm, and the
+-- records are as it left them. Assumes nothing.
 use mathlib.Core.Path.{sym, _∙_}
 use Rattle.capi_sheet_records.specs.Told.{readTold}
 use borrow.Author.Needs.{needs}

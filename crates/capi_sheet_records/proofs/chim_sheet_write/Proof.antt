@@ -1,4 +1,5 @@
--- `capi_sheet_records::chim_sheet_write` meets its contract: what `write` answered is known in each arm, and the bytes are as it left them. Assumes nothing.
+-- `capi_sheet_records::chim_sheet_write` meets its contract: what `write` answered is known in each arm, and the bytes
+-- are as it left them. Assumes nothing.
 use Rattle.capi_sheet_records.specs.Told.{writeTold}
 use borrow.Author.Needs.{needs}
 use Rattle.capi_sheet_records.proofs.chim_sheet_write.Statement.{statement}

@@ -1,4 +1,5 @@
--- `capi_tail::chim_tail_fit` meets its contract: what `fit` answered is known in each arm, and the slice is as it left it. Assumes nothing.
+-- `capi_tail::chim_tail_fit` meets its contract: what `fit` answered is known in each arm, and the slice is as it left
+-- it. Assumes nothing.
 use borrow.Author.Needs.{needs}
 use Rattle.capi_tail.proofs.chim_tail_fit.Statement.{statement}
 use Rattle.capi_tail.proofs.chim_tail_fit.Tie as tie

@@ -1,4 +1,5 @@
--- `capi_verdict::chim_campaign_verdict` meets its contract: what the campaign answered is known in each arm. Assumes nothing.
+-- `capi_verdict::chim_campaign_verdict` meets its contract: what the campaign answered is known in each arm. Assumes
+-- nothing.
 use Rattle.campaign_verdict.proofs.Only.{only}
 use Rattle.capi_verdict.specs.Told.{judgedTold}
 use borrow.Author.Needs.{needs}

@@ -1,5 +1,5 @@
--- `comma_read::fill_front` meets its contract: `Along` and `Putting` are its invariant, and the plain lines that are ahead keep them. What is left of the front falls.
--- Assumes nothing.
+-- `comma_read::fill_front` meets its contract: `Along` and `Putting` are its invariant, and the plain lines that are
+-- ahead keep them. What is left of the front falls. Assumes nothing.
 use mathlib.Core.Path.{_≡_, sym, ap, _∙_}
 use mathlib.Core.Bool.{Bool, cond}
 use mathlib.Core.List.{List}

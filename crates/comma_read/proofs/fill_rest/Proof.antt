@@ -1,5 +1,5 @@
--- `comma_read::fill_rest` meets its contract: `Along` and `Putting` are its invariant, and every line keeps them, since all are right. What is left of the text falls.
--- Assumes nothing.
+-- `comma_read::fill_rest` meets its contract: `Along` and `Putting` are its invariant, and every line keeps them, since
+-- all are right. What is left of the text falls. Assumes nothing.
 use mathlib.Core.Path.{_≡_, sym, ap, _∙_}
 use mathlib.Core.Bool.{true, not}
 use Prim.Native.Nat.{_+_, _-_, _*_, _<_, _≤_}

@@ -1,4 +1,5 @@
--- `comma_read::form_of` meets its contract: the minus says where the degrees start, and their second byte whether it is a point. Assumes nothing.
+-- `comma_read::form_of` meets its contract: the minus says where the degrees start, and their second byte whether it is
+-- a point. Assumes nothing.
 use mathlib.Core.Path.{_≡_, refl, sym, ap, _∙_}
 use mathlib.Core.List.{List}
 use Prim.Native.Nat.{ℕ, _+_, _-_, _*_, _/_, _%_}

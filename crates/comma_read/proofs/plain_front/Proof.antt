@@ -1,4 +1,5 @@
--- `comma_read::plain_front` meets its contract: a run stands behind the runs before it; what is left of the text falls. Assumes nothing.
+-- `comma_read::plain_front` meets its contract: a run stands behind the runs before it; what is left of the text falls.
+-- Assumes nothing.
 use Prim.Native.Nat.{_-_, _*_}
 use native.Mathlib.Omega.{arith}
 use native.Mathlib.Nat.{add-mul}

@@ -1,4 +1,5 @@
--- `comma_read::plain_lines` meets its contract: where there is no line to look at there are none, and else the run has them. Assumes nothing.
+-- `comma_read::plain_lines` meets its contract: where there is no line to look at there are none, and else the run has
+-- them. Assumes nothing.
 use Prim.Native.Nat.{_+_, _≤_}
 use native.Mathlib.Omega.{arith}
 use lib.ListN.{length}

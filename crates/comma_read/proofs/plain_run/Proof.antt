@@ -1,4 +1,5 @@
--- `comma_read::plain_run` meets its contract: `Running` is its invariant, and what is left of the text falls. Assumes nothing.
+-- `comma_read::plain_run` meets its contract: `Running` is its invariant, and what is left of the text falls. Assumes
+-- nothing.
 use mathlib.Core.Path.{sym, ap, _∙_}
 use Prim.Native.Nat.{ℕ, _+_, _-_, _*_, _/_, _^_, _≤_}
 use native.Mathlib.Nat.{div-le-self}

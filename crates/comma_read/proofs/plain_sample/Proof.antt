@@ -1,4 +1,5 @@
--- `comma_read::plain_sample` meets its contract: the four numbers are the four forms, and each has its degrees' thousandths and their sign. Assumes nothing.
+-- `comma_read::plain_sample` meets its contract: the four numbers are the four forms, and each has its degrees'
+-- thousandths and their sign. Assumes nothing.
 use mathlib.Core.Path.{_≡_, _∙_}
 use mathlib.Core.List.{List}
 use Prim.Native.Nat.{ℕ, _+_, _-_, _/_, _%_}

@@ -1,4 +1,5 @@
--- `comma_read::read` meets its contract: the survey decides the answer, and where all is well the samples are put. Assumes nothing.
+-- `comma_read::read` meets its contract: the survey decides the answer, and where all is well the samples are put.
+-- Assumes nothing.
 use mathlib.Core.Path.{_≡_, refl, sym, _∙_}
 use mathlib.Core.Bool.{true}
 use mathlib.Core.List.{List}

@@ -1,5 +1,5 @@
--- `comma_read::survey` meets its contract: `Along` is its invariant, plain lines and a right line keep it, and a wrong one or the end closes it. What is left of the
--- text falls. Assumes nothing.
+-- `comma_read::survey` meets its contract: `Along` is its invariant, plain lines and a right line keep it, and a wrong
+-- one or the end closes it. What is left of the text falls. Assumes nothing.
 use mathlib.Core.Path.{sym, ap, _∙_}
 use mathlib.Core.Bool.{cond}
 use mathlib.Core.List.{List}

@@ -1,4 +1,5 @@
--- `comma_read::width_in` meets its contract: where the comma stands behind the last width, this is the time's width; else its digits are counted. Assumes nothing.
+-- `comma_read::width_in` meets its contract: where the comma stands behind the last width, this is the time's width;
+-- else its digits are counted. Assumes nothing.
 use lib.ListN.{drop}
 use lib.Seq.{getD-drop}
 use denote.Ref.{now}

@@ -1,5 +1,5 @@
--- `comma_stream::along` meets its contract: a right line more, as long as there is a place for it. Times grow by the step; a right line has one of 12 digits, so that
--- no sum wraps. The places that are left fall. Assumes nothing.
+-- `comma_stream::along` meets its contract: a right line more, as long as there is a place for it. Times grow by the
+-- step; a right line has one of 12 digits, so that no sum wraps. The places that are left fall. Assumes nothing.
 use Prim.Native.Nat.{_+_, _-_, _*_, _^_, _≤_, _<_}
 use mathlib.Core.Path.{_≡_, sym, _∙_}
 use native.Mathlib.Nat.{add-zero, mul-le-mul}

@@ -1,4 +1,5 @@
--- `comma_stream::take` meets its contract: a step out of range, lines behind which no time has 12 digits, or what stands along the text. Assumes nothing.
+-- `comma_stream::take` meets its contract: a step out of range, lines behind which no time has 12 digits, or what
+-- stands along the text. Assumes nothing.
 use mathlib.Core.Path.{_≡_, refl}
 use mathlib.Core.Bool.{true}
 use native.Mathlib.Omega.{arith}

@@ -1,4 +1,5 @@
--- `comma_stream::unended` meets its contract. The invariant of its loop: what is left has no LF just if all has none. Assumes nothing.
+-- `comma_stream::unended` meets its contract. The invariant of its loop: what is left has no LF just if all has none.
+-- Assumes nothing.
 use Prim.Native.Nat.{ℕ, _+_, _-_, _≤_, _<_}
 use mathlib.Core.Path.{_≡_, refl, sym, ap, _∙_}
 use mathlib.Core.Bool.{not, _&&_}

@@ -1,5 +1,5 @@
--- `comma_word::turned` meets its contract. The product fits, since each of its bytes is 246 at most; and what is left, with the product added back, wraps to the sum, so that
--- it is the sum less the product. Assumes nothing.
+-- `comma_word::turned` meets its contract. The product fits, since each of its bytes is 246 at most; and what is left,
+-- with the product added back, wraps to the sum, so that it is the sum less the product. Assumes nothing.
 use mathlib.Core.Path.{_≡_}
 use Prim.Native.Nat.{ℕ, _+_, _*_, _/_, _%_, _^_, _≤_, _<_}
 use native.Mathlib.Omega.{arith}

@@ -1,4 +1,5 @@
--- `comma_write::put_line` meets its contract: the line is written part by part, each taking itself off what is left of it. Assumes nothing.
+-- `comma_write::put_line` meets its contract: the line is written part by part, each taking itself off what is left of
+-- it. Assumes nothing.
 use mathlib.Core.List.{List, [], _∷_, _++_}
 use Prim.Native.Nat.{ℕ}
 use mir.Facts.{toZ-ofZ}

@@ -1,4 +1,5 @@
--- `comma_write::put_text` meets its contract: each line takes itself off what is left of the text. What is left falls. Assumes nothing.
+-- `comma_write::put_text` meets its contract: each line takes itself off what is left of the text. What is left falls.
+-- Assumes nothing.
 use mathlib.Core.Path.{_≡_, ap, subst, _∙_}
 use mathlib.Core.List.{List, [], _++_}
 use Prim.Native.Nat.{ℕ, _+_, _*_, _-_, _≤_}

@@ -1,4 +1,5 @@
--- `comma_write::write` meets its contract: each refusal has the tests that led to it, and then the text is put. Assumes nothing.
+-- `comma_write::write` meets its contract: each refusal has the tests that led to it, and then the text is put. Assumes
+-- nothing.
 use mathlib.Core.Path.{_≡_, refl, sym, _∙_}
 use mathlib.Core.Bool.{true, false}
 use mathlib.Core.List.{List}

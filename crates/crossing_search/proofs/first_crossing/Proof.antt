@@ -1,5 +1,5 @@
--- `crossing_search::first_crossing` meets its contract. The invariant: i is past the ramp and no crossing stands before i. A turn takes a block, which is not empty,
--- so what is left falls. Assumes nothing.
+-- `crossing_search::first_crossing` meets its contract. The invariant: i is past the ramp and no crossing stands before
+-- i. A turn takes a block, which is not empty, so what is left falls. Assumes nothing.
 use Prim.Native.Nat.{ℕ, _≤_, _<_, _-_}
 use mathlib.Core.Path.{_≡_, sym, _∙_}
 use mathlib.Core.Bool.{true, false}

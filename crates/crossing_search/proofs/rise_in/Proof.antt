@@ -1,5 +1,5 @@
--- `crossing_search::rise_in` meets its contract. In a quiet block no sample is above its level, so none crosses it. The loop's invariant: i is in the stretch and
--- no level is crossed before i. The measure is what is left. Assumes nothing.
+-- `crossing_search::rise_in` meets its contract. In a quiet block no sample is above its level, so none crosses it. The
+-- loop's invariant: i is in the stretch and no level is crossed before i. The measure is what is left. Assumes nothing.
 use Prim.Native.Nat.{ℕ, _≤_, _<_, _-_}
 use mathlib.Core.Path.{_≡_, refl, sym, _∙_}
 use mathlib.Core.Bool.{Bool, true, false, not, _&&_}

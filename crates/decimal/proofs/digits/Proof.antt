@@ -1,6 +1,7 @@
--- `decimal::digits` meets its contract. The invariant of its loop: ten times the power is ten to the count, and the text has at least that
--- many digits. A turn is made where v reaches the next power; comparing with v / 10 keeps the product from wrapping. The measure is how
--- far the power is below v / 10 and falls, since the power grows. Assumes nothing.
+-- `decimal::digits` meets its contract. The invariant of its loop: ten times the power is ten to the count, and the
+-- text has at least that many digits. A turn is made where v reaches the next power; comparing with v / 10 keeps the
+-- product from wrapping. The measure is how far the power is below v / 10 and falls, since the power grows. Assumes
+-- nothing.
 use mathlib.Core.Path.{_≡_, refl}
 use Prim.Native.Nat.{suc, _+_, _-_, _*_, _^_, _≤_}
 use native.Mathlib.Nat.{pow-suc}

@@ -1,4 +1,5 @@
--- `decimal::number_or` meets its contract: the text is a number if the digits that it starts with are one and all of it. Assumes nothing.
+-- `decimal::number_or` meets its contract: the text is a number if the digits that it starts with are one and all of
+-- it. Assumes nothing.
 use Prim.Native.Nat.{ℕ}
 use mathlib.Core.Path.{_≡_, sym, ap, _∙_}
 use mathlib.Core.Bool.{true, false, cond}

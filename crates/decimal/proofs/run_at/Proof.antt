@@ -1,6 +1,6 @@
--- `decimal::run_at` meets its contract. The invariant of its loop: the value, with the digits pushed that are left at i, is the value of
--- the whole run; their number, from i on, ends where the run ends; and the value is below ten to the digits passed, so that no sum
--- wraps. What is left of the way to `stop`, the measure, falls by one. Assumes nothing.
+-- `decimal::run_at` meets its contract. The invariant of its loop: the value, with the digits pushed that are left at
+-- i, is the value of the whole run; their number, from i on, ends where the run ends; and the value is below ten to the
+-- digits passed, so that no sum wraps. What is left of the way to `stop`, the measure, falls by one. Assumes nothing.
 use mathlib.Core.Path.{_≡_, sym, _∙_}
 use mathlib.Core.Bool.{true}
 use mathlib.Core.List.{List, [], _∷_, foldl}
@@ -55,7 +55,8 @@ returns c =
     let other = sym (c .before .is-digit .ensures) ∙ not-true (c .before .is-digit .result) (c .if1 .taken) in
     stopped (now (a .s)) (a .at) (l .i) (l .value) (l .inv .1 .1) (left-other (now (a .s)) (a .at) (l .i) (omega arith) (omega arith) other)
 
--- past the test: the loop's values, the byte, that it is a digit, and that the value stays below ten to the digits passed
+-- past the test: the loop's values, the byte, that it is a digit, and that the value stays below ten to the digits
+-- passed
 abbrev L : (c : tie.Else1 Inv-loop μ-loop) → tie.At-loop Inv-loop μ-loop
 L c = c .before .before .before .before
 

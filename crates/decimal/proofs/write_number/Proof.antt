@@ -1,6 +1,6 @@
--- `decimal::write_number` meets its contract. The invariant of its loop: laying the digits of the rest over what `out` holds now gives what
--- laying those of v over `out` as it was gives, and i is the place after the rest's digits. A turn stores the last of them; the rest, the
--- measure, falls. One digit is left for the last store. Assumes nothing.
+-- `decimal::write_number` meets its contract. The invariant of its loop: laying the digits of the rest over what `out`
+-- holds now gives what laying those of v over `out` as it was gives, and i is the place after the rest's digits. A turn
+-- stores the last of them; the rest, the measure, falls. One digit is left for the last store. Assumes nothing.
 use mathlib.Core.Path.{_≡_, refl, sym, _∙_}
 use mathlib.Core.List.{List}
 use Prim.Native.Nat.{ℕ, _+_, _-_, _/_, _%_, _<_, _≤_}

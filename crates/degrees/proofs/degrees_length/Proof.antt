@@ -1,4 +1,5 @@
--- `degrees::degrees_length` meets its contract: the sign, the whole degrees, the point and three digits. Assumes nothing.
+-- `degrees::degrees_length` meets its contract: the sign, the whole degrees, the point and three digits. Assumes
+-- nothing.
 use mathlib.Core.Path.{_≡_, ap, _∙_}
 use Prim.Native.Nat.{_/_, _≤_}
 use native.Mathlib.Omega.{arith}

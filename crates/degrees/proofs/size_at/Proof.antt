@@ -1,5 +1,5 @@
--- `degrees::size_at` meets its contract: the number, the byte behind it and the digits behind a point decide, each return by its law of `Sizes`. Assumes
--- nothing.
+-- `degrees::size_at` meets its contract: the number, the byte behind it and the digits behind a point decide, each
+-- return by its law of `Sizes`. Assumes nothing.
 use mathlib.Core.Path.{_≡_, sym, _∙_}
 use mathlib.Core.Bool.{Bool, true, cond}
 use mathlib.Core.List.{List}

@@ -1,4 +1,5 @@
--- `degrees::write_degrees` meets its contract: the text is written part by part, each taking itself off what is left of it. Assumes nothing.
+-- `degrees::write_degrees` meets its contract: the text is written part by part, each taking itself off what is left of
+-- it. Assumes nothing.
 use mathlib.Core.Path.{_≡_}
 use mathlib.Core.List.{List, _∷_, _++_}
 use Prim.Native.Nat.{ℕ, _+_, _/_, _≤_}

@@ -1,5 +1,5 @@
--- `logarithm::log2` meets its contract. The invariant of its loop is `After`: after i squarings the bits taken and the number left are the
--- state of `Squaring` at 2 ^ i. The measure is what is left of the 16 turns. Assumes nothing.
+-- `logarithm::log2` meets its contract. The invariant of its loop is `After`: after i squarings the bits taken and the
+-- number left are the state of `Squaring` at 2 ^ i. The measure is what is left of the 16 turns. Assumes nothing.
 use mathlib.Core.Path.{refl}
 use Prim.Native.Nat.{_-_}
 use native.Mathlib.Omega.{arith}

@@ -1,5 +1,5 @@
--- `logarithm::scale` meets its contract: both values fit 32 bits once shifted, so no shift loses a bit, and `Scaling` has the quotient of
--- the two cases. Assumes nothing.
+-- `logarithm::scale` meets its contract: both values fit 32 bits once shifted, so no shift loses a bit, and `Scaling`
+-- has the quotient of the two cases. Assumes nothing.
 use Prim.Native.Nat.{_-_, _*_, _^_}
 use native.Mathlib.Nat.{mod-eq-of-lt}
 use native.Mathlib.Omega.{arith}

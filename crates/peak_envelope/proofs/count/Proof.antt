@@ -1,5 +1,5 @@
--- `peak_envelope::count` meets its contract. The invariant: the number and the sum so far and those of the peaks to come make those of all, whatever the step is.
--- The measure is what is left. Assumes nothing.
+-- `peak_envelope::count` meets its contract. The invariant: the number and the sum so far and those of the peaks to
+-- come make those of all, whatever the step is. The measure is what is left. Assumes nothing.
 use Prim.Native.Nat.{ℕ, _+_, _-_, _*_, _≤_}
 use mathlib.Core.Path.{_≡_, ap, _∙_}
 use native.Mathlib.Nat.{zero-add}

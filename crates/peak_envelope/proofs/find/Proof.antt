@@ -1,4 +1,5 @@
--- `peak_envelope::find` meets its contract: each answer is the law of `Answered` whose tests held on the way to it. Assumes nothing.
+-- `peak_envelope::find` meets its contract: each answer is the law of `Answered` whose tests held on the way to it.
+-- Assumes nothing.
 use mathlib.Core.Path.{sym, ap, _∙_}
 use native.Mathlib.Omega.{arith}
 use borrow.Author.Needs.{needs}

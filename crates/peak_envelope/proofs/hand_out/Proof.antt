@@ -1,4 +1,5 @@
--- `peak_envelope::hand_out` meets its contract: a pass into no lasting place tells the number needed, and another writes. Assumes nothing.
+-- `peak_envelope::hand_out` meets its contract: a pass into no lasting place tells the number needed, and another
+-- writes. Assumes nothing.
 use borrow.Author.Needs.{needs}
 use mathlib.Core.Path.{_≡_, sym, ap, _∙_}
 use mathlib.Core.List.{List, map}

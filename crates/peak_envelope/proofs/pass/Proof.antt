@@ -1,4 +1,5 @@
--- `peak_envelope::pass` meets its contract: the loop stands as `Passing` says, and the measure is what is left. Assumes nothing.
+-- `peak_envelope::pass` meets its contract: the loop stands as `Passing` says, and the measure is what is left. Assumes
+-- nothing.
 use Prim.Native.Nat.{_+_, _-_, _*_, _≤_}
 use mathlib.Core.Path.{_≡_, ap, _∙_}
 use native.Mathlib.Nat.{div-le-self}

@@ -1,5 +1,5 @@
--- `peak_groups::run_on` meets its contract. The invariant: the run so far, with what is left after it, comes to the first run. The measure is what is left.
--- Assumes nothing.
+-- `peak_groups::run_on` meets its contract. The invariant: the run so far, with what is left after it, comes to the
+-- first run. The measure is what is left. Assumes nothing.
 use Prim.Native.Nat.{ℕ, _+_, _≤_, _-_}
 use mathlib.Core.Path.{_≡_, refl, sym, ap, _∙_}
 use mathlib.Core.Bool.{Bool}

@@ -1,5 +1,5 @@
--- `peak_groups::zeros` meets its contract. The invariant: the i samples passed are zeros, so all zeros at the start are i and those of what is left. The measure is
--- what is left. Assumes nothing.
+-- `peak_groups::zeros` meets its contract. The invariant: the i samples passed are zeros, so all zeros at the start are
+-- i and those of what is left. The measure is what is left. Assumes nothing.
 use Prim.Native.Nat.{suc, _+_, _≤_, _-_}
 use mathlib.Core.Path.{_≡_, sym, ap, _∙_}
 use mathlib.Core.List.{_∷_}

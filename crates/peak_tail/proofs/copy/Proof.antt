@@ -1,5 +1,5 @@
--- `peak_tail::copy` meets its contract. The invariant: storing the peaks that are left over what `to` holds now gives what storing all of them over `to`
--- as it was gives. The measure is what is left. Assumes nothing.
+-- `peak_tail::copy` meets its contract. The invariant: storing the peaks that are left over what `to` holds now gives
+-- what storing all of them over `to` as it was gives. The measure is what is left. Assumes nothing.
 use mathlib.Core.Path.{_≡_, refl, _∙_}
 use Prim.Native.Nat.{_-_, _≤_}
 use native.Mathlib.Nat.{zero-add}

@@ -1,5 +1,5 @@
--- `peak_tail::first_bad` meets its contract. The invariant: the i peaks passed are in range, so the first bad place is i and the first bad place of
--- what is left. The measure is what is left. Assumes nothing.
+-- `peak_tail::first_bad` meets its contract. The invariant: the i peaks passed are in range, so the first bad place is
+-- i and the first bad place of what is left. The measure is what is left. Assumes nothing.
 use mathlib.Core.Path.{_≡_, sym, ap, _∙_}
 use mathlib.Core.Bool.{true, false}
 use Prim.Native.Nat.{_+_, _-_, _≤_}

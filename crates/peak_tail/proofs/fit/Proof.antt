@@ -1,5 +1,5 @@
--- `peak_tail::fit` meets its contract: each return has the tests that led to it (`Order`); the slice is the copy sorted, and the rest as it stood.
--- Assumes nothing.
+-- `peak_tail::fit` meets its contract: each return has the tests that led to it (`Order`); the slice is the copy
+-- sorted, and the rest as it stood. Assumes nothing.
 use mathlib.Core.Path.{ap, sym, _∙_}
 use mathlib.Core.List.{_++_}
 use native.Mathlib.Omega.{arith}

@@ -1,4 +1,5 @@
--- `peak_tail::hill_sum` meets its contract. The invariant of its loop is `Part`, and the measure how many values are left. Assumes nothing.
+-- `peak_tail::hill_sum` meets its contract. The invariant of its loop is `Part`, and the measure how many values are
+-- left. Assumes nothing.
 use Prim.Native.Nat.{_-_}
 use native.Mathlib.Omega.{arith}
 use borrow.Author.Needs.{needs}

@@ -1,4 +1,5 @@
--- `peak_tail::sum_of_largest` meets its contract: the values sorted hold no 0 either, so the k-th is at least 1. Assumes nothing.
+-- `peak_tail::sum_of_largest` meets its contract: the values sorted hold no 0 either, so the k-th is at least 1.
+-- Assumes nothing.
 use mathlib.Core.Path.{sym, _∙_}
 use native.Mathlib.Omega.{arith}
 use borrow.Author.Needs.{needs}

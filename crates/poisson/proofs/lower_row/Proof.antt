@@ -1,5 +1,5 @@
--- `poisson::lower_row` meets its contract: the constant is the table of specs/, which the rule is proved of, and a number outside it has
--- what `lower-met` says there. Assumes nothing.
+-- `poisson::lower_row` meets its contract: the constant is the table of specs/, which the rule is proved of, and a
+-- number outside it has what `lower-met` says there. Assumes nothing.
 use mathlib.Core.Path.{subst, sym}
 use borrow.Author.Needs.{needs}
 use native.Mathlib.Omega.{arith}

@@ -1,5 +1,5 @@
--- `poisson::upper_row` meets its contract: the constant is the table of specs/, which the rule is proved of, and a number outside it has
--- what `upper-met` says there. Assumes nothing.
+-- `poisson::upper_row` meets its contract: the constant is the table of specs/, which the rule is proved of, and a
+-- number outside it has what `upper-met` says there. Assumes nothing.
 use mathlib.Core.Path.{subst, sym}
 use borrow.Author.Needs.{needs}
 use native.Mathlib.Omega.{arith}

@@ -1,4 +1,5 @@
--- `prog_condition::all` is safe and ends: there is a place for each of at most 64 campaigns, and the sheets that are left fall. Assumes nothing.
+-- `prog_condition::all` is safe and ends: there is a place for each of at most 64 campaigns, and the sheets that are
+-- left fall. Assumes nothing.
 use Prim.Native.Nat.{_-_, _≤_}
 use mathlib.Core.Path.{_≡_, refl, _∙_}
 use native.Mathlib.Omega.{arith}

@@ -1,4 +1,5 @@
--- `prog_condition::one` is safe and ends. A line begun is less than a line, so there is room to read behind it; the bytes that are to come fall. Assumes nothing.
+-- `prog_condition::one` is safe and ends. A line begun is less than a line, so there is room to read behind it; the
+-- bytes that are to come fall. Assumes nothing.
 use Prim.Native.Nat.{_<_}
 use mathlib.Core.Path.{_≡_, refl, sym, _∙_}
 use native.Mathlib.Omega.{arith}

@@ -1,4 +1,5 @@
--- `prog_condition::work` is safe and keeps less than a line: the bytes that a reading left are the last of those read (`unread`). Assumes nothing.
+-- `prog_condition::work` is safe and keeps less than a line: the bytes that a reading left are the last of those read
+-- (`unread`). Assumes nothing.
 use Prim.Native.Nat.{_≤_, _<_}
 use mathlib.Core.Path.{sym}
 use mathlib.Core.Bool.{true}

@@ -1,4 +1,5 @@
--- `prog_count::several` is safe and ends: the buffer keeps its length, and the arguments that are left fall. Assumes nothing.
+-- `prog_count::several` is safe and ends: the buffer keeps its length, and the arguments that are left fall. Assumes
+-- nothing.
 use Prim.Native.Nat.{_-_}
 use mathlib.Core.Path.{_≡_, refl, _∙_}
 use native.Mathlib.Omega.{arith}

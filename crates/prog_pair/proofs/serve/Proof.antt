@@ -1,4 +1,5 @@
--- `prog_pair::serve` is safe and ends: the buffers keep their lengths, and the turns that are left fall. Assumes nothing.
+-- `prog_pair::serve` is safe and ends: the buffers keep their lengths, and the turns that are left fall. Assumes
+-- nothing.
 use mathlib.Core.Path.{_≡_, refl, _∙_}
 use lib.ListN.{length}
 use borrow.Author.Needs.{needs}

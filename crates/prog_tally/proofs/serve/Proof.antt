@@ -1,4 +1,5 @@
--- `prog_tally::serve` is safe and ends. A line begun is less than a line, so there is room to read behind it; the turns that are left fall. Assumes nothing.
+-- `prog_tally::serve` is safe and ends. A line begun is less than a line, so there is room to read behind it; the turns
+-- that are left fall. Assumes nothing.
 use Prim.Native.Nat.{_<_}
 use mathlib.Core.Path.{_≡_, refl, _∙_}
 use native.Mathlib.Omega.{arith}

@@ -1,4 +1,5 @@
--- `prog_tally::start_of` is safe and ends: it looks at bytes of the text alone, and what is left of it falls. Assumes nothing.
+-- `prog_tally::start_of` is safe and ends: it looks at bytes of the text alone, and what is left of it falls. Assumes
+-- nothing.
 use Prim.Native.Nat.{_-_, _≤_}
 use lib.ListN.{length}
 use borrow.Author.Needs.{needs}

@@ -1,5 +1,5 @@
--- `prog_tally::work` is safe and keeps less than a line: the bytes that a run says it wrote stand in `out`, and those that it left are the last of `text`.
--- Assumes nothing.
+-- `prog_tally::work` is safe and keeps less than a line: the bytes that a run says it wrote stand in `out`, and those
+-- that it left are the last of `text`. Assumes nothing.
 use Prim.Native.Nat.{_≤_, _<_}
 use mathlib.Core.Path.{sym}
 use native.Mathlib.Omega.{arith}

@@ -1,4 +1,5 @@
--- `record_end::end` meets its contract: each answer follows from the tests that led to it; a sound record's ramp is small enough to add to. Assumes nothing.
+-- `record_end::end` meets its contract: each answer follows from the tests that led to it; a sound record's ramp is
+-- small enough to add to. Assumes nothing.
 use native.Mathlib.Omega.{arith}
 use borrow.Author.Tests.{le-ltb, lt-ltb}
 use Rattle.truth.proofs.Laws.{said-no, said-yes}

@@ -1,5 +1,5 @@
--- `record_feed::advance` meets its contract: a quiet block moves only n and the last sample (`quiet-still`); another is stepped. Assumes
--- nothing.
+-- `record_feed::advance` meets its contract: a quiet block moves only n and the last sample (`quiet-still`); another is
+-- stepped. Assumes nothing.
 use borrow.Author.Needs.{needs}
 use Prim.Native.Nat.{_-_}
 use mathlib.Core.Path.{_≡_, sym, ap, _∙_}

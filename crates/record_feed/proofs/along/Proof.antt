@@ -1,6 +1,6 @@
--- `record_feed::along` meets its contract. The invariant: what is left, run from the state so far, ends where the whole piece does; the state is sound, it is
--- timed, it is known whether its last sample is above in neither channel, and there is room for what is left, which is in range; the gap is its own. The measure
--- is what is left. Assumes nothing.
+-- `record_feed::along` meets its contract. The invariant: what is left, run from the state so far, ends where the whole
+-- piece does; the state is sound, it is timed, it is known whether its last sample is above in neither channel, and
+-- there is room for what is left, which is in range; the gap is its own. The measure is what is left. Assumes nothing.
 use Prim.Native.Nat.{_+_, _-_, _≤_, _<_}
 use mathlib.Core.Path.{_≡_, refl, sym, ap, _∙_}
 use mathlib.Core.Bool.{Bool, true, false, not, _&&_}

@@ -1,4 +1,5 @@
--- `record_feed::counted` meets its contract, which it follows word for word; the sums fit since n does and bounds the counts. Assumes nothing.
+-- `record_feed::counted` meets its contract, which it follows word for word; the sums fit since n does and bounds the
+-- counts. Assumes nothing.
 use borrow.Author.Needs.{needs}
 use Prim.Native.Nat.{_+_}
 use mathlib.Core.Path.{refl, ap, _∙_}

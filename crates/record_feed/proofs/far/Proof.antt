@@ -1,5 +1,5 @@
--- `record_feed::far` meets its contract: with a crossing the place is between the ramp and n, and the times of two places are as far apart as so many samples are
--- long. Assumes nothing.
+-- `record_feed::far` meets its contract: with a crossing the place is between the ramp and n, and the times of two
+-- places are as far apart as so many samples are long. Assumes nothing.
 use Prim.Native.Nat.{ℕ, _+_, _-_, _*_}
 use mathlib.Core.Path.{_≡_, refl, ap}
 use mathlib.Core.Bool.{Bool, true, false}

@@ -1,4 +1,5 @@
--- `record_feed::feed` meets its contract: each answer is the law of `Fed` whose tests held on the way to it. Assumes nothing.
+-- `record_feed::feed` meets its contract: each answer is the law of `Fed` whose tests held on the way to it. Assumes
+-- nothing.
 use mathlib.Core.Path.{_≡_, sym, _∙_}
 use mathlib.Core.Bool.{true}
 use native.Mathlib.Omega.{arith}

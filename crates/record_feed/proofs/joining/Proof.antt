@@ -1,5 +1,5 @@
--- `record_feed::joining` meets its contract: a crossing near the largest set's last is not the first, and near the crossing just before it (`near-both`); the sums
--- fit since n does and bounds the crossings. Assumes nothing.
+-- `record_feed::joining` meets its contract: a crossing near the largest set's last is not the first, and near the
+-- crossing just before it (`near-both`); the sums fit since n does and bounds the crossings. Assumes nothing.
 use native.Mathlib.Omega.{arith}
 use Rattle.record_state.proofs.Relations.{kept-from}
 use Rattle.record_state.proofs.Bounds.{small, crossings-below}

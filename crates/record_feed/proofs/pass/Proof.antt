@@ -1,5 +1,6 @@
--- `record_feed::pass` meets its contract. The invariant is that of `run`, but for the samples left: the samples passed are in range, so the first bad
--- place of each channel is i and the first bad place of what is left. A turn takes a block, which is not empty, so what is left falls. Assumes nothing.
+-- `record_feed::pass` meets its contract. The invariant is that of `run`, but for the samples left: the samples passed
+-- are in range, so the first bad place of each channel is i and the first bad place of what is left. A turn takes a
+-- block, which is not empty, so what is left falls. Assumes nothing.
 use Prim.Native.Nat.{_+_, _-_, _≤_, _<_}
 use mathlib.Core.Path.{_≡_, refl, sym, ap, _∙_}
 use mathlib.Core.Bool.{true}

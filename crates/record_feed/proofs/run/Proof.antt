@@ -1,4 +1,5 @@
--- `record_feed::run` meets its contract: what was noted of the samples is what they are (`marks-front`). Assumes nothing.
+-- `record_feed::run` meets its contract: what was noted of the samples is what they are (`marks-front`). Assumes
+-- nothing.
 use borrow.Author.Needs.{needs}
 use mathlib.Core.Path.{_≡_, sym, ap, _∙_}
 use mathlib.Core.Bool.{false}

@@ -1,4 +1,5 @@
--- `record_feed::step_all` meets its contract: the samples up to the first timed one at once, the others by `run`. Assumes nothing.
+-- `record_feed::step_all` meets its contract: the samples up to the first timed one at once, the others by `run`.
+-- Assumes nothing.
 use borrow.Author.Needs.{needs}
 use Prim.Native.Nat.{_+_, _-_, _≤_}
 use mathlib.Core.Path.{_≡_, sym, ap, _∙_}

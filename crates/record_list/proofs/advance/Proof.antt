@@ -1,4 +1,5 @@
--- `record_list::advance` meets its contract: over a quiet block only the time moves (`quiet-block`); another is walked. Assumes nothing.
+-- `record_list::advance` meets its contract: over a quiet block only the time moves (`quiet-block`); another is walked.
+-- Assumes nothing.
 use borrow.Author.Needs.{needs}
 use mathlib.Core.Path.{_≡_, sym, ap, _∙_}
 use native.Mathlib.Omega.{arith}

@@ -1,5 +1,5 @@
--- `record_list::along` meets its contract. The invariant: what is left, noted from here, leaves what the whole block would; and the walk is ready for what
--- is left. The measure is what is left. Assumes nothing.
+-- `record_list::along` meets its contract. The invariant: what is left, noted from here, leaves what the whole block
+-- would; and the walk is ready for what is left. The measure is what is left. Assumes nothing.
 use Prim.Native.Nat.{suc, _+_, _-_, _≤_}
 use mathlib.Core.Path.{_≡_, refl, sym, ap, _∙_}
 use mathlib.Core.Bool.{false}

@@ -1,4 +1,5 @@
--- `record_list::copy` meets its contract. The invariant: the first i places are copied. The measure is what is left. Assumes nothing.
+-- `record_list::copy` meets its contract. The invariant: the first i places are copied. The measure is what is left.
+-- Assumes nothing.
 use Prim.Native.Nat.{ℕ, _-_, _≤_}
 use mathlib.Core.Path.{_≡_, refl, sym, ap, _∙_}
 use mathlib.Core.List.{List}

@@ -1,4 +1,5 @@
--- `record_list::crossed` meets its contract: the test says whether a group starts; the sums fit since the walk is ready for a sample. Assumes nothing.
+-- `record_list::crossed` meets its contract: the test says whether a group starts; the sums fit since the walk is ready
+-- for a sample. Assumes nothing.
 use mathlib.Core.Path.{sym, _∙_}
 use borrow.Author.Needs.{needs}
 use Rattle.record_list.specs.Walk.{stepped}

@@ -1,4 +1,5 @@
--- `record_list::list_timed` meets its contract: the times go straight into a slice that has room, or the first pass goes into a slice of its own. Assumes nothing.
+-- `record_list::list_timed` meets its contract: the times go straight into a slice that has room, or the first pass
+-- goes into a slice of its own. Assumes nothing.
 use borrow.Author.Needs.{needs}
 use mathlib.Core.Path.{sym}
 use Rattle.record_list.proofs.list_timed.Statement.{statement}

@@ -1,4 +1,6 @@
--- `record_list::pass` meets its contract. The invariant: the walk is underway (`Underway`), and the samples passed are in range, so the first bad place of each channel is i and that of what is left. A turn takes a block, which is not empty, so what is left falls. Assumes nothing.
+-- `record_list::pass` meets its contract. The invariant: the walk is underway (`Underway`), and the samples passed are
+-- in range, so the first bad place of each channel is i and that of what is left. A turn takes a block, which is not
+-- empty, so what is left falls. Assumes nothing.
 use Prim.Native.Nat.{_+_, _-_, _≤_, _<_}
 use mathlib.Core.Path.{_≡_, sym, ap, _∙_}
 use mathlib.Core.List.{[]}

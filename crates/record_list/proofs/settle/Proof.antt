@@ -1,4 +1,5 @@
--- `record_list::settle` meets its contract: what the first pass found is the count, or that a sample is bad. Assumes nothing.
+-- `record_list::settle` meets its contract: what the first pass found is the count, or that a sample is bad. Assumes
+-- nothing.
 use borrow.Author.Needs.{needs}
 use mathlib.Core.Path.{refl}
 use Rattle.record_list.proofs.Heard.{heard-count, heard-times}

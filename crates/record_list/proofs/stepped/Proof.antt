@@ -1,4 +1,5 @@
--- `record_list::stepped` meets its contract: the test says whether the level is crossed, and without a crossing nothing starts. Assumes nothing.
+-- `record_list::stepped` meets its contract: the test says whether the level is crossed, and without a crossing nothing
+-- starts. Assumes nothing.
 use mathlib.Core.Path.{_≡_, sym, _∙_}
 use mathlib.Core.Bool.{true}
 use borrow.Author.Needs.{needs}

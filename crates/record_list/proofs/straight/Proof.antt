@@ -1,4 +1,5 @@
--- `record_list::straight` meets its contract: where no sample is bad nothing is refused, since half as many times as samples are the most. Assumes nothing.
+-- `record_list::straight` meets its contract: where no sample is bad nothing is refused, since half as many times as
+-- samples are the most. Assumes nothing.
 use borrow.Author.Needs.{needs}
 use Prim.Native.Nat.{_≤_}
 use mathlib.Core.Path.{refl, sym, ap, _∙_}

@@ -1,4 +1,5 @@
--- `record_list::straightway` meets its contract: past the two tests there is room, whatever is guessed. Assumes nothing.
+-- `record_list::straightway` meets its contract: past the two tests there is room, whatever is guessed. Assumes
+-- nothing.
 use borrow.Author.Needs.{needs}
 use Prim.Native.Nat.{ℕ, _+_, _/_}
 use mathlib.Core.Path.{_≡_}

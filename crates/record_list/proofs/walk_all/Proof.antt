@@ -1,4 +1,5 @@
--- `record_list::walk_all` meets its contract: the walk is underway (`Underway`), and a turn takes a block, which is not empty, so what is left falls. Assumes nothing.
+-- `record_list::walk_all` meets its contract: the walk is underway (`Underway`), and a turn takes a block, which is not
+-- empty, so what is left falls. Assumes nothing.
 use Prim.Native.Nat.{_-_, _≤_, _<_}
 use native.Mathlib.Omega.{arith}
 use borrow.Author.Needs.{needs}

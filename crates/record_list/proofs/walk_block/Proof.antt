@@ -1,4 +1,5 @@
--- `record_list::walk_block` meets its contract: the block is walked by what was noted of its samples (`marks-front`, `noted-marks`). Assumes nothing.
+-- `record_list::walk_block` meets its contract: the block is walked by what was noted of its samples (`marks-front`,
+-- `noted-marks`). Assumes nothing.
 use borrow.Author.Needs.{needs}
 use mathlib.Core.Path.{_≡_, sym, ap, _∙_}
 use mathlib.Core.Bool.{false}

@@ -1,4 +1,5 @@
--- `record_list::write` meets its contract: the times are those kept aside, or those that a second pass notes. Assumes nothing.
+-- `record_list::write` meets its contract: the times are those kept aside, or those that a second pass notes. Assumes
+-- nothing.
 use borrow.Author.Needs.{needs}
 use native.Mathlib.Nat.{zero-add}
 use native.Mathlib.Omega.{arith}

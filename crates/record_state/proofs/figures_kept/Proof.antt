@@ -1,4 +1,5 @@
--- `record_state::figures_kept` meets its contract: whether there is a first failure picks the relations. Assumes nothing.
+-- `record_state::figures_kept` meets its contract: whether there is a first failure picks the relations. Assumes
+-- nothing.
 use borrow.Author.Needs.{needs}
 use borrow.Author.Tests.{eq-eqb, ne-eqb}
 use Rattle.record_state.proofs.figures_kept.Statement.{statement}

@@ -1,4 +1,5 @@
--- `record_state::sound` meets its contract: an item outside its range settles it; otherwise it follows the definition word for word. Assumes nothing.
+-- `record_state::sound` meets its contract: an item outside its range settles it; otherwise it follows the definition
+-- word for word. Assumes nothing.
 use borrow.Author.Needs.{needs}
 use borrow.Author.Tests.{eq-eqb, ne-eqb}
 use Rattle.record_state.specs.State.{sound, itemsKept}

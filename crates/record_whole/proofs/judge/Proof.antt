@@ -1,4 +1,5 @@
--- `record_whole::judge` meets its contract: each answer is the law of `Judged` whose tests held on the way to it. Assumes nothing.
+-- `record_whole::judge` meets its contract: each answer is the law of `Judged` whose tests held on the way to it.
+-- Assumes nothing.
 use Prim.Native.Nat.{_+_}
 use mathlib.Core.Path.{_≡_, sym, _∙_}
 use mathlib.Core.Bool.{_&&_}

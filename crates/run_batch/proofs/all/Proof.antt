@@ -1,4 +1,5 @@
--- `run_batch::all` is safe and ends: the lent bytes keep their lengths, and the sheets that are left fall. Assumes nothing.
+-- `run_batch::all` is safe and ends: the lent bytes keep their lengths, and the sheets that are left fall. Assumes
+-- nothing.
 use mathlib.Core.Path.{_≡_, refl, _∙_}
 use borrow.Author.Needs.{needs}
 use lib.ListN.{length}

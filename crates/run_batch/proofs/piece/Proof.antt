@@ -1,4 +1,5 @@
--- `run_batch::piece` is safe, and says what is left: the bytes that a run says it wrote stand in `out`. Assumes nothing.
+-- `run_batch::piece` is safe, and says what is left: the bytes that a run says it wrote stand in `out`. Assumes
+-- nothing.
 use Prim.Native.Nat.{_≤_}
 use mathlib.Core.Path.{sym}
 use native.Mathlib.Omega.{arith}

@@ -1,4 +1,5 @@
--- `sample_block::ends_of` meets its contract. The invariant: what is left, taken from the ends so far, has the ends of all. The measure is what is left. Assumes nothing.
+-- `sample_block::ends_of` meets its contract. The invariant: what is left, taken from the ends so far, has the ends of
+-- all. The measure is what is left. Assumes nothing.
 use Prim.Native.Nat.{_+_, _-_, _≤_, _<_}
 use mathlib.Core.Path.{_≡_, refl, sym, ap, _∙_}
 use mathlib.Core.List.{[], foldl}

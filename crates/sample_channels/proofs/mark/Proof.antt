@@ -1,4 +1,5 @@
--- `sample_channels::mark` meets its contract. The invariant: the first i samples are noted. The measure is what is left. Assumes nothing.
+-- `sample_channels::mark` meets its contract. The invariant: the first i samples are noted. The measure is what is
+-- left. Assumes nothing.
 use Prim.Native.Nat.{ℕ, _-_, _≤_, min}
 use mathlib.Core.Path.{_≡_, refl, sym, ap, _∙_}
 use mathlib.Core.Bool.{Bool}

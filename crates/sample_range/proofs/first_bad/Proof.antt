@@ -1,5 +1,6 @@
--- `sample_range::first_bad` meets its contract. The invariant: the samples passed are in range, so the first bad place is i and the first bad place of what is
--- left. A turn takes a block, which is not empty, so what is left falls. Assumes nothing.
+-- `sample_range::first_bad` meets its contract. The invariant: the samples passed are in range, so the first bad place
+-- is i and the first bad place of what is left. A turn takes a block, which is not empty, so what is left falls.
+-- Assumes nothing.
 use Prim.Native.Nat.{_+_, _-_, _≤_, _<_}
 use mathlib.Core.Path.{_≡_, sym, ap, _∙_}
 use native.Mathlib.Nat.{zero-add}

@@ -1,5 +1,5 @@
--- `sample_range::first_of` meets its contract. The invariant: the i samples passed are in range, so the first bad place is i and the first bad
--- place of what is left. The measure is what is left. Assumes nothing.
+-- `sample_range::first_of` meets its contract. The invariant: the i samples passed are in range, so the first bad place
+-- is i and the first bad place of what is left. The measure is what is left. Assumes nothing.
 use Prim.Native.Nat.{_+_, _≤_, _-_}
 use mathlib.Core.Path.{_≡_, sym, ap, _∙_}
 use mathlib.Core.Bool.{true, false}

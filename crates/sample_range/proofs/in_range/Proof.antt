@@ -1,4 +1,5 @@
--- `sample_range::in_range` meets its contract: a sample is between the two ends exactly if its magnitude is at most the limit. Assumes nothing.
+-- `sample_range::in_range` meets its contract: a sample is between the two ends exactly if its magnitude is at most the
+-- limit. Assumes nothing.
 use Prim.Native.Nat.{ℕ, suc}
 use mathlib.Core.Path.{_≡_, refl, sym, _∙_}
 use mathlib.Core.Bool.{Bool, true, false, _&&_}

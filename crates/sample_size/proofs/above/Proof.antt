@@ -1,4 +1,5 @@
--- `sample_size::above` meets its contract: a magnitude has 32 bits, and of a level only those tell (`narrow-tells`); the machine's reading of x is x. Assumes nothing.
+-- `sample_size::above` meets its contract: a magnitude has 32 bits, and of a level only those tell (`narrow-tells`);
+-- the machine's reading of x is x. Assumes nothing.
 use Prim.Native.Nat.{ℕ, _≤_, min}
 use mathlib.Core.Path.{_≡_, refl, ap, _∙_}
 use mathlib.Core.Bool.{Bool, true, false}

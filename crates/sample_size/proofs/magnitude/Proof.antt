@@ -1,4 +1,5 @@
--- `sample_size::magnitude` meets its contract: the bits read back are x (`at64`), and then by cases on x's sign. Assumes nothing.
+-- `sample_size::magnitude` meets its contract: the bits read back are x (`at64`), and then by cases on x's sign.
+-- Assumes nothing.
 use mathlib.Core.Path.{_≡_, sym, ap, _∙_, subst}
 use mathlib.Core.Bool.{true, false}
 use native.Mathlib.Omega.{arith}

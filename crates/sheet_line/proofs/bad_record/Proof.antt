@@ -1,4 +1,5 @@
--- `sheet_line::bad_record` meets its contract: a campaign that keeps its relations has few enough records for the line's number to fit. Assumes nothing.
+-- `sheet_line::bad_record` meets its contract: a campaign that keeps its relations has few enough records for the
+-- line's number to fit. Assumes nothing.
 use native.Mathlib.Omega.{arith}
 use Rattle.truth.proofs.Laws.{holds}
 use Rattle.campaign_state.proofs.Relations.{kept-from}

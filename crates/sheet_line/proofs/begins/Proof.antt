@@ -1,5 +1,5 @@
--- `sheet_line::begins` meets its contract. The invariant: what is left of the word begins what is left of the text exactly if the whole word begins
--- the whole text. What is left of the word falls. Assumes nothing.
+-- `sheet_line::begins` meets its contract. The invariant: what is left of the word begins what is left of the text
+-- exactly if the whole word begins the whole text. What is left of the word falls. Assumes nothing.
 use Prim.Native.Nat.{ℕ, _+_, _-_, _≤_, _<_}
 use mathlib.Core.Path.{_≡_, sym, _∙_}
 use mathlib.Core.Bool.{_&&_}

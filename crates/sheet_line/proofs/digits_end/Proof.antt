@@ -1,5 +1,5 @@
--- `sheet_line::digits_end` meets its contract. The invariant: from the place on the search ends where it does from `at` on. What is left of the text falls.
--- Assumes nothing.
+-- `sheet_line::digits_end` meets its contract. The invariant: from the place on the search ends where it does from `at`
+-- on. What is left of the text falls. Assumes nothing.
 use Prim.Native.Nat.{_+_, _-_}
 use mathlib.Core.Path.{_≡_, refl, sym, _∙_}
 use native.Mathlib.Omega.{arith}

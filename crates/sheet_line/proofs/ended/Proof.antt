@@ -1,4 +1,5 @@
--- `sheet_line::ended` meets its contract: past the end nothing is left, and before it the byte decides. Assumes nothing.
+-- `sheet_line::ended` meets its contract: past the end nothing is left, and before it the byte decides. Assumes
+-- nothing.
 use borrow.Author.Needs.{needs}
 use borrow.Author.Tests.{eq-eqb, ne-eqb}
 use lib.ListN.{getD, drop-of-length-le}

@@ -1,5 +1,5 @@
--- `sheet_line::field_then` meets its contract: the field reads as decimal's reader says, and the byte behind it is the one asked for, or not.
--- Assumes nothing.
+-- `sheet_line::field_then` meets its contract: the field reads as decimal's reader says, and the byte behind it is the
+-- one asked for, or not. Assumes nothing.
 use Prim.Native.Nat.{ℕ}
 use mathlib.Core.List.{List}
 use mathlib.Core.Path.{_≡_, sym, _∙_}

@@ -1,5 +1,5 @@
--- `sheet_line::how_many` meets its contract. The invariant: what was counted, and what stands from i on, is all there is. What is left of the text falls.
--- Assumes nothing.
+-- `sheet_line::how_many` meets its contract. The invariant: what was counted, and what stands from i on, is all there
+-- is. What is left of the text falls. Assumes nothing.
 use Prim.Native.Nat.{ℕ, suc, _+_, _-_, _≤_, _<_}
 use mathlib.Core.Path.{_≡_, sym, _∙_}
 use mathlib.Core.List.{List}

@@ -1,4 +1,5 @@
--- `sheet_line::is_line` meets its contract: no bytes have no last one, and the other tests are the definition's. Assumes nothing.
+-- `sheet_line::is_line` meets its contract: no bytes have no last one, and the other tests are the definition's.
+-- Assumes nothing.
 use Prim.Native.Nat.{_-_}
 use native.Mathlib.Omega.{arith}
 use mathlib.Core.Bool.{and-false}

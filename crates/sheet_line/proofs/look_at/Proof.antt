@@ -1,4 +1,5 @@
--- `sheet_line::look_at` meets its contract, case by case of what the field reads as; a place in a line of 64 bytes is small. Assumes nothing.
+-- `sheet_line::look_at` meets its contract, case by case of what the field reads as; a place in a line of 64 bytes is
+-- small. Assumes nothing.
 use Prim.Native.Nat.{_≤_}
 use mathlib.Core.Path.{_≡_, refl, sym, ap, _∙_}
 use native.Mathlib.Omega.{arith}

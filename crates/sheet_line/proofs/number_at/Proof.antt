@@ -1,5 +1,5 @@
--- `sheet_line::number_at` meets its contract. What the run of digits and the byte behind it make of the field is `Reading`'s law; each return
--- has the tests that pick its case. Assumes nothing.
+-- `sheet_line::number_at` meets its contract. What the run of digits and the byte behind it make of the field is
+-- `Reading`'s law; each return has the tests that pick its case. Assumes nothing.
 use mathlib.Core.Path.{_≡_, sym, _∙_}
 use mathlib.Core.Bool.{true, false, not}
 use mathlib.Core.List.{List}

@@ -1,5 +1,6 @@
--- `sheet_line::record_line` meets its contract: the line is taken apart field by field, and each answer follows from the fields and tests that led to
--- it. A campaign that keeps its relations has few enough records for the line's number to fit. Assumes nothing.
+-- `sheet_line::record_line` meets its contract: the line is taken apart field by field, and each answer follows from
+-- the fields and tests that led to it. A campaign that keeps its relations has few enough records for the line's number
+-- to fit. Assumes nothing.
 use Prim.Native.Nat.{ℕ}
 use mathlib.Core.Path.{_≡_, sym, ap, _∙_}
 use mathlib.Core.Bool.{true}

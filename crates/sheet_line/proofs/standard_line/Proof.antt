@@ -1,4 +1,5 @@
--- `sheet_line::standard_line` meets its contract: each answer follows from the word, the field and the tests that led to it. Assumes nothing.
+-- `sheet_line::standard_line` meets its contract: each answer follows from the word, the field and the tests that led
+-- to it. Assumes nothing.
 use mathlib.Core.Path.{_≡_, sym, ap, _∙_}
 use mathlib.Core.Bool.{true}
 use borrow.Author.Tests.{eq-eqb, ne-eqb}

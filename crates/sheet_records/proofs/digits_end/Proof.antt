@@ -1,4 +1,5 @@
--- `sheet_records::digits_end` meets its contract. The invariant: the digits from here on end where those from `at` on end. What is left falls. Assumes nothing.
+-- `sheet_records::digits_end` meets its contract. The invariant: the digits from here on end where those from `at` on
+-- end. What is left falls. Assumes nothing.
 use mathlib.Core.Path.{_≡_, refl, sym, _∙_}
 use Prim.Native.Nat.{_-_}
 use native.Mathlib.Omega.{arith}

@@ -1,5 +1,5 @@
--- `sheet_records::entry_at` meets its contract: number, flag and exposure with the bytes behind them make up the line, and where one fails none stands there. Assumes
--- nothing.
+-- `sheet_records::entry_at` meets its contract: number, flag and exposure with the bytes behind them make up the line,
+-- and where one fails none stands there. Assumes nothing.
 use mathlib.Core.Path.{_≡_, subst, sym, _∙_}
 use mathlib.Core.Bool.{Bool, true, cond}
 use mathlib.Core.List.{List}

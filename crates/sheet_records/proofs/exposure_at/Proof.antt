@@ -1,4 +1,5 @@
--- `sheet_records::exposure_at` meets its contract: by the digits that stand there, and past seven by what they read as. Assumes nothing.
+-- `sheet_records::exposure_at` meets its contract: by the digits that stand there, and past seven by what they read as.
+-- Assumes nothing.
 use mathlib.Core.Path.{_≡_, sym, _∙_}
 use mathlib.Core.Bool.{false}
 use mathlib.Core.List.{List}

@@ -1,5 +1,5 @@
--- `sheet_records::judge` meets its contract. The invariant is `Along`: what is judged of all records is what is judged of those left. What is left falls. Assumes
--- nothing.
+-- `sheet_records::judge` meets its contract. The invariant is `Along`: what is judged of all records is what is judged
+-- of those left. What is left falls. Assumes nothing.
 use mathlib.Core.Path.{_≡_, ap, sym, _∙_}
 use mathlib.Core.Bool.{Bool, cond}
 use Prim.Native.Nat.{_+_, _-_, _<_}

@@ -1,4 +1,5 @@
--- `sheet_records::outcome` meets its contract: below zero a record failed, and its exposure is the number without its sign. Assumes nothing.
+-- `sheet_records::outcome` meets its contract: below zero a record failed, and its exposure is the number without its
+-- sign. Assumes nothing.
 use mathlib.Core.Path.{ap, _∙_}
 use mathlib.Core.Bool.{Bool}
 use mir.Facts.{toZ-ofZ}

@@ -1,5 +1,6 @@
--- `sheet_records::pass` meets its contract: `Along` is its invariant, a record that is taken keeps it, anything else shows that the sheet does not read cleanly, and the
--- end that it does. What is left of the text falls. Assumes nothing.
+-- `sheet_records::pass` meets its contract: `Along` is its invariant, a record that is taken keeps it, anything else
+-- shows that the sheet does not read cleanly, and the end that it does. What is left of the text falls. Assumes
+-- nothing.
 use mathlib.Core.Path.{_≡_, subst}
 use mathlib.Core.Bool.{Bool, true}
 use mathlib.Core.List.{List}

@@ -1,4 +1,5 @@
--- `sheet_records::put_all` meets its contract: `Putting` is its invariant, and the record that is due keeps it. What is left of the text falls. Assumes nothing.
+-- `sheet_records::put_all` meets its contract: `Putting` is its invariant, and the record that is due keeps it. What is
+-- left of the text falls. Assumes nothing.
 use mathlib.Core.Path.{_≡_, ap, _∙_}
 use mathlib.Core.Bool.{Bool}
 use Prim.Native.Nat.{ℕ, _-_}

@@ -1,4 +1,5 @@
--- `sheet_records::put_head` meets its contract: line 1 is written part by part, each taking itself off what is left of it. Assumes nothing.
+-- `sheet_records::put_head` meets its contract: line 1 is written part by part, each taking itself off what is left of
+-- it. Assumes nothing.
 use mathlib.Core.List.{[], _∷_}
 use native.Mathlib.Omega.{arith}
 use denote.Ref.{now}

@@ -1,4 +1,5 @@
--- `sheet_records::put_line` meets its contract: the line is written part by part, each taking itself off what is left of it. Assumes nothing.
+-- `sheet_records::put_line` meets its contract: the line is written part by part, each taking itself off what is left
+-- of it. Assumes nothing.
 use mathlib.Core.Path.{_≡_, ap, subst, _∙_}
 use mathlib.Core.Bool.{cond}
 use mathlib.Core.List.{List, [], _∷_, _++_}

@@ -1,4 +1,5 @@
--- `sheet_records::put_lines` meets its contract: each line takes itself off what is left of them. What is left falls. Assumes nothing.
+-- `sheet_records::put_lines` meets its contract: each line takes itself off what is left of them. What is left falls.
+-- Assumes nothing.
 use mathlib.Core.Path.{_≡_, ap, subst, _∙_}
 use mathlib.Core.List.{List, [], _++_}
 use Prim.Native.Nat.{ℕ, _+_, _-_, _≤_}

@@ -1,4 +1,5 @@
--- `sheet_records::put_sheet` meets its contract: line 1 takes itself off the sheet, and the lines are the rest. Assumes nothing.
+-- `sheet_records::put_sheet` meets its contract: line 1 takes itself off the sheet, and the lines are the rest. Assumes
+-- nothing.
 use native.Mathlib.Omega.{arith}
 use denote.Ref.{now}
 use borrow.Author.Needs.{needs}

@@ -1,5 +1,5 @@
--- `sheet_records::records` meets its contract: the first pass tells whether the sheet reads cleanly; then there is room or not, and the second pass puts the records.
--- Of any other sheet its own reader tells. Assumes nothing.
+-- `sheet_records::records` meets its contract: the first pass tells whether the sheet reads cleanly; then there is room
+-- or not, and the second pass puts the records. Of any other sheet its own reader tells. Assumes nothing.
 use mathlib.Core.Path.{refl, sym, ap, subst, _∙_}
 use mathlib.Core.List.{List}
 use Prim.Native.Nat.{ℕ}

@@ -1,4 +1,5 @@
--- `sheet_records::sheet_length` meets its contract: what was added up and what is left are the whole. What is left falls. Assumes nothing.
+-- `sheet_records::sheet_length` meets its contract: what was added up and what is left are the whole. What is left
+-- falls. Assumes nothing.
 use mathlib.Core.Path.{_≡_, ap, _∙_}
 use mathlib.Core.List.{List}
 use Prim.Native.Nat.{_+_, _*_, _-_, _≤_}

@@ -1,4 +1,5 @@
--- `sheet_records::write` meets its contract: each refusal has the tests that led to it, and then the sheet is put. Assumes nothing.
+-- `sheet_records::write` meets its contract: each refusal has the tests that led to it, and then the sheet is put.
+-- Assumes nothing.
 use mathlib.Core.Path.{_≡_, refl, sym, _∙_}
 use mathlib.Core.List.{List}
 use Prim.Native.Nat.{ℕ, _≤_}

@@ -1,4 +1,5 @@
--- `sheet_reply::censored` meets its contract: of a state that keeps its relations the campaign answers the count. Assumes nothing.
+-- `sheet_reply::censored` meets its contract: of a state that keeps its relations the campaign answers the count.
+-- Assumes nothing.
 use Rattle.campaign_verdict.proofs.Given.{has-count, count-not-refused}
 use borrow.Author.Needs.{needs}
 use Rattle.sheet_reply.proofs.censored.Statement.{statement}

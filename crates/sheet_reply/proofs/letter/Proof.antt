@@ -1,4 +1,5 @@
--- `sheet_reply::letter` meets its contract: of a state that keeps its relations the campaign gives its verdict, and each has its letter. Assumes nothing.
+-- `sheet_reply::letter` meets its contract: of a state that keeps its relations the campaign gives its verdict, and
+-- each has its letter. Assumes nothing.
 use mathlib.Core.Path.{_≡_}
 use Rattle.campaign_verdict.specs.Figures.{verdictOf}
 use Rattle.sheet_reply.specs.Written.{letterFor}

@@ -1,4 +1,5 @@
--- `sheet_reply::put_record` meets its contract: the line is written part by part, each taking itself off what is left of it. Assumes nothing.
+-- `sheet_reply::put_record` meets its contract: the line is written part by part, each taking itself off what is left
+-- of it. Assumes nothing.
 use Prim.Native.Nat.{ℕ}
 use mathlib.Core.Path.{_≡_}
 use mathlib.Core.List.{List, [], _∷_, _++_}

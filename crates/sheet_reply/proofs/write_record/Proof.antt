@@ -1,4 +1,5 @@
--- `sheet_reply::write_record` meets its contract: a state that keeps its relations has its line, and the line its room or not. Assumes nothing.
+-- `sheet_reply::write_record` meets its contract: a state that keeps its relations has its line, and the line its room
+-- or not. Assumes nothing.
 use Prim.Native.Nat.{_+_, _≤_}
 use mathlib.Core.Path.{_≡_, refl}
 use mathlib.Core.Bool.{true}

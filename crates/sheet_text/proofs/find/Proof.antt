@@ -1,4 +1,5 @@
--- `sheet_text::find` meets its contract: the part that it hands over is the first line of what stands at `at`. Assumes nothing.
+-- `sheet_text::find` meets its contract: the part that it hands over is the first line of what stands at `at`. Assumes
+-- nothing.
 use native.Mathlib.Omega.{arith}
 use lib.ListN.{length, take, drop}
 use Prim.Native.Nat.{ℕ, _+_, _-_, _≤_}

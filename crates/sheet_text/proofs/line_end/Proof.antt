@@ -1,5 +1,5 @@
--- `sheet_text::line_end` meets its contract. The invariant: the search from i on, over what is left of the 64 bytes, ends where that from `at` on does.
--- What is left falls. Assumes nothing.
+-- `sheet_text::line_end` meets its contract. The invariant: the search from i on, over what is left of the 64 bytes,
+-- ends where that from `at` on does. What is left falls. Assumes nothing.
 use Prim.Native.Nat.{_+_, _-_, _≤_}
 use mathlib.Core.Path.{_≡_, sym, _∙_}
 use native.Mathlib.Omega.{arith}

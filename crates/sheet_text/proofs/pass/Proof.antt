@@ -1,5 +1,5 @@
--- `sheet_text::pass` meets its contract. The invariant is `Running`: what the lines gave is counted, and stands at the start of the lent bytes where they have
--- room for it. What is left of the text falls with each line. Assumes nothing.
+-- `sheet_text::pass` meets its contract. The invariant is `Running`: what the lines gave is counted, and stands at the
+-- start of the lent bytes where they have room for it. What is left of the text falls with each line. Assumes nothing.
 use Prim.Native.Nat.{_-_, _<_}
 use mathlib.Core.Path.{_≡_, sym, ap, _∙_}
 use native.Mathlib.Omega.{arith}

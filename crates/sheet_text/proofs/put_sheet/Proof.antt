@@ -1,4 +1,5 @@
--- `sheet_text::put_sheet` meets its contract: before line 1 nothing is written, and after a line the record's. Assumes nothing.
+-- `sheet_text::put_sheet` meets its contract: before line 1 nothing is written, and after a line the record's. Assumes
+-- nothing.
 use Prim.Native.Nat.{_+_}
 use mathlib.Core.Path.{_≡_, ap, _∙_}
 use native.Mathlib.Omega.{arith}

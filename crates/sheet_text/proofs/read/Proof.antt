@@ -1,5 +1,5 @@
--- `sheet_text::read` meets its contract. The invariant is `Along`: what the text comes to is what its lines gave, before what the rest comes to. What is left
--- of the text falls with each line. Assumes nothing.
+-- `sheet_text::read` meets its contract. The invariant is `Along`: what the text comes to is what its lines gave,
+-- before what the rest comes to. What is left of the text falls with each line. Assumes nothing.
 use Prim.Native.Nat.{ℕ, _-_, _<_}
 use mathlib.Core.List.{List}
 use mathlib.Core.Path.{_≡_, sym, _∙_}

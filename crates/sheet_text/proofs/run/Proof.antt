@@ -1,4 +1,5 @@
--- `sheet_text::run` meets its contract: past its tests the lent bytes have room for all that is written, so that the pass writes it. Assumes nothing.
+-- `sheet_text::run` meets its contract: past its tests the lent bytes have room for all that is written, so that the
+-- pass writes it. Assumes nothing.
 use Prim.Native.Nat.{_≤_}
 use mathlib.Core.Path.{_≡_}
 use mathlib.Core.Logic.{⊎-elim}

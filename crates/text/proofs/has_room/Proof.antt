@@ -1,5 +1,5 @@
--- `text::has_room` meets its contract: a difference is compared, where the place is within the length, since the sum could wrap.
--- Assumes nothing.
+-- `text::has_room` meets its contract: a difference is compared, where the place is within the length, since the sum
+-- could wrap. Assumes nothing.
 use Prim.Native.Nat.{_+_}
 use native.Mathlib.Omega.{arith}
 use borrow.Author.Tests.{le-leb, lt-leb}

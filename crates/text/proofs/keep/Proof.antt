@@ -1,5 +1,5 @@
--- `text::keep` meets its contract. The invariant: the bytes before i are moved, and those from i on are as they were, so that a byte is read before it is
--- written over. What is left to move falls. Assumes nothing.
+-- `text::keep` meets its contract. The invariant: the bytes before i are moved, and those from i on are as they were,
+-- so that a byte is read before it is written over. What is left to move falls. Assumes nothing.
 use Prim.Native.Nat.{ℕ, _+_, _-_, _≤_, _<_}
 use mathlib.Core.Path.{_≡_, refl, sym}
 use mathlib.Core.List.{List}

@@ -1,6 +1,6 @@
--- `text::write_bytes` meets its contract. The invariant of its loop: laying the bytes that are left, the first i, over what `out` holds
--- now gives what laying all of them over `out` as it was gives. A turn stores the last of those left; i, the measure, falls by one.
--- Assumes nothing.
+-- `text::write_bytes` meets its contract. The invariant of its loop: laying the bytes that are left, the first i, over
+-- what `out` holds now gives what laying all of them over `out` as it was gives. A turn stores the last of those left;
+-- i, the measure, falls by one. Assumes nothing.
 use mathlib.Core.Path.{_≡_, refl, sym, _∙_}
 use Prim.Native.Nat.{_+_, _≤_}
 use native.Mathlib.Omega.{arith}

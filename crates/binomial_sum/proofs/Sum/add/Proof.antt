@@ -1,4 +1,5 @@
--- `Sum::add` meets its contract: each answer follows from the tests that led to it; a sound record's figures are small enough to add. Assumes nothing.
+-- `Sum::add` meets its contract: each answer follows from the tests that led to it; a sound record's figures are small
+-- enough to add. Assumes nothing.
 use native.Mathlib.Omega.{arith}
 use borrow.Author.Tests.{eq-eqb, le-ltb, lt-ltb, ne-eqb}
 use Rattle.truth.proofs.Laws.{holds, said-no, said-yes}

@@ -10,6 +10,7 @@ ghost use lib.Seq.{sets};
 ghost use Rattle.decimal.specs.Decimal.{allDigits, valueOf, digitsOf};
 ghost use Rattle.decimal.specs.Lines.{linesOf};
 ghost use Rattle.degrees.specs.Degrees.{size, signed};
+ghost use Rattle.comma_word.specs.Dial.{dial, turned};
 ghost use Rattle.comma_word.specs.Plain.{Plain};
 ghost use Rattle.comma_word.specs.Word.{word, Small};
 ghost use Rattle.comma_line.specs.Line.{right};
@@ -179,6 +180,36 @@ fn no_lines(at: usize) -> Run
     Run { at: at, lines: 0 }
 }
 
+// The last two digits of `n`, one a byte.
+fn two_digits(n: u64) -> u64
+    ensures { λ r. ⌜ r ≡ dial 2 n ⌝ }
+{
+    n / 10 % 10 * 0x100 + n % 10
+}
+
+// The last four.
+fn four_digits(n: u64) -> u64
+    ensures { λ r. ⌜ r ≡ dial 4 n ⌝ }
+{
+    two_digits(n / 100) * 0x1_0000 + two_digits(n)
+}
+
+// The last eight.
+fn eight_digits(n: u64) -> u64
+    ensures { λ r. ⌜ r ≡ dial 8 n ⌝ }
+{
+    four_digits(n / 10000) * 0x1_0000_0000 + four_digits(n)
+}
+
+// The digits `q` moved on by `d`, whose bytes stand 246 above its digits: a carry into the next byte is one into the
+// next digit, and a byte that makes none keeps its top bit, by which the 246 is found and taken away.
+fn moved_on(q: u64, d: u64) -> u64
+    ensures { λ r. ⌜ r ≡ turned q d ⌝ }
+{
+    let x = std::num::wrapping_add_u64(q, d);
+    std::num::wrapping_sub_u64(x, ((x & 0x8080_8080_8080_8080) >> 7) * 0xF6)
+}
+
 // The plain lines of a text from `at` on, the first of the time `due`, whose times are `width` wide. The digits of
 // the time that is due are compared with a line's all at once, and moved on by the step. They are eight at most, and
 // so are those of the next time where this one is before the latest.
@@ -189,8 +220,8 @@ fn plain_run(text: &[u8], at: usize, width: usize, due: u64, step: u64) -> Run
     let last = text.len() - ROOM;
     let shift = 64 - 8 * width;
     let zeros = 0x3030_3030_3030_3030u64 >> shift;
-    let by = comma_word::set(step) + 0xF6F6_F6F6_F6F6_F6F6;
-    let mut digits = comma_word::set(due);
+    let by = eight_digits(step) + 0xF6F6_F6F6_F6F6_F6F6;
+    let mut digits = eight_digits(due);
     let mut time = due;
     let mut place = at;
     let mut lines: u64 = 0;
@@ -215,7 +246,7 @@ fn plain_run(text: &[u8], at: usize, width: usize, due: u64, step: u64) -> Run
             };
         }
         place = place + width + roll / 2;
-        digits = comma_word::turned(digits, by);
+        digits = moved_on(digits, by);
         time += step;
         lines += 1;
     }

@@ -4,16 +4,9 @@ use mathlib.Core.Path.{_≡_}
 use mathlib.Core.List.{List}
 use Prim.Native.Nat.{ℕ}
 use Rattle.comma_word.specs.Plain.{plainBytes, plainSize}
-use Rattle.comma_word.specs.Dial.{dial, turned}
 
 pub plain-bytes-unique : (s : List ℕ) (at r q : ℕ) → r ≡ plainBytes s at → q ≡ plainBytes s at → r ≡ q
 plain-bytes-unique s at r q e f = cc
 
 pub plain-size-unique : (s : List ℕ) (at bytes r q : ℕ) → r ≡ plainSize s at bytes → q ≡ plainSize s at bytes → r ≡ q
 plain-size-unique s at bytes r q e f = cc
-
-pub set-unique : (n r q : ℕ) → r ≡ dial 8 n → q ≡ dial 8 n → r ≡ q
-set-unique n r q e f = cc
-
-pub turned-unique : (n d r q : ℕ) → r ≡ turned n d → q ≡ turned n d → r ≡ q
-turned-unique n d r q e f = cc

@@ -1,16 +1,14 @@
-// What readers of comma files share to be quick. Plain degrees, by document 02 [1]: 4.250 and 41.500 before an LF,
-// the forms that simulators write, read with no loop; their length and their thousandths are two answers of one
-// number each, since an enum that goes through memory would keep the reader of the next line waiting. And bytes and
-// digits side by side in 64 bits: a reader of times that are due one after the other compares eight bytes at once
-// with those that it expects, which a step moves on all at once, and holds eight more against a form (specs/Form). A
-// function that reads eight bytes asks for room, and who looks for room is the reader (`comma_read`).
+// Plain degrees, by document 02 [1]: 4.250 and 41.500 before an LF, the forms that simulators write, read with no loop;
+// their length and their thousandths are two answers of one number each, since an enum that goes through memory would
+// keep the reader of the next line waiting. Beside them, without code, what a quick reader of whole files rests on
+// (`comma_read`): bytes and digits side by side in 64 bits (specs/Word, specs/Dial), held against a form at once
+// (specs/Form), and what masks and sums say of them.
 ghost use mathlib.Core.Path.{_≡_};
 ghost use mathlib.Core.List.{[], _∷_};
 ghost use Prim.Native.Nat.{_+_, _-_, _≤_, _<_};
 ghost use lib.ListN.{length};
 ghost use Rattle.decimal.specs.Decimal.{zeroByte, allDigits, valueOf};
 ghost use Rattle.comma_word.specs.Plain.{shortAt, longAt, plainBytes, shortSize, longSize, plainSize};
-ghost use Rattle.comma_word.specs.Dial.{dial, turned};
 
 const ZERO: u8 = 48;
 
@@ -124,34 +122,4 @@ pub fn size_at(s: &[u8], at: usize, bytes: usize) -> u64
         return short_size(s, at);
     }
     long_size(s, at)
-}
-
-// The last two digits of `n`, one a byte.
-fn two(n: u64) -> u64
-    ensures { λ r. ⌜ r ≡ dial 2 n ⌝ }
-{
-    n / 10 % 10 * 0x100 + n % 10
-}
-
-// The last four.
-fn four(n: u64) -> u64
-    ensures { λ r. ⌜ r ≡ dial 4 n ⌝ }
-{
-    two(n / 100) * 0x1_0000 + two(n)
-}
-
-// The last eight.
-pub fn set(n: u64) -> u64
-    ensures { λ r. ⌜ r ≡ dial 8 n ⌝ }
-{
-    four(n / 10000) * 0x1_0000_0000 + four(n)
-}
-
-// The digits `q` moved on by `d`, whose bytes stand 246 above its digits: a carry into the next byte is one into the
-// next digit, and a byte that makes none keeps its top bit, by which the 246 is found and taken away.
-pub fn turned(q: u64, d: u64) -> u64
-    ensures { λ r. ⌜ r ≡ turned q d ⌝ }
-{
-    let x = std::num::wrapping_add_u64(q, d);
-    std::num::wrapping_sub_u64(x, ((x & 0x8080_8080_8080_8080) >> 7) * 0xF6)
 }

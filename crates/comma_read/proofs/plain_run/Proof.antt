@@ -56,18 +56,18 @@ sub-shift c = omega (arith, c .before .pre .2)
 shr-zeros : tie.Need-shr-zeros Inv-loop μ-loop
 shr-zeros c = omega (arith, c .before .pre .1 .some, c .before .pre .2)
 
-set-requires : tie.Need-set-requires Inv-loop μ-loop
-set-requires c κs = search needs
+eight-digits-requires : tie.Need-eight-digits-requires Inv-loop μ-loop
+eight-digits-requires c κs = search needs
 
 add-by : tie.Need-add-by Inv-loop μ-loop
 unfolding each
-add-by c = omega (arith, c .set .ensures, fits (c .before .before .args .step))
+add-by c = omega (arith, c .eight-digits .ensures, fits (c .before .before .args .step))
 
-set-requires-2 : tie.Need-set-requires-2 Inv-loop μ-loop
-set-requires-2 c κs = search needs
+eight-digits-requires-2 : tie.Need-eight-digits-requires-2 Inv-loop μ-loop
+eight-digits-requires-2 c κs = search needs
 
 loop-holds : tie.Need-loop-holds Inv-loop μ-loop
-loop-holds c = let s = c .before .before .before in set-out (now (s .args .text)) (s .args .step) (s .args .at) (s .args .due) (s .args .width) (c .set2 .result) (c .set2 .ensures) (s .pre .1) (omega (arith, s .pre .0))
+loop-holds c = let s = c .before .before .before in set-out (now (s .args .text)) (s .args .step) (s .args .at) (s .args .due) (s .args .width) (c .eight-digits2 .result) (c .eight-digits2 .ensures) (s .pre .1) (omega (arith, s .pre .0))
 
 returns : tie.Need-returns Inv-loop μ-loop
 returns c = c .before .before .loop .inv .are
@@ -100,8 +100,8 @@ add-place c = omega (arith, room (c .before .before .before .before))
 add-place-2 : tie.Need-add-place-2 Inv-loop μ-loop
 add-place-2 c = omega (arith, ends c)
 
-turned-requires : tie.Need-turned-requires Inv-loop μ-loop
-turned-requires c κs = search needs
+moved-on-requires : tie.Need-moved-on-requires Inv-loop μ-loop
+moved-on-requires c κs = search needs
 
 add-time : tie.Need-add-time Inv-loop μ-loop
 add-time c = let e = c .before in omega (arith, e .before .before .before .before .before .loop-test .taken, (start e) .pre .3)
@@ -118,7 +118,7 @@ loop-again c =
     let e = c .before in
     let l = lines e in
     let s = start e in
-    rw (c .turned .ensures, l .before .before .set .ensures)
+    rw (c .moved-on .ensures, l .before .before .eight-digits .ensures)
     (on-line (now (s .args .text)) (s .args .step) (s .args .at) (s .args .due) (s .args .width) (l .loop .inv) (s .pre .2) (room (e .before .before .before .before)) (e .before .before .before .eight .ensures .1) (e .before .before .before .before .before .loop-test .taken) (s .pre .3) (ap (λ (v : ℕ). v / 2 ^ (64 - 8 * s .args .width)) (sym (e .before .before .before .eight .ensures .0)) ∙ e .before .before .if2 .left) (found e))
 
 returns-4 : tie.Need-returns-4 Inv-loop μ-loop
@@ -127,6 +127,6 @@ returns-4 c = c .before .loop .inv .are
 pub plain-run-spec : {M : Type 1} → statement M
 plain-run-spec =
     tie.close
-    (tie.spec Inv-loop μ-loop sub-last mul-shift sub-shift shr-zeros set-requires add-by set-requires-2 loop-holds
+    (tie.spec Inv-loop μ-loop sub-last mul-shift sub-shift shr-zeros eight-digits-requires add-by eight-digits-requires-2 loop-holds
     returns eight-requires shr-if2 add-if2 returns-2 add-plain-roll plain-roll-requires returns-3 add-place add-place-2
-    turned-requires add-time add-lines loop-less loop-again returns-4)
+    moved-on-requires add-time add-lines loop-less loop-again returns-4)

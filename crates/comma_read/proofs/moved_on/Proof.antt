@@ -1,13 +1,13 @@
--- `comma_word::turned` meets its contract. The product fits, since each of its bytes is 246 at most; and what is left,
+-- `comma_read::moved_on` meets its contract. The product fits, since each of its bytes is 246 at most; and what is left,
 -- with the product added back, wraps to the sum, so that it is the sum less the product. Assumes nothing.
 use mathlib.Core.Path.{_≡_}
 use Prim.Native.Nat.{ℕ, _+_, _*_, _/_, _%_, _^_, _≤_, _<_}
 use native.Mathlib.Omega.{arith}
 use borrow.Author.Needs.{needs}
 use lib.Bits.{bitAnd, and-le-r}
 use Rattle.comma_word.specs.Dial.{each, less, turned}
-use Rattle.comma_word.proofs.turned.Statement.{statement}
-use Rattle.comma_word.proofs.turned.Tie as tie
+use Rattle.comma_read.proofs.moved_on.Statement.{statement}
+use Rattle.comma_read.proofs.moved_on.Tie as tie
 
 -- whatever top bits are looked at
 product-fits : (x bits : ℕ) → bits ≤ each 128 8 → bitAnd x bits / 128 * 246 < 2 ^ 64
@@ -27,5 +27,5 @@ returns c =
     let x = c .before .wrapping-add-u64 in
     rw (← x .ensures) (less-is (x .result) _ (c .wrapping-sub-u64 .result) (product-fits (x .result) _ (omega arith)) (omega arith) (c .wrapping-sub-u64 .ensures))
 
-pub turned-spec : {M : Type 1} → statement M
-turned-spec = tie.close (tie.spec (λ c κs. search needs) mul-wrapping-sub-u64 (λ c κs. search needs) returns)
+pub moved-on-spec : {M : Type 1} → statement M
+moved-on-spec = tie.close (tie.spec (λ c κs. search needs) mul-wrapping-sub-u64 (λ c κs. search needs) returns)

@@ -41,7 +41,7 @@ pub record Added (s : Sum) (r : Record) (t : Sum) : Type 0 where
   pub sum : T (sound s)
   pub record-sound : reading.sound r ≡ true
   pub long : tooShort r ≡ false
-  pub step : r .step ≡ s .step
+  pub step : r .items .step ≡ s .step
   pub failures : s .failures + r .groups ≤ mostFailures
   pub samples : s .samples + timed r ≤ mostSamples
   pub after : t ≡ grown s (r .groups) (timed r)
@@ -50,12 +50,12 @@ pub added-from : (s : Sum) (r : Record) (t : Sum) → adding s r ≡ Taken t →
 unfolding adding
 added-from s r t e =
     let last = taken s (r .groups) (timed r) in
-    let third = cond (not (eqb (r .step) (s .step))) (Refused (Item 1)) last in
+    let third = cond (not (eqb (r .items .step) (s .step))) (Refused (Item 1)) last in
     let second = cond (tooShort r) (Refused TooShort) third in
     let o = past (not (sound s)) BrokenState (cond (not (reading.sound r)) (Refused BrokenState) second) e in
     let p = past (not (reading.sound r)) BrokenState second (o .1) in
     let q = past (tooShort r) TooShort third (p .1) in
-    let u = past (not (eqb (r .step) (s .step))) (Item 1) last (q .1) in
+    let u = past (not (eqb (r .items .step) (s .step))) (Item 1) last (q .1) in
     let v = past (wouldPass s (r .groups) (timed r)) SumFull (Taken (grown s (r .groups) (timed r))) (u .1) in
     let w = neither (ltb mostFailures (s .failures + r .groups)) (ltb mostSamples (s .samples + timed r)) (v .0) in
     record {

@@ -49,7 +49,7 @@ pub record Brings (r : Record) : Type 0 where
 pub brings : (r : Record) → reading.sound r ≡ true → tooShort r ≡ false → Brings r
 brings r s l =
     let k = kept.kept-from r s in
-    let long : r .ramp + 2 ≤ r .n = ltb-false (r .n) (r .ramp + 2) l in
+    let long : r .items .ramp + 2 ≤ r .n = ltb-false (r .n) (r .items .ramp + 2) l in
     record {
       some = omega arith;
       few = omega (arith, k .length, small k);

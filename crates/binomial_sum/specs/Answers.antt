@@ -26,5 +26,5 @@ adding s r =
     cond (not (sound s)) (Refused BrokenState)
     (cond (not (reading.sound r)) (Refused BrokenState)
     (cond (tooShort r) (Refused TooShort)
-    (cond (not (eqb (r .step) (s .step))) (Refused (Item 1))
+    (cond (not (eqb (r .items .step) (s .step))) (Refused (Item 1))
     (taken s (r .groups) (timed r)))))

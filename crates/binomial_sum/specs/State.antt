@@ -19,7 +19,7 @@ empty D = record { step = D; failures = 0; samples = 0 }
 
 -- the timed samples of a record, n - R
 abbrev pub timed : Record → ℕ
-timed r = r .n - r .ramp
+timed r = r .n - r .items .ramp
 
 -- g groups and p timed samples more
 abbrev pub grown : Sum → ℕ → ℕ → Sum

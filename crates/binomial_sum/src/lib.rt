@@ -83,12 +83,12 @@ impl Sum {
         if !record_state::sound(r) {
             return Answer::Refused(Refusal::BrokenState);
         }
-        if r.n < r.ramp + 2 {
+        if r.n < r.items.ramp + 2 {
             return Answer::Refused(Refusal::TooShort);
         }
-        if r.step != self.step {
+        if r.items.step != self.step {
             return Answer::Refused(Refusal::Item(1));
         }
-        take(self, r.groups, r.n - r.ramp)
+        take(self, r.groups, r.n - r.items.ramp)
     }
 }

@@ -33,16 +33,14 @@ recordNumbers = 14
 
 abbrev pub ofRecord : Record → List ℕ
 ofRecord r =
-    r .step ∷ r .ramp ∷ r .levels .roll ∷ r .decorrelation ∷ r .n ∷ codeOf (r .last .roll) ∷ r .crossings ∷ r .largest ∷ r .first ∷ r .latest ∷ r .recent ∷ r .groups
-    ∷ r .levels .acceleration ∷ codeOf (r .last .acceleration) ∷ []
+    r .items .step ∷ r .items .ramp ∷ r .items .levels .roll ∷ r .items .decorrelation ∷ r .n
+    ∷ codeOf (r .last .roll) ∷ r .crossings ∷ r .largest ∷ r .first ∷ r .latest ∷ r .recent ∷ r .groups
+    ∷ r .items .levels .acceleration ∷ codeOf (r .last .acceleration) ∷ []
 
 abbrev pub noRecord : Record
 noRecord =
     record {
-      step = 0;
-      ramp = 0;
-      levels = record { roll = 0; acceleration = 0 };
-      decorrelation = 0;
+      items = record { step = 0; ramp = 0; levels = record { roll = 0; acceleration = 0 }; decorrelation = 0 };
       n = 0;
       last = still;
       crossings = 0;
@@ -56,10 +54,13 @@ noRecord =
 abbrev pub recordAt : List ℕ → Record
 recordAt s =
     record {
-      step = numberAt s 0;
-      ramp = numberAt s 1;
-      levels = record { roll = numberAt s 2; acceleration = numberAt s 12 };
-      decorrelation = numberAt s 3;
+      items =
+          record {
+            step = numberAt s 0;
+            ramp = numberAt s 1;
+            levels = record { roll = numberAt s 2; acceleration = numberAt s 12 };
+            decorrelation = numberAt s 3;
+          };
       n = numberAt s 4;
       last = moment (sampleOf (numberAt s 5)) (sampleOf (numberAt s 13));
       crossings = numberAt s 6;

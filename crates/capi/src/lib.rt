@@ -15,6 +15,7 @@ use record_state::Record;
 use refusal::Refusal;
 use sample_channels::Levels;
 use sample_channels::Moment;
+use sample_items::Items;
 
 // How many numbers a state has.
 pub const RECORD_NUMBERS: usize = 14;
@@ -49,13 +50,15 @@ fn no_record() -> Record
     ensures { λ r. ⌜ r ≡ noRecord ⌝ }
 {
     Record {
-        step: 0,
-        ramp: 0,
-        levels: Levels {
-            roll: 0,
-            acceleration: 0,
+        items: Items {
+            step: 0,
+            ramp: 0,
+            levels: Levels {
+                roll: 0,
+                acceleration: 0,
+            },
+            decorrelation: 0,
         },
-        decorrelation: 0,
         n: 0,
         last: Moment {
             roll: 0,
@@ -83,19 +86,21 @@ pub fn record_of(s: &[u64]) -> Record
     if s[13] > HIGHEST_CODE {
         return no_record();
     }
-    let levels = Levels {
-        roll: s[2],
-        acceleration: s[12],
+    let items = Items {
+        step: s[0],
+        ramp: s[1],
+        levels: Levels {
+            roll: s[2],
+            acceleration: s[12],
+        },
+        decorrelation: s[3],
     };
     let last = Moment {
         roll: sample_of(s[5]),
         acceleration: sample_of(s[13]),
     };
     Record {
-        step: s[0],
-        ramp: s[1],
-        levels,
-        decorrelation: s[3],
+        items,
         n: s[4],
         last,
         crossings: s[6],
@@ -110,13 +115,14 @@ pub fn record_of(s: &[u64]) -> Record
 fn of_record(r: Record) -> [u64; 14]
     ensures { λ s. ⌜ s ≡ ofRecord r ⌝ }
 {
-    let levels = r.levels;
+    let items = r.items;
+    let levels = items.levels;
     let last = r.last;
     [
-        r.step,
-        r.ramp,
+        items.step,
+        items.ramp,
         levels.roll,
-        r.decorrelation,
+        items.decorrelation,
         r.n,
         code_of(last.roll),
         r.crossings,

@@ -18,7 +18,7 @@ use Rattle.record_state.specs.State.{sound}
 use Rattle.record_state.specs.declared.Answer.the-variants.{Refused, Taken}
 use Rattle.record_state.specs.declared.Record.{Record}
 use Rattle.refusal.specs.declared.Refusal.the-variants.{BrokenState}
-use Rattle.sample_channels.specs.declared.Levels.{Levels}
+use Rattle.sample_items.specs.declared.Items.{Items}
 use Rattle.capi.proofs.States.{other-record, record-left}
 use Rattle.capi.specs.Numbers.{isRecord, recordNumbers, recordOf}
 use Rattle.capi.specs.Told.{recordKept, recordTold, refused}
@@ -39,8 +39,8 @@ is-record s false e h = absurd (true≢false (cc (other-record s e)))
 fed-length : (s : List ℕ) (xs ys : List ℤ) (r : Record) → fed (recordOf s) xs ys ≡ Taken r → length s ≡ recordNumbers
 fed-length s xs ys r e = eqb-true _ _ (and-true _ _ (is-record s (isRecord s) refl (taken (recordOf s) xs ys r e .state)) .0)
 
-pub opened-left : (D R : ℕ) (a : Levels) (τ : ℕ) (s : List ℕ) (r : Record) → length s ≡ recordNumbers → opened D R a τ ≡ Taken r → recordOf (recordOpened D R a τ s .lent) ≡ r
-opened-left D R a τ s r l e = record-left (opened D R a τ) s r l e (opened-sound D R a τ r e)
+pub opened-left : (items : Items) (s : List ℕ) (r : Record) → length s ≡ recordNumbers → opened items ≡ Taken r → recordOf (recordOpened items s .lent) ≡ r
+opened-left items s r l e = record-left (opened items) s r l e (opened-sound items r e)
 
 pub fed-left : (s : List ℕ) (xs ys : List ℤ) (r : Record) → fed (recordOf s) xs ys ≡ Taken r → recordOf (recordFed s xs ys .lent) ≡ r
 fed-left s xs ys r e = record-left (fed (recordOf s) xs ys) s r (fed-length s xs ys r e) e (fed-sound (recordOf s) xs ys r e)

@@ -9,12 +9,12 @@ use Rattle.truth.proofs.Unique.{settled}
 use Rattle.sample_channels.specs.Channels.{moments}
 use Rattle.crossing_places.specs.Reading.{firstCrossing}
 use Rattle.capi.specs.Told.{Told}
-use Rattle.capi_record.specs.Told.{channelFed, channelListed, levelsOf, recordEnded, recordFed, recordListed, recordOpened}
+use Rattle.capi_record.specs.Told.{channelFed, channelListed, itemsOf, levelsOf, recordEnded, recordFed, recordListed, recordOpened}
 
 pub record-open-unique :
     (D R level lateral τ : ℕ) (s : List ℕ) (x y : Told)
-    → x ≡ recordOpened D R (levelsOf level lateral) τ s
-    → y ≡ recordOpened D R (levelsOf level lateral) τ s
+    → x ≡ recordOpened (itemsOf D R level τ lateral) s
+    → y ≡ recordOpened (itemsOf D R level τ lateral) s
     → x ≡ y
 record-open-unique D R level lateral τ s x y = settled
 
@@ -29,7 +29,7 @@ module _ (D R level lateral τ : ℕ) (xs ys : List ℤ) (s : List ℕ) where
   -- what listing tells, and the channel
   abbrev Lists : Told → ℕ → Type 0
   Lists x j =
-      (x ≡ recordListed D R (levelsOf level lateral) τ xs ys s) × (j ≡ channelListed D R (levelsOf level lateral) τ xs ys s)
+      (x ≡ recordListed (itemsOf D R level τ lateral) xs ys s) × (j ≡ channelListed (itemsOf D R level τ lateral) xs ys s)
 
   pub record-list-unique : (x y : Told) (j k : ℕ) → Lists x j → Lists y k → (x ≡ y) × (j ≡ k)
   record-list-unique x y j k p q = (settled (p .0) (q .0), settled (p .1) (q .1))

@@ -6,6 +6,7 @@ use lib.IntN.{ℤ}
 use lib.ListN.{length}
 use Rattle.refusal.specs.Numbers.{channelOf}
 use Rattle.sample_channels.specs.declared.Levels.{Levels}
+use Rattle.sample_items.specs.declared.Items.{Items}
 use Rattle.sample_channels.specs.Channels.{moments}
 use Rattle.record_list.specs.Answers.{listed, written}
 use Rattle.record_state.specs.Answers.{opened}
@@ -21,8 +22,12 @@ use Rattle.capi.specs.Told.{Told, channelIn, recordKept, refused, resultKept, t
 abbrev pub levelsOf : ℕ → ℕ → Levels
 levelsOf a b = record { roll = a; acceleration = b }
 
-abbrev pub recordOpened : ℕ → ℕ → Levels → ℕ → List ℕ → Told
-recordOpened D R a τ s = recordKept (opened D R a τ) s
+-- the items as C hands them over: its numbers stand in the header's order, 1, 2, 3, 4, 6
+abbrev pub itemsOf : ℕ → ℕ → ℕ → ℕ → ℕ → Items
+itemsOf D R a τ b = record { step = D; ramp = R; levels = levelsOf a b; decorrelation = τ }
+
+abbrev pub recordOpened : Items → List ℕ → Told
+recordOpened items s = recordKept (opened items) s
 
 abbrev pub recordFed : List ℕ → List ℤ → List ℤ → Told
 recordFed s xs ys = recordKept (fed (recordOf s) xs ys) s
@@ -40,12 +45,14 @@ unfoldable pub listTold : Listed → List ℕ → Told
 listTold (Times k) s = told 0 k s
 listTold (Refused f) s = refused f s
 
-abbrev pub recordListed : ℕ → ℕ → Levels → ℕ → List ℤ → List ℤ → List ℕ → Told
-recordListed D R a τ xs ys s = listTold (listed D R a τ xs ys (length s)) (written (listed D R a τ xs ys (length s)) (countedTimes D R a τ (moments xs ys)) s)
+abbrev pub recordListed : Items → List ℤ → List ℤ → List ℕ → Told
+recordListed items xs ys s =
+    listTold (listed items xs ys (length s))
+    (written (listed items xs ys (length s)) (countedTimes items (moments xs ys)) s)
 
 unfoldable pub listChannel : Listed → ℕ
 listChannel (Times k) = 0
 listChannel (Refused f) = channelOf f
 
-abbrev pub channelListed : ℕ → ℕ → Levels → ℕ → List ℤ → List ℤ → List ℕ → ℕ
-channelListed D R a τ xs ys s = listChannel (listed D R a τ xs ys (length s))
+abbrev pub channelListed : Items → List ℤ → List ℤ → List ℕ → ℕ
+channelListed items xs ys s = listChannel (listed items xs ys (length s))

@@ -7,9 +7,10 @@ ghost use lib.ListN.{length};
 ghost use Rattle.sample_channels.specs.Channels.{moments};
 ghost use Rattle.crossing_places.specs.Reading.{firstCrossing};
 ghost use Rattle.capi.specs.Told.{told};
-ghost use Rattle.capi_record.specs.Told.{levelsOf, recordEnded, recordFed, channelFed, recordListed};
+ghost use Rattle.capi_record.specs.Told.{levelsOf, itemsOf, recordEnded, recordFed, channelFed, recordListed};
 ghost use Rattle.capi_record.specs.Told.{channelListed, recordOpened};
 use sample_channels::Levels;
+use sample_items::Items;
 
 // A fresh record in `state`; or refusal 8 for an array of another length, 1 with the lowest item outside its range.
 #[no_mangle]
@@ -23,17 +24,18 @@ pub extern "C" fn chim_record_open(
     carried: &mut u64,
 ) -> u64
     ensures { λ n. ⌜ told n (now (carried .exit)) (now (state .exit))
-        ≡ recordOpened step ramp (levelsOf level lateral) decorrelation (now (state .entry)) ⌝ }
+        ≡ recordOpened (itemsOf step ramp level decorrelation lateral) (now (state .entry)) ⌝ }
 {
-    let levels = Levels {
-        roll: level,
-        acceleration: lateral,
+    let items = Items {
+        step,
+        ramp,
+        levels: Levels {
+            roll: level,
+            acceleration: lateral,
+        },
+        decorrelation,
     };
-    capi::keep_record(
-        record_state::open(step, ramp, levels, decorrelation),
-        state,
-        carried,
-    )
+    capi::keep_record(record_state::open(items), state, carried)
 }
 
 // The record after the piece in `state`; or refusal 8, 12, 2 with the lower bad place in the piece, 3.
@@ -102,17 +104,22 @@ pub extern "C" fn chim_record_list(
     channel: &mut u64,
 ) -> u64
     ensures { λ n. ⌜ told n (now (carried .exit)) (now (times .exit))
-        ≡ recordListed step ramp (levelsOf level lateral) decorrelation (now (roll .entry))
+        ≡ recordListed (itemsOf step ramp level decorrelation lateral) (now (roll .entry))
         (now (acceleration .entry)) (now (times .entry)) ⌝ }
     ensures { λ n. ⌜ now (channel .exit)
-        ≡ channelListed step ramp (levelsOf level lateral) decorrelation (now (roll .entry))
+        ≡ channelListed (itemsOf step ramp level decorrelation lateral) (now (roll .entry))
         (now (acceleration .entry)) (now (times .entry)) ⌝ }
 {
-    let levels = Levels {
-        roll: level,
-        acceleration: lateral,
+    let items = Items {
+        step,
+        ramp,
+        levels: Levels {
+            roll: level,
+            acceleration: lateral,
+        },
+        decorrelation,
     };
-    let a = record_list::list(step, ramp, levels, decorrelation, roll, acceleration, times);
+    let a = record_list::list(items, roll, acceleration, times);
     match a {
         record_list::Listed::Times(k) => {
             *channel = 0;

@@ -14,7 +14,7 @@ use lib.Seq.{drop-drop, take-at, take-all, take-nil, take-take, drop-cons, set-a
 use borrow.Author.Tests.{ne-eqb, lt-ltb, le-ltb, le-leb, lt-leb}
 use Rattle.truth.proofs.Cases.{by-test, by-order}
 use Rattle.sample_items.specs.Limits.{stepInRange}
-use Rattle.sample_items.proofs.Items.{low}
+use Rattle.sample_items.proofs.Ranges.{low}
 use Rattle.sample_range.specs.Range.{sampleInRange, firstBad}
 use Rattle.sample_range.proofs.Bad.{bad-append, bad-left, bad-within}
 use Rattle.decimal.specs.Decimal.{longest}

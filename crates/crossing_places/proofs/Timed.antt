@@ -13,10 +13,11 @@ use borrow.Author.Tests.{ltb-true, ltb-false, lt-ltb, le-ltb, le-leb}
 use Rattle.sample_channels.specs.declared.Levels.{Levels}
 use Rattle.sample_channels.specs.declared.Moment.{Moment}
 use Rattle.sample_channels.specs.Channels.{still}
+use Rattle.sample_items.specs.declared.Items.{Items}
 use Rattle.crossing_sets.specs.Walk.{since}
 use Rattle.crossing_sets.specs.Groups.{near, groups, firsts}
 use Rattle.crossing_sets.proofs.Starts.{starts, begin, firsts-begin}
-use Rattle.crossing_places.specs.Reading.{timeAt, rises, crossesAt, passing, crossings, countedTimes}
+use Rattle.crossing_places.specs.Reading.{timeAt, rises, crossesAt, passing, crossings, countedTimes, unramped}
 use Rattle.crossing_places.proofs.First.{ramp-none}
 use Rattle.crossing_places.proofs.Scan.{placesFrom, scan, places-whole}
 
@@ -86,5 +87,18 @@ module _ (D R : ℕ) (a : Levels) where
       ∙ shifted 0 still (drop R xs) (omega arith)
       ∙ ap (map (timeAt D 0)) (places-whole 0 a (drop R xs))
 
-  pub timed-only : (τ : ℕ) (xs : List Moment) → R ≤ length xs → countedTimes D R a τ xs ≡ countedTimes D 0 a τ (drop R xs)
-  timed-only τ xs l = counted-from (timeAt D R) τ (crossings R a xs) ∙ ap (from τ 0) (crossing-times xs l) ∙ sym (counted-from (timeAt D 0) τ (crossings 0 a (drop R xs)))
+module _ (items : Items) where
+  abbrev D : ℕ
+  D = items .step
+
+  abbrev R : ℕ
+  R = items .ramp
+
+  abbrev a : Levels
+  a = items .levels
+
+  abbrev τ : ℕ
+  τ = items .decorrelation
+
+  pub timed-only : (xs : List Moment) → R ≤ length xs → countedTimes items xs ≡ countedTimes (unramped D a τ) (drop R xs)
+  timed-only xs l = counted-from (timeAt D R) τ (crossings R a xs) ∙ ap (from τ 0) (crossing-times D R a xs l) ∙ sym (counted-from (timeAt D 0) τ (crossings 0 a (drop R xs)))

@@ -9,6 +9,7 @@ use lib.Dec.{ltb}
 use Rattle.sample_channels.specs.declared.Levels.{Levels}
 use Rattle.sample_channels.specs.declared.Moment.{Moment}
 use Rattle.sample_channels.specs.Channels.{still, above}
+use Rattle.sample_items.specs.declared.Items.{Items}
 use Rattle.crossing_sets.specs.Walk.{walk}
 use Rattle.crossing_sets.specs.Groups as grouping
 
@@ -52,21 +53,29 @@ abbrev pub firstCrossing : ℕ → ℕ → Levels → List Moment → ℕ
 firstCrossing none R a xs = firstOf none (crossings R a xs)
 
 -- the groups: runs of successive crossings, each less than τ after the crossing just before it
-abbrev pub groups : ℕ → ℕ → Levels → ℕ → List Moment → List (List ℕ)
-groups D R a τ xs = grouping.groups (grouping.near (timeAt D R) τ) (crossings R a xs)
+abbrev pub groups : Items → List Moment → List (List ℕ)
+groups items xs =
+    grouping.groups
+    (grouping.near (timeAt (items .step) (items .ramp)) (items .decorrelation))
+    (crossings (items .ramp) (items .levels) xs)
 
 -- the places of the counted failures: each group's first crossing
-abbrev pub counted : ℕ → ℕ → Levels → ℕ → List Moment → List ℕ
-counted D R a τ xs = grouping.firsts (groups D R a τ xs)
+abbrev pub counted : Items → List Moment → List ℕ
+counted items xs = grouping.firsts (groups items xs)
 
 -- the places of the largest set: the first crossing, and a later one if its time is at least τ after that of the last
 -- one in it
-abbrev pub largestSet : ℕ → ℕ → Levels → ℕ → List Moment → List ℕ
-largestSet D R a τ xs = walk (timeAt D R) τ (crossings R a xs)
+abbrev pub largestSet : Items → List Moment → List ℕ
+largestSet items xs =
+    walk (timeAt (items .step) (items .ramp)) (items .decorrelation) (crossings (items .ramp) (items .levels) xs)
 
 -- the times of the counted failures
-abbrev pub countedTimes : ℕ → ℕ → Levels → ℕ → List Moment → List ℕ
-countedTimes D R a τ xs = map (timeAt D R) (counted D R a τ xs)
+abbrev pub countedTimes : Items → List Moment → List ℕ
+countedTimes items xs = map (timeAt (items .step) (items .ramp)) (counted items xs)
+
+-- the items of timed samples alone: those of a record without a ramp
+abbrev pub unramped : ℕ → Levels → ℕ → Items
+unramped D a τ = record { step = D; ramp = 0; levels = a; decorrelation = τ }
 
 -- the full time of n samples, for n of at least R + 2
 abbrev pub fullTime : ℕ → ℕ → ℕ → ℕ

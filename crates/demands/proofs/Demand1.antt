@@ -26,7 +26,7 @@ use Rattle.record_state.specs.declared.Answer.the-variants.{Refused, Taken}
 use Rattle.record_state.specs.declared.Record.{Record}
 use Rattle.record_state.specs.Answers.{opened}
 use Rattle.record_feed.specs.Answers.{fed}
-use Rattle.sample_channels.specs.declared.Levels.{Levels}
+use Rattle.sample_items.specs.declared.Items.{Items}
 use Rattle.sample_channels.specs.Channels.{anyBad, badSample, moments}
 use Rattle.sample_items.specs.Limits.{decorrelationInRange, itemOutside, levelInRange, longestTime, mostSamples, rampInRange, stepInRange}
 use Rattle.sample_range.specs.Range.{firstBad}
@@ -86,23 +86,23 @@ pub record Decides {A : Type 0} (refused : Refusal → A) (ts : List Test) (prop
   pub answers : None ts → x ≡ proper
 
 -- items 1 to 4, and 6, which document 02's [8] adds
-abbrev pub itemTests : ℕ → ℕ → Levels → ℕ → List Test → List Test
-itemTests D R a τ ts =
-    not (stepInRange D) gives Item 1
-    ∷ (not (rampInRange R) gives Item 2
-    ∷ (not (levelInRange (a .roll)) gives Item 3
-    ∷ (not (decorrelationInRange τ) gives Item 4
-    ∷ (not (levelInRange (a .acceleration)) gives Item 6
+abbrev pub itemTests : Items → List Test → List Test
+itemTests items ts =
+    not (stepInRange (items .step)) gives Item 1
+    ∷ (not (rampInRange (items .ramp)) gives Item 2
+    ∷ (not (levelInRange (items .levels .roll)) gives Item 3
+    ∷ (not (decorrelationInRange (items .decorrelation)) gives Item 4
+    ∷ (not (levelInRange (items .levels .acceleration)) gives Item 6
     ∷ ts))))
 
 -- the lengths of both slices, the samples, the timed length, too few samples, and the room for the counted times
-abbrev pub listTests : ℕ → ℕ → Levels → ℕ → List ℤ → List ℤ → ℕ → List Test
-listTests D R a τ xs ys places =
+abbrev pub listTests : Items → List ℤ → List ℤ → ℕ → List Test
+listTests items xs ys places =
     not (eqb (length xs) (length ys)) gives Unequal
     ∷ (anyBad xs ys gives badSample (firstBad xs) (firstBad ys)
-    ∷ (ltb (mostSamples D R) (length xs) gives TooLong
-    ∷ (tooFew R (length xs) gives TooShort
-    ∷ (ltb places (length (counted D R a τ (moments xs ys))) gives Room (length (counted D R a τ (moments xs ys)))
+    ∷ (ltb (mostSamples (items .step) (items .ramp)) (length xs) gives TooLong
+    ∷ (tooFew (items .ramp) (length xs) gives TooShort
+    ∷ (ltb places (length (counted items (moments xs ys))) gives Room (length (counted items (moments xs ys)))
     ∷ []))))
 
 -- room in a campaign: 5, then 6
@@ -116,7 +116,7 @@ resultTests c o = not (outcomeKept o) gives BrokenState ∷ roomTests c
 -- "Order", entry by entry
 pub record Demand1 : Type 0 where
   -- opening 1
-  pub open-record : (D R : ℕ) (a : Levels) (τ : ℕ) → Decides Refused (itemTests D R a τ []) (Taken (stateOf D R a τ [])) (opened D R a τ)
+  pub open-record : (items : Items) → Decides Refused (itemTests items []) (Taken (stateOf items [])) (opened items)
   pub open-campaign : (q : ℕ) → Decides campaigned.Refused (not (standardInRange q) gives Item 5 ∷ []) (campaigned.Taken (empty q)) (campaigns.opened q)
   -- a piece 8, 12, 2, 3
   pub feed :
@@ -125,7 +125,7 @@ pub record Demand1 : Type 0 where
       (not (sound r) gives BrokenState
       ∷ (not (eqb (length xs) (length ys)) gives Unequal
       ∷ (anyBad xs ys gives badSample (firstBad xs) (firstBad ys)
-      ∷ (ltb (mostSamples (r .step) (r .ramp)) (r .n + length xs) gives TooLong
+      ∷ (ltb (mostSamples (r .items .step) (r .items .ramp)) (r .n + length xs) gives TooLong
       ∷ []))))
       (Taken (foldl stepped r (moments xs ys)))
       (fed r xs ys)
@@ -137,9 +137,11 @@ pub record Demand1 : Type 0 where
       → Decides campaigned.Refused (not (campaigning.sound c) gives BrokenState ∷ resultTests c o) (campaigned.Taken (entered c (o .failed) (o .exposure))) (entering c o)
   -- listing 1, 12, 2, 3, 4, 7; and a refusal leaves the slice as it stood
   pub list :
-      (D R : ℕ) (a : Levels) (τ : ℕ) (xs ys : List ℤ) (places : ℕ)
-      → Decides listing.Refused (itemTests D R a τ (listTests D R a τ xs ys places)) (listing.Times (length (counted D R a τ (moments xs ys)))) (listed D R a τ xs ys places)
-  pub kept : (D R : ℕ) (a : Levels) (τ : ℕ) (xs ys : List ℤ) (before after : List ℕ) (r : Refusal) → ListsTo D R a τ xs ys before (listing.Refused r) after → after ≡ before
+      (items : Items) (xs ys : List ℤ) (places : ℕ)
+      → Decides listing.Refused (itemTests items (listTests items xs ys places))
+      (listing.Times (length (counted items (moments xs ys)))) (listed items xs ys places)
+  pub kept : (items : Items) (xs ys : List ℤ) (before after : List ℕ) (r : Refusal)
+      → ListsTo items xs ys before (listing.Refused r) after → after ≡ before
   -- verdict, rates and the censored count 8
   pub verdict : (c : Campaign) → Decides judging.Refused (not (campaigning.sound c) gives BrokenState ∷ []) (judging.Given (verdictOf c)) (verdicts.judging c)
   pub rates :
@@ -257,18 +259,18 @@ unfolding decide opened fed listed itemOutside written ending entering verdicts.
 demand-1 =
     record {
       open-record =
-          λ D R a τ.
-          decided Refused (Taken (stateOf D R a τ [])) own-record (λ r e. no (cc)) (itemTests D R a τ []) (opened D R a τ)
-          (swapped (eqb (itemOutside D R a τ) 0) _ _ ∙ first-item Refused [] (Taken (stateOf D R a τ [])) (stepInRange D) (rampInRange R) (levelInRange (a .roll)) (decorrelationInRange τ) (levelInRange (a .acceleration)) (itemOutside D R a τ) refl);
+          λ items.
+          decided Refused (Taken (stateOf items [])) own-record (λ r e. no (cc)) (itemTests items []) (opened items)
+          (swapped (eqb (itemOutside items) 0) _ _ ∙ first-item Refused [] (Taken (stateOf items [])) (stepInRange (items .step)) (rampInRange (items .ramp)) (levelInRange (items .levels .roll)) (decorrelationInRange (items .decorrelation)) (levelInRange (items .levels .acceleration)) (itemOutside items) refl);
       open-campaign = λ q. decided campaigned.Refused (campaigned.Taken (empty q)) own-campaign (λ r e. no (cc)) _ (campaigns.opened q) (swapped (standardInRange q) _ _);
       feed = λ r xs ys. decided Refused (Taken (foldl stepped r (moments xs ys))) own-record (λ f e. no (cc)) _ (fed r xs ys) refl;
       end = λ r. decided ended.Refused (ended.Given (resultOf r)) own-result (λ f e. no (cc)) _ (ending r) refl;
       enter = λ c o. decided campaigned.Refused (campaigned.Taken (entered c (o .failed) (o .exposure))) own-campaign (λ r e. no (cc)) _ (entering c o) refl;
       list =
-          λ D R a τ xs ys places.
-          decided listing.Refused (listing.Times (length (counted D R a τ (moments xs ys)))) own-list (λ r e. no (cc)) _ (listed D R a τ xs ys places)
-          (first-item listing.Refused (listTests D R a τ xs ys places) (listing.Times (length (counted D R a τ (moments xs ys)))) (stepInRange D) (rampInRange R) (levelInRange (a .roll)) (decorrelationInRange τ) (levelInRange (a .acceleration)) (itemOutside D R a τ) refl);
-      kept = λ D R a τ xs ys before after r p. p .leaves;
+          λ items xs ys places.
+          decided listing.Refused (listing.Times (length (counted items (moments xs ys)))) own-list (λ r e. no (cc)) _ (listed items xs ys places)
+          (first-item listing.Refused (listTests items xs ys places) (listing.Times (length (counted items (moments xs ys)))) (stepInRange (items .step)) (rampInRange (items .ramp)) (levelInRange (items .levels .roll)) (decorrelationInRange (items .decorrelation)) (levelInRange (items .levels .acceleration)) (itemOutside items) refl);
+      kept = λ items xs ys before after r p. p .leaves;
       verdict = λ c. decided judging.Refused (judging.Given (verdictOf c)) own-verdict (λ r e. no (cc)) _ (verdicts.judging c) (swapped (campaigning.sound c) _ _);
       rates = λ c. decided rating.Refused (rating.Given (not (eqb (c .records) 0)) (ratesOf c)) own-rates (λ r e. no (cc)) _ (verdicts.rating c) (swapped (campaigning.sound c) _ _);
       sheet = cut-anywhere;

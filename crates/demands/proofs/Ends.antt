@@ -13,6 +13,7 @@ use Rattle.refusal.specs.Numbers.{numberOf, valueOf}
 use Rattle.sample_channels.specs.declared.Levels.{Levels}
 use Rattle.sample_channels.specs.Channels.{moments, still}
 use Rattle.sample_range.specs.Range.{firstBad}
+use Rattle.sample_items.specs.declared.Items.{Items}
 use Rattle.sample_items.specs.Limits.{itemOutside}
 use Rattle.record_state.specs.declared.Answer.{Answer as OfRecord}
 use Rattle.record_state.specs.declared.Answer.the-variants as recorded
@@ -82,18 +83,21 @@ abbrev pub ofCondition : OfCondition → ℕ × ℕ
 ofCondition (conditioned.Given s) = taken
 ofCondition (conditioned.Refused f) = refused f
 
+-- the usual levels, and no decorrelation time
+abbrev pub usual : ℕ → ℕ → Items
+usual D R = record { step = D; ramp = R; levels = record { roll = 40000; acceleration = 9810 }; decorrelation = 0 }
+
 -- opening a record: step, ramp, levels of roll and acceleration, decorrelation time
 abbrev pub opens : ℕ → ℕ → ℕ → ℕ → ℕ → ℕ × ℕ
-opens D R roll acceleration τ = ofRecord (records.opened D R (record { roll = roll; acceleration = acceleration }) τ)
+opens D R roll acceleration τ =
+    let levels : Levels = record { roll = roll; acceleration = acceleration } in
+    ofRecord (records.opened (record { step = D; ramp = R; levels = levels; decorrelation = τ }))
 
 -- a record of n samples without a crossing, R = 5
 abbrev pub quiet : ℕ → ℕ → Record
 quiet D n =
     record {
-      step = D;
-      ramp = 5;
-      levels = record { roll = 40000; acceleration = 9810 };
-      decorrelation = 0;
+      items = usual D 5;
       n = n;
       last = still;
       crossings = 0;
@@ -108,10 +112,7 @@ quiet D n =
 abbrev pub failing : ℕ → ℕ → Record
 failing D n =
     record {
-      step = D;
-      ramp = 5;
-      levels = record { roll = 40000; acceleration = 9810 };
-      decorrelation = 0;
+      items = usual D 5;
       n = n;
       last = still;
       crossings = 1;
@@ -230,7 +231,7 @@ short-ends = refl
 -- and for a list, with R = 1; more counted times than places give 7 with the number needed
 abbrev pub list : List ℤ → ℕ → ℕ × ℕ
 list xs places =
-    ofListed (listed 500 1 (record { roll = 40000; acceleration = 9810 }) 0 xs (map (λ (x : ℤ). pos 0) xs) places)
+    ofListed (listed (usual 500 1) xs (map (λ (x : ℤ). pos 0) xs) places)
 
 pub short-list-ends : list (replicate 2 (pos 0)) 0 ∷ list (replicate 3 (pos 0)) 0 ∷ [] ≡ (4, 0) ∷ taken ∷ []
 unfolding listed itemOutside firstBad firsts inGroups attach passing moments

@@ -6,6 +6,7 @@ use mathlib.Core.List.{List, [], _∷_, _++_}
 use Prim.Native.Nat.{ℕ}
 use lib.IntN.{ℤ, pos}
 use lib.ListN.{replicate}
+use Rattle.sample_channels.specs.declared.Levels.{Levels}
 use Rattle.sample_items.specs.Limits.{itemOutside}
 use Rattle.sample_range.specs.Range.{firstBad}
 use Rattle.record_state.specs.Answers.{opened}
@@ -70,7 +71,9 @@ sheet-full-before-rows = refl
 
 -- listing 1, 12, 2, 3, 4, 7: at D = 10,000 a record has at most 1,001 samples
 abbrev lists : ℕ → List ℤ → List ℤ → ℕ × ℕ
-lists D xs ys = ofListed (listed D 0 (record { roll = 1; acceleration = 1 }) 0 xs ys 0)
+lists D xs ys =
+    let levels : Levels = record { roll = 1; acceleration = 1 } in
+    ofListed (listed (record { step = D; ramp = 0; levels = levels; decorrelation = 0 }) xs ys 0)
 
 abbrev silence : List ℤ
 silence = replicate 1002 (pos 0)

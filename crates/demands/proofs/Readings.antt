@@ -9,6 +9,7 @@ use Rattle.sample_channels.specs.declared.Levels.{Levels}
 use Rattle.sample_channels.specs.declared.Moment.{Moment}
 use Rattle.sample_channels.specs.Channels.{moments}
 use Rattle.crossing_sets.specs.Walk.{later, walk}
+use Rattle.sample_items.specs.declared.Items.{Items}
 use Rattle.sample_items.specs.Limits.{itemOutside}
 use Rattle.sample_range.specs.Range.{firstBad}
 use Rattle.crossing_sets.specs.Groups.{attach, firsts, groups}
@@ -30,6 +31,10 @@ use Rattle.record_end.specs.Result.{ending, resultOf}
 
 abbrev usual : Levels
 usual = record { roll = 40000; acceleration = 9810 }
+
+-- with a step of 500 ms, a ramp of R samples and a decorrelation time of τ ms
+abbrev usually : ℕ → ℕ → Items
+usually R τ = record { step = 500; ramp = R; levels = usual; decorrelation = τ }
 
 abbrev alone : List ℤ → List Moment
 alone xs = moments xs (map (λ (x : ℤ). pos 0) xs)
@@ -74,12 +79,12 @@ ofEnding (ended.Refused r) = []
 
 -- crossings, counted, the first failure's place, exposure, the largest set; R = 2: a failed record's exposure is the
 -- first failure's time
-pub ended-failed : ofEnding (ending (stateOf 500 2 usual 2000 (alone twice))) ≡ 7 ∷ 2 ∷ 3 ∷ 500 ∷ 4 ∷ []
+pub ended-failed : ofEnding (ending (stateOf (usually 2 2000) (alone twice))) ≡ 7 ∷ 2 ∷ 3 ∷ 500 ∷ 4 ∷ []
 unfolding ending sound itemOutside stateOf passing moments groups attach walk later firstOf lastOf
 ended-failed = refl
 
 -- without a failure it is the full time
-pub ended-unfailed : ofEnding (ending (stateOf 500 2 usual 2000 (alone (pos 0 ∷ pos 0 ∷ pos 0 ∷ pos 0 ∷ pos 0 ∷ []))))
+pub ended-unfailed : ofEnding (ending (stateOf (usually 2 2000) (alone (pos 0 ∷ pos 0 ∷ pos 0 ∷ pos 0 ∷ pos 0 ∷ []))))
     ≡ 0 ∷ 0 ∷ 0 ∷ 1000 ∷ 0 ∷ []
 unfolding ending sound itemOutside stateOf passing moments groups attach walk later firstOf lastOf
 ended-unfailed = refl
@@ -94,13 +99,13 @@ next xs (answered.Taken r) = fed r xs (map (λ (x : ℤ). pos 0) xs)
 next xs (answered.Refused r) = answered.Refused r
 
 -- a crossing at a cut: the last sample of the piece before is kept; an empty piece between changes nothing
-pub crossing-at-cut : ofPieces (next (pos 41000 ∷ []) (next [] (next (pos 0 ∷ pos 0 ∷ []) (opened 500 0 usual 0))))
+pub crossing-at-cut : ofPieces (next (pos 41000 ∷ []) (next [] (next (pos 0 ∷ pos 0 ∷ []) (opened (usually 0 0)))))
     ≡ 3 ∷ 1 ∷ 2 ∷ 2 ∷ []
 unfolding opened itemOutside stateOf passing moments groups attach walk later firstOf lastOf fed sound firstBad stepped
 crossing-at-cut = refl
 
 -- and above at the end of the piece before, there is none
-pub above-at-cut : ofPieces (next (pos 41000 ∷ []) (next (pos 41000 ∷ []) (opened 500 0 usual 0))) ≡ 2 ∷ 0 ∷ 0 ∷ 0 ∷ []
+pub above-at-cut : ofPieces (next (pos 41000 ∷ []) (next (pos 41000 ∷ []) (opened (usually 0 0)))) ≡ 2 ∷ 0 ∷ 0 ∷ 0 ∷ []
 unfolding opened itemOutside stateOf passing moments groups attach walk later firstOf lastOf fed sound firstBad stepped
 above-at-cut = refl
 
@@ -109,11 +114,11 @@ above-at-cut = refl
 abbrev xs : List ℤ
 xs = pos 0 ∷ pos 41000 ∷ pos 0 ∷ pos 41000 ∷ []
 
-pub times-listed : countedTimes 500 0 usual 0 (alone xs) ≡ 500 ∷ 1500 ∷ []
+pub times-listed : countedTimes (usually 0 0) (alone xs) ≡ 500 ∷ 1500 ∷ []
 unfolding passing moments groups attach firsts
 times-listed = refl
 
-pub times-number : listed 500 0 usual 0 xs (map (λ (x : ℤ). pos 0) xs) 3 ≡ Times 2
+pub times-number : listed (usually 0 0) xs (map (λ (x : ℤ). pos 0) xs) 3 ≡ Times 2
 unfolding listed itemOutside firstBad passing moments groups attach firsts
 times-number = refl
 

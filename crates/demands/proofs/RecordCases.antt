@@ -9,6 +9,7 @@ use lib.IntN.{ℤ, pos, negsuc}
 use lib.ListN.{length}
 use Rattle.refusal.specs.declared.Refusal.{Refusal}
 use Rattle.refusal.specs.Numbers.{channelOf, numberOf, valueOf}
+use Rattle.sample_items.specs.declared.Items.{Items}
 use Rattle.sample_items.specs.Limits.{itemOutside}
 use Rattle.sample_range.specs.Range.{firstBad}
 use Rattle.crossing_sets.specs.Walk.{later, walk}
@@ -52,6 +53,10 @@ levels a b = record { roll = a; acceleration = b }
 abbrev quiet : List ℤ → List ℤ
 quiet xs = map (λ (x : ℤ). pos 0) xs
 
+-- a step of 500 ms and the usual levels, a ramp of R samples, a decorrelation time of τ ms
+abbrev usual : ℕ → ℕ → Items
+usual R τ = record { step = 500; ramp = R; levels = levels 40000 9810; decorrelation = τ }
+
 -- 01's case A: three crossings, 1,000 ms apart
 abbrev bobbing : List Moment
 bobbing =
@@ -60,7 +65,7 @@ bobbing =
 
 -- read with a ramp of R samples; with one of 2 the first crossing is in it, and two are left
 abbrev read : ℕ → ℕ → List Moment → Record
-read R τ xs = stateOf 500 R (levels 40000 9810) τ xs
+read R τ xs = stateOf (usual R τ) xs
 
 abbrev ofEnded : Ended → List ℕ
 ofEnded (ended.Given x) = x .crossings ∷ x .counted ∷ x .first ∷ x .exposure ∷ x .largest ∷ []
@@ -80,7 +85,7 @@ record-ended = refl
 -- [5] less than the decorrelation time: a gap of 1,000 ms parts at 1,000 and joins at 1,001; each group is
 -- listed by its first crossing
 groups-parted-at-the-gap :
-    countedTimes 500 0 (levels 40000 9810) 1000 bobbing ∷ countedTimes 500 0 (levels 40000 9810) 1001 bobbing ∷ []
+    countedTimes (usual 0 1000) bobbing ∷ countedTimes (usual 0 1001) bobbing ∷ []
     ≡ (500 ∷ 1500 ∷ 2500 ∷ []) ∷ (500 ∷ []) ∷ []
 unfolding moments passing grouping.attach grouping.groups grouping.firsts
 groups-parted-at-the-gap = refl
@@ -90,10 +95,7 @@ groups-parted-at-the-gap = refl
 abbrev with : ℕ → ℕ → Record
 with recent groups =
     record {
-      step = 500;
-      ramp = 1;
-      levels = levels 40000 9810;
-      decorrelation = 0;
+      items = usual 1 0;
       n = 9;
       last = moment (pos 0) (pos 0);
       crossings = 4;
@@ -116,10 +118,7 @@ groups-relations = refl
 abbrev still : ℕ → Levels → Moment → ℕ → ℕ → Record
 still n a last recent groups =
     record {
-      step = 500;
-      ramp = 1;
-      levels = a;
-      decorrelation = 0;
+      items = record { step = 500; ramp = 1; levels = a; decorrelation = 0 };
       n = n;
       last = last;
       crossings = 0;

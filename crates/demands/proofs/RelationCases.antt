@@ -18,10 +18,7 @@ use Rattle.campaign_state.specs.State as campaigning
 abbrev taking : ℕ → ℕ → ℤ → ℕ → ℕ → ℕ → ℕ → ℕ → ℕ → Record
 taking D n x crossings largest first latest recent groups =
     record {
-      step = D;
-      ramp = 2;
-      levels = record { roll = 1; acceleration = 1 };
-      decorrelation = 1;
+      items = record { step = D; ramp = 2; levels = record { roll = 1; acceleration = 1 }; decorrelation = 1 };
       n = n;
       last = record { roll = x; acceleration = pos 0 };
       crossings = crossings;

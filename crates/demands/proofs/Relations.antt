@@ -25,7 +25,7 @@ use Rattle.sample_channels.specs.Channels.{anyBad, moments}
 use Rattle.sample_range.specs.Range.{firstBad, sampleInRange}
 use Rattle.sample_items.specs.Limits.{decorrelationInRange, itemOutside, levelInRange, mostSamples, rampInRange, stepInRange}
 use Rattle.sample_items.specs.Limits.{within}
-use Rattle.sample_items.proofs.Items.{high, low}
+use Rattle.sample_items.proofs.Ranges.{high, low}
 use Rattle.record_state.specs.State as recording
 use Rattle.record_state.specs.declared.Answer.the-variants as recorded
 use Rattle.record_state.specs.declared.Record.{Record}
@@ -71,24 +71,24 @@ From low high x = (low ≤ x) × (x ≤ high)
 -- a record
 pub record RecordRelations (r : Record) : Type 0 where
   -- items in range
-  pub step : From 1 10000 (r .step)
-  pub ramp : r .ramp ≤ 1000000
-  pub roll-level : From 1 1000000 (r .levels .roll)
-  pub decorrelation : r .decorrelation ≤ 10000000
-  pub acceleration-level : From 1 1000000 (r .levels .acceleration)
+  pub step : From 1 10000 (r .items .step)
+  pub ramp : r .items .ramp ≤ 1000000
+  pub roll-level : From 1 1000000 (r .items .levels .roll)
+  pub decorrelation : r .items .decorrelation ≤ 10000000
+  pub acceleration-level : From 1 1000000 (r .items .levels .acceleration)
   -- the last samples in range, and 0 while n is 0
   pub last-roll : natAbs (r .last .roll) ≤ 1000000
   pub last-acceleration : natAbs (r .last .acceleration) ≤ 1000000
   pub fresh : r .n ≡ 0 → (natAbs (r .last .roll) ≡ 0) × (natAbs (r .last .acceleration) ≡ 0)
   -- n within refusal 3's bound
-  pub length : r .n ≤ r .ramp + 1 + 10000000 / r .step
+  pub length : r .n ≤ r .items .ramp + 1 + 10000000 / r .items .step
   -- the largest set at most the crossings; both 0 exactly if there is no first failure, and then all places and groups
   pub counted : r .largest ≤ r .crossings
   pub none : r .first ≡ 0 → (r .crossings ≡ 0) × (r .largest ≡ 0) × (r .latest ≡ 0) × (r .recent ≡ 0) × (r .groups ≡ 0)
   pub some : ¬ (r .first ≡ 0) → ¬ (r .crossings ≡ 0) × ¬ (r .largest ≡ 0)
   -- where there is one: crossings at most n - 1 - R, its place above R and at most the set's last, which is below n
-  pub crossings : ¬ (r .first ≡ 0) → r .crossings ≤ r .n - 1 - r .ramp
-  pub above : ¬ (r .first ≡ 0) → r .ramp < r .first
+  pub crossings : ¬ (r .first ≡ 0) → r .crossings ≤ r .n - 1 - r .items .ramp
+  pub above : ¬ (r .first ≡ 0) → r .items .ramp < r .first
   pub ordered : ¬ (r .first ≡ 0) → r .first ≤ r .latest
   pub below : ¬ (r .first ≡ 0) → r .latest < r .n
   -- with any crossing: the last one's place below n and not before the set's last, groups from 1 to the set
@@ -198,20 +198,20 @@ five true true true false e z = absurd (omega (arith, z))
 five true true true true false z = absurd (omega (arith, z))
 
 module _ (r : Record) where
-  in-range : itemOutside (r .step) (r .ramp) (r .levels) (r .decorrelation) ≡ 0
-      → (stepInRange (r .step) ≡ true) × (rampInRange (r .ramp) ≡ true) × (levelInRange (r .levels .roll) ≡ true)
-      × (decorrelationInRange (r .decorrelation) ≡ true) × (levelInRange (r .levels .acceleration) ≡ true)
+  in-range : itemOutside (r .items) ≡ 0
+      → (stepInRange (r .items .step) ≡ true) × (rampInRange (r .items .ramp) ≡ true) × (levelInRange (r .items .levels .roll) ≡ true)
+      × (decorrelationInRange (r .items .decorrelation) ≡ true) × (levelInRange (r .items .levels .acceleration) ≡ true)
   unfolding itemOutside
   in-range = five _ _ _ _ _
 
-  none-outside : RecordRelations r → itemOutside (r .step) (r .ramp) (r .levels) (r .decorrelation) ≡ 0
+  none-outside : RecordRelations r → itemOutside (r .items) ≡ 0
   unfolding itemOutside
   none-outside k =
-      let d = within-says 1 10000 (r .step) .1 (k .step) in
-      let m = within-says 0 1000000 (r .ramp) .1 (omega arith, k .ramp) in
-      let a = within-says 1 1000000 (r .levels .roll) .1 (k .roll-level) in
-      let t = within-says 0 10000000 (r .decorrelation) .1 (omega arith, k .decorrelation) in
-      let b = within-says 1 1000000 (r .levels .acceleration) .1 (k .acceleration-level) in
+      let d = within-says 1 10000 (r .items .step) .1 (k .step) in
+      let m = within-says 0 1000000 (r .items .ramp) .1 (omega arith, k .ramp) in
+      let a = within-says 1 1000000 (r .items .levels .roll) .1 (k .roll-level) in
+      let t = within-says 0 10000000 (r .items .decorrelation) .1 (omega arith, k .decorrelation) in
+      let b = within-says 1 1000000 (r .items .levels .acceleration) .1 (k .acceleration-level) in
       rw (d, m, a, t, b)
 
   -- a first failure, or none: what holds in both cases
@@ -236,11 +236,11 @@ module _ (r : Record) where
       let f = failure (k .counts) (k .figures) in
       let c = crossed (k .counts) (k .figures) in
       record {
-        step = within-says 1 10000 (r .step) .0 (i .0);
-        ramp = within-says 0 1000000 (r .ramp) .0 (i .1) .1;
-        roll-level = within-says 1 1000000 (r .levels .roll) .0 (i .2);
-        decorrelation = within-says 0 10000000 (r .decorrelation) .0 (i .3) .1;
-        acceleration-level = within-says 1 1000000 (r .levels .acceleration) .0 (i .4);
+        step = within-says 1 10000 (r .items .step) .0 (i .0);
+        ramp = within-says 0 1000000 (r .items .ramp) .0 (i .1) .1;
+        roll-level = within-says 1 1000000 (r .items .levels .roll) .0 (i .2);
+        decorrelation = within-says 0 10000000 (r .items .decorrelation) .0 (i .3) .1;
+        acceleration-level = within-says 1 1000000 (r .items .levels .acceleration) .0 (i .4);
         last-roll = leb-true _ 1000000 (g .0);
         last-acceleration = leb-true _ 1000000 (g .1);
         fresh = λ z.
@@ -441,7 +441,7 @@ relations-8 =
     record {
       feed = λ r xs ys.
           let f = first-only recorded.Refused (recording.sound r) (fed r xs ys) _ refl
-          (fed-else (not (eqb (length xs) (length ys))) (anyBad xs ys) (ltb (mostSamples (r .step) (r .ramp)) (r .n + length xs))
+          (fed-else (not (eqb (length xs) (length ys))) (anyBad xs ys) (ltb (mostSamples (r .items .step) (r .items .ramp)) (r .n + length xs))
           (leb (firstBad xs) (firstBad ys)) (firstBad xs) (firstBad ys) (foldl stepped r (moments xs ys))) in
           exactly-8 recorded.Refused (recording.sound r) (fed r xs ys) (record-says r) (f .0) (f .1);
       end = λ r.
@@ -464,7 +464,7 @@ relations-8 =
       add = λ s r.
           let b = summing.sound s && recording.sound r in
           let f = first-only summed.Refused b (adding s r) _ (two (summing.sound s) (recording.sound r) _ _)
-          (add-else (recording.tooShort r) (not (eqb (r .step) (s .step))) (summing.wouldPass s (r .groups) (summing.timed r))
+          (add-else (recording.tooShort r) (not (eqb (r .items .step) (s .step))) (summing.wouldPass s (r .groups) (summing.timed r))
           (summing.grown s (r .groups) (summing.timed r))) in
           exactly-8 summed.Refused b (adding s r) (both-say (sum-says s) (record-says r)) (f .0) (f .1);
       bounds = λ s.

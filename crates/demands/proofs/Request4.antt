@@ -14,9 +14,9 @@ use Rattle.truth.proofs.Cases.{by-test}
 use Rattle.truth.proofs.Laws.{and-true}
 use Rattle.refusal.specs.declared.Refusal.the-variants.{BrokenState, TooShort}
 use Rattle.sample_items.specs.Limits.{longestTime}
-use Rattle.sample_channels.specs.declared.Levels.{Levels}
+use Rattle.sample_items.specs.declared.Items.{Items}
 use Rattle.sample_channels.specs.declared.Moment.{Moment}
-use Rattle.crossing_places.specs.Reading.{crossesAt, crossings, firstOf, groups, largestSet, passing}
+use Rattle.crossing_places.specs.Reading.{crossesAt, firstOf, groups, largestSet, passing}
 use Rattle.record_state.specs.Answers.{opened}
 use Rattle.record_state.specs.declared.Answer.the-variants.{Taken}
 use Rattle.record_feed.specs.Pieces.{AllTaken, Piece, joined, samplesOf}
@@ -35,6 +35,7 @@ use Rattle.campaign_state.specs.State.{sound}
 use Rattle.campaign_state.specs.declared.Answer.{Answer}
 use Rattle.campaign_state.specs.declared.Answer.the-variants.{Refused}
 use Rattle.campaign_state.specs.declared.Campaign.{Campaign}
+use Rattle.demands.proofs.Demand2.{crossingsOf}
 
 -- ---- the statement
 -- the old closing: 8 (either state), 4, 5, 6
@@ -52,19 +53,19 @@ onward c (ended.Refused f) = Refused f
 
 -- the result of an ended record is that of its samples xs: the number of crossings, that of the groups, that of the
 -- largest set, and the first crossing with its time, or no place and the full time
-pub record EndsAs (D R : ℕ) (a : Levels) (τ : ℕ) (xs : List Moment) (x : Result) : Type 0 where
-  pub crossed : x .crossings ≡ length (crossings R a xs)
-  pub counted : x .counted ≡ length (groups D R a τ xs)
-  pub largest : x .largest ≡ length (largestSet D R a τ xs)
-  pub failed : (i : ℕ) (later : List ℕ) → crossings R a xs ≡ i ∷ later
-      → (x .first ≡ i) × (R < i) × (x .exposure ≡ (i - R) * D)
-  pub lasted : crossings R a xs ≡ [] → (x .first ≡ 0) × (x .exposure ≡ (length xs - 1 - R) * D)
+pub record EndsAs (items : Items) (xs : List Moment) (x : Result) : Type 0 where
+  pub crossed : x .crossings ≡ length (crossingsOf items xs)
+  pub counted : x .counted ≡ length (groups items xs)
+  pub largest : x .largest ≡ length (largestSet items xs)
+  pub failed : (i : ℕ) (later : List ℕ) → crossingsOf items xs ≡ i ∷ later
+      → (x .first ≡ i) × (items .ramp < i) × (x .exposure ≡ (i - items .ramp) * items .step)
+  pub lasted : crossingsOf items xs ≡ [] → (x .first ≡ 0) × (x .exposure ≡ (length xs - 1 - items .ramp) * items .step)
 
 pub record Request4 : Type 0 where
   -- what the clerk sees of a record that was opened and fed, however it was cut
-  pub of-samples : (D R : ℕ) (a : Levels) (τ : ℕ) (s t : Record) (ps : List Piece) (x : Result)
-      → opened D R a τ ≡ Taken s → AllTaken s ps t → ending t ≡ Given x
-      → EndsAs D R a τ (samplesOf (joined ps)) x
+  pub of-samples : (items : Items) (s t : Record) (ps : List Piece) (x : Result)
+      → opened items ≡ Taken s → AllTaken s ps t → ending t ≡ Given x
+      → EndsAs items (samplesOf (joined ps)) x
   pub in-two : (r : Record) (c : Campaign) → reading.sound r ≡ true → sound c ≡ true → onward c (ending r) ≡ closing r c
   pub unbroken : (r : Record) (x : Result) → ending r ≡ Given x → outcomeKept (outcomeOf x) ≡ true
   pub alike : (c : Campaign) (x y : Result) → x .exposure ≡ y .exposure → eqb (x .first) 0 ≡ eqb (y .first) 0 → entering c (outcomeOf x) ≡ entering c (outcomeOf y)
@@ -89,11 +90,11 @@ passes f k (suc n) i later e =
     (λ t. let same : k ≡ i = ap (firstOf 0) (rw t at e) in rw (← same) t)
     (λ t. passes f (k + 1) n i later (rw t at e))
 
-module _ (D R : ℕ) (a : Levels) (τ : ℕ) (xs : List Moment) where
-  crossed-above : (i : ℕ) (later : List ℕ) → crossings R a xs ≡ i ∷ later → R < i
-  crossed-above i later e = ltb-true R i (and-true (ltb R i) _ (passes (crossesAt R a xs) 0 (length xs) i later e) .0)
+module _ (items : Items) (xs : List Moment) where
+  crossed-above : (i : ℕ) (later : List ℕ) → crossingsOf items xs ≡ i ∷ later → items .ramp < i
+  crossed-above i later e = ltb-true (items .ramp) i (and-true (ltb (items .ramp) i) _ (passes (crossesAt (items .ramp) (items .levels) xs) 0 (length xs) i later e) .0)
 
-  ends-as : EndsAs D R a τ xs (resultOf (stateOf D R a τ xs))
+  ends-as : EndsAs items xs (resultOf (stateOf items xs))
   unfolding stateOf firstOf
   ends-as =
       record {
@@ -107,7 +108,7 @@ module _ (D R : ℕ) (a : Levels) (τ : ℕ) (xs : List Moment) where
 pub request-4 : Request4
 request-4 =
     record {
-      of-samples = λ D R a τ s t ps x o f e. rw (given t x e .is, pieces-whole D R a τ s o f) (ends-as D R a τ (samplesOf (joined ps)));
+      of-samples = λ items s t ps x o f e. rw (given t x e .is, pieces-whole items s o f) (ends-as items (samplesOf (joined ps)));
       in-two = two;
       unbroken = λ r x e. let t = given-bounds r x e in rw (le-leb 1 (x .exposure) (t .0), le-leb (x .exposure) longestTime (t .1));
       alike = λ c x y t f. rw (t, f);

@@ -1,7 +1,7 @@
 -- Document 02, [5]: a record keeps its last crossing's place and its groups, and refusal 8 asks about them what the
 -- request says, in addition to document 01's relations; whatever is handed out keeps them. Demand 2 has what groups
 -- are, that they never exceed the largest set, and how they are listed. Assumes nothing.
-use Prim.Native.Nat.{ℕ, _≤_, _<_}
+use Prim.Native.Nat.{_≤_, _<_}
 use mathlib.Core.Path.{_≡_, refl, _∙_}
 use mathlib.Core.Bool.{Bool, cond, false, not, true, _&&_}
 use mathlib.Core.List.{List}
@@ -13,7 +13,7 @@ use lib.IntN.{ℤ}
 use Rattle.truth.proofs.Laws.{and-true}
 use Rattle.refusal.specs.declared.Refusal.the-variants.{BrokenState}
 use Rattle.record_state.specs.Answers.{opened}
-use Rattle.sample_channels.specs.declared.Levels.{Levels}
+use Rattle.sample_items.specs.declared.Items.{Items}
 use Rattle.record_feed.specs.Answers.{fed}
 use Rattle.record_state.specs.State.{countsKept, failed, failureKept, groupsKept, itemsKept, lastKept, lengthKept, noGroups, noneKept, sound}
 use Rattle.record_state.specs.declared.Answer.the-variants.{Refused, Taken}
@@ -51,7 +51,7 @@ pub record Request5 : Type 0 where
   -- a state without them is refused by 8, whatever piece comes with it
   pub refused : (r : Record) (xs ys : List ℤ) → sound r ≡ false → fed r xs ys ≡ Refused BrokenState
   -- what is handed out keeps them
-  pub fresh : (D R : ℕ) (a : Levels) (τ : ℕ) (s : Record) → opened D R a τ ≡ Taken s → sound s ≡ true
+  pub fresh : (items : Items) (s : Record) → opened items ≡ Taken s → sound s ≡ true
   pub handed : (r : Record) (xs ys : List ℤ) (t : Record) → fed r xs ys ≡ Taken t → sound t ≡ true
 
 -- ---- the proof

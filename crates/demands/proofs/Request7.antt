@@ -16,7 +16,7 @@ use lib.ListN.{length}
 use Rattle.truth.proofs.Laws.{is-true}
 use Rattle.refusal.specs.declared.Refusal.{Refusal}
 use Rattle.refusal.specs.declared.Refusal.the-variants.{BrokenState, Item, SumFull, TooShort}
-use Rattle.sample_channels.specs.declared.Levels.{Levels}
+use Rattle.sample_items.specs.declared.Items.{Items}
 use Rattle.sample_channels.specs.declared.Moment.{Moment}
 use Rattle.sample_items.specs.Limits.{stepInRange}
 use Rattle.crossing_places.specs.Reading.{groups}
@@ -50,7 +50,7 @@ addTests s r =
     not (sound s) gives BrokenState
     ∷ (not (recording.sound r) gives BrokenState
     ∷ (tooShort r gives TooShort
-    ∷ (not (eqb (r .step) (s .step)) gives Item 1
+    ∷ (not (eqb (r .items .step) (s .step)) gives Item 1
     ∷ (wouldPass s (r .groups) (timed r) gives SumFull
     ∷ []))))
 
@@ -72,8 +72,10 @@ pub record Request7 : Type 0 where
   pub in-any-order : (before : List Record) (a b : Record) (behind : List Record) (s t : Sum) → AllAdded s (before ++ (a ∷ (b ∷ behind))) t → AllAdded s (before ++ (b ∷ (a ∷ behind))) t
   -- the pieces rule: what is answered for a record in pieces is answered for the whole one, refusals too; and what that
   -- adds
-  pub pieces : (D R : ℕ) (a : Levels) (τ : ℕ) (s t : Record) (ps : List Piece) (x : Sum) → records.opened D R a τ ≡ read.Taken s → AllTaken s ps t → adding x t ≡ adding x (stateOf D R a τ (samplesOf (joined ps)))
-  pub adds : (D R : ℕ) (a : Levels) (τ : ℕ) (xs : List Moment) (x y : Sum) → adding x (stateOf D R a τ xs) ≡ Taken y → y ≡ grown x (length (groups D R a τ xs)) (length xs - R)
+  pub pieces : (items : Items) (s t : Record) (ps : List Piece) (x : Sum)
+      → records.opened items ≡ read.Taken s → AllTaken s ps t → adding x t ≡ adding x (stateOf items (samplesOf (joined ps)))
+  pub adds : (items : Items) (xs : List Moment) (x y : Sum) → adding x (stateOf items xs) ≡ Taken y
+      → y ≡ grown x (length (groups items xs)) (length xs - items .ramp)
   -- the half-width is the least such number, and the only one; it is 0 without a failure and where every sample failed
   pub least : (N P : ℕ) → HalfWidth N P (halfWidth N P)
   pub only : (N P m n : ℕ) → HalfWidth N P m → HalfWidth N P n → m ≡ n
@@ -101,9 +103,10 @@ swapped : {A : Type 0} (b : Bool) (x y : A) → cond b x y ≡ cond (not b) y x
 swapped true x y = refl
 swapped false x y = refl
 
-joined-adds : (D R : ℕ) (a : Levels) (τ : ℕ) (xs : List Moment) (x y : Sum) → adding x (stateOf D R a τ xs) ≡ Taken y → y ≡ grown x (length (groups D R a τ xs)) (length xs - R)
+joined-adds : (items : Items) (xs : List Moment) (x y : Sum) → adding x (stateOf items xs) ≡ Taken y
+    → y ≡ grown x (length (groups items xs)) (length xs - items .ramp)
 unfolding stateOf
-joined-adds D R a τ xs x y e = answered.added-from x (stateOf D R a τ xs) y e .after
+joined-adds items xs x y e = answered.added-from x (stateOf items xs) y e .after
 
 empty-record : (D : ℕ) (s : Sum) → opened D ≡ Taken s → (recorded s ≡ false) × (boundsOf s .upper ≡ 0)
 empty-record D s e = rw (answered.opened-from D s e .1) (refl, omega (arith, no-failure 0))
@@ -131,7 +134,7 @@ request-7 =
       added-sound = λ s r t e. is-true (sound t) (answered.adding-sound s r t e);
       totals = grown-by-adding;
       in-any-order = λ before a b behind s t. any-order before a b behind;
-      pieces = λ D R a τ s t ps x e f. ap (adding x) (pieces-whole D R a τ s e f);
+      pieces = λ items s t ps x e f. ap (adding x) (pieces-whole items s e f);
       adds = joined-adds;
       least = half-width;
       only = λ N P m n. least-unique;

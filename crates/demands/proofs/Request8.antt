@@ -22,6 +22,7 @@ use Rattle.sample_range.specs.Range.{sampleInRange}
 use Rattle.sample_channels.specs.declared.Levels.{Levels}
 use Rattle.sample_channels.specs.Channels as channels
 use Rattle.sample_channels.specs.Channels.{badSample, moment, moments}
+use Rattle.sample_items.specs.declared.Items.{Items}
 use Rattle.sample_channels.proofs.Moments.{moments-at}
 use Rattle.sample_items.specs.Limits.{decorrelationInRange, itemOutside, levelInRange, rampInRange, stepInRange}
 use Rattle.crossing_places.specs.Reading.{crossesAt, sampleAt}
@@ -50,8 +51,8 @@ zeros xs = map (λ (x : ℤ). pos 0) xs
 
 -- what refusal 8 asks of both channels
 pub record Both (r : Record) : Type 0 where
-  pub roll-level : levelInRange (r .levels .roll) ≡ true
-  pub acceleration-level : levelInRange (r .levels .acceleration) ≡ true
+  pub roll-level : levelInRange (r .items .levels .roll) ≡ true
+  pub acceleration-level : levelInRange (r .items .levels .acceleration) ≡ true
   pub roll : sampleInRange (r .last .roll) ≡ true
   pub acceleration : sampleInRange (r .last .acceleration) ≡ true
   pub fresh : r .n ≡ 0 → (natAbs (r .last .roll) ≡ 0) × (natAbs (r .last .acceleration) ≡ 0)
@@ -130,9 +131,10 @@ quiet-roll a [] k = rw (le-ltb (a .roll) 0 (omega arith))
 quiet-roll a (y ∷ ys) zero = rw (le-ltb (a .roll) 0 (omega arith))
 quiet-roll a (y ∷ ys) (suc k) = quiet-roll a ys k
 
-levels : (D R : ℕ) (a : Levels) (τ : ℕ) → itemOutside D R a τ ≡ 0 → (levelInRange (a .roll) ≡ true) × (levelInRange (a .acceleration) ≡ true)
+levels : (items : Items) → itemOutside items ≡ 0
+    → (levelInRange (items .levels .roll) ≡ true) × (levelInRange (items .levels .acceleration) ≡ true)
 unfolding itemOutside
-levels D R a τ = go (stepInRange D) (rampInRange R) (levelInRange (a .roll)) (decorrelationInRange τ) (levelInRange (a .acceleration))
+levels items = go (stepInRange (items .step)) (rampInRange (items .ramp)) (levelInRange (items .levels .roll)) (decorrelationInRange (items .decorrelation)) (levelInRange (items .levels .acceleration))
   where
     go : (b c d e f : Bool) → _≡_ {A = ℕ} (cond (not b) 1 (cond (not c) 2 (cond (not d) 3 (cond (not e) 4 (cond (not f) 6 0))))) 0 → (d ≡ true) × (f ≡ true)
     go false c d e f z = absurd (omega (arith, z))
@@ -145,7 +147,7 @@ levels D R a τ = go (stepInRange D) (rampInRange R) (levelInRange (a .roll)) (d
 both : (r : Record) → sound r ≡ true → Both r
 both r s =
     let k = kept-from r s in
-    let l = levels (r .step) (r .ramp) (r .levels) (r .decorrelation) (k .outside) in
+    let l = levels (r .items) (k .outside) in
     let g = and-true (sampleInRange (r .last .roll)) (sampleInRange (r .last .acceleration)) (k .range) in
     record {
       roll-level = l .0;

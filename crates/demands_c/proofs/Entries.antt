@@ -25,8 +25,8 @@ use Rattle.refusal.specs.Numbers.{numberOf}
 use Rattle.refusal.specs.declared.Refusal.{Refusal}
 use Rattle.refusal.specs.declared.Refusal.the-variants.{BrokenState, BureauFull, CampaignFull, Item, Line, Room}
 use Rattle.refusal.specs.declared.Refusal.the-variants.{RowsUsedUp, TooLong, TooShort, Unequal}
-use Rattle.sample_channels.specs.declared.Levels.{Levels}
 use Rattle.sample_channels.specs.Channels.{anyBad, badSample, moments}
+use Rattle.sample_items.specs.declared.Items.{Items}
 use Rattle.sample_range.specs.Range.{firstBad}
 use Rattle.sample_items.specs.Limits.{mostSamples, stepInRange}
 use Rattle.crossing_places.specs.Reading.{counted, countedTimes}
@@ -159,7 +159,7 @@ feedTests r xs ys =
     not (sound r) gives BrokenState
     ∷ (not (eqb (length xs) (length ys)) gives Unequal
     ∷ (anyBad xs ys gives badSample (firstBad xs) (firstBad ys)
-    ∷ (ltb (mostSamples (r .step) (r .ramp)) (r .n + length xs) gives TooLong
+    ∷ (ltb (mostSamples (r .items .step) (r .items .ramp)) (r .n + length xs) gives TooLong
     ∷ [])))
 
 -- what a call leaves of a record, of a campaign
@@ -175,12 +175,12 @@ campaignLeft (campaigned.Refused f) c = c
 pub record Records : Type 0 where
   -- chim_record_open: 8 (the array's length), 1
   pub opens :
-      (D R : ℕ) (a : Levels) (τ : ℕ) (s : List ℕ)
-      → Tells (otherLength s recordNumbers (itemTests D R a τ [])) s 0 (ofRecord (stateOf D R a τ []))
-      (array (recordOpened D R a τ s))
+      (items : Items) (s : List ℕ)
+      → Tells (otherLength s recordNumbers (itemTests items [])) s 0 (ofRecord (stateOf items []))
+      (array (recordOpened items s))
   pub open-stands :
-      (D R : ℕ) (a : Levels) (τ : ℕ) (s : List ℕ) → length s ≡ recordNumbers
-      → recordOf (recordOpened D R a τ s .lent) ≡ recordLeft (opened D R a τ) (recordOf s)
+      (items : Items) (s : List ℕ) → length s ≡ recordNumbers
+      → recordOf (recordOpened items s .lent) ≡ recordLeft (opened items) (recordOf s)
   -- chim_record_feed: 8, 12, 2, 3
   pub feed :
       (s : List ℕ) (xs ys : List ℤ)
@@ -200,14 +200,14 @@ pub record Records : Type 0 where
       → resultOf (recordEnded s x .lent) ≡ y
   -- chim_record_list: 1, 12, 2, 3, 4, 7
   pub list :
-      (D R : ℕ) (a : Levels) (τ : ℕ) (xs ys : List ℤ) (s : List ℕ)
-      → Tells (itemTests D R a τ (listTests D R a τ xs ys (length s))) s
-      (length (counted D R a τ (moments xs ys)))
-      (countedTimes D R a τ (moments xs ys) ++ drop (length (counted D R a τ (moments xs ys))) s)
-      (array (recordListed D R a τ xs ys s))
+      (items : Items) (xs ys : List ℤ) (s : List ℕ)
+      → Tells (itemTests items (listTests items xs ys (length s))) s
+      (length (counted items (moments xs ys)))
+      (countedTimes items (moments xs ys) ++ drop (length (counted items (moments xs ys))) s)
+      (array (recordListed items xs ys s))
   pub list-channel :
-      (D R : ℕ) (a : Levels) (τ : ℕ) (xs ys : List ℤ) (s : List ℕ)
-      → Names (itemTests D R a τ (listTests D R a τ xs ys (length s))) (channelListed D R a τ xs ys s)
+      (items : Items) (xs ys : List ℤ) (s : List ℕ)
+      → Names (itemTests items (listTests items xs ys (length s))) (channelListed items xs ys s)
 
 -- ---- a campaign
 -- 8 (the campaign, the result), 5, 6
@@ -603,10 +603,10 @@ unfolding recordKept recordTold resultKept resultTold tell-record tell-result te
 records =
     record {
       opens =
-          λ D R a τ s.
-          in-array s recordNumbers (λ x. recordTold x s) (opened D R a τ)
-          (tells (demand-1 .open-record D R a τ) (tell-record s) s 0 _ _ (on-record s) refl refl);
-      open-stands = λ D R a τ s l. stands-record (opened D R a τ) s (request-5 .fresh D R a τ) (not-other l);
+          λ items s.
+          in-array s recordNumbers (λ x. recordTold x s) (opened items)
+          (tells (demand-1 .open-record items) (tell-record s) s 0 _ _ (on-record s) refl refl);
+      open-stands = λ items s l. stands-record (opened items) s (request-5 .fresh items) (not-other l);
       feed =
           λ s xs ys.
           tells (demand-1 .feed (recordOf s) xs ys) (tell-record s) s 0 _ _ (on-record s) refl
@@ -621,10 +621,10 @@ records =
           (tells (demand-1 .end (recordOf s)) (tell-result x) x 0 _ _ (on-result x) refl refl);
       end-stands = λ s x y l e. rw (ended-array s x y l e) (result-back y);
       list =
-          λ D R a τ xs ys s.
-          tells (demand-1 .list D R a τ xs ys (length s)) (tell-list s (countedTimes D R a τ (moments xs ys))) s _ _ _
-          (on-list s (countedTimes D R a τ (moments xs ys))) refl refl;
-      list-channel = λ D R a τ xs ys s. names (demand-1 .list D R a τ xs ys (length s)) listChannel (λ r. refl) refl;
+          λ items xs ys s.
+          tells (demand-1 .list items xs ys (length s)) (tell-list s (countedTimes items (moments xs ys))) s _ _ _
+          (on-list s (countedTimes items (moments xs ys))) refl refl;
+      list-channel = λ items xs ys s. names (demand-1 .list items xs ys (length s)) listChannel (λ r. refl) refl;
     }
 
 -- an array that holds no result

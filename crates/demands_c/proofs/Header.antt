@@ -56,10 +56,10 @@ use Rattle.demands_c.specs.Header.{CHIM-TAKEN, CHIM-TIME, CHIM-TOO-LONG,
 -- the header's "record, 14 numbers"
 pub record RecordPlaces (r : Record) : Type 0 where
   pub long : length (ofRecord r) ≡ CHIM-RECORD-NUMBERS
-  pub step : numberAt (ofRecord r) 0 ≡ r .step
-  pub ramp : numberAt (ofRecord r) 1 ≡ r .ramp
-  pub roll-level : numberAt (ofRecord r) 2 ≡ r .levels .roll
-  pub decorrelation : numberAt (ofRecord r) 3 ≡ r .decorrelation
+  pub step : numberAt (ofRecord r) 0 ≡ r .items .step
+  pub ramp : numberAt (ofRecord r) 1 ≡ r .items .ramp
+  pub roll-level : numberAt (ofRecord r) 2 ≡ r .items .levels .roll
+  pub decorrelation : numberAt (ofRecord r) 3 ≡ r .items .decorrelation
   pub samples : numberAt (ofRecord r) 4 ≡ r .n
   pub roll : numberAt (ofRecord r) 5 ≡ codeOf (r .last .roll)
   pub crossings : numberAt (ofRecord r) 6 ≡ r .crossings
@@ -68,7 +68,7 @@ pub record RecordPlaces (r : Record) : Type 0 where
   pub last-of-the-set : numberAt (ofRecord r) 9 ≡ r .latest
   pub last : numberAt (ofRecord r) 10 ≡ r .recent
   pub counted : numberAt (ofRecord r) 11 ≡ r .groups
-  pub acceleration-level : numberAt (ofRecord r) 12 ≡ r .levels .acceleration
+  pub acceleration-level : numberAt (ofRecord r) 12 ≡ r .items .levels .acceleration
   pub acceleration : numberAt (ofRecord r) 13 ≡ codeOf (r .last .acceleration)
 
 -- "a result, 5 numbers"

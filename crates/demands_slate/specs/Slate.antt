@@ -13,20 +13,19 @@ use Rattle.campaign_state.specs.declared.Campaign.{Campaign}
 use Rattle.campaign_state.specs.Answers.{entering}
 use Rattle.campaign_verdict.specs.Figures.{verdictOf}
 use Rattle.campaign_verdict.specs.Letters.{letterE, letterOf}
-use Rattle.sample_channels.specs.declared.Levels.{Levels}
 use Rattle.sample_channels.specs.declared.Moment.{Moment}
 use Rattle.sample_channels.specs.Channels.{moments}
+use Rattle.sample_items.specs.declared.Items.{Items}
 use Rattle.crossing_places.specs.Reading.{timeAt, crossings, groups, countedTimes, largestSet, fullTime}
 
 -- a marked case
 pub data Row : Type 0 where
-  -- samples of a one-channel job, read by a step D, a ramp R, a level a and a decorrelation time τ: the times of the
-  -- crossings; the number of groups, the times of their first crossings; the number in the largest set, its times; and
-  -- the full time
-  reading : (D R a τ : ℕ) → List ℤ → List ℕ → ℕ → List ℕ → ℕ → List ℕ → ℕ → Row
-  -- samples of the roll and of the acceleration, read by a step D, a ramp R, the levels a and b and a decorrelation
-  -- time τ: the times of the crossings, and the number of groups
-  watching : (D R a b τ : ℕ) → List ℤ → List ℤ → List ℕ → ℕ → Row
+  -- samples of a one-channel job, read by its items: the times of the crossings; the number of groups, the times of
+  -- their first crossings; the number in the largest set, its times; and the full time
+  reading : Items → List ℤ → List ℕ → ℕ → List ℕ → ℕ → List ℕ → ℕ → Row
+  -- samples of the roll and of the acceleration, read by their items: the times of the crossings, and the number of
+  -- groups
+  watching : Items → List ℤ → List ℤ → List ℕ → ℕ → Row
   -- the upper and the lower row of a count
   bounds : (n upper lower : ℕ) → Row
   -- the verdict of a campaign, by its letter
@@ -52,23 +51,31 @@ zeros xs = map (λ (x : ℤ). pos 0) xs
 abbrev pub alone : List ℤ → List Moment
 alone xs = moments xs (zeros xs)
 
-abbrev pub levels : ℕ → ℕ → Levels
-levels a b = record { roll = a; acceleration = b }
+-- the usual levels of document 000 and a step of 500 ms, with a ramp of R samples and a decorrelation time of τ ms
+abbrev pub usual : ℕ → ℕ → Items
+usual R τ =
+    record { step = 500; ramp = R; levels = record { roll = 40000; acceleration = 9810 }; decorrelation = τ }
 
--- the usual levels of document 000
-abbrev pub usual : ℕ → Levels
-usual a = levels a 9810
+-- the moments of places, by the items
+abbrev pub times : Items → List ℕ → List ℕ
+times items places = map (timeAt (items .step) (items .ramp)) places
+
+-- the places of the crossings
+abbrev pub crossed : Items → List Moment → List ℕ
+crossed items xs = crossings (items .ramp) (items .levels) xs
 
 -- what a row says is so by the definitions
 unfoldable pub right : Row → Bool
-right (reading D R a τ xs crossed count counted largest set full) =
-    same (map (timeAt D R) (crossings R (usual a) (alone xs))) crossed
-    && (eqb (length (groups D R (usual a) τ (alone xs))) count
-    && (same (countedTimes D R (usual a) τ (alone xs)) counted
-    && (eqb (length (largestSet D R (usual a) τ (alone xs))) largest
-    && (same (map (timeAt D R) (largestSet D R (usual a) τ (alone xs))) set && eqb (fullTime D R (length xs)) full))))
-right (watching D R a b τ xs ys crossed count) =
-    same (map (timeAt D R) (crossings R (levels a b) (moments xs ys))) crossed && eqb (length (groups D R (levels a b) τ (moments xs ys))) count
+right (reading items xs crossing count counted largest set full) =
+    same (times items (crossed items (alone xs))) crossing
+    && (eqb (length (groups items (alone xs))) count
+    && (same (countedTimes items (alone xs)) counted
+    && (eqb (length (largestSet items (alone xs))) largest
+    && (same (times items (largestSet items (alone xs))) set
+    && eqb (fullTime (items .step) (items .ramp) (length xs)) full))))
+right (watching items xs ys crossing count) =
+    same (times items (crossed items (moments xs ys))) crossing
+    && eqb (length (groups items (moments xs ys))) count
 right (bounds n upper lower) = eqb (u n) upper && eqb (l n) lower
 right (weighing c letter) = eqb (letterOf letterE (verdictOf c)) letter
 right (weighingLater c t letter) = eqb (letterAfter (entering c (record { failed = false; exposure = t }))) letter
@@ -93,20 +100,20 @@ at M N f T = record { standard = 7200000; records = M; failures = N; exposure = 
 -- document 02's case of [6]
 unfoldable pub slate : List Row
 slate =
-    reading 500 0 40000 2000 bobbing (500 ∷ 1500 ∷ 2500 ∷ []) 1 (500 ∷ []) 2 (500 ∷ 2500 ∷ []) 3000
-    ∷ reading 500 0 40000 2001 bobbing (500 ∷ 1500 ∷ 2500 ∷ []) 1 (500 ∷ []) 1 (500 ∷ []) 3000
-    ∷ reading 500 0 40000 0 bobbing (500 ∷ 1500 ∷ 2500 ∷ []) 3 (500 ∷ 1500 ∷ 2500 ∷ []) 3 (500 ∷ 1500 ∷ 2500 ∷ []) 3000
-    ∷ reading 500 0 40000 2000 (pos 40000 ∷ pos 40000 ∷ []) [] 0 [] 0 [] 500
-    ∷ reading 500 0 40000 2000 (pos 40000 ∷ pos 40001 ∷ []) (500 ∷ []) 1 (500 ∷ []) 1 (500 ∷ []) 500
-    ∷ reading 500 0 40000 2000 (pos 41000 ∷ pos 0 ∷ negsuc 40999 ∷ []) (1000 ∷ []) 1 (1000 ∷ []) 1 (1000 ∷ []) 1000
-    ∷ reading 500 0 40000 2000 (pos 0 ∷ pos 41000 ∷ negsuc 40999 ∷ []) (500 ∷ []) 1 (500 ∷ []) 1 (500 ∷ []) 1000
-    ∷ reading 500 2 40000 2000 (pos 0 ∷ pos 41000 ∷ pos 41000 ∷ pos 0 ∷ pos 41000 ∷ []) (1000 ∷ []) 1 (1000 ∷ []) 1 (1000 ∷ []) 1000
-    ∷ reading 500 0 40000 2000 twice (500 ∷ 1500 ∷ 2500 ∷ 3500 ∷ 6000 ∷ 7000 ∷ 8000 ∷ []) 2 (500 ∷ 6000 ∷ []) 4 (500 ∷ 2500 ∷ 6000 ∷ 8000 ∷ []) 8000
-    ∷ watching 500 0 40000 9810 0 (pos 0 ∷ pos 0 ∷ []) (pos 0 ∷ pos 9811 ∷ []) (500 ∷ []) 1
-    ∷ watching 500 0 40000 9810 0 (pos 0 ∷ pos 40000 ∷ []) (pos 0 ∷ negsuc 9809 ∷ []) [] 0
-    ∷ watching 500 0 40000 9810 0 (pos 41000 ∷ pos 0 ∷ []) (pos 0 ∷ pos 9811 ∷ []) [] 0
-    ∷ watching 500 0 40000 9810 0 (pos 0 ∷ pos 41000 ∷ pos 0 ∷ pos 0 ∷ []) (pos 0 ∷ pos 0 ∷ negsuc 9810 ∷ pos 0 ∷ []) (500 ∷ []) 1
-    ∷ watching 500 0 40000 9810 1500 (pos 0 ∷ pos 41000 ∷ pos 0 ∷ pos 0 ∷ pos 0 ∷ []) (pos 0 ∷ pos 0 ∷ pos 0 ∷ pos 9811 ∷ pos 0 ∷ []) (500 ∷ 1500 ∷ []) 1
+    reading (usual 0 2000) bobbing (500 ∷ 1500 ∷ 2500 ∷ []) 1 (500 ∷ []) 2 (500 ∷ 2500 ∷ []) 3000
+    ∷ reading (usual 0 2001) bobbing (500 ∷ 1500 ∷ 2500 ∷ []) 1 (500 ∷ []) 1 (500 ∷ []) 3000
+    ∷ reading (usual 0 0) bobbing (500 ∷ 1500 ∷ 2500 ∷ []) 3 (500 ∷ 1500 ∷ 2500 ∷ []) 3 (500 ∷ 1500 ∷ 2500 ∷ []) 3000
+    ∷ reading (usual 0 2000) (pos 40000 ∷ pos 40000 ∷ []) [] 0 [] 0 [] 500
+    ∷ reading (usual 0 2000) (pos 40000 ∷ pos 40001 ∷ []) (500 ∷ []) 1 (500 ∷ []) 1 (500 ∷ []) 500
+    ∷ reading (usual 0 2000) (pos 41000 ∷ pos 0 ∷ negsuc 40999 ∷ []) (1000 ∷ []) 1 (1000 ∷ []) 1 (1000 ∷ []) 1000
+    ∷ reading (usual 0 2000) (pos 0 ∷ pos 41000 ∷ negsuc 40999 ∷ []) (500 ∷ []) 1 (500 ∷ []) 1 (500 ∷ []) 1000
+    ∷ reading (usual 2 2000) (pos 0 ∷ pos 41000 ∷ pos 41000 ∷ pos 0 ∷ pos 41000 ∷ []) (1000 ∷ []) 1 (1000 ∷ []) 1 (1000 ∷ []) 1000
+    ∷ reading (usual 0 2000) twice (500 ∷ 1500 ∷ 2500 ∷ 3500 ∷ 6000 ∷ 7000 ∷ 8000 ∷ []) 2 (500 ∷ 6000 ∷ []) 4 (500 ∷ 2500 ∷ 6000 ∷ 8000 ∷ []) 8000
+    ∷ watching (usual 0 0) (pos 0 ∷ pos 0 ∷ []) (pos 0 ∷ pos 9811 ∷ []) (500 ∷ []) 1
+    ∷ watching (usual 0 0) (pos 0 ∷ pos 40000 ∷ []) (pos 0 ∷ negsuc 9809 ∷ []) [] 0
+    ∷ watching (usual 0 0) (pos 41000 ∷ pos 0 ∷ []) (pos 0 ∷ pos 9811 ∷ []) [] 0
+    ∷ watching (usual 0 0) (pos 0 ∷ pos 41000 ∷ pos 0 ∷ pos 0 ∷ []) (pos 0 ∷ pos 0 ∷ negsuc 9810 ∷ pos 0 ∷ []) (500 ∷ []) 1
+    ∷ watching (usual 0 1500) (pos 0 ∷ pos 41000 ∷ pos 0 ∷ pos 0 ∷ pos 0 ∷ []) (pos 0 ∷ pos 0 ∷ pos 0 ∷ pos 9811 ∷ pos 0 ∷ []) (500 ∷ 1500 ∷ []) 1
     ∷ bounds 1 3688880 25317
     ∷ weighing (at 3 0 false 26559936) 67
     ∷ weighing (at 3 0 false 26559937) 65

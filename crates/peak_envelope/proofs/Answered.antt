@@ -25,7 +25,7 @@ use Rattle.peak_groups.specs.Peaks.{sum, kept, close, handed, short}
 use Rattle.peak_envelope.specs.declared.Found.{Found}
 use Rattle.peak_envelope.specs.declared.Found.the-variants.{Peaks, Refused}
 use Rattle.peak_envelope.specs.Step.{chosen}
-use Rattle.peak_envelope.specs.Answers.{sizeOf, momentOf, anyLevels, itemAsked, placed, found, written, HandsOut, FindsTo}
+use Rattle.peak_envelope.specs.Answers.{sizeOf, momentOf, unlevelled, itemAsked, placed, found, written, HandsOut, FindsTo}
 
 -- what a pass hands out with the peaks' own number and sum
 pub chosen-kept : (n s D τ : ℕ) (xs : List ℤ) → n ≡ length (peaks D xs) → s ≡ sum (peaks D xs) → chosen n s D τ xs ≡ tops (close τ) (kept (peaks D xs))
@@ -61,7 +61,7 @@ twice false = refl
 -- ---- the whole call
 module _ (D R τ : ℕ) (xs : List ℤ) (sizes times : List ℕ) where
   -- a refusal of the tests that listing has
-  pub finds-refused : (f : Refusal) → tested D R anyLevels τ xs xs ≡ size.Refused f → FindsTo D R τ xs sizes times (Refused f) sizes times
+  pub finds-refused : (f : Refusal) → tested (unlevelled D R τ) xs xs ≡ size.Refused f → FindsTo D R τ xs sizes times (Refused f) sizes times
   unfolding tested found written
   finds-refused f e = record { answers = go (eqb (itemAsked D R τ) 0) (ltb (firstBad xs) (length xs)) (ltb (mostSamples D R) (length xs)) (tooFew R (length xs)) (rw (eq-eqb (length xs) (length xs) refl, twice (ltb (firstBad xs) (length xs)), le-leb (firstBad xs) (firstBad xs) (omega arith)) at e); sizes-left = refl; times-left = refl }
     where
@@ -74,12 +74,12 @@ module _ (D R τ : ℕ) (xs : List ℤ) (sizes times : List ℕ) where
       go true false false true e = cc
       go true false false false e = let z : _≡_ {A = ℕ} 0 1 = cc in absurd (omega arith)
 
-  module _ (f : Fitting D R anyLevels τ (length xs) (length xs)) where
+  module _ (f : Fitting (unlevelled D R τ) (length xs) (length xs)) where
     pub finds-bad : firstBad xs < length xs → FindsTo D R τ xs sizes times (Refused (Sample (firstBad xs))) sizes times
     unfolding found written
-    finds-bad b = record { answers = rw (eq-eqb _ _ (f .items), lt-ltb _ _ b); sizes-left = refl; times-left = refl }
+    finds-bad b = record { answers = rw (eq-eqb _ _ (f .ranged), lt-ltb _ _ b); sizes-left = refl; times-left = refl }
 
     -- what the timed samples hand out is the record's
     pub finds-good : length xs ≤ firstBad xs → {answer : Found} {sizesAfter timesAfter : List ℕ} → HandsOut (handed D R τ xs) sizes times answer sizesAfter timesAfter → FindsTo D R τ xs sizes times answer sizesAfter timesAfter
     unfolding found
-    finds-good g h = record { answers = rw (eq-eqb _ _ (f .items), le-ltb _ _ g, le-ltb _ _ (f .most), le-ltb _ _ (f .few)) (h .answers); sizes-left = h .sizes-left; times-left = h .times-left }
+    finds-good g h = record { answers = rw (eq-eqb _ _ (f .ranged), le-ltb _ _ g, le-ltb _ _ (f .most), le-ltb _ _ (f .few)) (h .answers); sizes-left = h .sizes-left; times-left = h .times-left }

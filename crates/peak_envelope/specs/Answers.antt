@@ -8,7 +8,7 @@ use lib.ListN.{length, drop}
 use lib.Dec.{ltb, eqb}
 use lib.IntN.{ℤ}
 use Rattle.refusal.specs.declared.Refusal.the-variants.{Item, Sample, TooLong, TooShort, Room}
-use Rattle.sample_channels.specs.declared.Levels.{Levels}
+use Rattle.sample_items.specs.declared.Items.{Items}
 use Rattle.sample_items.specs.Limits.{itemOutside, mostSamples}
 use Rattle.sample_range.specs.Range.{firstBad}
 use Rattle.crossing_places.specs.Reading.{tooFew}
@@ -24,13 +24,13 @@ sizeOf p = p .size
 abbrev pub momentOf : Peak → ℕ
 momentOf p = p .time
 
--- the lowest of the items 1, 2 and 4 outside its range, 0 if there is none: items 3 and 6, the levels, are not asked
--- for, and 1 is a level in range
-abbrev pub anyLevels : Levels
-anyLevels = record { roll = 1; acceleration = 1 }
+-- the items 1, 2 and 4: items 3 and 6, the levels, are not asked for, and 1 is a level in range
+abbrev pub unlevelled : ℕ → ℕ → ℕ → Items
+unlevelled D R τ = record { step = D; ramp = R; levels = record { roll = 1; acceleration = 1 }; decorrelation = τ }
 
+-- the lowest of them outside its range, 0 if there is none
 abbrev pub itemAsked : ℕ → ℕ → ℕ → ℕ
-itemAsked D R τ = itemOutside D R anyLevels τ
+itemAsked D R τ = itemOutside (unlevelled D R τ)
 
 -- k peaks into slices of so many places: 7 if either is too short, with the number needed
 unfoldable pub placed : ℕ → ℕ → ℕ → Found

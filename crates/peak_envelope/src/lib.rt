@@ -20,6 +20,7 @@ use peak_groups::Run;
 use record_whole::Size;
 use refusal::Refusal;
 use sample_channels::Levels;
+use sample_items::Items;
 
 pub enum Found {
     Peaks(u64),
@@ -284,11 +285,16 @@ pub fn find(
     ensures { λ r. ⌜ FindsTo step ramp decorrelation (now (samples .entry)) (now (sizes .entry)) (now (times .entry))
         r (now (sizes .exit)) (now (times .exit)) ⌝ }
 {
-    let levels = Levels {
-        roll: 1,
-        acceleration: 1,
+    let items = Items {
+        step,
+        ramp,
+        levels: Levels {
+            roll: 1,
+            acceleration: 1,
+        },
+        decorrelation,
     };
-    let size = record_whole::judge(step, ramp, levels, decorrelation, samples, samples);
+    let size = record_whole::judge(items, samples, samples);
     if let Size::Refused(f) = size {
         return Found::Refused(f);
     }

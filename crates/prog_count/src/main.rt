@@ -26,6 +26,7 @@ use record_end::Result;
 use record_state::Record;
 use refusal::Refusal;
 use sample_channels::Levels;
+use sample_items::Items;
 
 const END_FILENO: i32 = 3;
 
@@ -169,7 +170,8 @@ fn turn(c: Count, text: &mut [u8], kept: usize) -> After
         return After::Broken;
     }
     let more = io::count(got, &text[kept..end]);
-    work(nearer(c, more as u64), text, kept + more, more > 0)
+    let filled = kept + more;
+    work(nearer(c, more as u64), text, filled, more > 0)
 }
 
 // Writes the first `n` bytes of `out`; answers whether it could.
@@ -288,7 +290,7 @@ fn fresh(r: Record, bytes: u64) -> Count {
     Count {
         record: r,
         follow: Follow {
-            step: r.step,
+            step: r.items.step,
             lines: 0,
             outside: 0,
         },
@@ -400,11 +402,16 @@ fn several(r: Record, start: Sum, words: usize, text: &mut [u8], shown: bool) ->
 
 // A record of the four items; or refusal 1. A file has one channel, so that any level in range will do for the other.
 fn opened() -> record_state::Answer {
-    let levels = Levels {
-        roll: item(3),
-        acceleration: sample_items::HIGHEST_LEVEL,
+    let items = Items {
+        step: item(1),
+        ramp: item(2),
+        levels: Levels {
+            roll: item(3),
+            acceleration: sample_items::HIGHEST_LEVEL,
+        },
+        decorrelation: item(4),
     };
-    record_state::open(item(1), item(2), levels, item(4))
+    record_state::open(items)
 }
 
 fn one(text: &mut [u8], shown: bool) -> u8
@@ -420,7 +427,7 @@ fn one(text: &mut [u8], shown: bool) -> u8
 fn started(r: Record, words: usize, text: &mut [u8], shown: bool) -> u8
     requires { ⌜ 31 ≤ length (now text) ⌝ }
 {
-    match binomial_sum::open(r.step) {
+    match binomial_sum::open(r.items.step) {
         binomial_sum::Answer::Taken(s) => several(r, s, words, text, shown),
         binomial_sum::Answer::Refused(f) => refused_in(0, 0, f),
     }

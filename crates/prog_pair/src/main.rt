@@ -18,6 +18,7 @@ use record_end::Result;
 use record_state::Record;
 use refusal::Refusal;
 use sample_channels::Levels;
+use sample_items::Items;
 
 const END_FILENO: i32 = 3;
 
@@ -163,7 +164,7 @@ fn passed(w: Watch, unequal: bool) -> Watch {
     Watch {
         record: r,
         lines: std::num::wrapping_add_u64(w.lines, 1),
-        time: std::num::wrapping_add_u64(w.time, r.step),
+        time: std::num::wrapping_add_u64(w.time, r.items.step),
         outside: w.outside,
         channel: w.channel,
         long: w.long,
@@ -438,11 +439,16 @@ fn watched(r: Record) -> u8 {
 }
 
 fn run() -> u8 {
-    let levels = Levels {
-        roll: item(3),
-        acceleration: item(5),
+    let items = Items {
+        step: item(1),
+        ramp: item(2),
+        levels: Levels {
+            roll: item(3),
+            acceleration: item(5),
+        },
+        decorrelation: item(4),
     };
-    match record_state::open(item(1), item(2), levels, item(4)) {
+    match record_state::open(items) {
         record_state::Answer::Taken(r) => watched(r),
         record_state::Answer::Refused(f) => refused(0, f),
     }

@@ -17,6 +17,7 @@ use libc::STDOUT_FILENO;
 use peak_envelope::Found;
 use refusal::Refusal;
 use sample_channels::Levels;
+use sample_items::Items;
 
 const END_FILENO: i32 = 3;
 
@@ -42,13 +43,6 @@ const LIVELY: u64 = 1_000_000;
 const HELD: usize = 1_500_000;
 
 const PLACES: usize = 100_000;
-
-// Items 1, 2 and 4.
-struct Items {
-    step: u64,
-    ramp: u64,
-    decorrelation: u64,
-}
 
 // Where the reading of a file stands.
 struct Count {
@@ -306,16 +300,17 @@ fn item(i: usize) -> u64 {
 }
 
 fn run() -> u8 {
+    // the levels are not asked for: 1 is one in range
     let items = Items {
         step: item(1),
         ramp: item(2),
+        levels: Levels {
+            roll: 1,
+            acceleration: 1,
+        },
         decorrelation: item(3),
     };
-    let levels = Levels {
-        roll: 1,
-        acceleration: 1,
-    };
-    let outside = sample_items::item_outside(items.step, items.ramp, levels, items.decorrelation);
+    let outside = sample_items::item_outside(items);
     if outside != 0 {
         return refused(0, Refusal::Item(outside));
     }

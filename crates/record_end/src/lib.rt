@@ -32,13 +32,13 @@ pub enum Ended {
 
 // The time of the first failure, or else the full time.
 fn exposure_of(r: Record) -> u64
-    requires { ⌜ (sound r ≡ true) × (r .ramp + 2 ≤ r .n) ⌝ }
+    requires { ⌜ (sound r ≡ true) × (r .items .ramp + 2 ≤ r .n) ⌝ }
     ensures { λ t. ⌜ t ≡ exposureOf r ⌝ }
 {
     if r.first == 0 {
-        (r.n - 1 - r.ramp) * r.step
+        (r.n - 1 - r.items.ramp) * r.items.step
     } else {
-        (r.first - r.ramp) * r.step
+        (r.first - r.items.ramp) * r.items.step
     }
 }
 
@@ -49,7 +49,7 @@ pub fn end(r: Record) -> Ended
     if !record_state::sound(r) {
         return Ended::Refused(Refusal::BrokenState);
     }
-    if r.n < r.ramp + 2 {
+    if r.n < r.items.ramp + 2 {
         return Ended::Refused(Refusal::TooShort);
     }
     Ended::Given(Result {

@@ -28,11 +28,11 @@ pub run-n : (r : Record) (p : List Moment) → foldl stepped r p .n ≡ r .n + l
 run-n r [] = sym (add-zero (r .n))
 run-n r (x ∷ p) = omega (arith, run-n (stepped r x) p, stepped-n r x)
 
-pub run-most : (r : Record) (p : List Moment) → mostSamples (foldl stepped r p .step) (foldl stepped r p .ramp) ≡ mostSamples (r .step) (r .ramp)
+pub run-most : (r : Record) (p : List Moment) → mostSamples (foldl stepped r p .items .step) (foldl stepped r p .items .ramp) ≡ mostSamples (r .items .step) (r .items .ramp)
 run-most r [] = refl
 run-most r (x ∷ p) = run-most (stepped r x) p ∙ stepped-most r x
 
-pub run-sound : (r : Record) (p : List Moment) → sound r ≡ true → AllInRange p → r .n + length p ≤ mostSamples (r .step) (r .ramp) → sound (foldl stepped r p) ≡ true
+pub run-sound : (r : Record) (p : List Moment) → sound r ≡ true → AllInRange p → r .n + length p ≤ mostSamples (r .items .step) (r .items .ramp) → sound (foldl stepped r p) ≡ true
 unfolding AllInRange
 run-sound r [] s g m = s
 run-sound r (x ∷ p) s g m =
@@ -44,7 +44,7 @@ module _ (r : Record) (xs ys us vs : List ℤ) where
   joins {s} {t} e f =
       let a = taken r xs ys s e in
       let b = taken s us vs t f in
-      let m = ap (λ (u : Record). mostSamples (u .step) (u .ramp)) (sym (a .end)) ∙ run-most r (moments xs ys) in
+      let m = ap (λ (u : Record). mostSamples (u .items .step) (u .items .ramp)) (sym (a .end)) ∙ run-most r (moments xs ys) in
       let n = ap (λ (u : Record). u .n) (sym (a .end)) ∙ run-n r (moments xs ys) in
       let k = moments-length xs ys (a .equal) in
       fed-taken r (xs ++ us) (ys ++ vs) (a .state) (omega (arith, length-append xs us, length-append ys vs, a .equal, b .equal))

@@ -36,11 +36,11 @@ module _ (r : Record) (xs ys : List ℤ) where
       fed-bad h = rw (s, eq-eqb (length xs) (length ys) e, h)
 
       -- without room it is its length, unless a sample is bad
-      pub fed-full : mostSamples (r .step) (r .ramp) < r .n + length xs → fed r xs ys ≡ cond (anyBad xs ys) (Refused (badSample (firstBad xs) (firstBad ys))) (Refused TooLong)
+      pub fed-full : mostSamples (r .items .step) (r .items .ramp) < r .n + length xs → fed r xs ys ≡ cond (anyBad xs ys) (Refused (badSample (firstBad xs) (firstBad ys))) (Refused TooLong)
       unfolding fed
       fed-full l = rw (s, eq-eqb (length xs) (length ys) e, lt-ltb _ _ l)
 
-      pub fed-taken : firstBad xs ≡ length xs → firstBad ys ≡ length ys → r .n + length xs ≤ mostSamples (r .step) (r .ramp) → fed r xs ys ≡ Taken (foldl stepped r (moments xs ys))
+      pub fed-taken : firstBad xs ≡ length xs → firstBad ys ≡ length ys → r .n + length xs ≤ mostSamples (r .items .step) (r .items .ramp) → fed r xs ys ≡ Taken (foldl stepped r (moments xs ys))
       unfolding fed
       fed-taken g h l = rw (s, eq-eqb (length xs) (length ys) e, all-good xs ys g h, le-ltb _ _ l)
 
@@ -50,7 +50,7 @@ pub record Meets (r : Record) (xs ys : List ℤ) (t : Record) : Type 0 where
   pub equal : length xs ≡ length ys
   pub roll : firstBad xs ≡ length xs
   pub acceleration : firstBad ys ≡ length ys
-  pub room : r .n + length xs ≤ mostSamples (r .step) (r .ramp)
+  pub room : r .n + length xs ≤ mostSamples (r .items .step) (r .items .ramp)
   pub end : foldl stepped r (moments xs ys) ≡ t
 
 only-taken : (a d b c : Bool) (f : Refusal) (s t : Record) → cond (not a) (Refused BrokenState) (cond (not d) (Refused Unequal) (cond b (Refused f) (cond c (Refused TooLong) (Taken s)))) ≡ Taken t
@@ -64,14 +64,14 @@ only-taken false d b c f s t e = let z : _≡_ {A = ℕ} 0 1 = cc in absurd (ome
 pub taken : (r : Record) (xs ys : List ℤ) (t : Record) → fed r xs ys ≡ Taken t → Meets r xs ys t
 unfolding fed
 taken r xs ys t e =
-    let o = only-taken (sound r) (eqb (length xs) (length ys)) (anyBad xs ys) (ltb (mostSamples (r .step) (r .ramp)) (r .n + length xs)) (badSample (firstBad xs) (firstBad ys)) (foldl stepped r (moments xs ys)) t e in
+    let o = only-taken (sound r) (eqb (length xs) (length ys)) (anyBad xs ys) (ltb (mostSamples (r .items .step) (r .items .ramp)) (r .n + length xs)) (badSample (firstBad xs) (firstBad ys)) (foldl stepped r (moments xs ys)) t e in
     let g = none-bad xs ys (o .2) in
     record {
       state = o .0;
       equal = eqb-true (length xs) (length ys) (o .1);
       roll = g .0;
       acceleration = g .1;
-      room = ltb-false (mostSamples (r .step) (r .ramp)) (r .n + length xs) (o .3);
+      room = ltb-false (mostSamples (r .items .step) (r .items .ramp)) (r .n + length xs) (o .3);
       end = o .4;
     }
 
@@ -89,4 +89,4 @@ never true false false k p q s e = let z : _≡_ {A = ℕ} 0 1 = cc in omega ari
 pub not-broken : (r : Record) (xs ys : List ℤ) → sound r ≡ true → fed r xs ys ≡ Refused BrokenState → ⊥
 unfolding fed
 not-broken r xs ys s e =
-    never (eqb (length xs) (length ys)) (anyBad xs ys) (ltb (mostSamples (r .step) (r .ramp)) (r .n + length xs)) (leb (firstBad xs) (firstBad ys)) (firstBad xs) (firstBad ys) (foldl stepped r (moments xs ys)) (rw s at e)
+    never (eqb (length xs) (length ys)) (anyBad xs ys) (ltb (mostSamples (r .items .step) (r .items .ramp)) (r .n + length xs)) (leb (firstBad xs) (firstBad ys)) (firstBad xs) (firstBad ys) (foldl stepped r (moments xs ys)) (rw s at e)

@@ -37,10 +37,10 @@ in-samples {D} {τ} {g} s k = go (leb g k) refl
         shorter (no l) = omega arith
 
 -- the items stay
-pub gap-stays : (r : Record) (x : Moment) {g : ℕ} → Gap (r .step) (r .decorrelation) g → Gap (stepped r x .step) (stepped r x .decorrelation) g
+pub gap-stays : (r : Record) (x : Moment) {g : ℕ} → Gap (r .items .step) (r .items .decorrelation) g → Gap (stepped r x .items .step) (stepped r x .items .decorrelation) g
 unfolding stepped
 gap-stays r x {g} s = go (crosses r x)
   where
-    go : (b : Bool) → Gap (cond b (crossed r x) (moved r 1 x) .step) (cond b (crossed r x) (moved r 1 x) .decorrelation) g
+    go : (b : Bool) → Gap (cond b (crossed r x) (moved r 1 x) .items .step) (cond b (crossed r x) (moved r 1 x) .items .decorrelation) g
     go true = s
     go false = s

@@ -27,17 +27,17 @@ and-false true true = refl
 and-false true false = refl
 and-false false b = refl
 
-pub quiet-still : (r : Record) (xs ys : List ℤ) → anyAbove (r .levels) xs ys ≡ false → Still r (moments xs ys)
+pub quiet-still : (r : Record) (xs ys : List ℤ) → anyAbove (r .items .levels) xs ys ≡ false → Still r (moments xs ys)
 unfolding moments
 quiet-still r [] ys h = none
 quiet-still r (x ∷ xs) [] h = none
 quiet-still r (x ∷ xs) (y ∷ ys) h =
-    let w = first-quiet (r .levels) x y xs ys h in
-    more {r = r} {x = moment x y} (rw (w .0) (and-false (ltb (r .ramp) (r .n)) (not (above (r .levels) (r .last))))) (quiet-still (moved r 1 (moment x y)) xs ys (w .1))
+    let w = first-quiet (r .items .levels) x y xs ys h in
+    more {r = r} {x = moment x y} (rw (w .0) (and-false (ltb (r .items .ramp) (r .n)) (not (above (r .items .levels) (r .last))))) (quiet-still (moved r 1 (moment x y)) xs ys (w .1))
 
-pub ramp-still : (r : Record) (xs : List Moment) → r .n + length xs ≤ r .ramp + 1 → Still r xs
+pub ramp-still : (r : Record) (xs : List Moment) → r .n + length xs ≤ r .items .ramp + 1 → Still r xs
 ramp-still r [] h = none
-ramp-still r (x ∷ xs) h = more {r = r} {x = x} (rw (le-ltb (r .ramp) (r .n) (omega arith))) (ramp-still (moved r 1 x) xs (omega arith))
+ramp-still r (x ∷ xs) h = more {r = r} {x = x} (rw (le-ltb (r .items .ramp) (r .n) (omega arith))) (ramp-still (moved r 1 x) xs (omega arith))
 
 stepped-still : (r : Record) (x : Moment) → crosses r x ≡ false → stepped r x ≡ moved r 1 x
 unfolding stepped
@@ -45,10 +45,10 @@ stepped-still r x h = rw h
 
 still : (r : Record) (xs : List Moment) → Still r xs → foldl stepped r xs ≡ moved r (length xs) (lastOf (r .last) xs)
 unfolding lastOf
-still r [] none = ext r (moved r 0 (r .last)) refl refl refl refl (sym (add-zero (r .n))) refl refl refl refl refl refl refl
+still r [] none = ext r (moved r 0 (r .last)) refl (sym (add-zero (r .n))) refl refl refl refl refl refl refl
 still r (x ∷ xs) (more h s) =
     ap (λ (s : Record). foldl stepped s xs) (stepped-still r x h) ∙ still (moved r 1 x) xs s
-    ∙ ext (moved (moved r 1 x) (length xs) (lastOf x xs)) (moved r (suc (length xs)) (lastOf x xs)) refl refl refl refl (omega arith) refl refl refl refl refl refl refl
+    ∙ ext (moved (moved r 1 x) (length xs) (lastOf x xs)) (moved r (suc (length xs)) (lastOf x xs)) refl (omega arith) refl refl refl refl refl refl refl
 
 -- the last sample, by its place
 last-at : (d x : Moment) (xs : List Moment) → lastOf d (x ∷ xs) ≡ sampleAt (x ∷ xs) (length xs)

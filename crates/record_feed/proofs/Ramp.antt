@@ -18,7 +18,7 @@ use Rattle.record_step.specs.Step.{moved, stepped}
 use Rattle.record_feed.proofs.Cutting.{run-sound}
 use Rattle.record_feed.proofs.Quiet.{ramp-still, still-run}
 
-module _ (r : Record) (p : List Moment) (j : ℕ) (some : 1 ≤ j) (within : j ≤ length p) (ramp : r .n + j ≤ r .ramp + 1) where
+module _ (r : Record) (p : List Moment) (j : ℕ) (some : 1 ≤ j) (within : j ≤ length p) (ramp : r .n + j ≤ r .items .ramp + 1) where
   long : length (take j p) ≡ j
   long = length-take-le j p within
 
@@ -37,5 +37,5 @@ module _ (r : Record) (p : List Moment) (j : ℕ) (some : 1 ≤ j) (within : j �
     pub led-good : AllInRange (drop j p)
     led-good = all-right (take j p) (drop j p) cut
 
-    pub led-sound : sound r ≡ true → r .n + length p ≤ mostSamples (r .step) (r .ramp) → sound (moved r j (sampleAt p (j - 1))) ≡ true
+    pub led-sound : sound r ≡ true → r .n + length p ≤ mostSamples (r .items .step) (r .items .ramp) → sound (moved r j (sampleAt p (j - 1))) ≡ true
     led-sound s room = rw led at (run-sound r (take j p) s (all-left (take j p) (drop j p) cut) (omega (arith, long)))

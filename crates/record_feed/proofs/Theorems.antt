@@ -1,6 +1,6 @@
 -- What the entries add up to: the user's second demand for one record. D is the step, R the ramp, a the levels, τ the
 -- decorrelation time. Assumes nothing.
-use Prim.Native.Nat.{ℕ, _≤_, _<_}
+use Prim.Native.Nat.{_≤_, _<_}
 use mathlib.Core.Path.{_≡_, refl, sym, _∙_}
 use mathlib.Core.Bool.{true, false}
 use mathlib.Core.List.{List, [], _∷_, foldl}
@@ -14,8 +14,8 @@ use Rattle.crossing_sets.specs.Groups.{near}
 use Rattle.crossing_sets.specs.Parting.{Parting}
 use Rattle.crossing_sets.proofs.Parting.{groups-part}
 use Rattle.crossing_sets.proofs.Fewer.{fewer, firsts-apart}
-use Rattle.sample_channels.specs.declared.Levels.{Levels}
 use Rattle.sample_channels.specs.declared.Moment.{Moment}
+use Rattle.sample_items.specs.declared.Items.{Items}
 use Rattle.sample_channels.specs.Channels.{moments}
 use Rattle.record_state.specs.declared.Record.{Record}
 use Rattle.record_state.specs.declared.Answer.the-variants.{Taken, Refused}
@@ -66,39 +66,39 @@ every-cutting r (p ∷ ps) t (more i v) e =
     piece (h .0) (every-cutting (foldl stepped r (samplesOf p)) ps t v (h .1))
 
 -- ---- the theorems on a record from its opening
-module _ (D R : ℕ) (a : Levels) (τ : ℕ) (s : Record) (fresh : opened D R a τ ≡ Taken s) where
+module _ (items : Items) (s : Record) (fresh : opened items ≡ Taken s) where
   -- 1: pieces that are all taken end in the state of the joined list, whose figures are document 01's over that list
-  pub pieces-whole : {ps : List Piece} {t : Record} → AllTaken s ps t → t ≡ stateOf D R a τ (samplesOf (joined ps))
+  pub pieces-whole : {ps : List Piece} {t : Record} → AllTaken s ps t → t ≡ stateOf items (samplesOf (joined ps))
   pieces-whole {ps} {t} f =
-      let e = taken s (joined ps .roll) (joined ps .acceleration) t (join-taken (opened-sound D R a τ s fresh) f) .end in
-      sym e ∙ rw (← opened-taken D R a τ s fresh .1) (state D R a τ (samplesOf (joined ps)))
+      let e = taken s (joined ps .roll) (joined ps .acceleration) t (join-taken (opened-sound items s fresh) f) .end in
+      sym e ∙ rw (← opened-taken items s fresh .1) (state items (samplesOf (joined ps)))
 
   -- 2: and none of their states is ever answered by refusal 8
   pub never-broken : {ps : List Piece} {t : Record} → AllTaken s ps t → (xs ys : List ℤ) → fed t xs ys ≡ Refused BrokenState → ⊥
-  never-broken {t = t} f xs ys = not-broken t xs ys (all-sound (opened-sound D R a τ s fresh) f)
+  never-broken {t = t} f xs ys = not-broken t xs ys (all-sound (opened-sound items s fresh) f)
 
 -- 3: the groups are the crossings' runs, and never exceed the largest set; the counted times are pairwise at least τ
 -- apart
-module _ (D R : ℕ) (a : Levels) (τ : ℕ) (xs : List Moment) where
-  pub groups-parted : Parting (near (timeAt D R) τ) (crossings R a xs) (groups D R a τ xs)
-  groups-parted = groups-part (near (timeAt D R) τ) (crossings R a xs)
+module _ (items : Items) (xs : List Moment) where
+  pub groups-parted : Parting (near (timeAt (items .step) (items .ramp)) (items .decorrelation)) (crossings (items .ramp) (items .levels) xs) (groups items xs)
+  groups-parted = groups-part (near (timeAt (items .step) (items .ramp)) (items .decorrelation)) (crossings (items .ramp) (items .levels) xs)
 
-  pub set-largest : LargestSet (timeAt D R) τ (crossings R a xs) (largestSet D R a τ xs)
-  set-largest = walk-largest (timeAt D R) τ (crossings R a xs) (rising-passing D R (crossesAt R a xs) 0 (length xs))
+  pub set-largest : LargestSet (timeAt (items .step) (items .ramp)) (items .decorrelation) (crossings (items .ramp) (items .levels) xs) (largestSet items xs)
+  set-largest = walk-largest (timeAt (items .step) (items .ramp)) (items .decorrelation) (crossings (items .ramp) (items .levels) xs) (rising-passing (items .step) (items .ramp) (crossesAt (items .ramp) (items .levels) xs) 0 (length xs))
 
-  pub groups-fewer : length (groups D R a τ xs) ≤ length (largestSet D R a τ xs)
-  groups-fewer = fewer (timeAt D R) τ (crossings R a xs) (largestSet D R a τ xs) (rising-passing D R (crossesAt R a xs) 0 (length xs)) set-largest
+  pub groups-fewer : length (groups items xs) ≤ length (largestSet items xs)
+  groups-fewer = fewer (timeAt (items .step) (items .ramp)) (items .decorrelation) (crossings (items .ramp) (items .levels) xs) (largestSet items xs) (rising-passing (items .step) (items .ramp) (crossesAt (items .ramp) (items .levels) xs) 0 (length xs)) set-largest
 
-  pub times-apart : Apart itself τ (countedTimes D R a τ xs)
-  times-apart = apart-times (timeAt D R) τ (counted D R a τ xs) (firsts-apart (timeAt D R) τ (crossings R a xs) (rising-passing D R (crossesAt R a xs) 0 (length xs)))
+  pub times-apart : Apart itself (items .decorrelation) (countedTimes items xs)
+  times-apart = apart-times (timeAt (items .step) (items .ramp)) (items .decorrelation) (counted items xs) (firsts-apart (timeAt (items .step) (items .ramp)) (items .decorrelation) (crossings (items .ramp) (items .levels) xs) (rising-passing (items .step) (items .ramp) (crossesAt (items .ramp) (items .levels) xs) 0 (length xs)))
 
 -- 4: the place found by the search over a whole record is its state's first failure, and a mark outside the record if
 -- that has none
-module _ (D R : ℕ) (a : Levels) (τ : ℕ) (xs : List Moment) where
-  pub search-found : failed (stateOf D R a τ xs) ≡ true → (firstCrossing (length xs) R a xs ≡ stateOf D R a τ xs .first) × (stateOf D R a τ xs .first < length xs)
+module _ (items : Items) (xs : List Moment) where
+  pub search-found : failed (stateOf items xs) ≡ true → (firstCrossing (length xs) (items .ramp) (items .levels) xs ≡ stateOf items xs .first) × (stateOf items xs .first < length xs)
   unfolding stateOf
-  search-found = searched R a xs .0
+  search-found = searched (items .ramp) (items .levels) xs .0
 
-  pub search-none : failed (stateOf D R a τ xs) ≡ false → firstCrossing (length xs) R a xs ≡ length xs
+  pub search-none : failed (stateOf items xs) ≡ false → firstCrossing (length xs) (items .ramp) (items .levels) xs ≡ length xs
   unfolding stateOf
-  search-none = searched R a xs .1
+  search-none = searched (items .ramp) (items .levels) xs .1

@@ -22,5 +22,5 @@ fed r xs ys =
     cond (not (sound r)) (Refused BrokenState)
     (cond (not (eqb (length xs) (length ys))) (Refused Unequal)
     (cond (anyBad xs ys) (Refused (badSample (firstBad xs) (firstBad ys)))
-    (cond (ltb (mostSamples (r .step) (r .ramp)) (r .n + length xs)) (Refused TooLong)
+    (cond (ltb (mostSamples (r .items .step) (r .items .ramp)) (r .n + length xs)) (Refused TooLong)
     (Taken (foldl stepped r (moments xs ys))))))

@@ -15,5 +15,5 @@ pub record Fits (r : Record) (xs ys : List ℤ) : Type 0 where
   pub state : sound r ≡ true
   pub equal : length xs ≡ length ys
   pub good : AllInRange (moments xs ys)
-  pub room : r .n + length xs ≤ mostSamples (r .step) (r .ramp)
+  pub room : r .n + length xs ≤ mostSamples (r .items .step) (r .items .ramp)
   pub short : length xs ≤ 64

@@ -24,15 +24,16 @@ use sample_channels::Moment;
 // How many samples after a place the decorrelation time has passed.
 fn gap_of(r: Record) -> u64
     requires { ⌜ sound r ≡ true ⌝ }
-    ensures { λ g. ⌜ Gap (r .step) (r .decorrelation) g ⌝ }
+    ensures { λ g. ⌜ Gap (r .items .step) (r .items .decorrelation) g ⌝ }
 {
-    (r.decorrelation + (r.step - 1)) / r.step
+    (r.items.decorrelation + (r.items.step - 1)) / r.items.step
 }
 
 // Whether a crossing at sample n is the first, or at least the decorrelation time, which is `gap` samples, after the
 // place of an earlier one.
 fn far(r: Record, gap: u64, place: u64) -> bool
-    requires { ⌜ Gap (r .step) (r .decorrelation) gap × (place ≤ r .n) × (¬ (r .crossings ≡ 0) → r .ramp ≤ place) ⌝ }
+    requires { ⌜ Gap (r .items .step) (r .items .decorrelation) gap × (place ≤ r .n)
+        × (¬ (r .crossings ≡ 0) → r .items .ramp ≤ place) ⌝ }
     ensures { λ k. ⌜ k ≡ far r place ⌝ }
 {
     if r.crossings == 0 {
@@ -44,15 +45,12 @@ fn far(r: Record, gap: u64, place: u64) -> bool
 // The state after a crossing at sample n, which is x, that is near the largest set's last, and so near the crossing
 // just before it: it joins the last group.
 fn joining(r: Record, x: Moment) -> Record
-    requires { ⌜ (sound r ≡ true) × (r .ramp < r .n) × (counts r ≡ false) ⌝ }
+    requires { ⌜ (sound r ≡ true) × (r .items .ramp < r .n) × (counts r ≡ false) ⌝ }
     ensures { λ s. ⌜ s ≡ crossed r x ⌝ }
 {
-    let levels = r.levels;
+    let items = r.items;
     Record {
-        step: r.step,
-        ramp: r.ramp,
-        levels,
-        decorrelation: r.decorrelation,
+        items,
         n: r.n + 1,
         last: x,
         crossings: r.crossings + 1,
@@ -67,16 +65,14 @@ fn joining(r: Record, x: Moment) -> Record
 // The state after one that is far from it and joins the largest set; it starts a group if it is far from the crossing
 // just before it.
 fn counted(r: Record, gap: u64, x: Moment) -> Record
-    requires { ⌜ (sound r ≡ true) × (r .ramp < r .n) × (counts r ≡ true) × Gap (r .step) (r .decorrelation) gap ⌝ }
+    requires { ⌜ (sound r ≡ true) × (r .items .ramp < r .n) × (counts r ≡ true)
+        × Gap (r .items .step) (r .items .decorrelation) gap ⌝ }
     ensures { λ s. ⌜ s ≡ crossed r x ⌝ }
 {
-    let levels = r.levels;
+    let items = r.items;
     let g = far(r, gap, r.recent);
     Record {
-        step: r.step,
-        ramp: r.ramp,
-        levels,
-        decorrelation: r.decorrelation,
+        items,
         n: r.n + 1,
         last: x,
         crossings: r.crossings + 1,
@@ -90,7 +86,7 @@ fn counted(r: Record, gap: u64, x: Moment) -> Record
 
 // The state after a crossing at sample n, which is x.
 fn crossed(r: Record, gap: u64, x: Moment) -> Record
-    requires { ⌜ (sound r ≡ true) × (r .ramp < r .n) × Gap (r .step) (r .decorrelation) gap ⌝ }
+    requires { ⌜ (sound r ≡ true) × (r .items .ramp < r .n) × Gap (r .items .step) (r .items .decorrelation) gap ⌝ }
     ensures { λ s. ⌜ s ≡ crossed r x ⌝ }
 {
     if far(r, gap, r.latest) {
@@ -105,12 +101,9 @@ fn moved(r: Record, k: u64, last: Moment) -> Record
     requires { ⌜ r .n + k ≤ 20000000 ⌝ }
     ensures { λ s. ⌜ s ≡ moved r k last ⌝ }
 {
-    let levels = r.levels;
+    let items = r.items;
     Record {
-        step: r.step,
-        ramp: r.ramp,
-        levels,
-        decorrelation: r.decorrelation,
+        items,
         n: r.n + k,
         last,
         crossings: r.crossings,
@@ -126,13 +119,16 @@ fn moved(r: Record, k: u64, last: Moment) -> Record
 fn below(r: Record) -> bool
     ensures { λ k. ⌜ k ≡ below r ⌝ }
 {
-    truth::both(r.ramp < r.n, !sample_channels::above(r.levels, r.last))
+    truth::both(
+        r.items.ramp < r.n,
+        !sample_channels::above(r.items.levels, r.last),
+    )
 }
 
 // The state after sample n, which is x, of which it is known whether it crosses a level.
 fn step(r: Record, gap: u64, crossing: bool, x: Moment) -> Record
-    requires { ⌜ (sound r ≡ true) × (r .n < mostSamples (r .step) (r .ramp)) × (crossing ≡ crosses r x)
-        × Gap (r .step) (r .decorrelation) gap ⌝ }
+    requires { ⌜ (sound r ≡ true) × (r .n < mostSamples (r .items .step) (r .items .ramp)) × (crossing ≡ crosses r x)
+        × Gap (r .items .step) (r .items .decorrelation) gap ⌝ }
     ensures { λ s. ⌜ s ≡ stepped r x ⌝ }
 {
     if crossing {
@@ -144,8 +140,8 @@ fn step(r: Record, gap: u64, crossing: bool, x: Moment) -> Record
 
 // The state after timed samples that are in range and not too many, of which it is known whether they are above.
 fn along(r: Record, ups: &[bool], roll: &[i32], acceleration: &[i32]) -> Record
-    requires { ⌜ Fits r (now roll) (now acceleration) × (r .ramp < r .n)
-        × (now ups ≡ map (above (r .levels)) (moments (now roll) (now acceleration))) ⌝ }
+    requires { ⌜ Fits r (now roll) (now acceleration) × (r .items .ramp < r .n)
+        × (now ups ≡ map (above (r .items .levels)) (moments (now roll) (now acceleration))) ⌝ }
     ensures { λ s. ⌜ s ≡ foldl stepped r (moments (now (roll .entry)) (now (acceleration .entry))) ⌝ }
 {
     let gap = gap_of(r);
@@ -165,12 +161,12 @@ fn along(r: Record, ups: &[bool], roll: &[i32], acceleration: &[i32]) -> Record
 // The state after timed samples that are in range and not too many: all of them are looked at first, several at once,
 // and then stepped one by one.
 fn run(r: Record, roll: &[i32], acceleration: &[i32]) -> Record
-    requires { ⌜ Fits r (now roll) (now acceleration) × (r .ramp < r .n) ⌝ }
+    requires { ⌜ Fits r (now roll) (now acceleration) × (r .items .ramp < r .n) ⌝ }
     ensures { λ s. ⌜ s ≡ foldl stepped r (moments (now (roll .entry)) (now (acceleration .entry))) ⌝ }
 {
     let n = roll.len();
     let mut ups = [false; sample_block::BLOCK];
-    sample_channels::mark(r.levels, roll, acceleration, &mut ups);
+    sample_channels::mark(r.items.levels, roll, acceleration, &mut ups);
     // a slice of just n samples, so that the compiler sees that each place of the roll is one of the acceleration
     along(r, &ups[..n], roll, &acceleration[..n])
 }
@@ -178,12 +174,12 @@ fn run(r: Record, roll: &[i32], acceleration: &[i32]) -> Record
 // How many of k samples no crossing can stand at: those up to the first timed one.
 fn leading(r: Record, k: usize) -> usize
     requires { ⌜ sound r ≡ true ⌝ }
-    ensures { λ j. ⌜ j ≡ min k (r .ramp + 1 - r .n) ⌝ }
+    ensures { λ j. ⌜ j ≡ min k (r .items .ramp + 1 - r .n) ⌝ }
 {
-    if r.ramp < r.n {
+    if r.items.ramp < r.n {
         return 0;
     }
-    let left = r.ramp - r.n + 1;
+    let left = r.items.ramp - r.n + 1;
     if left < k as u64 { left as usize } else { k }
 }
 
@@ -208,8 +204,8 @@ fn step_all(r: Record, roll: &[i32], acceleration: &[i32]) -> Record
 // The same for a block of which it is known whether a sample is above its level. Where none is, no sample of it
 // crosses, and only n and the last sample move.
 fn advance(r: Record, loud: bool, roll: &[i32], acceleration: &[i32]) -> Record
-    requires { ⌜ Fits r (now roll) (now acceleration) × (loud ≡ anyAbove (r .levels) (now roll) (now acceleration))
-        × (0 < length (now roll)) ⌝ }
+    requires { ⌜ Fits r (now roll) (now acceleration)
+        × (loud ≡ anyAbove (r .items .levels) (now roll) (now acceleration)) × (0 < length (now roll)) ⌝ }
     ensures { λ s. ⌜ s ≡ foldl stepped r (moments (now (roll .entry)) (now (acceleration .entry))) ⌝ }
 {
     if loud {
@@ -241,7 +237,7 @@ fn fault(roll: &[i32], acceleration: &[i32]) -> Answer
 // of range, and whether one is above its level: a quiet block is passed over at the speed of `ends_of`.
 fn pass(r: Record, roll: &[i32], acceleration: &[i32]) -> Answer
     requires { ⌜ (sound r ≡ true) × (length (now roll) ≡ length (now acceleration))
-        × (r .n + length (now roll) ≤ mostSamples (r .step) (r .ramp)) ⌝ }
+        × (r .n + length (now roll) ≤ mostSamples (r .items .step) (r .items .ramp)) ⌝ }
     ensures { λ a. ⌜ a ≡ fed r (now (roll .entry)) (now (acceleration .entry)) ⌝ }
 {
     let mut s = r;
@@ -257,7 +253,7 @@ fn pass(r: Record, roll: &[i32], acceleration: &[i32]) -> Answer
         }
         s = advance(
             s,
-            sample_channels::past(s.levels, e, f),
+            sample_channels::past(s.items.levels, e, f),
             rolls,
             accelerations,
         );
@@ -277,7 +273,7 @@ pub fn feed(r: Record, roll: &[i32], acceleration: &[i32]) -> Answer
     if roll.len() != acceleration.len() {
         return Answer::Refused(Refusal::Unequal);
     }
-    let room = sample_items::most_samples(r.step, r.ramp) - r.n;
+    let room = sample_items::most_samples(r.items.step, r.items.ramp) - r.n;
     if roll.len() as u64 <= room {
         return pass(r, roll, acceleration);
     }

@@ -10,12 +10,12 @@ use lib.IntN.{ℤ}
 use borrow.Author.Tests.{eq-eqb, lt-ltb, le-ltb}
 use Rattle.refusal.specs.declared.Refusal.{Refusal}
 use Rattle.refusal.specs.declared.Refusal.the-variants.{Item, TooLong, TooShort, Room, Unequal}
-use Rattle.sample_channels.specs.declared.Levels.{Levels}
 use Rattle.sample_channels.specs.Channels.{moments, anyBad, badSample}
+use Rattle.sample_items.specs.declared.Items.{Items}
 use Rattle.sample_channels.proofs.Moments.{moments-length, moments-drop}
 use Rattle.sample_items.specs.Limits.{itemOutside, mostSamples}
 use Rattle.sample_range.specs.Range.{firstBad}
-use Rattle.crossing_places.specs.Reading.{timeAt, counted, countedTimes, tooFew}
+use Rattle.crossing_places.specs.Reading.{timeAt, counted, countedTimes, tooFew, unramped}
 use Rattle.crossing_places.proofs.Timed.{timed-only}
 use Rattle.record_whole.specs.declared.Size.the-variants as size
 use Rattle.record_whole.specs.Tests.{tested}
@@ -35,21 +35,21 @@ module _ (ts before : List ℕ) where
   writes-times l = record { answers = rw (le-ltb _ _ l); leaves = refl }
 
 -- ---- the whole listing
-module _ (D R : ℕ) (a : Levels) (τ : ℕ) (xs ys : List ℤ) (slice : List ℕ) where
+module _ (items : Items) (xs ys : List ℤ) (slice : List ℕ) where
   -- a refusal of the tests before the count
-  pub lists-refused : (f : Refusal) → tested D R a τ xs ys ≡ size.Refused f → ListsTo D R a τ xs ys slice (Refused f) slice
+  pub lists-refused : (f : Refusal) → tested items xs ys ≡ size.Refused f → ListsTo items xs ys slice (Refused f) slice
   unfolding tested listed written
-  lists-refused f e = record { answers = go (eqb (itemOutside D R a τ) 0) (eqb (length xs) (length ys)) (anyBad xs ys) (ltb (mostSamples D R) (length xs)) (tooFew R (length xs)) e; leaves = refl }
+  lists-refused f e = record { answers = go (eqb (itemOutside items) 0) (eqb (length xs) (length ys)) (anyBad xs ys) (ltb (mostSamples (items .step) (items .ramp)) (length xs)) (tooFew (items .ramp) (length xs)) e; leaves = refl }
     where
       n : ℕ
-      n = length (counted D R a τ (moments xs ys))
+      n = length (counted items (moments xs ys))
 
       g : Refusal
       g = badSample (firstBad xs) (firstBad ys)
 
       go : (i m b l s : Bool)
-          → cond (not i) (size.Refused (Item (itemOutside D R a τ))) (cond (not m) (size.Refused Unequal) (cond b (size.Refused g) (cond l (size.Refused TooLong) (cond s (size.Refused TooShort) size.Fits)))) ≡ size.Refused f
-          → Refused f ≡ cond (not i) (Refused (Item (itemOutside D R a τ))) (cond (not m) (Refused Unequal) (cond b (Refused g) (cond l (Refused TooLong) (cond s (Refused TooShort) (cond (ltb (length slice) n) (Refused (Room n)) (Times n))))))
+          → cond (not i) (size.Refused (Item (itemOutside items))) (cond (not m) (size.Refused Unequal) (cond b (size.Refused g) (cond l (size.Refused TooLong) (cond s (size.Refused TooShort) size.Fits)))) ≡ size.Refused f
+          → Refused f ≡ cond (not i) (Refused (Item (itemOutside items))) (cond (not m) (Refused Unequal) (cond b (Refused g) (cond l (Refused TooLong) (cond s (Refused TooShort) (cond (ltb (length slice) n) (Refused (Room n)) (Times n))))))
       go false m b l s e = cc
       go true false b l s e = cc
       go true true true l s e = cc
@@ -58,13 +58,13 @@ module _ (D R : ℕ) (a : Levels) (τ : ℕ) (xs ys : List ℤ) (slice : List �
       go true true false false false e = let z : _≡_ {A = ℕ} 0 1 = cc in absurd (omega arith)
 
   -- the number of times that is answered
-  pub times-number : {k : ℕ} → Times k ≡ listed D R a τ xs ys (length slice) → k ≡ length (counted D R a τ (moments xs ys))
+  pub times-number : {k : ℕ} → Times k ≡ listed items xs ys (length slice) → k ≡ length (counted items (moments xs ys))
   unfolding listed
   times-number {k} e =
-      go (eqb (itemOutside D R a τ) 0) (eqb (length xs) (length ys)) (anyBad xs ys) (ltb (mostSamples D R) (length xs)) (tooFew R (length xs)) (ltb (length slice) (length (counted D R a τ (moments xs ys)))) (badSample (firstBad xs) (firstBad ys)) (length (counted D R a τ (moments xs ys))) e
+      go (eqb (itemOutside items) 0) (eqb (length xs) (length ys)) (anyBad xs ys) (ltb (mostSamples (items .step) (items .ramp)) (length xs)) (tooFew (items .ramp) (length xs)) (ltb (length slice) (length (counted items (moments xs ys)))) (badSample (firstBad xs) (firstBad ys)) (length (counted items (moments xs ys))) e
     where
       go : (i m b l s r : Bool) (g : Refusal) (n : ℕ)
-          → Times k ≡ cond (not i) (Refused (Item (itemOutside D R a τ))) (cond (not m) (Refused Unequal) (cond b (Refused g) (cond l (Refused TooLong) (cond s (Refused TooShort) (cond r (Refused (Room n)) (Times n))))))
+          → Times k ≡ cond (not i) (Refused (Item (itemOutside items))) (cond (not m) (Refused Unequal) (cond b (Refused g) (cond l (Refused TooLong) (cond s (Refused TooShort) (cond r (Refused (Room n)) (Times n))))))
           → k ≡ n
       go false m b l s r g n e = let z : _≡_ {A = ℕ} 0 1 = cc in absurd (omega arith)
       go true false b l s r g n e = let z : _≡_ {A = ℕ} 0 1 = cc in absurd (omega arith)
@@ -74,17 +74,17 @@ module _ (D R : ℕ) (a : Levels) (τ : ℕ) (xs ys : List ℤ) (slice : List �
       go true true false false false true g n e = let z : _≡_ {A = ℕ} 0 1 = cc in absurd (omega arith)
       go true true false false false false g n e = cc
 
-  module _ (f : Fitting D R a τ (length xs) (length ys)) where
-    pub lists-bad : anyBad xs ys ≡ true → ListsTo D R a τ xs ys slice (Refused (badSample (firstBad xs) (firstBad ys))) slice
+  module _ (f : Fitting items (length xs) (length ys)) where
+    pub lists-bad : anyBad xs ys ≡ true → ListsTo items xs ys slice (Refused (badSample (firstBad xs) (firstBad ys))) slice
     unfolding listed written
-    lists-bad b = record { answers = rw (eq-eqb _ _ (f .items), eq-eqb (length xs) (length ys) (f .equal), b); leaves = refl }
+    lists-bad b = record { answers = rw (eq-eqb _ _ (f .ranged), eq-eqb (length xs) (length ys) (f .equal), b); leaves = refl }
 
     -- the times of the timed samples are the record's
-    pub lists-good : anyBad xs ys ≡ false → {answer : Listed} {after : List ℕ} → WritesTo (countedTimes D 0 a τ (moments (drop R xs) (drop R ys))) slice answer after → ListsTo D R a τ xs ys slice answer after
+    pub lists-good : anyBad xs ys ≡ false → {answer : Listed} {after : List ℕ} → WritesTo (countedTimes (unramped (items .step) (items .levels) (items .decorrelation)) (moments (drop (items .ramp) xs) (drop (items .ramp) ys))) slice answer after → ListsTo items xs ys slice answer after
     unfolding listed
     lists-good g {answer} {after} w =
         let p = moments xs ys in
-        let t = timed-only D R a τ p (omega (arith, f .few, moments-length xs ys (f .equal))) in
-        let n : length (countedTimes D R a τ p) ≡ length (counted D R a τ p) = length-map (counted D R a τ p) (timeAt D R) in
-        let v : WritesTo (countedTimes D R a τ p) slice answer after = rw t (rw (moments-drop R xs ys) at w) in
-        record { answers = rw (eq-eqb _ _ (f .items), eq-eqb (length xs) (length ys) (f .equal), g, le-ltb _ _ (f .most), le-ltb _ _ (f .few)) (rw n at (v .answers)); leaves = v .leaves }
+        let t = timed-only items p (omega (arith, f .few, moments-length xs ys (f .equal))) in
+        let n : length (countedTimes items p) ≡ length (counted items p) = length-map (counted items p) (timeAt (items .step) (items .ramp)) in
+        let v : WritesTo (countedTimes items p) slice answer after = rw t (rw (moments-drop (items .ramp) xs ys) at w) in
+        record { answers = rw (eq-eqb _ _ (f .ranged), eq-eqb (length xs) (length ys) (f .equal), g, le-ltb _ _ (f .most), le-ltb _ _ (f .few)) (rw n at (v .answers)); leaves = v .leaves }

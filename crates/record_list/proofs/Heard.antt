@@ -10,7 +10,7 @@ use lib.Seq.{take-at}
 use Rattle.truth.proofs.Laws.{true≢false}
 use Rattle.sample_channels.specs.declared.Levels.{Levels}
 use Rattle.sample_channels.specs.Channels.{moments, anyBad}
-use Rattle.crossing_places.specs.Reading.{countedTimes}
+use Rattle.crossing_places.specs.Reading.{countedTimes, unramped}
 use Rattle.record_list.proofs.Walked.{walked-count, walked-times}
 use Rattle.record_list.specs.declared.Found.{Found}
 use Rattle.record_list.specs.declared.Found.the-variants.{Count, Bad}
@@ -21,7 +21,7 @@ use Rattle.record_list.proofs.Answered.{writes-times}
 
 module _ (D : ℕ) (a : Levels) (τ : ℕ) (xs ys : List ℤ) where
   abbrev times : List ℕ
-  times = countedTimes D 0 a τ (moments xs ys)
+  times = countedTimes (unramped D a τ) (moments xs ys)
 
   -- with room for them, a pass over good samples writes the times
   pub writes-passed : (before after : List ℕ) (r : Found) → anyBad xs ys ≡ false → length times ≤ length before → Passes D a τ xs ys before r after → WritesTo times before (Times (length times)) after

@@ -15,7 +15,7 @@ use borrow.Author.Tests.{lt-ltb}
 use Rattle.sample_channels.specs.declared.Levels.{Levels}
 use Rattle.sample_channels.specs.declared.Moment.{Moment}
 use Rattle.sample_channels.specs.Channels.{still, above}
-use Rattle.crossing_places.specs.Reading.{timeAt, rises, crossings, countedTimes}
+use Rattle.crossing_places.specs.Reading.{timeAt, rises, crossings, countedTimes, unramped}
 use Rattle.crossing_places.proofs.Scan.{placesFrom, places-whole}
 use Rattle.crossing_places.proofs.Timed.{from, counted-from}
 use Rattle.record_list.specs.declared.Walk.{Walk}
@@ -68,6 +68,6 @@ module _ (D : ℕ) (a : Levels) (τ : ℕ) where
       rw k (placed s w ts ps j (w .below && above a x) d (turn w ts x s (map (timeAt D 0) ps) (w .below && above a x) refl i))
 
   -- the samples noted from the start on
-  pub heard : (xs : List Moment) (ts : List ℕ) → Adds (foldl (noted D a τ) (noting start ts) xs) start ts (countedTimes D 0 a τ xs)
+  pub heard : (xs : List Moment) (ts : List ℕ) → Adds (foldl (noted D a τ) (noting start ts) xs) start ts (countedTimes (unramped D a τ) xs)
   heard xs ts =
       rw (counted-from (timeAt D 0) τ (crossings 0 a xs), ← places-whole 0 a xs) (walks 0 still start ts xs (omega arith) refl)

@@ -7,7 +7,7 @@ use Rattle.record_list.specs.Walk.{starts}
 use Prim.Native.Nat.{ℕ}
 use mathlib.Core.List.{List}
 use lib.IntN.{ℤ}
-use Rattle.sample_channels.specs.declared.Levels.{Levels}
+use Rattle.sample_items.specs.declared.Items.{Items}
 use Rattle.sample_channels.specs.Channels.{moments}
 use Rattle.crossing_places.specs.Reading.{countedTimes}
 use Rattle.record_list.specs.declared.Listed.{Listed}
@@ -16,7 +16,7 @@ use Rattle.record_list.specs.Answers.{written, ListsTo}
 pub starts-unique : (w : Walk) (x y : Bool) → x ≡ starts w → y ≡ starts w → x ≡ y
 starts-unique w x y p q = p ∙ sym q
 
-pub list-unique : (D R : ℕ) (a : Levels) (τ : ℕ) (xs ys : List ℤ) (slice : List ℕ) (x y : Listed) (s t : List ℕ) → ListsTo D R a τ xs ys slice x s → ListsTo D R a τ xs ys slice y t → (x ≡ y) × (s ≡ t)
-list-unique D R a τ xs ys slice x y s t p q =
+pub list-unique : (items : Items) (xs ys : List ℤ) (slice : List ℕ) (x y : Listed) (s t : List ℕ) → ListsTo items xs ys slice x s → ListsTo items xs ys slice y t → (x ≡ y) × (s ≡ t)
+list-unique items xs ys slice x y s t p q =
     let e = p .answers ∙ sym (q .answers) in
-    (e, p .leaves ∙ ap (λ (l : Listed). written l (countedTimes D R a τ (moments xs ys)) slice) e ∙ sym (q .leaves))
+    (e, p .leaves ∙ ap (λ (l : Listed). written l (countedTimes items (moments xs ys)) slice) e ∙ sym (q .leaves))

@@ -11,7 +11,7 @@ use lib.Seq.{sets, sets-eq}
 use Rattle.sample_channels.specs.declared.Levels.{Levels}
 use Rattle.sample_channels.specs.declared.Moment.{Moment}
 use Rattle.sample_channels.specs.Channels.{above}
-use Rattle.crossing_places.specs.Reading.{countedTimes}
+use Rattle.crossing_places.specs.Reading.{countedTimes, unramped}
 use Rattle.record_list.specs.Walk.{start, starts, stepped, Noting, noting, noted}
 use Rattle.record_list.proofs.Noting.{heard}
 
@@ -20,12 +20,12 @@ sets-front : (ts before : List ℕ) → length ts ≤ length before → sets bef
 sets-front ts before l = sets-eq ts before 0 (omega arith) ∙ rw zero-add
 
 module _ (D : ℕ) (a : Levels) (τ : ℕ) (xs : List Moment) (ts : List ℕ) where
-  pub walked-count : foldl (noted D a τ) (noting start ts) xs .walk .count ≡ length (countedTimes D 0 a τ xs)
+  pub walked-count : foldl (noted D a τ) (noting start ts) xs .walk .count ≡ length (countedTimes (unramped D a τ) xs)
   walked-count = heard D a τ xs ts .counted ∙ zero-add _
 
   -- into a slice with room for them
-  pub walked-times : length (countedTimes D 0 a τ xs) ≤ length ts → foldl (noted D a τ) (noting start ts) xs .times ≡ countedTimes D 0 a τ xs ++ drop (length (countedTimes D 0 a τ xs)) ts
-  walked-times l = heard D a τ xs ts .slice ∙ sets-front (countedTimes D 0 a τ xs) ts l
+  pub walked-times : length (countedTimes (unramped D a τ) xs) ≤ length ts → foldl (noted D a τ) (noting start ts) xs .times ≡ countedTimes (unramped D a τ) xs ++ drop (length (countedTimes (unramped D a τ) xs)) ts
+  walked-times l = heard D a τ xs ts .slice ∙ sets-front (countedTimes (unramped D a τ) xs) ts l
 
 -- at most half of the samples are counted: just before each stands one at most the level
 half-step : (b up d : Bool) (c n : ℕ) → 2 * c + cond b 1 0 ≤ n → 2 * cond ((b && up) && d) (c + 1) c + cond (not up) 1 0 ≤ suc n
@@ -43,5 +43,5 @@ module _ (D : ℕ) (a : Levels) (τ : ℕ) where
       let i = half-walked (noted D a τ s x) xs (suc n) (half-step (s .walk .below) (above a x) (starts (s .walk)) (s .walk .count) n l) in
       omega (arith, i)
 
-  pub half-counted : (xs : List Moment) → 2 * length (countedTimes D 0 a τ xs) ≤ length xs
+  pub half-counted : (xs : List Moment) → 2 * length (countedTimes (unramped D a τ) xs) ≤ length xs
   half-counted xs = omega (arith, half-walked (noting start []) xs 0 (omega arith), walked-count D a τ xs [])

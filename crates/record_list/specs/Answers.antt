@@ -9,10 +9,11 @@ use lib.Dec.{ltb, eqb}
 use lib.IntN.{ℤ}
 use Rattle.refusal.specs.declared.Refusal.the-variants.{Item, TooLong, TooShort, Room, Unequal}
 use Rattle.sample_channels.specs.declared.Levels.{Levels}
+use Rattle.sample_items.specs.declared.Items.{Items}
 use Rattle.sample_channels.specs.Channels.{moments, anyBad, badSample}
 use Rattle.sample_items.specs.Limits.{itemOutside, mostSamples}
 use Rattle.sample_range.specs.Range.{firstBad}
-use Rattle.crossing_places.specs.Reading.{counted, countedTimes, tooFew}
+use Rattle.crossing_places.specs.Reading.{counted, countedTimes, tooFew, unramped}
 use Rattle.record_list.specs.declared.Listed.{Listed}
 use Rattle.record_list.specs.declared.Listed.the-variants.{Times, Refused}
 use Rattle.record_list.specs.declared.Settled.{Settled}
@@ -20,15 +21,15 @@ use Rattle.record_list.specs.declared.Settled.the-variants.{Done, Spoilt
 
 -- Listing takes a whole record at once, xs of the roll and ys of the acceleration, 1, 12, 2, 3, 4, 7: the number of
 -- counted times, into a slice of so many places
-unfoldable pub listed : ℕ → ℕ → Levels → ℕ → List ℤ → List ℤ → ℕ → Listed
-listed D R a τ xs ys places =
-    cond (not (eqb (itemOutside D R a τ) 0)) (Refused (Item (itemOutside D R a τ)))
+unfoldable pub listed : Items → List ℤ → List ℤ → ℕ → Listed
+listed items xs ys places =
+    cond (not (eqb (itemOutside items) 0)) (Refused (Item (itemOutside items)))
     (cond (not (eqb (length xs) (length ys))) (Refused Unequal)
     (cond (anyBad xs ys) (Refused (badSample (firstBad xs) (firstBad ys)))
-    (cond (ltb (mostSamples D R) (length xs)) (Refused TooLong)
-    (cond (tooFew R (length xs)) (Refused TooShort)
-    (cond (ltb places (length (counted D R a τ (moments xs ys)))) (Refused (Room (length (counted D R a τ (moments xs ys)))))
-    (Times (length (counted D R a τ (moments xs ys)))))))))
+    (cond (ltb (mostSamples (items .step) (items .ramp)) (length xs)) (Refused TooLong)
+    (cond (tooFew (items .ramp) (length xs)) (Refused TooShort)
+    (cond (ltb places (length (counted items (moments xs ys)))) (Refused (Room (length (counted items (moments xs ys)))))
+    (Times (length (counted items (moments xs ys)))))))))
 
 -- the slice afterwards: the times in order from its start and the rest as it stood; on a refusal all as it stood
 unfoldable pub written : Listed → List ℕ → List ℕ → List ℕ
@@ -42,10 +43,11 @@ pub record WritesTo (times before : List ℕ) (answer : Listed) (after : List �
 
 -- timed samples, listed; or one is bad, and the slice is as it was
 abbrev pub SettlesTo : ℕ → Levels → ℕ → List ℤ → List ℤ → List ℕ → Settled → List ℕ → Type 0
-SettlesTo D a τ xs ys before (Done l) after = (anyBad xs ys ≡ false) × WritesTo (countedTimes D 0 a τ (moments xs ys)) before l after
+SettlesTo D a τ xs ys before (Done l) after =
+    (anyBad xs ys ≡ false) × WritesTo (countedTimes (unramped D a τ) (moments xs ys)) before l after
 SettlesTo D a τ xs ys before Spoilt after = (anyBad xs ys ≡ true) × (after ≡ before)
 
 -- what listing leaves: its answer, and the slice's whole later contents
-pub record ListsTo (D R : ℕ) (a : Levels) (τ : ℕ) (xs ys : List ℤ) (before : List ℕ) (answer : Listed) (after : List ℕ) : Type 0 where
-  pub answers : answer ≡ listed D R a τ xs ys (length before)
-  pub leaves : after ≡ written answer (countedTimes D R a τ (moments xs ys)) before
+pub record ListsTo (items : Items) (xs ys : List ℤ) (before : List ℕ) (answer : Listed) (after : List ℕ) : Type 0 where
+  pub answers : answer ≡ listed items xs ys (length before)
+  pub leaves : after ≡ written answer (countedTimes items (moments xs ys)) before

@@ -12,7 +12,7 @@ ghost use Prim.Native.Nat.{_+_, _*_, _≤_, _<_};
 ghost use lib.ListN.{length, set, take};
 ghost use lib.Seq.{paste};
 ghost use Rattle.sample_channels.specs.Channels.{moments, anyAbove, anyBad, badSample};
-ghost use Rattle.crossing_places.specs.Reading.{countedTimes};
+ghost use Rattle.crossing_places.specs.Reading.{countedTimes, unramped};
 ghost use Rattle.sample_range.specs.Range.{firstBad};
 ghost use Rattle.record_list.specs.declared.Listed.the-variants.{Refused};
 ghost use Rattle.record_list.specs.Pass.{Passes, Heard};
@@ -21,6 +21,7 @@ use record_whole::Size;
 use refusal::Refusal;
 use sample_channels::Levels;
 use sample_channels::Look;
+use sample_items::Items;
 
 // The walk before a timed sample: its time, whether a timed sample that is above in neither channel stands before it,
 // how many groups were counted, and from what time on a crossing starts a group.
@@ -266,11 +267,11 @@ fn write(
 ) -> Listed
     requires { ⌜ Ready step decorrelation start (length (now roll)) × (length (now roll) ≡ length (now acceleration))
         × (anyBad (now roll) (now acceleration) ≡ false)
-        × (count ≡ length (countedTimes step 0 levels decorrelation (moments (now roll) (now acceleration))))
+        × (count ≡ length (countedTimes (unramped step levels decorrelation) (moments (now roll) (now acceleration))))
         × (count ≤ length (now kept) → take count (now kept)
-        ≡ countedTimes step 0 levels decorrelation (moments (now roll) (now acceleration))) ⌝ }
+        ≡ countedTimes (unramped step levels decorrelation) (moments (now roll) (now acceleration))) ⌝ }
     ensures { λ r. ⌜ WritesTo
-        (countedTimes step 0 levels decorrelation (moments (now (roll .entry)) (now (acceleration .entry))))
+        (countedTimes (unramped step levels decorrelation) (moments (now (roll .entry)) (now (acceleration .entry))))
         (now (times .entry)) r (now (times .exit)) ⌝ }
 {
     if (times.len() as u64) < count {
@@ -452,31 +453,23 @@ fn fault(roll: &[i32], acceleration: &[i32]) -> Listed
 
 // A whole record at once: the counted times, in order, from the start of `times`, whose rest stays, and their number;
 // or refusal 1, 12, 2, 3, 4 or 7 with the places needed, and `times` as it stood.
-pub fn list(
-    step: u64,
-    ramp: u64,
-    levels: Levels,
-    decorrelation: u64,
-    roll: &[i32],
-    acceleration: &[i32],
-    times: &mut [u32],
-) -> Listed
-    ensures { λ r. ⌜ ListsTo step ramp levels decorrelation (now (roll .entry)) (now (acceleration .entry))
+pub fn list(items: Items, roll: &[i32], acceleration: &[i32], times: &mut [u32]) -> Listed
+    ensures { λ r. ⌜ ListsTo items (now (roll .entry)) (now (acceleration .entry))
         (now (times .entry)) r (now (times .exit)) ⌝ }
 {
-    let size = record_whole::judge(step, ramp, levels, decorrelation, roll, acceleration);
+    let size = record_whole::judge(items, roll, acceleration);
     if let Size::Refused(f) = size {
         return Listed::Refused(f);
     }
-    let from = ramp as usize;
+    let from = items.ramp as usize;
     let look = sample_channels::look_over(&roll[..from], &acceleration[..from]);
     if let Look::Bad(_) = look {
         return fault(roll, acceleration);
     }
     let settled = list_timed(
-        step,
-        levels,
-        decorrelation,
+        items.step,
+        items.levels,
+        items.decorrelation,
         &roll[from..],
         &acceleration[from..],
         times,

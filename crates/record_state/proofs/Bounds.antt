@@ -6,18 +6,18 @@ use mathlib.Core.Logic.{_⊎_, inl, inr}
 use native.Mathlib.Omega.{arith}
 use Rattle.record_state.specs.declared.Record.{Record}
 use Rattle.sample_items.specs.Limits.{mostSamples, mostInRange}
-use Rattle.sample_items.proofs.Items.{Items, items, most-in-range, most-small}
+use Rattle.sample_items.proofs.Ranges.{WithinRanges, within-ranges, most-in-range, most-small}
 use Rattle.record_state.proofs.Relations.{None, Failure, Kept}
 
-pub items-of : {r : Record} → Kept r → Items (r .step) (r .ramp) (r .levels) (r .decorrelation)
-items-of {r} k = items (r .step) (r .ramp) (r .levels) (r .decorrelation) (k .outside)
+pub items-of : {r : Record} → Kept r → WithinRanges (r .items)
+items-of {r} k = within-ranges (r .items) (k .outside)
 
 -- the longest record, in samples
-pub small : {r : Record} → Kept r → mostSamples (r .step) (r .ramp) ≤ 11000001
+pub small : {r : Record} → Kept r → mostSamples (r .items .step) (r .items .ramp) ≤ 11000001
 small k = most-small (items-of k)
 
-pub most-of : {r : Record} → Kept r → mostInRange (r .step) (r .ramp) ≡ mostSamples (r .step) (r .ramp)
-most-of {r} k = most-in-range (r .step) (r .ramp) (r .levels) (r .decorrelation) (k .outside)
+pub most-of : {r : Record} → Kept r → mostInRange (r .items .step) (r .items .ramp) ≡ mostSamples (r .items .step) (r .items .ramp)
+most-of {r} k = most-in-range (r .items) (k .outside)
 
 -- a state with a crossing has a first failure
 pub failure : {r : Record} → Kept r → (r .crossings ≡ 0 → ⊥) → Failure r
@@ -53,7 +53,7 @@ groups-within {r} k = go (k .figures)
 -- the place of an earlier crossing is between the ramp and n
 pub record Earlier (r : Record) (p : ℕ) : Type 0 where
   pub within : p ≤ r .n
-  pub timed : ¬ (r .crossings ≡ 0) → r .ramp ≤ p
+  pub timed : ¬ (r .crossings ≡ 0) → r .items .ramp ≤ p
 
 pub latest-earlier : {r : Record} → Kept r → Earlier r (r .latest)
 latest-earlier {r} k = record { within = go (k .figures); timed = λ h. let f = failure k h in omega (arith, f .above, f .ordered) }

@@ -10,7 +10,7 @@ use borrow.Author.Tests.{eqb-true}
 use Rattle.refusal.specs.declared.Refusal.the-variants.{Item}
 use Rattle.crossing_sets.specs.Walk.{walk}
 use Rattle.crossing_sets.specs.Groups.{groups}
-use Rattle.sample_channels.specs.declared.Levels.{Levels}
+use Rattle.sample_items.specs.declared.Items.{Items}
 use Rattle.record_state.specs.declared.Record.{Record}
 use Rattle.record_state.specs.declared.Answer.the-variants.{Taken, Refused}
 use Rattle.sample_items.specs.Limits.{itemOutside}
@@ -23,16 +23,16 @@ only-taken : (b : Bool) (i : ℕ) (r s : Record) → cond b (Taken r) (Refused (
 only-taken true i r s e = (refl, cc)
 only-taken false i r s e = let z : _≡_ {A = ℕ} 0 1 = cc in absurd (omega arith)
 
-pub opened-taken : (D R : ℕ) (a : Levels) (τ : ℕ) (s : Record) → opened D R a τ ≡ Taken s → (itemOutside D R a τ ≡ 0) × (stateOf D R a τ [] ≡ s)
+pub opened-taken : (items : Items) (s : Record) → opened items ≡ Taken s → (itemOutside items ≡ 0) × (stateOf items [] ≡ s)
 unfolding opened
-opened-taken D R a τ s e =
-    let o = only-taken (eqb (itemOutside D R a τ) 0) (itemOutside D R a τ) (stateOf D R a τ []) s e in
+opened-taken items s e =
+    let o = only-taken (eqb (itemOutside items) 0) (itemOutside items) (stateOf items []) s e in
     (eqb-true _ 0 (o .0), o .1)
 
-fresh-sound : (D R : ℕ) (a : Levels) (τ : ℕ) → itemOutside D R a τ ≡ 0 → sound (stateOf D R a τ []) ≡ true
+fresh-sound : (items : Items) → itemOutside items ≡ 0 → sound (stateOf items []) ≡ true
 unfolding stateOf passing firstOf lastOf walk groups
-fresh-sound D R a τ e =
-    kept-sound (stateOf D R a τ [])
+fresh-sound items e =
+    kept-sound (stateOf items [])
     (record {
       outside = e;
       range = refl;
@@ -42,5 +42,5 @@ fresh-sound D R a τ e =
       figures = inl (record { first = refl; crossings = refl; largest = refl; latest = refl; recent = refl; groups = refl });
     })
 
-pub opened-sound : (D R : ℕ) (a : Levels) (τ : ℕ) (s : Record) → opened D R a τ ≡ Taken s → sound s ≡ true
-opened-sound D R a τ s e = let o = opened-taken D R a τ s e in rw (← o .1) (fresh-sound D R a τ (o .0))
+pub opened-sound : (items : Items) (s : Record) → opened items ≡ Taken s → sound s ≡ true
+opened-sound items s e = let o = opened-taken items s e in rw (← o .1) (fresh-sound items (o .0))

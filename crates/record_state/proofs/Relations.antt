@@ -22,8 +22,8 @@ pub record None (r : Record) : Type 0 where
 
 pub record Failure (r : Record) : Type 0 where
   pub largest : 1 ≤ r .largest
-  pub crossings : r .crossings ≤ r .n - 1 - r .ramp
-  pub above : r .ramp < r .first
+  pub crossings : r .crossings ≤ r .n - 1 - r .items .ramp
+  pub above : r .items .ramp < r .first
   pub ordered : r .first ≤ r .latest
   pub below : r .latest < r .n
   pub recent : r .latest ≤ r .recent
@@ -33,10 +33,10 @@ pub record Failure (r : Record) : Type 0 where
 
 -- the relations, as facts
 pub record Kept (r : Record) : Type 0 where
-  pub outside : itemOutside (r .step) (r .ramp) (r .levels) (r .decorrelation) ≡ 0
+  pub outside : itemOutside (r .items) ≡ 0
   pub range : inRange (r .last) ≡ true
   pub fresh : r .n ≡ 0 → isStill (r .last) ≡ true
-  pub length : r .n ≤ mostSamples (r .step) (r .ramp)
+  pub length : r .n ≤ mostSamples (r .items .step) (r .items .ramp)
   pub counts : r .largest ≤ r .crossings
   pub figures : None r ⊎ Failure r
 
@@ -66,8 +66,8 @@ module _ (r : Record) where
   failure-from e f =
       let p = ltb (r .latest) (r .n) in
       let q = leb (r .first) (r .latest) in
-      let s = ltb (r .ramp) (r .first) in
-      let t = leb (r .crossings) (r .n - 1 - r .ramp) in
+      let s = ltb (r .items .ramp) (r .first) in
+      let t = leb (r .crossings) (r .n - 1 - r .items .ramp) in
       let e₁ = and-true (leb 1 (r .largest)) (t && (s && (q && p))) e in
       let e₂ = and-true t (s && (q && p)) (e₁ .1) in
       let e₃ = and-true s (q && p) (e₂ .1) in
@@ -79,8 +79,8 @@ module _ (r : Record) where
       let f₃ = and-true (leb 1 (r .groups)) v (f₂ .1) in
       record {
         largest = leb-true 1 (r .largest) (e₁ .0);
-        crossings = leb-true (r .crossings) (r .n - 1 - r .ramp) (e₂ .0);
-        above = ltb-true (r .ramp) (r .first) (e₃ .0);
+        crossings = leb-true (r .crossings) (r .n - 1 - r .items .ramp) (e₂ .0);
+        above = ltb-true (r .items .ramp) (r .first) (e₃ .0);
         ordered = leb-true (r .first) (r .latest) (e₄ .0);
         below = ltb-true (r .latest) (r .n) (e₄ .1);
         recent = leb-true (r .latest) (r .recent) (f₁ .0);
@@ -120,8 +120,8 @@ module _ (r : Record) where
       rw (ne-eqb (r .first) 0 (λ z. omega (arith, f .above)))
       (both-true
       (both-true (le-leb 1 (r .largest) (f .largest))
-      (both-true (le-leb (r .crossings) (r .n - 1 - r .ramp) (f .crossings))
-      (both-true (lt-ltb (r .ramp) (r .first) (f .above)) (both-true (le-leb (r .first) (r .latest) (f .ordered)) (lt-ltb (r .latest) (r .n) (f .below))))))
+      (both-true (le-leb (r .crossings) (r .n - 1 - r .items .ramp) (f .crossings))
+      (both-true (lt-ltb (r .items .ramp) (r .first) (f .above)) (both-true (le-leb (r .first) (r .latest) (f .ordered)) (lt-ltb (r .latest) (r .n) (f .below))))))
       (both-true (le-leb (r .latest) (r .recent) (f .recent))
       (both-true (lt-ltb (r .recent) (r .n) (f .recent-below))
       (both-true (le-leb 1 (r .groups) (f .groups)) (le-leb (r .groups) (r .largest) (f .within))))))
@@ -131,4 +131,4 @@ module _ (r : Record) where
   kept-sound k =
       both-true (eq-eqb _ 0 (k .outside))
       (both-true (both-true (k .range) (imply (r .n) (isStill (r .last)) (eqb (r .n) 0) refl (k .fresh)))
-      (both-true (le-leb (r .n) (mostSamples (r .step) (r .ramp)) (k .length)) (both-true (le-leb (r .largest) (r .crossings) (k .counts)) (figures-kept (k .figures)))))
+      (both-true (le-leb (r .n) (mostSamples (r .items .step) (r .items .ramp)) (k .length)) (both-true (le-leb (r .largest) (r .crossings) (k .counts)) (figures-kept (k .figures)))))

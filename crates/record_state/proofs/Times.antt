@@ -12,7 +12,7 @@ use Rattle.record_state.specs.declared.Record.{Record}
 use Rattle.sample_items.specs.Limits.{longestTime}
 use Rattle.record_state.specs.State.{sound, failed, firstTime, wholeTime, tooShort}
 use Rattle.truth.proofs.Laws.{true≢false}
-use Rattle.sample_items.proofs.Items.{in-time}
+use Rattle.sample_items.proofs.Ranges.{in-time}
 use Rattle.record_state.proofs.Relations.{None, Failure, kept-from}
 use Rattle.record_state.proofs.Bounds.{items-of}
 
@@ -23,7 +23,7 @@ module _ (r : Record) (s : sound r ≡ true) where
   pub whole-time : tooShort r ≡ false → (1 ≤ wholeTime r) × (wholeTime r ≤ longestTime)
   whole-time e =
       let k = kept-from r s in
-      spanned (r .n - 1 - r .ramp) (r .step) (omega (arith, ltb-false (r .n) (r .ramp + 2) e)) (items-of k .step-low) (omega (arith, k .length))
+      spanned (r .n - 1 - r .items .ramp) (r .items .step) (omega (arith, ltb-false (r .n) (r .items .ramp + 2) e)) (items-of k .step-low) (omega (arith, k .length))
 
   pub failed-failure : failed r ≡ true → Failure r
   failed-failure e = go (kept-from r s .figures)
@@ -36,4 +36,4 @@ module _ (r : Record) (s : sound r ≡ true) where
   first-time e =
       let k = kept-from r s in
       let f = failed-failure e in
-      spanned (r .first - r .ramp) (r .step) (omega (arith, f .above)) (items-of k .step-low) (omega (arith, k .length, f .ordered, f .below))
+      spanned (r .first - r .items .ramp) (r .items .step) (omega (arith, f .above)) (items-of k .step-low) (omega (arith, k .length, f .ordered, f .below))

@@ -6,29 +6,26 @@ use mathlib.Core.List.{List}
 use lib.ListN.{length}
 use lib.Dec.{ltb, leb, eqb}
 use lib.IntN.{natAbs}
-use Rattle.sample_channels.specs.declared.Levels.{Levels}
 use Rattle.sample_channels.specs.declared.Moment.{Moment}
+use Rattle.sample_items.specs.declared.Items.{Items}
 use Rattle.sample_channels.specs.Channels.{still, inRange}
 use Rattle.sample_items.specs.Limits.{itemOutside, mostSamples}
 use Rattle.crossing_places.specs.Reading.{timeAt, crossings, lastOf, firstCrossing, groups, largestSet, fullTime, tooFew}
 use Rattle.record_state.specs.declared.Record.{Record}
 
 -- the state of the samples xs: "Reading a record", figure by figure
-unfoldable pub stateOf : ℕ → ℕ → Levels → ℕ → List Moment → Record
-stateOf D R a τ xs =
+unfoldable pub stateOf : Items → List Moment → Record
+stateOf items xs =
     record {
-      step = D;
-      ramp = R;
-      levels = a;
-      decorrelation = τ;
+      items = items;
       n = length xs;
       last = lastOf still xs;
-      crossings = length (crossings R a xs);
-      largest = length (largestSet D R a τ xs);
-      first = firstCrossing 0 R a xs;
-      latest = lastOf 0 (largestSet D R a τ xs);
-      recent = lastOf 0 (crossings R a xs);
-      groups = length (groups D R a τ xs);
+      crossings = length (crossings (items .ramp) (items .levels) xs);
+      largest = length (largestSet items xs);
+      first = firstCrossing 0 (items .ramp) (items .levels) xs;
+      latest = lastOf 0 (largestSet items xs);
+      recent = lastOf 0 (crossings (items .ramp) (items .levels) xs);
+      groups = length (groups items xs);
     }
 
 -- ---- the relations
@@ -38,7 +35,7 @@ failed r = not (eqb (r .first) 0)
 
 -- items in range
 abbrev pub itemsKept : Record → Bool
-itemsKept r = eqb (itemOutside (r .step) (r .ramp) (r .levels) (r .decorrelation)) 0
+itemsKept r = eqb (itemOutside (r .items)) 0
 
 -- a sample is 0 in both channels
 abbrev pub isStill : Moment → Bool
@@ -50,7 +47,7 @@ lastKept r = inRange (r .last) && (not (eqb (r .n) 0) || isStill (r .last))
 
 -- no more samples than refusal 3 lets through
 abbrev pub lengthKept : Record → Bool
-lengthKept r = leb (r .n) (mostSamples (r .step) (r .ramp))
+lengthKept r = leb (r .n) (mostSamples (r .items .step) (r .items .ramp))
 
 -- no more in the largest set than crossings
 abbrev pub countsKept : Record → Bool
@@ -68,7 +65,9 @@ noGroups r = eqb (r .recent) 0 && eqb (r .groups) 0
 -- is below n
 abbrev pub failureKept : Record → Bool
 failureKept r =
-    leb 1 (r .largest) && (leb (r .crossings) (r .n - 1 - r .ramp) && (ltb (r .ramp) (r .first) && (leb (r .first) (r .latest) && ltb (r .latest) (r .n))))
+    leb 1 (r .largest)
+    && (leb (r .crossings) (r .n - 1 - r .items .ramp)
+    && (ltb (r .items .ramp) (r .first) && (leb (r .first) (r .latest) && ltb (r .latest) (r .n))))
 
 -- the last crossing's place is not before the largest set's last and below n; groups from 1 to the largest set
 abbrev pub groupsKept : Record → Bool
@@ -85,10 +84,10 @@ sound r =
 
 -- ---- what closing a record reads off its state
 abbrev pub firstTime : Record → ℕ
-firstTime r = timeAt (r .step) (r .ramp) (r .first)
+firstTime r = timeAt (r .items .step) (r .items .ramp) (r .first)
 
 abbrev pub wholeTime : Record → ℕ
-wholeTime r = fullTime (r .step) (r .ramp) (r .n)
+wholeTime r = fullTime (r .items .step) (r .items .ramp) (r .n)
 
 abbrev pub tooShort : Record → Bool
-tooShort r = tooFew (r .ramp) (r .n)
+tooShort r = tooFew (r .items .ramp) (r .n)

@@ -9,17 +9,14 @@ ghost use Rattle.record_state.specs.State.{stateOf, isStill, lastKept, n
 ghost use Rattle.record_state.specs.State.{groupsKept, figuresKept, sound};
 ghost use Rattle.record_state.specs.Answers.{opened};
 use refusal::Refusal;
-use sample_channels::Levels;
 use sample_channels::Moment;
+use sample_items::Items;
 
 // The items, how many samples came and the last of both channels, and the figures so far: the crossings, the largest
 // set of them, the groups. `first`, `latest` and `recent` are places of samples, those of the first crossing, of the
 // largest set's last and of the last crossing; places without a meaning yet hold 0.
 pub struct Record {
-    pub step: u64,
-    pub ramp: u64,
-    pub levels: Levels,
-    pub decorrelation: u64,
+    pub items: Items,
     pub n: u64,
     pub last: Moment,
     pub crossings: u64,
@@ -36,14 +33,11 @@ pub enum Answer {
 }
 
 // The state of no samples.
-fn fresh(step: u64, ramp: u64, levels: Levels, decorrelation: u64) -> Record
-    ensures { λ r. ⌜ r ≡ stateOf step ramp levels decorrelation [] ⌝ }
+fn fresh(items: Items) -> Record
+    ensures { λ r. ⌜ r ≡ stateOf items [] ⌝ }
 {
     Record {
-        step,
-        ramp,
-        levels,
-        decorrelation,
+        items,
         n: 0,
         last: Moment {
             roll: 0,
@@ -59,12 +53,12 @@ fn fresh(step: u64, ramp: u64, levels: Levels, decorrelation: u64) -> Record
 }
 
 // The fresh record, or refusal 1 with the lowest item outside its range.
-pub fn open(step: u64, ramp: u64, levels: Levels, decorrelation: u64) -> Answer
-    ensures { λ r. ⌜ r ≡ opened step ramp levels decorrelation ⌝ }
+pub fn open(items: Items) -> Answer
+    ensures { λ r. ⌜ r ≡ opened items ⌝ }
 {
-    let item = sample_items::item_outside(step, ramp, levels, decorrelation);
+    let item = sample_items::item_outside(items);
     if item == 0 {
-        Answer::Taken(fresh(step, ramp, levels, decorrelation))
+        Answer::Taken(fresh(items))
     } else {
         Answer::Refused(Refusal::Item(item))
     }
@@ -112,9 +106,9 @@ fn failure_kept(r: Record) -> bool
     truth::both(
         1 <= r.largest,
         truth::both(
-            r.crossings <= spans(r.ramp, r.n),
+            r.crossings <= spans(r.items.ramp, r.n),
             truth::both(
-                r.ramp < r.first,
+                r.items.ramp < r.first,
                 truth::both(r.first <= r.latest, r.latest < r.n),
             ),
         ),
@@ -159,13 +153,13 @@ fn figures_kept(r: Record) -> bool
 pub fn sound(r: Record) -> bool
     ensures { λ k. ⌜ k ≡ sound r ⌝ }
 {
-    if sample_items::item_outside(r.step, r.ramp, r.levels, r.decorrelation) != 0 {
+    if sample_items::item_outside(r.items) != 0 {
         return false;
     }
     truth::both(
         last_kept(r),
         truth::both(
-            r.n <= sample_items::most_samples(r.step, r.ramp),
+            r.n <= sample_items::most_samples(r.items.step, r.items.ramp),
             truth::both(r.largest <= r.crossings, figures_kept(r)),
         ),
     )

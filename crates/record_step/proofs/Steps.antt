@@ -20,11 +20,11 @@ use Rattle.record_state.proofs.Relations.{None, Failure, Kept, kept-from, kept-
 use Rattle.record_state.proofs.Bounds.{failure, recent-after, groups-within}
 
 -- states are equal figure by figure
-pub ext : (s t : Record) → s .step ≡ t .step → s .ramp ≡ t .ramp → s .levels ≡ t .levels → s .decorrelation ≡ t .decorrelation → s .n ≡ t .n → s .last ≡ t .last → s .crossings ≡ t .crossings → s .largest ≡ t .largest → s .first ≡ t .first → s .latest ≡ t .latest → s .recent ≡ t .recent → s .groups ≡ t .groups → s ≡ t
-ext s t a b c d e f g h j k l m =
-    λ i. record { step = a i; ramp = b i; levels = c i; decorrelation = d i; n = e i; last = f i; crossings = g i; largest = h i; first = j i; latest = k i; recent = l i; groups = m i }
+pub ext : (s t : Record) → s .items ≡ t .items → s .n ≡ t .n → s .last ≡ t .last → s .crossings ≡ t .crossings → s .largest ≡ t .largest → s .first ≡ t .first → s .latest ≡ t .latest → s .recent ≡ t .recent → s .groups ≡ t .groups → s ≡ t
+ext s t a e f g h j k l m =
+    λ i. record { items = a i; n = e i; last = f i; crossings = g i; largest = h i; first = j i; latest = k i; recent = l i; groups = m i }
 
-pub moved-kept : (r : Record) (k : ℕ) (x : Moment) → Kept r → inRange x ≡ true → 1 ≤ k → r .n + k ≤ mostSamples (r .step) (r .ramp) → Kept (moved r k x)
+pub moved-kept : (r : Record) (k : ℕ) (x : Moment) → Kept r → inRange x ≡ true → 1 ≤ k → r .n + k ≤ mostSamples (r .items .step) (r .items .ramp) → Kept (moved r k x)
 moved-kept r k x s i h l =
     record {
       outside = s .outside;
@@ -56,10 +56,7 @@ moved-kept r k x s i h l =
 abbrev pub marked : Record → Moment → Bool → Bool → Bool → Record
 marked r x first counts starts =
     record {
-      step = r .step;
-      ramp = r .ramp;
-      levels = r .levels;
-      decorrelation = r .decorrelation;
+      items = r .items;
       n = r .n + 1;
       last = x;
       crossings = r .crossings + 1;
@@ -70,17 +67,17 @@ marked r x first counts starts =
       groups = cond starts (r .groups + 1) (r .groups);
     }
 
-module _ (r : Record) (x : Moment) (s : Kept r) (h : r .ramp < r .n) where
+module _ (r : Record) (x : Moment) (s : Kept r) (h : r .items .ramp < r .n) where
   -- a crossing far from the last one is far from the largest set's last, which is not after it
-  wider : since (timeAt (r .step) (r .ramp)) (r .decorrelation) (r .recent) (r .n) ≡ true → since (timeAt (r .step) (r .ramp)) (r .decorrelation) (r .latest) (r .n) ≡ true
+  wider : since (timeAt (r .items .step) (r .items .ramp)) (r .items .decorrelation) (r .recent) (r .n) ≡ true → since (timeAt (r .items .step) (r .items .ramp)) (r .items .decorrelation) (r .latest) (r .n) ≡ true
   wider e =
-      let t = mul-le-mul-right {m = r .latest - r .ramp} {n = r .recent - r .ramp} (r .step) (omega (arith, recent-after s)) in
-      le-leb (timeAt (r .step) (r .ramp) (r .latest) + r .decorrelation) (timeAt (r .step) (r .ramp) (r .n)) (omega (arith, t, leb-true (timeAt (r .step) (r .ramp) (r .recent) + r .decorrelation) (timeAt (r .step) (r .ramp) (r .n)) e))
+      let t = mul-le-mul-right {m = r .latest - r .items .ramp} {n = r .recent - r .items .ramp} (r .items .step) (omega (arith, recent-after s)) in
+      le-leb (timeAt (r .items .step) (r .items .ramp) (r .latest) + r .items .decorrelation) (timeAt (r .items .step) (r .items .ramp) (r .n)) (omega (arith, t, leb-true (timeAt (r .items .step) (r .items .ramp) (r .recent) + r .items .decorrelation) (timeAt (r .items .step) (r .items .ramp) (r .n)) e))
 
   -- so one near the largest set's last is near the last one, and not the first
   pub near-both : counts r ≡ false
-      → (eqb (r .crossings) 0 ≡ false) × (since (timeAt (r .step) (r .ramp)) (r .decorrelation) (r .latest) (r .n) ≡ false) × (since (timeAt (r .step) (r .ramp)) (r .decorrelation) (r .recent) (r .n) ≡ false)
-  near-both e = go (eqb (r .crossings) 0) (since (timeAt (r .step) (r .ramp)) (r .decorrelation) (r .latest) (r .n)) (since (timeAt (r .step) (r .ramp)) (r .decorrelation) (r .recent) (r .n)) e wider
+      → (eqb (r .crossings) 0 ≡ false) × (since (timeAt (r .items .step) (r .items .ramp)) (r .items .decorrelation) (r .latest) (r .n) ≡ false) × (since (timeAt (r .items .step) (r .items .ramp)) (r .items .decorrelation) (r .recent) (r .n) ≡ false)
+  near-both e = go (eqb (r .crossings) 0) (since (timeAt (r .items .step) (r .items .ramp)) (r .items .decorrelation) (r .latest) (r .n)) (since (timeAt (r .items .step) (r .items .ramp)) (r .items .decorrelation) (r .recent) (r .n)) e wider
     where
       go : (z b g : Bool) → (z || b) ≡ false → (g ≡ true → b ≡ true) → (z ≡ false) × (b ≡ false) × (g ≡ false)
       go true b g e i = absurd (true≢false e)
@@ -142,7 +139,7 @@ module _ (r : Record) (x : Moment) (s : Kept r) (h : r .ramp < r .n) where
   counts-more true = omega (arith, s .counts)
   counts-more false = omega (arith, s .counts)
 
-  pub crossed-kept : inRange x ≡ true → r .n < mostSamples (r .step) (r .ramp) → Kept (crossed r x)
+  pub crossed-kept : inRange x ≡ true → r .n < mostSamples (r .items .step) (r .items .ramp) → Kept (crossed r x)
   crossed-kept i l =
       record {
         outside = s .outside;
@@ -154,17 +151,17 @@ module _ (r : Record) (x : Moment) (s : Kept r) (h : r .ramp < r .n) where
             inr
             (marked-figures
             (eqb (r .crossings) 0)
-            (since (timeAt (r .step) (r .ramp)) (r .decorrelation) (r .latest) (r .n))
-            (since (timeAt (r .step) (r .ramp)) (r .decorrelation) (r .recent) (r .n))
+            (since (timeAt (r .items .step) (r .items .ramp)) (r .items .decorrelation) (r .latest) (r .n))
+            (since (timeAt (r .items .step) (r .items .ramp)) (r .items .decorrelation) (r .recent) (r .n))
             refl
             wider);
       }
 
 -- a crossing is after the ramp
-pub crosses-after : (r : Record) (x : Moment) → crosses r x ≡ true → r .ramp < r .n
-crosses-after r x e = ltb-true (r .ramp) (r .n) (and-true (ltb (r .ramp) (r .n)) (rises (r .levels) (r .last) x) e .0)
+pub crosses-after : (r : Record) (x : Moment) → crosses r x ≡ true → r .items .ramp < r .n
+crosses-after r x e = ltb-true (r .items .ramp) (r .n) (and-true (ltb (r .items .ramp) (r .n)) (rises (r .items .levels) (r .last) x) e .0)
 
-pub stepped-sound : (r : Record) (x : Moment) → sound r ≡ true → inRange x ≡ true → r .n < mostSamples (r .step) (r .ramp) → sound (stepped r x) ≡ true
+pub stepped-sound : (r : Record) (x : Moment) → sound r ≡ true → inRange x ≡ true → r .n < mostSamples (r .items .step) (r .items .ramp) → sound (stepped r x) ≡ true
 unfolding stepped
 stepped-sound r x e i l = kept-sound (stepped r x) (go (crosses r x) refl)
   where
@@ -184,36 +181,36 @@ stepped-n r x = go (crosses r x)
     go false = refl
 
 -- the items, and so the bound on n, stay
-pub stepped-most : (r : Record) (x : Moment) → mostSamples (stepped r x .step) (stepped r x .ramp) ≡ mostSamples (r .step) (r .ramp)
+pub stepped-most : (r : Record) (x : Moment) → mostSamples (stepped r x .items .step) (stepped r x .items .ramp) ≡ mostSamples (r .items .step) (r .items .ramp)
 unfolding stepped
 stepped-most r x = go (crosses r x)
   where
-    go : (b : Bool) → mostSamples (cond b (crossed r x) (moved r 1 x) .step) (cond b (crossed r x) (moved r 1 x) .ramp) ≡ mostSamples (r .step) (r .ramp)
+    go : (b : Bool) → mostSamples (cond b (crossed r x) (moved r 1 x) .items .step) (cond b (crossed r x) (moved r 1 x) .items .ramp) ≡ mostSamples (r .items .step) (r .items .ramp)
     go true = refl
     go false = refl
 
 -- after a timed sample the next one is timed
-pub stepped-levels : (r : Record) (x : Moment) → stepped r x .levels ≡ r .levels
+pub stepped-levels : (r : Record) (x : Moment) → stepped r x .items .levels ≡ r .items .levels
 unfolding stepped
 stepped-levels r x = go (crosses r x)
   where
-    go : (b : Bool) → cond b (crossed r x) (moved r 1 x) .levels ≡ r .levels
+    go : (b : Bool) → cond b (crossed r x) (moved r 1 x) .items .levels ≡ r .items .levels
     go true = refl
     go false = refl
 
-pub stepped-timed : (r : Record) (x : Moment) → r .ramp < r .n → stepped r x .ramp < stepped r x .n
+pub stepped-timed : (r : Record) (x : Moment) → r .items .ramp < r .n → stepped r x .items .ramp < stepped r x .n
 unfolding stepped
 stepped-timed r x h = go (crosses r x)
   where
-    go : (b : Bool) → cond b (crossed r x) (moved r 1 x) .ramp < cond b (crossed r x) (moved r 1 x) .n
+    go : (b : Bool) → cond b (crossed r x) (moved r 1 x) .items .ramp < cond b (crossed r x) (moved r 1 x) .n
     go true = omega arith
     go false = omega arith
 
 -- and a crossing may follow it where it is at most the level
-pub stepped-low : (r : Record) (x : Moment) → stepped r x .ramp < stepped r x .n → below (stepped r x) ≡ not (above (r .levels) x)
+pub stepped-low : (r : Record) (x : Moment) → stepped r x .items .ramp < stepped r x .n → below (stepped r x) ≡ not (above (r .items .levels) x)
 unfolding stepped
 stepped-low r x = go (crosses r x)
   where
-    go : (b : Bool) → cond b (crossed r x) (moved r 1 x) .ramp < cond b (crossed r x) (moved r 1 x) .n → below (cond b (crossed r x) (moved r 1 x)) ≡ not (above (r .levels) x)
+    go : (b : Bool) → cond b (crossed r x) (moved r 1 x) .items .ramp < cond b (crossed r x) (moved r 1 x) .n → below (cond b (crossed r x) (moved r 1 x)) ≡ not (above (r .items .levels) x)
     go true h = rw (lt-ltb _ _ h)
     go false h = rw (lt-ltb _ _ h)

@@ -9,7 +9,7 @@ use native.Mathlib.Omega.{arith}
 use lib.ListN.{length}
 use lib.Dec.{eqb}
 use borrow.Author.Tests.{ne-eqb}
-use Rattle.sample_channels.specs.declared.Levels.{Levels}
+use Rattle.sample_items.specs.declared.Items.{Items}
 use Rattle.sample_channels.specs.declared.Moment.{Moment}
 use Rattle.crossing_sets.specs.Walk.{since, later, walk}
 use Rattle.crossing_sets.specs.Groups as grouping
@@ -27,24 +27,21 @@ use Rattle.record_step.proofs.Steps.{ext, marked}
 unfoldable rest : Record → List ℕ → List ℕ
 rest r cs =
     cond (eqb (r .crossings) 0)
-    (walk (timeAt (r .step) (r .ramp)) (r .decorrelation) cs)
-    (later (timeAt (r .step) (r .ramp)) (r .decorrelation) (r .latest) cs)
+    (walk (timeAt (r .items .step) (r .items .ramp)) (r .items .decorrelation) cs)
+    (later (timeAt (r .items .step) (r .items .ramp)) (r .items .decorrelation) (r .latest) cs)
 
 -- those of them that start a group after it
 unfoldable begun : Record → List ℕ → List ℕ
 begun r cs =
     cond (eqb (r .crossings) 0)
-    (start.begin (timeAt (r .step) (r .ramp)) (r .decorrelation) cs)
-    (start.starts (timeAt (r .step) (r .ramp)) (r .decorrelation) (r .recent) cs)
+    (start.begin (timeAt (r .items .step) (r .items .ramp)) (r .items .decorrelation) cs)
+    (start.starts (timeAt (r .items .step) (r .items .ramp)) (r .items .decorrelation) (r .recent) cs)
 
 -- the state r and then the samples ys with the crossings cs among them
 finish : Record → List Moment → List ℕ → Record
 finish r ys cs =
     record {
-      step = r .step;
-      ramp = r .ramp;
-      levels = r .levels;
-      decorrelation = r .decorrelation;
+      items = r .items;
       n = r .n + length ys;
       last = lastOf (r .last) ys;
       crossings = r .crossings + length cs;
@@ -71,7 +68,7 @@ finish-nil : (r : Record) → r ≡ finish r [] []
 unfolding finish lastOf firstOf
 finish-nil r =
     let e = rest-nil r in
-    ext r (finish r [] []) refl refl refl refl (sym (add-zero (r .n))) refl (sym (add-zero (r .crossings)))
+    ext r (finish r [] []) refl (sym (add-zero (r .n))) refl (sym (add-zero (r .crossings)))
     (sym (ap (λ (l : List ℕ). r .largest + length l) e ∙ add-zero (r .largest)))
     (sym (same (eqb (r .crossings) 0) (r .first)))
     (sym (ap (lastOf (r .latest)) e))
@@ -110,22 +107,22 @@ module _ (r : Record) (y : Moment) (cs : List ℕ) where
   rest-turn : (b g : Bool) → counts r ≡ b → cond b (r .n ∷ rest (next b g) cs) (rest (next b g) cs) ≡ rest r (r .n ∷ cs)
   unfolding rest walk later
   rest-turn true g e =
-      rw not-zero (sym (far (eqb (r .crossings) 0) (since (timeAt (r .step) (r .ramp)) (r .decorrelation) (r .latest) (r .n)) _ _ e))
+      rw not-zero (sym (far (eqb (r .crossings) 0) (since (timeAt (r .items .step) (r .items .ramp)) (r .items .decorrelation) (r .latest) (r .n)) _ _ e))
   rest-turn false g e =
-      rw not-zero (sym (near (eqb (r .crossings) 0) (since (timeAt (r .step) (r .ramp)) (r .decorrelation) (r .latest) (r .n)) _ _ _ e ∙ same (eqb (r .crossings) 0) _))
+      rw not-zero (sym (near (eqb (r .crossings) 0) (since (timeAt (r .items .step) (r .items .ramp)) (r .items .decorrelation) (r .latest) (r .n)) _ _ _ e ∙ same (eqb (r .crossings) 0) _))
 
   -- where groups start goes on from the crossing in any case
   begun-turn : (b g : Bool) → starts r ≡ g → cond g (r .n ∷ begun (next b g) cs) (begun (next b g) cs) ≡ begun r (r .n ∷ cs)
   unfolding begun start.begin start.starts
   begun-turn b true e =
-      rw not-zero (sym (far (eqb (r .crossings) 0) (since (timeAt (r .step) (r .ramp)) (r .decorrelation) (r .recent) (r .n)) _ _ e))
+      rw not-zero (sym (far (eqb (r .crossings) 0) (since (timeAt (r .items .step) (r .items .ramp)) (r .items .decorrelation) (r .recent) (r .n)) _ _ e))
   begun-turn b false e =
-      rw not-zero (sym (near (eqb (r .crossings) 0) (since (timeAt (r .step) (r .ramp)) (r .decorrelation) (r .recent) (r .n)) _ _ _ e ∙ same (eqb (r .crossings) 0) _))
+      rw not-zero (sym (near (eqb (r .crossings) 0) (since (timeAt (r .items .step) (r .items .ramp)) (r .items .decorrelation) (r .recent) (r .n)) _ _ _ e ∙ same (eqb (r .crossings) 0) _))
 
   turn-marked : (ys : List Moment) (b g : Bool) → counts r ≡ b → starts r ≡ g → finish (next b g) ys cs ≡ finish r (y ∷ ys) (r .n ∷ cs)
   unfolding finish lastOf firstOf
   turn-marked ys b g e f =
-      ext (finish (next b g) ys cs) (finish r (y ∷ ys) (r .n ∷ cs)) refl refl refl refl (omega arith) refl (omega arith)
+      ext (finish (next b g) ys cs) (finish r (y ∷ ys) (r .n ∷ cs)) refl (omega arith) refl (omega arith)
       (number b (r .largest) (r .n) (rest (next b g) cs) ∙ ap (λ (l : List ℕ). r .largest + length l) (rest-turn b g e))
       (rw not-zero)
       (newest b (r .n) (r .latest) (rest (next b g) cs) ∙ ap (lastOf (r .latest)) (rest-turn b g e))
@@ -138,28 +135,28 @@ turn r y ys cs = go (crosses r y)
   where
     go : (b : Bool) → finish (cond b (crossed r y) (moved r 1 y)) ys cs ≡ finish r (y ∷ ys) (cond b (r .n ∷ cs) cs)
     go true = turn-marked r y cs ys (counts r) (starts r) refl refl
-    go false = ext _ _ refl refl refl refl (omega arith) refl refl refl refl refl refl refl
+    go false = ext _ _ refl (omega arith) refl refl refl refl refl refl refl
 
 -- a step leaves the ramp and the level, and the next sample is compared with this one
-next-places : (r : Record) (y : Moment) (ys : List Moment) → placesFrom (stepped r y .ramp) (stepped r y .levels) (stepped r y .n) (stepped r y .last) ys ≡ placesFrom (r .ramp) (r .levels) (r .n + 1) y ys
+next-places : (r : Record) (y : Moment) (ys : List Moment) → placesFrom (stepped r y .items .ramp) (stepped r y .items .levels) (stepped r y .n) (stepped r y .last) ys ≡ placesFrom (r .items .ramp) (r .items .levels) (r .n + 1) y ys
 unfolding stepped
 next-places r y ys = go (crosses r y)
   where
-    go : (b : Bool) → (let s = cond b (crossed r y) (moved r 1 y) in placesFrom (s .ramp) (s .levels) (s .n) (s .last) ys) ≡ placesFrom (r .ramp) (r .levels) (r .n + 1) y ys
+    go : (b : Bool) → (let s = cond b (crossed r y) (moved r 1 y) in placesFrom (s .items .ramp) (s .items .levels) (s .n) (s .last) ys) ≡ placesFrom (r .items .ramp) (r .items .levels) (r .n + 1) y ys
     go true = refl
     go false = refl
 
-whole : (r : Record) (ys : List Moment) → foldl stepped r ys ≡ finish r ys (placesFrom (r .ramp) (r .levels) (r .n) (r .last) ys)
+whole : (r : Record) (ys : List Moment) → foldl stepped r ys ≡ finish r ys (placesFrom (r .items .ramp) (r .items .levels) (r .n) (r .last) ys)
 unfolding placesFrom
 whole r [] = finish-nil r
 whole r (y ∷ ys) =
-    whole (stepped r y) ys ∙ ap (finish (stepped r y) ys) (next-places r y ys) ∙ turn r y ys (placesFrom (r .ramp) (r .levels) (r .n + 1) y ys)
+    whole (stepped r y) ys ∙ ap (finish (stepped r y) ys) (next-places r y ys) ∙ turn r y ys (placesFrom (r .items .ramp) (r .items .levels) (r .n + 1) y ys)
 
 -- the samples one by one from a fresh record lead to the state of the list
-pub state : (D R : ℕ) (a : Levels) (τ : ℕ) (xs : List Moment) → foldl stepped (stateOf D R a τ []) xs ≡ stateOf D R a τ xs
+pub state : (items : Items) (xs : List Moment) → foldl stepped (stateOf items []) xs ≡ stateOf items xs
 unfolding stateOf finish rest begun passing firstOf lastOf walk grouping.groups
-state D R a τ xs =
-    whole (stateOf D R a τ []) xs
-    ∙ ap (finish (stateOf D R a τ []) xs) (places-whole R a xs)
-    ∙ ext (finish (stateOf D R a τ []) xs (crossings R a xs)) (stateOf D R a τ xs) refl refl refl refl (zero-add _) refl (zero-add _) (zero-add _) refl refl refl
-    (zero-add _ ∙ sym (ap length (start.firsts-begin (timeAt D R) τ (crossings R a xs))) ∙ as-many (grouping.near (timeAt D R) τ) (crossings R a xs))
+state items xs =
+    whole (stateOf items []) xs
+    ∙ ap (finish (stateOf items []) xs) (places-whole (items .ramp) (items .levels) xs)
+    ∙ ext (finish (stateOf items []) xs (crossings (items .ramp) (items .levels) xs)) (stateOf items xs) refl (zero-add _) refl (zero-add _) (zero-add _) refl refl refl
+    (zero-add _ ∙ sym (ap length (start.firsts-begin (timeAt (items .step) (items .ramp)) (items .decorrelation) (crossings (items .ramp) (items .levels) xs))) ∙ as-many (grouping.near (timeAt (items .step) (items .ramp)) (items .decorrelation)) (crossings (items .ramp) (items .levels) xs))

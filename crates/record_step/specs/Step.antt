@@ -12,10 +12,7 @@ use Rattle.record_state.specs.declared.Record.{Record}
 abbrev pub moved : Record → ℕ → Moment → Record
 moved r k x =
     record {
-      step = r .step;
-      ramp = r .ramp;
-      levels = r .levels;
-      decorrelation = r .decorrelation;
+      items = r .items;
       n = r .n + k;
       last = x;
       crossings = r .crossings;
@@ -28,7 +25,7 @@ moved r k x =
 
 -- a crossing at sample n is the first, or its time is at least τ after that of place p
 abbrev pub far : Record → ℕ → Bool
-far r p = eqb (r .crossings) 0 || since (timeAt (r .step) (r .ramp)) (r .decorrelation) p (r .n)
+far r p = eqb (r .crossings) 0 || since (timeAt (r .items .step) (r .items .ramp)) (r .items .decorrelation) p (r .n)
 
 -- it joins the largest set, whose last place tells
 abbrev pub counts : Record → Bool
@@ -42,10 +39,7 @@ starts r = far r (r .recent)
 abbrev pub crossed : Record → Moment → Record
 crossed r x =
     record {
-      step = r .step;
-      ramp = r .ramp;
-      levels = r .levels;
-      decorrelation = r .decorrelation;
+      items = r .items;
       n = r .n + 1;
       last = x;
       crossings = r .crossings + 1;
@@ -58,11 +52,11 @@ crossed r x =
 
 -- sample n crosses a level
 abbrev pub crosses : Record → Moment → Bool
-crosses r x = ltb (r .ramp) (r .n) && rises (r .levels) (r .last) x
+crosses r x = ltb (r .items .ramp) (r .n) && rises (r .items .levels) (r .last) x
 
 -- sample n - 1, from which it would, is timed and above in neither channel
 abbrev pub below : Record → Bool
-below r = ltb (r .ramp) (r .n) && not (above (r .levels) (r .last))
+below r = ltb (r .items .ramp) (r .n) && not (above (r .items .levels) (r .last))
 
 unfoldable pub stepped : Record → Moment → Record
 stepped r x = cond (crosses r x) (crossed r x) (moved r 1 x)

@@ -7,7 +7,7 @@ use lib.ListN.{length}
 use lib.Dec.{ltb, leb, eqb}
 use lib.IntN.{ℤ}
 use Rattle.refusal.specs.declared.Refusal.the-variants.{Item, TooLong, TooShort, Unequal}
-use Rattle.sample_channels.specs.declared.Levels.{Levels}
+use Rattle.sample_items.specs.declared.Items.{Items}
 use Rattle.sample_channels.specs.Channels.{anyBad, badSample}
 use Rattle.sample_items.specs.Limits.{itemOutside, mostSamples}
 use Rattle.sample_range.specs.Range.{firstBad}
@@ -16,19 +16,21 @@ use Rattle.record_whole.specs.declared.Size.{Size}
 use Rattle.record_whole.specs.declared.Size.the-variants.{Fits, Refused}
 
 -- the refusal of the first test that holds
-unfoldable pub tested : ℕ → ℕ → Levels → ℕ → List ℤ → List ℤ → Size
-tested D R a τ xs ys =
-    cond (not (eqb (itemOutside D R a τ) 0)) (Refused (Item (itemOutside D R a τ)))
+unfoldable pub tested : Items → List ℤ → List ℤ → Size
+tested items xs ys =
+    cond (not (eqb (itemOutside items) 0)) (Refused (Item (itemOutside items)))
     (cond (not (eqb (length xs) (length ys))) (Refused Unequal)
     (cond (anyBad xs ys) (Refused (badSample (firstBad xs) (firstBad ys)))
-    (cond (ltb (mostSamples D R) (length xs)) (Refused TooLong)
-    (cond (tooFew R (length xs)) (Refused TooShort)
+    (cond (ltb (mostSamples (items .step) (items .ramp)) (length xs)) (Refused TooLong)
+    (cond (tooFew (items .ramp) (length xs)) (Refused TooShort)
     Fits))))
 
 -- the items are in range, the slices are equally long, and n samples are neither too many nor too few
-abbrev pub inSize : ℕ → ℕ → Levels → ℕ → ℕ → ℕ → Bool
-inSize D R a τ n m = eqb (itemOutside D R a τ) 0 && (eqb n m && (leb n (mostSamples D R) && leb (R + 2) n))
+abbrev pub inSize : Items → ℕ → ℕ → Bool
+inSize items n m =
+    eqb (itemOutside items) 0
+    && (eqb n m && (leb n (mostSamples (items .step) (items .ramp)) && leb (items .ramp + 2) n))
 
 -- what is said before the samples are read: that the record fits, or its refusal
-unfoldable pub sized : ℕ → ℕ → Levels → ℕ → List ℤ → List ℤ → Size
-sized D R a τ xs ys = cond (inSize D R a τ (length xs) (length ys)) Fits (tested D R a τ xs ys)
+unfoldable pub sized : Items → List ℤ → List ℤ → Size
+sized items xs ys = cond (inSize items (length xs) (length ys)) Fits (tested items xs ys)

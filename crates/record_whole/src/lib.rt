@@ -8,8 +8,8 @@ ghost use Rattle.sample_channels.specs.Channels.{anyBad, badSample};
 ghost use Rattle.record_whole.specs.declared.Size.the-variants.{Refused};
 ghost use Rattle.record_whole.specs.Tests.{sized};
 use refusal::Refusal;
-use sample_channels::Levels;
 use sample_channels::Look;
+use sample_items::Items;
 
 pub enum Size {
     Fits,
@@ -36,17 +36,10 @@ fn fault(roll: &[i32], acceleration: &[i32], long: bool) -> Size
 
 // Refusal 1, then 12; for a record that is too long or too short 2, which goes before them, then 3 or 4; else that it
 // fits, with no sample looked at yet, so that who reads the samples next looks for a bad one on the way.
-pub fn judge(
-    step: u64,
-    ramp: u64,
-    levels: Levels,
-    decorrelation: u64,
-    roll: &[i32],
-    acceleration: &[i32],
-) -> Size
-    ensures { λ r. ⌜ r ≡ sized step ramp levels decorrelation (now (roll .entry)) (now (acceleration .entry)) ⌝ }
+pub fn judge(items: Items, roll: &[i32], acceleration: &[i32]) -> Size
+    ensures { λ r. ⌜ r ≡ sized items (now (roll .entry)) (now (acceleration .entry)) ⌝ }
 {
-    let item = sample_items::item_outside(step, ramp, levels, decorrelation);
+    let item = sample_items::item_outside(items);
     if item != 0 {
         return Size::Refused(Refusal::Item(item));
     }
@@ -54,8 +47,8 @@ pub fn judge(
         return Size::Refused(Refusal::Unequal);
     }
     let n = roll.len() as u64;
-    let most = sample_items::most_samples(step, ramp);
-    if truth::both(n <= most, ramp + 2 <= n) {
+    let most = sample_items::most_samples(items.step, items.ramp);
+    if truth::both(n <= most, items.ramp + 2 <= n) {
         return Size::Fits;
     }
     fault(roll, acceleration, most < n)

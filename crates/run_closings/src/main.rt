@@ -13,6 +13,7 @@ use record_state::Record;
 use refusal::Refusal;
 use sample_channels::Levels;
 use sample_channels::Moment;
+use sample_items::Items;
 
 // Of each row: the campaign's standard, M, N, T, and 1 if the last record failed; a campaign without a record is
 // opened. Then a record, by its number (`numbered`), and how often its result is entered; the number of one record
@@ -118,13 +119,15 @@ fn answer(a: Answer) {
 
 fn broken() -> Record {
     Record {
-        step: 0,
-        ramp: 0,
-        levels: Levels {
-            roll: 0,
-            acceleration: 0,
+        items: Items {
+            step: 0,
+            ramp: 0,
+            levels: Levels {
+                roll: 0,
+                acceleration: 0,
+            },
+            decorrelation: 0,
         },
-        decorrelation: 0,
         n: 0,
         last: Moment {
             roll: 0,
@@ -141,11 +144,16 @@ fn broken() -> Record {
 
 // A record fed as one piece; one that was refused is left broken, so that ending refuses it too.
 fn fed(roll: &[i32], acceleration: &[i32]) -> Record {
-    let levels = Levels {
-        roll: 40_000,
-        acceleration: 9810,
+    let items = Items {
+        step: 500,
+        ramp: 0,
+        levels: Levels {
+            roll: 40_000,
+            acceleration: 9810,
+        },
+        decorrelation: 2000,
     };
-    let record_state::Answer::Taken(r) = record_state::open(500, 0, levels, 2000) else {
+    let record_state::Answer::Taken(r) = record_state::open(items) else {
         return broken();
     };
     let record_state::Answer::Taken(s) = record_feed::feed(r, roll, acceleration) else {

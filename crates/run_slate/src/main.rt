@@ -7,6 +7,7 @@ use record_state::Record;
 use refusal::Refusal;
 use sample_channels::Levels;
 use sample_channels::Moment;
+use sample_items::Items;
 
 // Of each row: step, ramp, the roll's level, decorrelation time; how often the first piece is fed, its samples, and
 // all samples of the row, which the second piece ends; the places lent for the times; the roll's row of SAMPLES; the
@@ -148,36 +149,33 @@ fn times(slice: &[u32]) {
     }
 }
 
-fn levels(items: [u64; 11]) -> Levels {
-    Levels {
-        roll: items[2],
-        acceleration: items[9],
+fn items(row: [u64; 11]) -> Items {
+    Items {
+        step: row[0],
+        ramp: row[1],
+        levels: Levels {
+            roll: row[2],
+            acceleration: row[9],
+        },
+        decorrelation: row[3],
     }
 }
 
 // The record in two pieces.
-fn fed(items: [u64; 11], roll: &[i32], acceleration: &[i32]) {
-    let cut = items[5] as usize;
+fn fed(row: [u64; 11], roll: &[i32], acceleration: &[i32]) {
+    let cut = row[5] as usize;
     if cut <= roll.len() {
         if cut <= acceleration.len() {
-            let opened = record_state::open(items[0], items[1], levels(items), items[3]);
-            let first = again(opened, &roll[0..cut], &acceleration[0..cut], items[4]);
+            let opened = record_state::open(items(row));
+            let first = again(opened, &roll[0..cut], &acceleration[0..cut], row[4]);
             answer(then(first, &roll[cut..], &acceleration[cut..]));
         }
     }
 }
 
 // Its counted times, listed into the lent places, and what these then hold.
-fn listed(items: [u64; 11], roll: &[i32], acceleration: &[i32], slice: &mut [u32]) {
-    let l = record_list::list(
-        items[0],
-        items[1],
-        levels(items),
-        items[3],
-        roll,
-        acceleration,
-        slice,
-    );
+fn listed(row: [u64; 11], roll: &[i32], acceleration: &[i32], slice: &mut [u32]) {
+    let l = record_list::list(items(row), roll, acceleration, slice);
     match l {
         Listed::Times(k) => number(b" times ", k),
         Listed::Refused(f) => refused(f),
@@ -185,27 +183,27 @@ fn listed(items: [u64; 11], roll: &[i32], acceleration: &[i32], slice: &mut [u32
     times(slice);
 }
 
-fn case(items: [u64; 11], roll: &[i32], acceleration: &[i32]) {
-    fed(items, roll, acceleration);
+fn case(row: [u64; 11], roll: &[i32], acceleration: &[i32]) {
+    fed(row, roll, acceleration);
     let mut slice = [7u32; 3];
     let mut place = [7u32; 1];
-    if items[7] == 1 {
-        listed(items, roll, acceleration, &mut place);
+    if row[7] == 1 {
+        listed(row, roll, acceleration, &mut place);
     } else {
-        listed(items, roll, acceleration, &mut slice);
+        listed(row, roll, acceleration, &mut slice);
     }
     number(
         b" found ",
-        crossing_search::first_crossing(roll, acceleration, items[1], levels(items)) as u64,
+        crossing_search::first_crossing(roll, acceleration, row[1], items(row).levels) as u64,
     );
 }
 
 // A case of the first samples.
-fn first_of(items: [u64; 11], roll: &[i32], acceleration: &[i32]) {
-    let count = items[6] as usize;
+fn first_of(row: [u64; 11], roll: &[i32], acceleration: &[i32]) {
+    let count = row[6] as usize;
     if count <= roll.len() {
         if count <= acceleration.len() {
-            case(items, &roll[0..count], &acceleration[0..count]);
+            case(row, &roll[0..count], &acceleration[0..count]);
         }
     }
 }
@@ -218,11 +216,11 @@ fn row(i: usize) {
     if 44 <= i {
         return;
     }
-    let items = ROWS[i];
-    let roll = samples_of(items[8]);
-    let acceleration = samples_of(items[10]);
+    let row = ROWS[i];
+    let roll = samples_of(row[8]);
+    let acceleration = samples_of(row[10]);
     number(b"row ", (i as u64) + 1);
-    first_of(items, &roll, &acceleration);
+    first_of(row, &roll, &acceleration);
     io::write_all(1, b"\n");
 }
 
@@ -236,7 +234,7 @@ fn rows() {
 
 // Seven crossings in two groups, of which four are pairwise apart; cut in the first group.
 fn seven() {
-    let items = [500u64, 0, 40_000, 2000, 1, 6, 17, 3, 0, 9810, 6];
+    let row = [500u64, 0, 40_000, 2000, 1, 6, 17, 3, 0, 9810, 6];
     let samples = [
         0i32,
         41000,
@@ -258,20 +256,22 @@ fn seven() {
     ];
     io::write_all(1, b"seven");
     let zeros = [0i32; 17];
-    first_of(items, &samples, &zeros);
+    first_of(row, &samples, &zeros);
     io::write_all(1, b"\n");
 }
 
 // A first failure without a crossing, which no samples lead to.
 fn broken() {
     let r = Record {
-        step: 500,
-        ramp: 0,
-        levels: Levels {
-            roll: 40_000,
-            acceleration: 9810,
+        items: Items {
+            step: 500,
+            ramp: 0,
+            levels: Levels {
+                roll: 40_000,
+                acceleration: 9810,
+            },
+            decorrelation: 2000,
         },
-        decorrelation: 2000,
         n: 3,
         last: Moment {
             roll: 0,
@@ -293,15 +293,11 @@ fn broken() {
 fn unequal() {
     let roll = [2000000i32; 3];
     let zeros = [0i32; 2];
-    let items = [500u64, 0, 40_000, 2000, 0, 0, 0, 1, 0, 9810, 6];
+    let row = [500u64, 0, 40_000, 2000, 0, 0, 0, 1, 0, 9810, 6];
     io::write_all(1, b"unequal");
-    answer(then(
-        record_state::open(500, 0, levels(items), 2000),
-        &roll,
-        &zeros,
-    ));
+    answer(then(record_state::open(items(row)), &roll, &zeros));
     let mut place = [7u32; 1];
-    listed(items, &roll, &zeros, &mut place);
+    listed(row, &roll, &zeros, &mut place);
     io::write_all(1, b"\n");
 }
 

@@ -4,6 +4,7 @@ use Prim.Native.Nat.{ℕ, _+_, _/_}
 use mathlib.Core.Bool.{Bool, cond, not, _&&_}
 use lib.Dec.{leb}
 use Rattle.sample_channels.specs.declared.Levels.{Levels}
+use Rattle.sample_items.specs.declared.Items.{Items}
 
 -- x is from low to high
 abbrev pub within : ℕ → ℕ → ℕ → Bool
@@ -26,13 +27,13 @@ abbrev pub decorrelationInRange : ℕ → Bool
 decorrelationInRange = within 0 10000000
 
 -- the number of the lowest item outside its range, 0 if there is none
-unfoldable pub itemOutside : ℕ → ℕ → Levels → ℕ → ℕ
-itemOutside D R a τ =
-    cond (not (stepInRange D)) 1
-    (cond (not (rampInRange R)) 2
-    (cond (not (levelInRange (a .roll))) 3
-    (cond (not (decorrelationInRange τ)) 4
-    (cond (not (levelInRange (a .acceleration))) 6 0))))
+unfoldable pub itemOutside : Items → ℕ
+itemOutside items =
+    cond (not (stepInRange (items .step))) 1
+    (cond (not (rampInRange (items .ramp))) 2
+    (cond (not (levelInRange (items .levels .roll))) 3
+    (cond (not (decorrelationInRange (items .decorrelation))) 4
+    (cond (not (levelInRange (items .levels .acceleration))) 6 0))))
 
 -- the longest timed length of a record, in ms
 abbrev pub longestTime : ℕ

@@ -9,7 +9,7 @@ use Rattle.capi.proofs.of_record.Tie as tie
 
 returns : tie.Need-returns
 returns c =
-    let last = c .before .before .before .before .before .before .args .r .last in
+    let last = c .before .before .before .before .before .before .before .args .r .last in
     let roll : SFits w32 (last .roll) = search needs in
     let acceleration : SFits w32 (last .acceleration) = search needs in
     rw (c .before .before .code-of .ensures, c .code-of2 .ensures, toZ-ofZ roll, toZ-ofZ acceleration)

@@ -24,15 +24,15 @@ returns-3 c = rw (eq-eqb _ recordNumbers (c .before .before .before .before .bef
 returns-4 : tie.Need-returns-4
 unfolding recordOf
 returns-4 c =
-    let roll : SFits w32 (c .before .before .before .before .before .before .before .before .before .before .before .before .sample-of .result) = search needs in
-    let acceleration : SFits w32 (c .before .before .before .before .before .before .before .before .before .before .sample-of2 .result) = search needs in
-    rw (eq-eqb _ recordNumbers (c .before .before .before .before .before .before .before .before .before .before .before .before .before .before .before .before .before .before .before .before .if1 .left), le-leb _ highestCode (c .before .before .before .before .before .before .before .before .before .before .before .before .before .before .before .before .before .before .if2 .left), le-leb _ highestCode (c .before .before .before .before .before .before .before .before .before .before .before .before .before .before .before .before .if3 .left), toZ-ofZ roll, toZ-ofZ acceleration, c .before .before .before .before .before .before .before .before .before .before .before .before .sample-of .ensures, c .before .before .before .before .before .before .before .before .before .before .sample-of2 .ensures)
+    let roll : SFits w32 (c .before .before .before .before .before .before .before .before .before .sample-of .result) = search needs in
+    let acceleration : SFits w32 (c .before .before .before .before .before .before .before .sample-of2 .result) = search needs in
+    rw (eq-eqb _ recordNumbers (c .before .before .before .before .before .before .before .before .before .before .before .before .before .before .before .before .before .before .before .before .if1 .left), le-leb _ highestCode (c .before .before .before .before .before .before .before .before .before .before .before .before .before .before .before .before .before .before .if2 .left), le-leb _ highestCode (c .before .before .before .before .before .before .before .before .before .before .before .before .before .before .before .before .if3 .left), toZ-ofZ roll, toZ-ofZ acceleration, c .before .before .before .before .before .before .before .before .before .sample-of .ensures, c .before .before .before .before .before .before .before .sample-of2 .ensures)
 
 pub record-of-spec : {M : Type 1} → statement M
 record-of-spec =
     tie.close
     (tie.spec (λ c κs. search needs) returns (λ c. search needs) (λ c κs. search needs) returns-2 (λ c. search needs)
-    (λ c κs. search needs) returns-3 (λ c. search needs) (λ c. search needs) (λ c. search needs) (λ c κs. search needs)
-    (λ c. search needs) (λ c κs. search needs) (λ c. search needs) (λ c. search needs) (λ c. search needs)
+    (λ c κs. search needs) returns-3 (λ c. search needs) (λ c. search needs) (λ c. search needs) (λ c. search needs)
+    (λ c. search needs) (λ c. search needs) (λ c κs. search needs) (λ c. search needs) (λ c κs. search needs)
     (λ c. search needs) (λ c. search needs) (λ c. search needs) (λ c. search needs) (λ c. search needs)
     (λ c. search needs) (λ c. search needs) returns-4)

@@ -10,7 +10,7 @@ use mir.Val.{SFits}
 use mir.Syntax.{w32}
 use denote.Ref.{now}
 use borrow.Author.Needs.{needs}
-use Rattle.sample_items.proofs.Items.{low, high}
+use Rattle.sample_items.proofs.Ranges.{low, high}
 use Rattle.decimal.specs.Decimal.{longest}
 use Rattle.comma_line.proofs.At.{LineRead, line-read, line-wrong}
 use Rattle.comma_read.proofs.Lines.{turn}

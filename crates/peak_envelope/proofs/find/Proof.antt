@@ -4,20 +4,20 @@ use mathlib.Core.Path.{sym, ap, _∙_}
 use native.Mathlib.Omega.{arith}
 use borrow.Author.Needs.{needs}
 use lib.ListN.{length, length-drop}
-use Rattle.sample_items.proofs.Items.{items}
+use Rattle.sample_items.proofs.Ranges.{within-ranges}
 use Rattle.record_whole.proofs.Judged.{Fitting, fitting, refused-tested}
-use Rattle.peak_envelope.specs.Answers.{anyLevels}
+use Rattle.peak_envelope.specs.Answers.{unlevelled}
 use Rattle.peak_groups.proofs.Due.{from-place}
 use Rattle.peak_envelope.proofs.Answered.{finds-refused, finds-bad, finds-good}
 use Rattle.peak_envelope.proofs.find.Statement.{statement}
 use Rattle.peak_envelope.proofs.find.Tie as tie
 
 returns : tie.Need-returns
-returns c = finds-refused (c .before .before .before .before .before .before .args .step) (c .before .before .before .before .before .before .args .ramp) (c .before .before .before .before .before .before .args .decorrelation) (c .before .before .before .before .before .before .args .samples .now) (c .before .before .before .before .before .before .args .sizes .now) (c .before .before .before .before .before .before .args .times .now) (c .before .size .given .0 .0) (refused-tested (c .before .before .before .before .before .before .args .step) (c .before .before .before .before .before .before .args .ramp) anyLevels (c .before .before .before .before .before .before .args .decorrelation) (c .before .before .before .before .before .before .args .samples .now) (c .before .before .before .before .before .before .args .samples .now) (c .before .size .given .0 .0) (sym (c .before .before .before .judge .ensures) ∙ c .before .size .given .1))
+returns c = finds-refused (c .before .before .before .before .before .before .args .step) (c .before .before .before .before .before .before .args .ramp) (c .before .before .before .before .before .before .args .decorrelation) (c .before .before .before .before .before .before .args .samples .now) (c .before .before .before .before .before .before .args .sizes .now) (c .before .before .before .before .before .before .args .times .now) (c .before .size .given .0 .0) (refused-tested (unlevelled (c .before .before .before .before .before .before .args .step) (c .before .before .before .before .before .before .args .ramp) (c .before .before .before .before .before .before .args .decorrelation)) (c .before .before .before .before .before .before .args .samples .now) (c .before .before .before .before .before .before .args .samples .now) (c .before .size .given .0 .0) (sym (c .before .before .before .judge .ensures) ∙ c .before .size .given .1))
 
 -- past the first tests the record fits
-fit : (c : tie.After-enum-told) → Fitting (c .before .before .before .before .before .args .step) (c .before .before .before .before .before .args .ramp) anyLevels (c .before .before .before .before .before .args .decorrelation) (length (c .before .before .before .before .before .args .samples .now)) (length (c .before .before .before .before .before .args .samples .now))
-fit c = fitting (c .before .before .before .before .before .args .step) (c .before .before .before .before .before .args .ramp) anyLevels (c .before .before .before .before .before .args .decorrelation) (c .before .before .before .before .before .args .samples .now) (c .before .before .before .before .before .args .samples .now) (sym (c .before .before .judge .ensures) ∙ c .enum-told .given .1)
+fit : (c : tie.After-enum-told) → Fitting (unlevelled (c .before .before .before .before .before .args .step) (c .before .before .before .before .before .args .ramp) (c .before .before .before .before .before .args .decorrelation)) (length (c .before .before .before .before .before .args .samples .now)) (length (c .before .before .before .before .before .args .samples .now))
+fit c = fitting (unlevelled (c .before .before .before .before .before .args .step) (c .before .before .before .before .before .args .ramp) (c .before .before .before .before .before .args .decorrelation)) (c .before .before .before .before .before .args .samples .now) (c .before .before .before .before .before .args .samples .now) (sym (c .before .before .judge .ensures) ∙ c .enum-told .given .1)
 
 returns-2 : tie.Need-returns-2
 returns-2 c = let e = c .before .first-bad .ensures in rw e (finds-bad (c .before .before .before .before .before .before .before .args .step) (c .before .before .before .before .before .before .before .args .ramp) (c .before .before .before .before .before .before .before .args .decorrelation) (c .before .before .before .before .before .before .before .args .samples .now) (c .before .before .before .before .before .before .before .args .sizes .now) (c .before .before .before .before .before .before .before .args .times .now) (fit (c .before .before)) (omega (arith, e, c .if1 .taken)))
@@ -35,7 +35,7 @@ hand-out-requires : tie.Need-hand-out-requires
 hand-out-requires c κs =
     let a = c .before .before .before .before .before .before .before .before .before .before .args in
     let f = fit (c .before .before .before .before .before) in
-    let i = items (a .step) (a .ramp) anyLevels (a .decorrelation) (f .items) in
+    let i = within-ranges (unlevelled (a .step) (a .ramp) (a .decorrelation)) (f .ranged) in
     (omega (arith, f .most, ap length (from-place (a .ramp) (a .samples .now)), length-drop (a .ramp) (a .samples .now)), i .decorrelation)
 
 returns-3 : tie.Need-returns-3

@@ -3,7 +3,7 @@ use Prim.Native.Nat.{ℕ, _+_}
 use mathlib.Core.Path.{ap}
 use native.Mathlib.Nat.{div-le-self}
 use native.Mathlib.Omega.{arith}
-use Rattle.sample_items.proofs.Items.{in-time}
+use Rattle.sample_items.proofs.Ranges.{in-time}
 use Rattle.peak_envelope.proofs.peak.Statement.{statement}
 use Rattle.peak_envelope.proofs.peak.Tie as tie
 

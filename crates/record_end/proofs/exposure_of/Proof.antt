@@ -16,7 +16,7 @@ failed-of : (r : Record) → ¬ (r .first ≡ 0) → failed r ≡ true
 failed-of r h = ap not (ne-eqb (r .first) 0 h)
 
 mul-result : tie.Need-mul-result
-mul-result c = let r = c .before .before .before .before .before .args .r in let t = whole-time r (c .before .before .before .before .before .pre .0) (le-ltb (r .n) (r .ramp + 2) (c .before .before .before .before .before .pre .1)) in omega arith
+mul-result c = let r = c .before .before .before .before .before .args .r in let t = whole-time r (c .before .before .before .before .before .pre .0) (le-ltb (r .n) (r .items .ramp + 2) (c .before .before .before .before .before .pre .1)) in omega arith
 
 sub-result-3 : tie.Need-sub-result-3
 sub-result-3 c = let r = c .before .before .before .args .r in omega (arith, failed-failure r (c .before .before .before .pre .0) (failed-of r (c .before .if1 .left)) .above)

@@ -32,11 +32,11 @@ Inv-loop ups roll acceleration gap s₀ low₀ i₀ s low i =
     (sound s ≡ true)
     × (i ≤ length roll)
     × AllInRange (drop i (moments roll acceleration))
-    × (s .n + (length roll - i) ≤ mostSamples (s .step) (s .ramp))
+    × (s .n + (length roll - i) ≤ mostSamples (s .items .step) (s .items .ramp))
     × (low ≡ below s)
-    × (s .ramp < s .n)
-    × Gap (s .step) (s .decorrelation) gap
-    × (s .levels ≡ s₀ .levels)
+    × (s .items .ramp < s .n)
+    × Gap (s .items .step) (s .items .decorrelation) gap
+    × (s .items .levels ≡ s₀ .items .levels)
     × (foldl stepped s (drop i (moments roll acceleration)) ≡ foldl stepped s₀ (moments roll acceleration))
 
 abbrev μ-loop : tie.MeasureT-loop
@@ -60,16 +60,16 @@ moment-at-requires c κs = search needs
 shared-slice-read-up : tie.Need-shared-slice-read-up Inv-loop μ-loop
 shared-slice-read-up c =
     let a = c .before .before .before .before .before .before .before in
-    omega (arith, ap length (a .pre .2) ∙ marks-many (a .args .r .levels) (a .args .roll .now) (a .args .acceleration .now) (a .pre .0 .equal))
+    omega (arith, ap length (a .pre .2) ∙ marks-many (a .args .r .items .levels) (a .args .roll .now) (a .args .acceleration .now) (a .pre .0 .equal))
 
 -- what was noted of the sample
-noted : (c : tie.After-shared-slice-known2 Inv-loop μ-loop) → getD (c .before .before .before .before .before .before .before .args .ups .now) (c .before .before .before .loop .i) false ≡ above (c .before .before .before .loop .s .levels) (c .before .moment-at .result)
+noted : (c : tie.After-shared-slice-known2 Inv-loop μ-loop) → getD (c .before .before .before .before .before .before .before .args .ups .now) (c .before .before .before .loop .i) false ≡ above (c .before .before .before .loop .s .items .levels) (c .before .moment-at .result)
 noted c =
     let a = c .before .before .before .before .before .before .before in
     let xs = a .args .roll .now in
     let ys = a .args .acceleration .now in
     let l = c .before .before .before .loop in
-    ap (λ (us : List Bool). getD us (l .i) false) (a .pre .2) ∙ marks-at (a .args .r .levels) xs ys (l .i) ∙ ap (λ (v : Levels). above v (sampleAt (moments xs ys) (l .i))) (sym (l .inv .7)) ∙ ap (above (l .s .levels)) (sym (c .before .moment-at .ensures))
+    ap (λ (us : List Bool). getD us (l .i) false) (a .pre .2) ∙ marks-at (a .args .r .items .levels) xs ys (l .i) ∙ ap (λ (v : Levels). above v (sampleAt (moments xs ys) (l .i))) (sym (l .inv .7)) ∙ ap (above (l .s .items .levels)) (sym (c .before .moment-at .ensures))
 
 both-requires : tie.Need-both-requires Inv-loop μ-loop
 both-requires c κs = search needs
@@ -80,7 +80,7 @@ step-requires c κs =
     let v = c .before .before .before .before .loop .inv in
     let x = c .before .before .moment-at .result in
     let low = c .before .before .before .before .loop .low in
-    (v .0, omega (arith, v .3), c .both .ensures ∙ ap (λ (y : Bool). low && y) (noted (c .before)) ∙ ap (λ (y : Bool). y && above (s .levels) x) (v .4) ∙ and-assoc (ltb (s .ramp) (s .n)) (not (above (s .levels) (s .last))) (above (s .levels) x), v .6)
+    (v .0, omega (arith, v .3), c .both .ensures ∙ ap (λ (y : Bool). low && y) (noted (c .before)) ∙ ap (λ (y : Bool). y && above (s .items .levels) x) (v .4) ∙ and-assoc (ltb (s .items .ramp) (s .n)) (not (above (s .items .levels) (s .last))) (above (s .items .levels) x), v .6)
 
 add-i : tie.Need-add-i Inv-loop μ-loop
 add-i c = omega arith
@@ -101,7 +101,7 @@ loop-again c =
     let x = sampleAt p i in
     let z : c .before .before .before .moment-at .result ≡ x = c .before .before .before .moment-at .ensures in
     let e : c .step .result ≡ stepped s x = c .step .ensures ∙ ap (stepped s) z in
-    let u = noted (c .before .before) ∙ ap (above (s .levels)) z in
+    let u = noted (c .before .before) ∙ ap (above (s .items .levels)) z in
     let g : AllInRange (x ∷ drop (i + 1) p) = rw (← turn AllInRange p i (omega arith)) (v .2) in
     let after = stepped-timed s x (v .5) in
     let l = ap not u ∙ sym (stepped-low s x after) in

@@ -33,7 +33,7 @@ returns c =
     let a = c .before .before .before .before .before .before .before .before .before in
     let r = a .args .r in
     let g = ap (λ (b : Bool). cond b (r .groups + 1) (r .groups)) (c .before .before .before .before .before .before .before .far .ensures) in
-    rw (a .pre .2) (ext _ _ refl refl refl refl refl refl refl refl (c .before .before .pick .ensures) refl refl (c .pick2 .ensures ∙ g))
+    rw (a .pre .2) (ext _ _ refl refl refl refl refl (c .before .before .pick .ensures) refl refl (c .pick2 .ensures ∙ g))
 
 pub counted-spec : {M : Type 1} → statement M
 counted-spec =

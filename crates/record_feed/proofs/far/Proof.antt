@@ -31,7 +31,7 @@ returns-2 c =
     let p = a .args .place in
     let h = a .pre .2 (c .before .if1 .left) in
     let l = a .pre .1 in
-    rw (ne-eqb _ _ (c .before .if1 .left), apart (r .step) (r .decorrelation) (p - r .ramp) (r .n - p) (r .n - r .ramp) (omega arith)) (in-samples (a .pre .0) (r .n - p))
+    rw (ne-eqb _ _ (c .before .if1 .left), apart (r .items .step) (r .items .decorrelation) (p - r .items .ramp) (r .n - p) (r .n - r .items .ramp) (omega arith)) (in-samples (a .pre .0) (r .n - p))
 
 pub far-spec : {M : Type 1} → statement M
 far-spec = tie.close (tie.spec returns sub-result returns-2)

@@ -27,7 +27,7 @@ returns-2 : tie.Need-returns-2
 returns-2 c = sym (fed-unequal _ _ _ (held (c .before)) (c .if2 .taken))
 
 -- the room for samples
-most : (c : tie.After-most-samples) → c .most-samples .result ≡ mostSamples (c .before .before .before .before .args .r .step) (c .before .before .before .before .args .r .ramp)
+most : (c : tie.After-most-samples) → c .most-samples .result ≡ mostSamples (c .before .before .before .before .args .r .items .step) (c .before .before .before .before .args .r .items .ramp)
 most c = c .most-samples .ensures ∙ most-of (facts (c .before .before))
 
 sub-room : tie.Need-sub-room

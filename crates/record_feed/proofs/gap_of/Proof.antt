@@ -18,7 +18,7 @@ div-result c = omega (arith, items-of (kept-from (c .before .before .before .arg
 returns : tie.Need-returns
 returns c =
     let s = c .before .before .before in
-    rounded-up (s .args .r .step) (s .args .r .decorrelation) (items-of (kept-from (s .args .r) (s .pre)) .step-low)
+    rounded-up (s .args .r .items .step) (s .args .r .items .decorrelation) (items-of (kept-from (s .args .r) (s .pre)) .step-low)
 
 pub gap-of-spec : {M : Type 1} → statement M
 gap-of-spec = tie.close (tie.spec sub-result add-result div-result returns)

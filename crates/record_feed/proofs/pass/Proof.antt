@@ -32,7 +32,7 @@ Inv-loop roll acceleration s₀ i₀ s i =
     × (i ≤ length roll)
     × (i + firstBad (drop i roll) ≡ firstBad roll)
     × (i + firstBad (drop i acceleration) ≡ firstBad acceleration)
-    × (s .n + (length roll - i) ≤ mostSamples (s .step) (s .ramp))
+    × (s .n + (length roll - i) ≤ mostSamples (s .items .step) (s .items .ramp))
     × (foldl stepped s (drop i (moments roll acceleration)) ≡ foldl stepped s₀ (moments roll acceleration))
 
 abbrev μ-loop : tie.MeasureT-loop
@@ -119,7 +119,7 @@ advance-requires c κs =
       room = omega (arith, l .inv .4);
       short = omega (arith, k, end-near (l .i) (length xs) (c .before .before .before .before .before .before .before .end .ensures));
     } in
-    (fits, c .past .ensures ∙ ends-say (l .s .levels) _ _ (c .before .before .before .before .ends-of .result) (c .before .before .before .ends-of2 .result) (c .before .before .before .before .ends-of .ensures) (c .before .before .before .ends-of2 .ensures), omega arith)
+    (fits, c .past .ensures ∙ ends-say (l .s .items .levels) _ _ (c .before .before .before .before .ends-of .result) (c .before .before .before .ends-of2 .result) (c .before .before .before .before .ends-of .ensures) (c .before .before .before .ends-of2 .ensures), omega arith)
 
 loop-less : tie.Need-loop-less Inv-loop μ-loop
 loop-less c = omega (arith, within (c .before .before .before .before .before .before .before .before))

@@ -16,17 +16,17 @@ use Rattle.record_feed.proofs.run.Tie as tie
 all : (c : tie.Start) → take (length (c .args .roll .now)) (c .args .acceleration .now) ≡ c .args .acceleration .now
 all c = take-all (length (c .args .roll .now)) (c .args .acceleration .now) (omega (arith, c .pre .0 .equal))
 
-noted : (c : tie.After-mark) → take (length (c .before .before .args .roll .now)) (c .mark .last .1 .1 .1 .0) ≡ map (above (c .before .before .args .r .levels)) (moments (c .before .before .args .roll .now) (c .before .before .args .acceleration .now))
+noted : (c : tie.After-mark) → take (length (c .before .before .args .roll .now)) (c .mark .last .1 .1 .1 .0) ≡ map (above (c .before .before .args .r .items .levels)) (moments (c .before .before .args .roll .now) (c .before .before .args .acceleration .now))
 noted c =
     let a = c .before .before in
     let g = a .args in
-    ap (take (length (g .roll .now))) (c .mark .ensures) ∙ marks-front (g .r .levels) (g .roll .now) (g .acceleration .now) (replicate 64 false) (a .pre .0 .equal) (a .pre .0 .short)
+    ap (take (length (g .roll .now))) (c .mark .ensures) ∙ marks-front (g .r .items .levels) (g .roll .now) (g .acceleration .now) (replicate 64 false) (a .pre .0 .equal) (a .pre .0 .short)
 
 slice-aggregate-along : tie.Need-slice-aggregate-along
 slice-aggregate-along c =
     let a = c .before .before .before .before in
     let g = a .args in
-    sym (ap length (noted (c .before .before)) ∙ marks-many (g .r .levels) (g .roll .now) (g .acceleration .now) (a .pre .0 .equal))
+    sym (ap length (noted (c .before .before)) ∙ marks-many (g .r .items .levels) (g .roll .now) (g .acceleration .now) (a .pre .0 .equal))
 
 slice-aggregate-along-2 : tie.Need-slice-aggregate-along-2
 slice-aggregate-along-2 c = rw (all (c .before .before .before .before .before)) (c .before .before .before .before .before .pre .0 .equal)

@@ -47,7 +47,7 @@ run-requires-2 c κs =
     let s = c .before .before .before .moved .ensures ∙ ap (moved r j) (c .before .before .before .before .moment-at .ensures) in
     let e = take-all (length xs - j) (drop j xs) (omega (arith, length-drop j xs)) in
     let f = take-all (length ys - j) (drop j ys) (omega (arith, length-drop j ys)) in
-    let i : r .n + j ≤ r .ramp + 1 = omega arith in
+    let i : r .n + j ≤ r .items .ramp + 1 = omega arith in
     rw (s, e, f) (
       record {
         state = led-sound r p j (omega arith) (omega arith) i (a .pre .0 .good) (a .pre .0 .state) (omega (arith, a .pre .0 .room));

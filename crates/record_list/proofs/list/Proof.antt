@@ -17,11 +17,11 @@ use Rattle.record_list.proofs.list.Statement.{statement}
 use Rattle.record_list.proofs.list.Tie as tie
 
 returns : tie.Need-returns
-returns c = lists-refused (c .before .before .before .before .before .args .step) (c .before .before .before .before .before .args .ramp) (c .before .before .before .before .before .args .levels) (c .before .before .before .before .before .args .decorrelation) (c .before .before .before .before .before .args .roll .now) (c .before .before .before .before .before .args .acceleration .now) (c .before .before .before .before .before .args .times .now) (c .before .size .given .0 .0) (refused-tested (c .before .before .before .before .before .args .step) (c .before .before .before .before .before .args .ramp) (c .before .before .before .before .before .args .levels) (c .before .before .before .before .before .args .decorrelation) (c .before .before .before .before .before .args .roll .now) (c .before .before .before .before .before .args .acceleration .now) (c .before .size .given .0 .0) (sym (c .before .before .before .judge .ensures) ∙ c .before .size .given .1))
+returns c = lists-refused (c .before .before .before .before .before .args .items) (c .before .before .before .before .before .args .roll .now) (c .before .before .before .before .before .args .acceleration .now) (c .before .before .before .before .before .args .times .now) (c .before .size .given .0 .0) (refused-tested (c .before .before .before .before .before .args .items) (c .before .before .before .before .before .args .roll .now) (c .before .before .before .before .before .args .acceleration .now) (c .before .size .given .0 .0) (sym (c .before .before .before .judge .ensures) ∙ c .before .size .given .1))
 
 -- past the first tests the record fits
-fit : (c : tie.After-enum-told) → Fitting (c .before .before .before .before .args .step) (c .before .before .before .before .args .ramp) (c .before .before .before .before .args .levels) (c .before .before .before .before .args .decorrelation) (length (c .before .before .before .before .args .roll .now)) (length (c .before .before .before .before .args .acceleration .now))
-fit c = fitting (c .before .before .before .before .args .step) (c .before .before .before .before .args .ramp) (c .before .before .before .before .args .levels) (c .before .before .before .before .args .decorrelation) (c .before .before .before .before .args .roll .now) (c .before .before .before .before .args .acceleration .now) (sym (c .before .before .judge .ensures) ∙ c .enum-told .given .1)
+fit : (c : tie.After-enum-told) → Fitting (c .before .before .before .before .args .items) (length (c .before .before .before .before .args .roll .now)) (length (c .before .before .before .before .args .acceleration .now))
+fit c = fitting (c .before .before .before .before .args .items) (c .before .before .before .before .args .roll .now) (c .before .before .before .before .args .acceleration .now) (sym (c .before .before .judge .ensures) ∙ c .enum-told .given .1)
 
 slice-aggregate-look-over : tie.Need-slice-aggregate-look-over
 slice-aggregate-look-over c = sym (length-take-le _ _ (omega (arith, fit (c .before) .few)))
@@ -34,19 +34,19 @@ fault-requires c κs = fit (c .before .before .before .before .before) .equal
 
 returns-2 : tie.Need-returns-2
 returns-2 c =
-    let l = looked-bad (take (c .before .before .before .before .before .before .before .before .before .before .args .ramp) (c .before .before .before .before .before .before .before .before .before .before .args .roll .now)) (take (c .before .before .before .before .before .before .before .before .before .before .args .ramp) (c .before .before .before .before .before .before .before .before .before .before .args .acceleration .now)) (c .before .enum-told2 .given .0 .0) (sym (c .before .before .before .look-over .ensures) ∙ c .before .enum-told2 .given .1) in
-    let w : anyBad (c .before .before .before .before .before .before .before .before .before .before .args .roll .now) (c .before .before .before .before .before .before .before .before .before .before .args .acceleration .now) ≡ true = any-parts (c .before .before .before .before .before .before .before .before .before .before .args .roll .now) (c .before .before .before .before .before .before .before .before .before .before .args .acceleration .now) (c .before .before .before .before .before .before .before .before .before .before .args .ramp) ∙ rw (l .0) in
-    rw (c .fault .ensures w) (lists-bad (c .before .before .before .before .before .before .before .before .before .before .args .step) (c .before .before .before .before .before .before .before .before .before .before .args .ramp) (c .before .before .before .before .before .before .before .before .before .before .args .levels) (c .before .before .before .before .before .before .before .before .before .before .args .decorrelation) (c .before .before .before .before .before .before .before .before .before .before .args .roll .now) (c .before .before .before .before .before .before .before .before .before .before .args .acceleration .now) (c .before .before .before .before .before .before .before .before .before .before .args .times .now) (fit (c .before .before .before .before .before .before)) w)
+    let l = looked-bad (take (c .before .before .before .before .before .before .before .before .before .before .args .items .ramp) (c .before .before .before .before .before .before .before .before .before .before .args .roll .now)) (take (c .before .before .before .before .before .before .before .before .before .before .args .items .ramp) (c .before .before .before .before .before .before .before .before .before .before .args .acceleration .now)) (c .before .enum-told2 .given .0 .0) (sym (c .before .before .before .look-over .ensures) ∙ c .before .enum-told2 .given .1) in
+    let w : anyBad (c .before .before .before .before .before .before .before .before .before .before .args .roll .now) (c .before .before .before .before .before .before .before .before .before .before .args .acceleration .now) ≡ true = any-parts (c .before .before .before .before .before .before .before .before .before .before .args .roll .now) (c .before .before .before .before .before .before .before .before .before .before .args .acceleration .now) (c .before .before .before .before .before .before .before .before .before .before .args .items .ramp) ∙ rw (l .0) in
+    rw (c .fault .ensures w) (lists-bad (c .before .before .before .before .before .before .before .before .before .before .args .items) (c .before .before .before .before .before .before .before .before .before .before .args .roll .now) (c .before .before .before .before .before .before .before .before .before .before .args .acceleration .now) (c .before .before .before .before .before .before .before .before .before .before .args .times .now) (fit (c .before .before .before .before .before .before)) w)
 
 -- past the look no sample of the ramp is bad
-good : (c : tie.After-enum-told3) → anyBad (take (c .before .before .before .before .before .before .before .before .before .args .ramp) (c .before .before .before .before .before .before .before .before .before .args .roll .now)) (take (c .before .before .before .before .before .before .before .before .before .args .ramp) (c .before .before .before .before .before .before .before .before .before .args .acceleration .now)) ≡ false
-good c = looked-good (take (c .before .before .before .before .before .before .before .before .before .args .ramp) (c .before .before .before .before .before .before .before .before .before .args .roll .now)) (take (c .before .before .before .before .before .before .before .before .before .args .ramp) (c .before .before .before .before .before .before .before .before .before .args .acceleration .now)) (sym (c .before .before .look-over .ensures) ∙ c .enum-told3 .given .1)
+good : (c : tie.After-enum-told3) → anyBad (take (c .before .before .before .before .before .before .before .before .before .args .items .ramp) (c .before .before .before .before .before .before .before .before .before .args .roll .now)) (take (c .before .before .before .before .before .before .before .before .before .args .items .ramp) (c .before .before .before .before .before .before .before .before .before .args .acceleration .now)) ≡ false
+good c = looked-good (take (c .before .before .before .before .before .before .before .before .before .args .items .ramp) (c .before .before .before .before .before .before .before .before .before .args .roll .now)) (take (c .before .before .before .before .before .before .before .before .before .args .items .ramp) (c .before .before .before .before .before .before .before .before .before .args .acceleration .now)) (sym (c .before .before .look-over .ensures) ∙ c .enum-told3 .given .1)
 
 -- the slice from the ramp on holds the samples from the ramp on
-timed : (c : tie.After-enum-told3) → (take (length (c .before .before .before .before .before .before .before .before .before .args .roll .now) - c .before .before .before .before .before .before .before .before .before .args .ramp) (drop (c .before .before .before .before .before .before .before .before .before .args .ramp) (c .before .before .before .before .before .before .before .before .before .args .roll .now)) ≡ drop (c .before .before .before .before .before .before .before .before .before .args .ramp) (c .before .before .before .before .before .before .before .before .before .args .roll .now)) × (take (length (c .before .before .before .before .before .before .before .before .before .args .acceleration .now) - c .before .before .before .before .before .before .before .before .before .args .ramp) (drop (c .before .before .before .before .before .before .before .before .before .args .ramp) (c .before .before .before .before .before .before .before .before .before .args .acceleration .now)) ≡ drop (c .before .before .before .before .before .before .before .before .before .args .ramp) (c .before .before .before .before .before .before .before .before .before .args .acceleration .now))
+timed : (c : tie.After-enum-told3) → (take (length (c .before .before .before .before .before .before .before .before .before .args .roll .now) - c .before .before .before .before .before .before .before .before .before .args .items .ramp) (drop (c .before .before .before .before .before .before .before .before .before .args .items .ramp) (c .before .before .before .before .before .before .before .before .before .args .roll .now)) ≡ drop (c .before .before .before .before .before .before .before .before .before .args .items .ramp) (c .before .before .before .before .before .before .before .before .before .args .roll .now)) × (take (length (c .before .before .before .before .before .before .before .before .before .args .acceleration .now) - c .before .before .before .before .before .before .before .before .before .args .items .ramp) (drop (c .before .before .before .before .before .before .before .before .before .args .items .ramp) (c .before .before .before .before .before .before .before .before .before .args .acceleration .now)) ≡ drop (c .before .before .before .before .before .before .before .before .before .args .items .ramp) (c .before .before .before .before .before .before .before .before .before .args .acceleration .now))
 timed c =
     let g = c .before .before .before .before .before .before .before .before .before .args in
-    (take-all (length (g .roll .now) - g .ramp) (drop (g .ramp) (g .roll .now)) (omega (arith, length-drop (g .ramp) (g .roll .now))), take-all (length (g .acceleration .now) - g .ramp) (drop (g .ramp) (g .acceleration .now)) (omega (arith, length-drop (g .ramp) (g .acceleration .now))))
+    (take-all (length (g .roll .now) - g .items .ramp) (drop (g .items .ramp) (g .roll .now)) (omega (arith, length-drop (g .items .ramp) (g .roll .now))), take-all (length (g .acceleration .now) - g .items .ramp) (drop (g .items .ramp) (g .acceleration .now)) (omega (arith, length-drop (g .items .ramp) (g .acceleration .now))))
 
 mul-list-timed : tie.Need-mul-list-timed
 mul-list-timed c = omega (arith, fit (c .before .before .before .before .before) .few)
@@ -71,7 +71,7 @@ list-timed-requires c κs =
     let f = fit (c .before .before .before .before .before .before .before .before) in
     let g = c .before .before .before .before .before .before .before .before .before .before .before .before .args in
     let t = timed (c .before .before .before) in
-    rw (t .0, t .1) (ready (c .before .before .before .before .before .before .before .before .before .before .before .before .args .step) (c .before .before .before .before .before .before .before .before .before .before .before .before .args .ramp) (c .before .before .before .before .before .before .before .before .before .before .before .before .args .levels) (c .before .before .before .before .before .before .before .before .before .before .before .before .args .decorrelation) (g .roll .now) f, omega (arith, f .equal, length-drop (g .ramp) (g .roll .now), length-drop (g .ramp) (g .acceleration .now)))
+    rw (t .0, t .1) (ready (c .before .before .before .before .before .before .before .before .before .before .before .before .args .items) (g .roll .now) f, omega (arith, f .equal, length-drop (g .items .ramp) (g .roll .now), length-drop (g .items .ramp) (g .acceleration .now)))
 
 fault-requires-2 : tie.Need-fault-requires-2
 fault-requires-2 c κs = fit (c .before .before .before .before .before .before .before .before .before .before .before .before .before) .equal
@@ -80,14 +80,14 @@ returns-3 : tie.Need-returns-3
 returns-3 c =
     let t = timed (c .before .before .before .before .before .before .before .before .before) in
     let q = rw (t .0, t .1, c .before .settled .given .1) at (c .before .before .before .before .before .list-timed .ensures) in
-    lists-good (c .before .before .before .before .before .before .before .before .before .before .before .before .before .before .before .before .before .before .args .step) (c .before .before .before .before .before .before .before .before .before .before .before .before .before .before .before .before .before .before .args .ramp) (c .before .before .before .before .before .before .before .before .before .before .before .before .before .before .before .before .before .before .args .levels) (c .before .before .before .before .before .before .before .before .before .before .before .before .before .before .before .before .before .before .args .decorrelation) (c .before .before .before .before .before .before .before .before .before .before .before .before .before .before .before .before .before .before .args .roll .now) (c .before .before .before .before .before .before .before .before .before .before .before .before .before .before .before .before .before .before .args .acceleration .now) (c .before .before .before .before .before .before .before .before .before .before .before .before .before .before .before .before .before .before .args .times .now) (fit (c .before .before .before .before .before .before .before .before .before .before .before .before .before .before)) (any-parts (c .before .before .before .before .before .before .before .before .before .before .before .before .before .before .before .before .before .before .args .roll .now) (c .before .before .before .before .before .before .before .before .before .before .before .before .before .before .before .before .before .before .args .acceleration .now) (c .before .before .before .before .before .before .before .before .before .before .before .before .before .before .before .before .before .before .args .ramp) ∙ rw (good (c .before .before .before .before .before .before .before .before .before), q .0)) (q .1)
+    lists-good (c .before .before .before .before .before .before .before .before .before .before .before .before .before .before .before .before .before .before .args .items) (c .before .before .before .before .before .before .before .before .before .before .before .before .before .before .before .before .before .before .args .roll .now) (c .before .before .before .before .before .before .before .before .before .before .before .before .before .before .before .before .before .before .args .acceleration .now) (c .before .before .before .before .before .before .before .before .before .before .before .before .before .before .before .before .before .before .args .times .now) (fit (c .before .before .before .before .before .before .before .before .before .before .before .before .before .before)) (any-parts (c .before .before .before .before .before .before .before .before .before .before .before .before .before .before .before .before .before .before .args .roll .now) (c .before .before .before .before .before .before .before .before .before .before .before .before .before .before .before .before .before .before .args .acceleration .now) (c .before .before .before .before .before .before .before .before .before .before .before .before .before .before .before .before .before .before .args .items .ramp) ∙ rw (good (c .before .before .before .before .before .before .before .before .before), q .0)) (q .1)
 
 returns-4 : tie.Need-returns-4
 returns-4 c =
     let t = timed (c .before .before .before .before .before .before .before .before .before) in
     let q = rw (t .0, t .1, c .before .enum-told4 .given .1) at (c .before .before .before .before .before .list-timed .ensures) in
-    let w : anyBad (c .before .before .before .before .before .before .before .before .before .before .before .before .before .before .before .before .before .before .args .roll .now) (c .before .before .before .before .before .before .before .before .before .before .before .before .before .before .before .before .before .before .args .acceleration .now) ≡ true = any-parts (c .before .before .before .before .before .before .before .before .before .before .before .before .before .before .before .before .before .before .args .roll .now) (c .before .before .before .before .before .before .before .before .before .before .before .before .before .before .before .before .before .before .args .acceleration .now) (c .before .before .before .before .before .before .before .before .before .before .before .before .before .before .before .before .before .before .args .ramp) ∙ rw (good (c .before .before .before .before .before .before .before .before .before), q .0) in
-    rw (c .fault2 .ensures w, q .1) (lists-bad (c .before .before .before .before .before .before .before .before .before .before .before .before .before .before .before .before .before .before .args .step) (c .before .before .before .before .before .before .before .before .before .before .before .before .before .before .before .before .before .before .args .ramp) (c .before .before .before .before .before .before .before .before .before .before .before .before .before .before .before .before .before .before .args .levels) (c .before .before .before .before .before .before .before .before .before .before .before .before .before .before .before .before .before .before .args .decorrelation) (c .before .before .before .before .before .before .before .before .before .before .before .before .before .before .before .before .before .before .args .roll .now) (c .before .before .before .before .before .before .before .before .before .before .before .before .before .before .before .before .before .before .args .acceleration .now) (c .before .before .before .before .before .before .before .before .before .before .before .before .before .before .before .before .before .before .args .times .now) (fit (c .before .before .before .before .before .before .before .before .before .before .before .before .before .before)) w)
+    let w : anyBad (c .before .before .before .before .before .before .before .before .before .before .before .before .before .before .before .before .before .before .args .roll .now) (c .before .before .before .before .before .before .before .before .before .before .before .before .before .before .before .before .before .before .args .acceleration .now) ≡ true = any-parts (c .before .before .before .before .before .before .before .before .before .before .before .before .before .before .before .before .before .before .args .roll .now) (c .before .before .before .before .before .before .before .before .before .before .before .before .before .before .before .before .before .before .args .acceleration .now) (c .before .before .before .before .before .before .before .before .before .before .before .before .before .before .before .before .before .before .args .items .ramp) ∙ rw (good (c .before .before .before .before .before .before .before .before .before), q .0) in
+    rw (c .fault2 .ensures w, q .1) (lists-bad (c .before .before .before .before .before .before .before .before .before .before .before .before .before .before .before .before .before .before .args .items) (c .before .before .before .before .before .before .before .before .before .before .before .before .before .before .before .before .before .before .args .roll .now) (c .before .before .before .before .before .before .before .before .before .before .before .before .before .before .before .before .before .before .args .acceleration .now) (c .before .before .before .before .before .before .before .before .before .before .before .before .before .before .before .before .before .before .args .times .now) (fit (c .before .before .before .before .before .before .before .before .before .before .before .before .before .before)) w)
 
 pub list-spec : {M : Type 1} → statement M
 list-spec =

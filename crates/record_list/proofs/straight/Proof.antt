@@ -8,7 +8,7 @@ use lib.ListN.{length}
 use Rattle.sample_channels.specs.Channels.{moments}
 use Rattle.sample_channels.proofs.Moments.{moments-length}
 use Rattle.sample_channels.proofs.Range.{looked-bad, looked-good}
-use Rattle.crossing_places.specs.Reading.{countedTimes}
+use Rattle.crossing_places.specs.Reading.{countedTimes, unramped}
 use Rattle.record_list.specs.Walk.{Noting}
 use Rattle.record_list.proofs.Walked.{walked-count, walked-times, half-counted}
 use Rattle.record_list.proofs.Answered.{writes-times}
@@ -26,7 +26,7 @@ returns-2 c =
     let a = c .before .before .before .before .before .before .before .before in
     let g = a .args in
     let p = moments (g .roll .now) (g .acceleration .now) in
-    let ts = countedTimes (g .step) 0 (g .levels) (g .decorrelation) p in
+    let ts = countedTimes (unramped (g .step) (g .levels) (g .decorrelation)) p in
     let k = moments-length (g .roll .now) (g .acceleration .now) (a .pre .1) in
     let l : length ts ≤ length (g .times .now) = omega (arith, half-counted (g .step) (g .levels) (g .decorrelation) p, a .pre .2) in
     let e = c .before .before .walk-all .ensures in

@@ -4,19 +4,19 @@ use borrow.Author.Needs.{needs}
 use native.Mathlib.Nat.{zero-add}
 use native.Mathlib.Omega.{arith}
 use Rattle.sample_channels.specs.Channels.{moments}
-use Rattle.crossing_places.specs.Reading.{countedTimes}
+use Rattle.crossing_places.specs.Reading.{countedTimes, unramped}
 use Rattle.record_list.proofs.Answered.{writes-room, writes-times}
 use Rattle.record_list.proofs.Heard.{writes-passed}
 use Rattle.record_list.proofs.write.Statement.{statement}
 use Rattle.record_list.proofs.write.Tie as tie
 
 returns : tie.Need-returns
-returns c = let n = c .before .before .before .pre .3 in rw n (writes-room (countedTimes (c .before .before .before .args .step) 0 (c .before .before .before .args .levels) (c .before .before .before .args .decorrelation) (moments (c .before .before .before .args .roll .now) (c .before .before .before .args .acceleration .now))) (c .before .before .before .args .times .now) (omega arith))
+returns c = let n = c .before .before .before .pre .3 in rw n (writes-room (countedTimes (unramped (c .before .before .before .args .step) (c .before .before .before .args .levels) (c .before .before .before .args .decorrelation)) (moments (c .before .before .before .args .roll .now) (c .before .before .before .args .acceleration .now))) (c .before .before .before .args .times .now) (omega arith))
 
 returns-2 : tie.Need-returns-2
 returns-2 c =
     let n = c .before .before .before .before .before .before .before .before .pre .3 in
-    rw (c .before .before .copy .ensures, zero-add, c .before .before .before .before .before .before .before .before .pre .4 (omega arith), n) (writes-times (countedTimes (c .before .before .before .before .before .before .before .before .args .step) 0 (c .before .before .before .before .before .before .before .before .args .levels) (c .before .before .before .before .before .before .before .before .args .decorrelation) (moments (c .before .before .before .before .before .before .before .before .args .roll .now) (c .before .before .before .before .before .before .before .before .args .acceleration .now))) (c .before .before .before .before .before .before .before .before .args .times .now) (omega arith))
+    rw (c .before .before .copy .ensures, zero-add, c .before .before .before .before .before .before .before .before .pre .4 (omega arith), n) (writes-times (countedTimes (unramped (c .before .before .before .before .before .before .before .before .args .step) (c .before .before .before .before .before .before .before .before .args .levels) (c .before .before .before .before .before .before .before .before .args .decorrelation)) (moments (c .before .before .before .before .before .before .before .before .args .roll .now) (c .before .before .before .before .before .before .before .before .args .acceleration .now))) (c .before .before .before .before .before .before .before .before .args .times .now) (omega arith))
 
 returns-3 : tie.Need-returns-3
 returns-3 c =

@@ -4,7 +4,7 @@ use borrow.Author.Needs.{needs}
 use borrow.Author.Tests.{eq-eqb, ne-eqb}
 use Rattle.record_state.specs.State.{sound, itemsKept}
 use mathlib.Core.Path.{_≡_, sym, _∙_}
-use Rattle.sample_items.proofs.Items.{most-in-range}
+use Rattle.sample_items.proofs.Ranges.{most-in-range}
 use mathlib.Core.Bool.{true}
 use Rattle.record_state.proofs.sound.Statement.{statement}
 use Rattle.record_state.proofs.sound.Tie as tie
@@ -19,7 +19,7 @@ returns-2 c =
     let r = c .before .before .before .before .before .before .before .before .before .before .args .r in
     let z = sym (c .before .before .before .before .before .before .before .before .before .item-outside .ensures) ∙ c .before .before .before .before .before .before .before .before .if1 .left in
     let e : itemsKept r ≡ true = eq-eqb _ 0 z in
-    let m = most-in-range (r .step) (r .ramp) (r .levels) (r .decorrelation) z in
+    let m = most-in-range (r .items) z in
     rw (e, c .both3 .ensures, c .before .both2 .ensures, c .before .before .both .ensures, c .before .before .before .figures-kept .ensures, c .before .before .before .before .before .before .most-samples .ensures, m, c .before .before .before .before .before .before .before .last-kept .ensures)
 
 pub sound-spec : {M : Type 1} → statement M

@@ -8,36 +8,36 @@ use lib.ListN.{length}
 use lib.Dec.{leb}
 use borrow.Author.Needs.{needs}
 use Rattle.sample_items.specs.Limits.{itemOutside, mostSamples}
-use Rattle.sample_items.proofs.Items.{items, most-in-range}
+use Rattle.sample_items.proofs.Ranges.{within-ranges, most-in-range}
 use Rattle.record_whole.proofs.Judged.{sized-item, sized-unequal, sized-fits, sized-fault}
 use Rattle.record_whole.proofs.judge.Statement.{statement}
 use Rattle.record_whole.proofs.judge.Tie as tie
 
 returns : tie.Need-returns
-returns c = let e = c .before .item-outside .ensures in rw e (sized-item (c .before .before .args .step) (c .before .before .args .ramp) (c .before .before .args .levels) (c .before .before .args .decorrelation) (c .before .before .args .roll .now) (c .before .before .args .acceleration .now) (λ z. c .if1 .taken (e ∙ z)))
+returns c = let e = c .before .item-outside .ensures in rw e (sized-item (c .before .before .args .items) (c .before .before .args .roll .now) (c .before .before .args .acceleration .now) (λ z. c .if1 .taken (e ∙ z)))
 
 -- past the first test the items are in range
-ranged : (c : tie.Else1) → itemOutside (c .before .before .args .step) (c .before .before .args .ramp) (c .before .before .args .levels) (c .before .before .args .decorrelation) ≡ 0
+ranged : (c : tie.Else1) → itemOutside (c .before .before .args .items) ≡ 0
 ranged c = sym (c .before .item-outside .ensures) ∙ c .if1 .left
 
 returns-2 : tie.Need-returns-2
-returns-2 c = sized-unequal (c .before .before .before .args .step) (c .before .before .before .args .ramp) (c .before .before .before .args .levels) (c .before .before .before .args .decorrelation) (c .before .before .before .args .roll .now) (c .before .before .before .args .acceleration .now) (ranged (c .before)) (c .if2 .taken)
+returns-2 c = sized-unequal (c .before .before .before .args .items) (c .before .before .before .args .roll .now) (c .before .before .before .args .acceleration .now) (ranged (c .before)) (c .if2 .taken)
 
 add-both : tie.Need-add-both
-add-both c = omega (arith, items (c .before .before .before .before .args .step) (c .before .before .before .before .args .ramp) (c .before .before .before .before .args .levels) (c .before .before .before .before .args .decorrelation) (ranged (c .before .before)) .ramp)
+add-both c = omega (arith, within-ranges (c .before .before .before .before .before .args .items) (ranged (c .before .before .before)) .ramp)
 
-most : (c : tie.After-most-samples) → c .most-samples .result ≡ mostSamples (c .before .before .before .before .args .step) (c .before .before .before .before .args .ramp)
-most c = c .most-samples .ensures ∙ most-in-range (c .before .before .before .before .args .step) (c .before .before .before .before .args .ramp) (c .before .before .before .before .args .levels) (c .before .before .before .before .args .decorrelation) (ranged (c .before .before))
+most : (c : tie.After-most-samples) → c .most-samples .result ≡ mostSamples (c .before .before .before .before .args .items .step) (c .before .before .before .before .args .items .ramp)
+most c = c .most-samples .ensures ∙ most-in-range (c .before .before .before .before .args .items) (ranged (c .before .before))
 
 -- what the test of the length says
-tested : (c : tie.After-both) → c .both .result ≡ (leb (length (c .before .before .before .before .before .args .roll .now)) (mostSamples (c .before .before .before .before .before .args .step) (c .before .before .before .before .before .args .ramp)) && leb (c .before .before .before .before .before .args .ramp + 2) (length (c .before .before .before .before .before .args .roll .now)))
-tested c = rw (c .both .ensures, most (c .before))
+tested : (c : tie.After-both) → c .both .result ≡ (leb (length (c .before .before .before .before .before .before .args .roll .now)) (mostSamples (c .before .before .before .before .before .before .args .items .step) (c .before .before .before .before .before .before .args .items .ramp)) && leb (c .before .before .before .before .before .before .args .items .ramp + 2) (length (c .before .before .before .before .before .before .args .roll .now)))
+tested c = rw (c .both .ensures, most (c .before .before))
 
 returns-3 : tie.Need-returns-3
-returns-3 c = sized-fits (c .before .before .before .before .before .before .args .step) (c .before .before .before .before .before .before .args .ramp) (c .before .before .before .before .before .before .args .levels) (c .before .before .before .before .before .before .args .decorrelation) (c .before .before .before .before .before .before .args .roll .now) (c .before .before .before .before .before .before .args .acceleration .now) (ranged (c .before .before .before .before)) (c .before .before .before .if2 .left) (sym (tested (c .before)) ∙ c .if3 .taken)
+returns-3 c = sized-fits (c .before .before .before .before .before .before .before .args .items) (c .before .before .before .before .before .before .before .args .roll .now) (c .before .before .before .before .before .before .before .args .acceleration .now) (ranged (c .before .before .before .before .before)) (c .before .before .before .before .if2 .left) (sym (tested (c .before)) ∙ c .if3 .taken)
 
 returns-4 : tie.Need-returns-4
-returns-4 c = c .fault .ensures ∙ rw (most (c .before .before .before)) (sized-fault (c .before .before .before .before .before .before .before .args .step) (c .before .before .before .before .before .before .before .args .ramp) (c .before .before .before .before .before .before .before .args .levels) (c .before .before .before .before .before .before .before .args .decorrelation) (c .before .before .before .before .before .before .before .args .roll .now) (c .before .before .before .before .before .before .before .args .acceleration .now) (ranged (c .before .before .before .before .before)) (c .before .before .before .before .if2 .left) (sym (tested (c .before .before)) ∙ c .before .if3 .left))
+returns-4 c = c .fault .ensures ∙ rw (most (c .before .before .before .before)) (sized-fault (c .before .before .before .before .before .before .before .before .args .items) (c .before .before .before .before .before .before .before .before .args .roll .now) (c .before .before .before .before .before .before .before .before .args .acceleration .now) (ranged (c .before .before .before .before .before .before)) (c .before .before .before .before .before .if2 .left) (sym (tested (c .before .before)) ∙ c .before .if3 .left))
 
 pub judge-spec : {M : Type 1} → statement M
 judge-spec =

@@ -7,7 +7,7 @@ use native.Mathlib.Nat.{div-le-self}
 use borrow.Author.Needs.{needs}
 use Rattle.truth.proofs.Laws.{and-true}
 use Rattle.sample_items.specs.Limits.{stepInRange, rampInRange, mostInRange}
-use Rattle.sample_items.proofs.Items.{low, high}
+use Rattle.sample_items.proofs.Ranges.{low, high}
 use Rattle.sample_items.proofs.most_samples.Statement.{statement}
 use Rattle.sample_items.proofs.most_samples.Tie as tie
 

@@ -11,6 +11,7 @@ use lib.ListN.{length, length-append}
 use borrow.Author.Tests.{eqb-false}
 use Rattle.truth.proofs.Cases.{by-test}
 use Rattle.truth.proofs.Laws.{holds}
+use Rattle.text.specs.declared.Writing.the-variants.{Bytes, Refused as Declined}
 use Rattle.decimal.proofs.Text.{digits-below}
 use Rattle.campaign_state.specs.declared.Campaign.{Campaign}
 use Rattle.campaign_state.specs.Kept.{Kept}
@@ -24,7 +25,6 @@ use Rattle.campaign_condition.specs.declared.Answer.the-variants.{Given, Refuse
 use Rattle.campaign_condition.proofs.Whole.{stood, whole-next}
 use Rattle.campaign_report.specs.Report.{blocks, lineText, linesFrom, reportText, standingLetter, sumOf, totalOf, totalText}
 use Rattle.campaign_report.specs.Answers.{afterJudging, writing}
-use Rattle.campaign_report.specs.declared.Writing.the-variants.{Bytes, Refused as Declined}
 use Rattle.campaign_report.proofs.Texts.{line-bytes, next-bytes, total-bytes}
 
 censored-few : (c : Campaign) → Kept c → censored c < 100

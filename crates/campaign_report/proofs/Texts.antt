@@ -2,13 +2,12 @@
 use Prim.Native.Nat.{ℕ, _+_, _≤_, _<_}
 use mathlib.Core.Path.{_≡_, refl, ap, _∙_}
 use mathlib.Core.List.{List, [], _∷_, _++_}
-use native.Mathlib.Nat.{zero-add}
 use native.Mathlib.Omega.{arith}
 use lib.ListN.{length, length-append}
 use borrow.Author.Tests.{le-ltb, lt-ltb}
 use Rattle.refusal.specs.declared.Refusal.{Refusal}
 use Rattle.refusal.specs.declared.Refusal.the-variants.{Room}
-use Rattle.text.specs.Write.{laid}
+use Rattle.text.specs.declared.Writing.the-variants.{Bytes, Refused as Declined}
 use Rattle.decimal.specs.Decimal.{digitsOf}
 use Rattle.decimal.specs.Field.{fieldText, lineFeed, tab}
 use Rattle.campaign_state.specs.declared.Campaign.{Campaign}
@@ -18,9 +17,8 @@ use Rattle.campaign_condition.specs.Standing.{standing}
 use Rattle.campaign_condition.specs.declared.Answer.the-variants.{Given, Refused}
 use Rattle.campaign_condition.specs.declared.Standing.{Standing}
 use Rattle.campaign_report.specs.Report.{blocks, fourText, letterFor, lineText, linesFrom, reportText, standingLetter, totalOf, totalText}
-use Rattle.campaign_report.specs.Answers.{laidBy, writing}
+use Rattle.campaign_report.specs.Answers.{writing}
 use Rattle.campaign_report.specs.declared.Total.{Total}
-use Rattle.campaign_report.specs.declared.Writing.the-variants.{Bytes, Refused as Declined}
 
 four-bytes : (a b c d : ℕ) → length (fourText a b c d) ≡ length (digitsOf a) + length (digitsOf b) + length (digitsOf c) + length (digitsOf d) + 4
 unfolding fourText fieldText
@@ -74,7 +72,3 @@ module _ (number : ℕ) (cs : List Campaign) (out : List ℕ) where
     pub all-written : length (reportText cs) ≤ length out → Bytes (length (reportText cs)) ≡ writing number cs out
     unfolding writing
     all-written h = rw (given, le-ltb _ _ h)
-
-pub laid-front : (out text : List ℕ) → laid out 0 text ≡ laidBy (Bytes (length text)) text out
-unfolding laid laidBy
-laid-front out text = rw zero-add

@@ -5,9 +5,10 @@ use mathlib.Core.List.{List}
 use Prim.Native.Nat.{ℕ}
 use lib.ListN.{take}
 use Rattle.campaign_state.specs.declared.Campaign.{Campaign}
-use Rattle.campaign_report.specs.declared.Writing.{Writing}
+use Rattle.text.specs.declared.Writing.{Writing}
+use Rattle.text.specs.Write.{laidBy}
 use Rattle.campaign_report.specs.Report.{reportText}
-use Rattle.campaign_report.specs.Answers.{laidBy, writing}
+use Rattle.campaign_report.specs.Answers.{writing}
 
 pub write-unique : (all : List Campaign) (number : ℕ) (out later other : List ℕ) (r s : Writing)
     → r ≡ writing number (take number all) out → later ≡ laidBy r (reportText (take number all)) out

@@ -4,12 +4,12 @@ ghost use mathlib.Core.Path.{_≡_};
 ghost use mathlib.Core.Bool.{true};
 ghost use Prim.Native.Nat.{_+_, _≤_};
 ghost use lib.ListN.{length, take};
-ghost use Rattle.text.specs.Write.{placeAfter, written};
+ghost use Rattle.text.specs.Write.{laidBy, placeAfter, written};
 ghost use Rattle.campaign_state.specs.State.{censored, sound};
 ghost use Rattle.campaign_condition.specs.Answers.{lowestBroken};
 ghost use Rattle.campaign_report.specs.Report.{blocks, fourText, letterFor, lineText, linesFrom, reportText};
 ghost use Rattle.campaign_report.specs.Report.{standingLetter, totalOf, totalText, verdictLetter};
-ghost use Rattle.campaign_report.specs.Answers.{laidBy, writing};
+ghost use Rattle.campaign_report.specs.Answers.{writing};
 use campaign_condition::Answer;
 use campaign_condition::Standing;
 use campaign_state::Campaign;
@@ -17,6 +17,7 @@ use campaign_verdict::Counted;
 use campaign_verdict::Judged;
 use campaign_verdict::Verdict;
 use refusal::Refusal;
+use text::Writing;
 
 const TAB: u8 = 9;
 
@@ -24,13 +25,6 @@ const LF: u8 = 10;
 
 // Failures to a block that is billed.
 const BLOCK: u64 = 5;
-
-// What writing comes to.
-pub enum Writing {
-    // The number of bytes.
-    Bytes(u64),
-    Refused(Refusal),
-}
 
 // The sums over all situations: M, N, T and blocks.
 struct Total {

@@ -2,3 +2,4 @@ pub mod Codes
 pub mod Placed
 pub mod States
 pub mod Unique
+pub mod Written

@@ -3,7 +3,7 @@
 use Prim.Native.Nat.{ℕ}
 use mathlib.Core.Path.{_≡_, ap}
 use mathlib.Core.Bool.{Bool}
-use mathlib.Core.List.{List}
+use mathlib.Core.List.{List, []}
 use Rattle.truth.proofs.Unique.{settled}
 use Rattle.refusal.specs.Numbers.{numberOf, valueOf}
 use Rattle.refusal.specs.declared.Refusal.{Refusal}
@@ -12,8 +12,9 @@ use Rattle.record_state.specs.declared.Record.{Record}
 use Rattle.record_end.specs.declared.Ended.{Ended}
 use Rattle.campaign_state.specs.declared.Answer.{Answer}
 use Rattle.campaign_state.specs.declared.Campaign.{Campaign}
+use Rattle.text.specs.declared.Writing.{Writing}
 use Rattle.capi.specs.Numbers.{campaignOf, flag, recordOf}
-use Rattle.capi.specs.Told.{Told, campaignKept, channelIn, placed, recordKept, resultKept, told}
+use Rattle.capi.specs.Told.{Told, campaignKept, channelIn, placed, recordKept, resultKept, told, writeTold}
 
 pub record-of-unique : (s : List ℕ) (x y : Record) → x ≡ recordOf s → y ≡ recordOf s → x ≡ y
 record-of-unique s x y = settled
@@ -32,6 +33,9 @@ give-unique k n m c d p q = (settled (p .0) (q .0), settled (p .1) (q .1))
 
 pub refuse-unique : (f : Refusal) (n m c d : ℕ) → (n ≡ numberOf f) × (c ≡ valueOf f) → (m ≡ numberOf f) × (d ≡ valueOf f) → (n ≡ m) × (c ≡ d)
 refuse-unique f n m c d p q = (settled (p .0) (q .0), settled (p .1) (q .1))
+
+pub tell-writing-unique : (w : Writing) (x y : Told) → x ≡ writeTold w [] → y ≡ writeTold w [] → x ≡ y
+tell-writing-unique w x y = settled
 
 pub channel-in-unique : (a : Reading) (x y : ℕ) → x ≡ channelIn a → y ≡ channelIn a → x ≡ y
 channel-in-unique a x y = settled

@@ -15,6 +15,8 @@ use Rattle.record_end.specs.declared.Ended.{Ended}
 use Rattle.record_end.specs.declared.Ended.the-variants as ended
 use Rattle.campaign_state.specs.declared.Answer.{Answer}
 use Rattle.campaign_state.specs.declared.Answer.the-variants.{Taken, Refused}
+use Rattle.text.specs.declared.Writing.{Writing}
+use Rattle.text.specs.declared.Writing.the-variants as wrote
 use Rattle.capi.specs.Numbers.{recordNumbers, ofRecord, resultNumbers, ofResult, campaignNumbers, ofCampaign}
 
 -- the number, what it carries, and a lent array afterwards
@@ -46,17 +48,25 @@ unfoldable pub campaignTold : Answer → List ℕ → Told
 campaignTold (Taken c) s = told 0 0 (ofCampaign c)
 campaignTold (Refused f) s = refused f s
 
+-- a text that was written: its bytes are carried; and the lent bytes
+unfoldable pub writeTold : Writing → List ℕ → Told
+writeTold (wrote.Bytes n) out = told 0 n out
+writeTold (wrote.Refused f) out = refused f out
+
 -- the channel that refusal 2 names, 0 where there is none
 unfoldable pub channelIn : Reading → ℕ
 channelIn (read.Taken r) = 0
 channelIn (read.Refused f) = channelOf f
 
--- an array of another length is 8, before any other refusal
+-- an array of another length than an answer has numbers is 8, before any other refusal
+abbrev pub inPlaces : ℕ → List ℕ → Told → Told
+inPlaces places s answer = cond (eqb (length s) places) answer (refused BrokenState s)
+
 unfoldable pub recordKept : Reading → List ℕ → Told
-recordKept a s = cond (eqb (length s) recordNumbers) (recordTold a s) (refused BrokenState s)
+recordKept a s = inPlaces recordNumbers s (recordTold a s)
 
 unfoldable pub resultKept : Ended → List ℕ → Told
-resultKept a s = cond (eqb (length s) resultNumbers) (resultTold a s) (refused BrokenState s)
+resultKept a s = inPlaces resultNumbers s (resultTold a s)
 
 unfoldable pub campaignKept : Answer → List ℕ → Told
-campaignKept a s = cond (eqb (length s) campaignNumbers) (campaignTold a s) (refused BrokenState s)
+campaignKept a s = inPlaces campaignNumbers s (campaignTold a s)

@@ -3,11 +3,12 @@
 // told: its number is answered, and what goes with it is written to `carried`. Any numbers are taken: those that are
 // no state are read as one that every entry refuses by 8.
 ghost use mathlib.Core.Path.{_≡_};
+ghost use mathlib.Core.List.{[]};
 ghost use Prim.Native.Nat.{_≤_};
 ghost use Rattle.refusal.specs.Numbers.{numberOf, valueOf};
 ghost use Rattle.capi.specs.Numbers.{codeOf, sampleOf, highestCode, noRecord, recordOf, ofRecord, ofResult};
 ghost use Rattle.capi.specs.Numbers.{noCampaign, campaignOf, ofCampaign, flag};
-ghost use Rattle.capi.specs.Told.{told, placed, channelIn, recordKept, resultKept, campaignKept};
+ghost use Rattle.capi.specs.Told.{told, placed, channelIn, recordKept, resultKept, campaignKept, writeTold};
 use campaign_state::Campaign;
 use record_end::Ended;
 use record_end::Result;
@@ -16,6 +17,7 @@ use refusal::Refusal;
 use sample_channels::Levels;
 use sample_channels::Moment;
 use sample_items::Items;
+use text::Writing;
 
 // How many numbers a state has.
 pub const RECORD_NUMBERS: usize = 14;
@@ -221,6 +223,16 @@ pub fn refuse(f: Refusal, carried: &mut u64) -> u64
 {
     *carried = refusal::carried(f);
     refusal::number(f)
+}
+
+// What writing a text came to: 0 and its bytes, or the refusal.
+pub fn tell_writing(w: Writing, carried: &mut u64) -> u64
+    ensures { λ n. ⌜ told n (now (carried .exit)) [] ≡ writeTold w [] ⌝ }
+{
+    match w {
+        Writing::Bytes(n) => give(n, carried),
+        Writing::Refused(f) => refuse(f, carried),
+    }
 }
 
 // The record of an answer in `state`; or refusal 8 for an array of another length, else the answer's.

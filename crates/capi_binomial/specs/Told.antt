@@ -6,7 +6,6 @@ use mathlib.Core.Bool.{cond}
 use mathlib.Core.List.{List, [], _∷_}
 use lib.Dec.{eqb}
 use lib.ListN.{length}
-use Rattle.refusal.specs.declared.Refusal.the-variants.{BrokenState}
 use Rattle.campaign_verdict.specs.declared.Rates.{Rates}
 use Rattle.binomial_sum.specs.Answers.{adding, opened}
 use Rattle.binomial_sum.specs.declared.Answer.{Answer}
@@ -17,7 +16,7 @@ use Rattle.binomial_bounds.specs.declared.Bounded.{Bounded}
 use Rattle.binomial_bounds.specs.declared.Bounded.the-variants as bounded
 use Rattle.binomial_bounds.specs.declared.Bounds.{Bounds}
 use Rattle.capi.specs.Numbers.{flag, numberAt, recordOf}
-use Rattle.capi.specs.Told.{Told, refused, told}
+use Rattle.capi.specs.Told.{Told, inPlaces, refused, told}
 use Rattle.capi_verdict.specs.Told.{Rating, ratedTold}
 
 -- ---- a sum: three numbers
@@ -49,7 +48,7 @@ sumTold (Taken t) s = told 0 0 (ofSum t)
 sumTold (Refused f) s = refused f s
 
 unfoldable pub sumKept : Answer → List ℕ → Told
-sumKept a s = cond (eqb (length s) sumNumbers) (sumTold a s) (refused BrokenState s)
+sumKept a s = inPlaces sumNumbers s (sumTold a s)
 
 abbrev pub sumOpened : ℕ → List ℕ → Told
 sumOpened D s = sumKept (opened D) s
@@ -63,7 +62,7 @@ boundsTold (bounded.Given b x) out = told 0 (flag b) (ofBounds x)
 boundsTold (bounded.Refused f) out = refused f out
 
 unfoldable pub sumBounded : List ℕ → List ℕ → Told
-sumBounded s out = cond (eqb (length out) boundsNumbers) (boundsTold (bounding (sumOf s)) out) (refused BrokenState out)
+sumBounded s out = inPlaces boundsNumbers out (boundsTold (bounding (sumOf s)) out)
 
 -- as for the rates of a campaign
 abbrev pub sumRated : List ℕ → Rates → Rating

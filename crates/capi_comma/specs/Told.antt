@@ -4,15 +4,14 @@ use Prim.Native.Nat.{ℕ}
 use mathlib.Core.List.{List, []}
 use lib.IntN.{ℤ}
 use lib.ListN.{length}
-use Rattle.capi.specs.Told.{Told, refused, told}
+use Rattle.text.specs.Write.{laidBy}
+use Rattle.capi.specs.Told.{Told, refused, told, writeTold}
 use Rattle.decimal.specs.Lines.{linesOf}
 use Rattle.comma_line.specs.Text.{samplesOf, textOf}
 use Rattle.comma_read.specs.declared.Reading.{Reading}
 use Rattle.comma_read.specs.declared.Reading.the-variants.{Samples, Refused}
 use Rattle.comma_read.specs.Answers.{reading, filledBy}
-use Rattle.comma_write.specs.declared.Writing.{Writing}
-use Rattle.comma_write.specs.declared.Writing.the-variants.{Bytes, Refused as Declined}
-use Rattle.comma_write.specs.Answers.{writing, laidBy}
+use Rattle.comma_write.specs.Answers.{writing}
 
 -- the number and what it carries
 unfoldable pub readTold : Reading → Told
@@ -25,11 +24,6 @@ commaRead D text slice = readTold (reading D text (length slice))
 -- the lent samples afterwards
 abbrev pub commaSamples : ℕ → List ℕ → List ℤ → List ℤ
 commaSamples D text slice = filledBy (reading D text (length slice)) (samplesOf (linesOf text)) slice
-
--- the number, what it carries and the lent bytes
-unfoldable pub writeTold : Writing → List ℕ → Told
-writeTold (Bytes n) out = told 0 n out
-writeTold (Declined f) out = refused f out
 
 abbrev pub commaWritten : ℕ → List ℤ → List ℕ → Told
 commaWritten D xs out = writeTold (writing D xs out) (laidBy (writing D xs out) (textOf D xs) out)

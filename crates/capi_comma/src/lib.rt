@@ -35,8 +35,5 @@ pub extern "C" fn chim_comma_write(
     ensures { λ n. ⌜ told n (now (carried .exit)) (now (out .exit))
         ≡ commaWritten step (now (samples .entry)) (now (out .entry)) ⌝ }
 {
-    match comma_write::write(samples, step, out) {
-        comma_write::Writing::Bytes(n) => capi::give(n, carried),
-        comma_write::Writing::Refused(f) => capi::refuse(f, carried),
-    }
+    capi::tell_writing(comma_write::write(samples, step, out), carried)
 }

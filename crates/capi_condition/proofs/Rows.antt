@@ -14,7 +14,7 @@ use Rattle.campaign_state.specs.declared.Campaign.{Campaign}
 use Rattle.campaign_condition.specs.Answers.{judging}
 use Rattle.campaign_condition.specs.declared.Answer.the-variants.{Refused}
 use Rattle.campaign_report.specs.Answers.{writing}
-use Rattle.campaign_report.specs.declared.Writing.the-variants.{Refused as Declined}
+use Rattle.text.specs.declared.Writing.the-variants.{Refused as Declined}
 use Rattle.capi.specs.Numbers.{campaignOf}
 use Rattle.capi_condition.specs.Told.{campaignsOf}
 

@@ -9,12 +9,12 @@ use Rattle.campaign_condition.specs.declared.Answer.{Answer}
 use Rattle.campaign_condition.specs.declared.Answer.the-variants.{Given, Refused}
 use Rattle.campaign_condition.specs.declared.Standing.{Standing}
 use Rattle.campaign_condition.specs.declared.Standing.the-variants.{Accepted, Open, Rejected}
-use Rattle.campaign_report.specs.Answers.{laidBy, writing}
+use Rattle.campaign_report.specs.Answers.{writing}
 use Rattle.campaign_report.specs.Report.{reportText}
-use Rattle.campaign_report.specs.declared.Writing.{Writing}
-use Rattle.campaign_report.specs.declared.Writing.the-variants.{Bytes, Refused as Declined}
+use Rattle.text.specs.declared.Writing.{Writing}
 use Rattle.capi.specs.Numbers.{campaignOf}
-use Rattle.capi.specs.Told.{Told, refused, told}
+use Rattle.text.specs.Write.{laidBy}
+use Rattle.capi.specs.Told.{Told, refused, told, writeTold}
 
 abbrev pub campaignsOf : List (List ℕ) → List Campaign
 campaignsOf rows = map campaignOf rows
@@ -32,11 +32,6 @@ judgeTold (Refused f) = refused f []
 
 abbrev pub conditionJudged : List (List ℕ) → Told
 conditionJudged rows = judgeTold (judging (length rows) (campaignsOf rows))
-
--- the number, what it carries and the lent bytes
-unfoldable pub writeTold : Writing → List ℕ → Told
-writeTold (Bytes n) out = told 0 n out
-writeTold (Declined f) out = refused f out
 
 abbrev pub conditionReported : List (List ℕ) → List ℕ → Told
 conditionReported rows out =

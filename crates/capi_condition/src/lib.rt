@@ -11,7 +11,6 @@ ghost use Rattle.capi.specs.Told.{told};
 ghost use Rattle.capi_condition.specs.Told.{campaignsOf, conditionJudged, conditionReported, standingCode};
 use campaign_condition::Answer;
 use campaign_condition::Standing;
-use campaign_report::Writing;
 use campaign_state::Campaign;
 use refusal::Refusal;
 
@@ -81,8 +80,8 @@ pub extern "C" fn chim_condition_report(
     if campaigns.len() > campaign_condition::MOST_SITUATIONS {
         return capi::refuse(Refusal::Situations, carried);
     }
-    match campaign_report::write(campaigns_of(campaigns), campaigns.len(), out) {
-        Writing::Bytes(n) => capi::give(n, carried),
-        Writing::Refused(f) => capi::refuse(f, carried),
-    }
+    capi::tell_writing(
+        campaign_report::write(campaigns_of(campaigns), campaigns.len(), out),
+        carried,
+    )
 }

@@ -4,19 +4,13 @@ use Prim.Native.Nat.{ℕ}
 use mathlib.Core.List.{List, []}
 use lib.IntN.{ℤ}
 use lib.ListN.{length}
-use Rattle.capi.specs.Told.{Told, refused, told}
-use Rattle.sheet_records.specs.Answers.{laidBy, writing}
+use Rattle.text.specs.Write.{laidBy}
+use Rattle.capi.specs.Told.{Told, refused, told, writeTold}
+use Rattle.sheet_records.specs.Answers.{writing}
 use Rattle.sheet_records.specs.Ledger.{sheetText}
-use Rattle.sheet_records.specs.declared.Writing.{Writing}
-use Rattle.sheet_records.specs.declared.Writing.the-variants.{Bytes, Refused}
 use Rattle.sheet_records.specs.Records.{filledBy, recordsOf, resuming}
 use Rattle.sheet_records.specs.declared.Resumed.{Resumed}
 use Rattle.sheet_records.specs.declared.Resumed.the-variants.{Records, Stopped}
-
--- the number, what it carries and the lent bytes
-unfoldable pub writeTold : Writing → List ℕ → Told
-writeTold (Bytes n) out = told 0 n out
-writeTold (Refused f) out = refused f out
 
 abbrev pub sheetWritten : ℕ → List ℤ → List ℕ → Told
 sheetWritten q xs out = writeTold (writing q xs out) (laidBy (writing q xs out) (sheetText q xs) out)

@@ -18,10 +18,7 @@ pub extern "C" fn chim_sheet_write(
     ensures { λ n. ⌜ told n (now (carried .exit)) (now (out .exit))
         ≡ sheetWritten standard (now (records .entry)) (now (out .entry)) ⌝ }
 {
-    match sheet_records::write(standard, records, out) {
-        sheet_records::Writing::Bytes(n) => capi::give(n, carried),
-        sheet_records::Writing::Refused(f) => capi::refuse(f, carried),
-    }
+    capi::tell_writing(sheet_records::write(standard, records, out), carried)
 }
 
 // The records of a sheet in `records`, their number in `carried` and the sheet's standard in `standard`; or the

@@ -24,7 +24,8 @@ use Rattle.comma_read.specs.Answers.{reading, readingLines}
 use Rattle.comma_read.proofs.Lines.{Turn, turn, first-line}
 use Rattle.comma_stream.specs.declared.Follow.{Follow}
 use Rattle.comma_stream.specs.Follow.{bytesOf, rightLines, behind}
-use Rattle.comma_stream.specs.Pieces.{joined, Passed, nothing, withPiece, passing, ending}
+use Rattle.text.specs.Pieces.{joined}
+use Rattle.comma_stream.specs.Pieces.{Passed, nothing, withPiece, passing, ending}
 use Rattle.comma_stream.proofs.Going.{Outside, outside-is, outside-join, wrong-none}
 
 -- ---- the right lines that a text starts with, from a time on

@@ -12,11 +12,6 @@ use Rattle.comma_read.specs.declared.Reading.the-variants.{Samples, Refused}
 use Rattle.comma_stream.specs.declared.Follow.{Follow}
 use Rattle.comma_stream.specs.Follow.{bytesOf, rightLines, behind}
 
--- the whole text
-unfoldable pub joined : List (List ℕ) → List ℕ
-joined [] = []
-joined (piece ∷ pieces) = piece ++ joined pieces
-
 -- where the reading stands, the samples that were taken, and the bytes that are left behind them
 pub record Passed : Type 0 where
   pub stands : Follow

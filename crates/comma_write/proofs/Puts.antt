@@ -3,7 +3,7 @@ use mathlib.Core.Path.{_≡_, refl, ap, _∙_}
 use mathlib.Core.Bool.{true, false}
 use mathlib.Core.List.{List, [], _∷_, _++_}
 use Prim.Native.Nat.{ℕ, _+_, _-_, _*_, _^_, _≤_, _<_}
-use native.Mathlib.Nat.{zero-add, mul-le-mul-left}
+use native.Mathlib.Nat.{mul-le-mul-left}
 use native.Mathlib.Omega.{arith}
 use lib.Dec.{leb}
 use lib.IntN.{ℤ}
@@ -12,14 +12,13 @@ use borrow.Author.Tests.{le-ltb, lt-ltb}
 use Rattle.refusal.specs.declared.Refusal.the-variants.{Item, Sample, TooLong, Room}
 use Rattle.sample_items.specs.Limits.{stepInRange}
 use Rattle.sample_range.specs.Range.{firstBad}
-use Rattle.text.specs.Write.{laid}
+use Rattle.text.specs.declared.Writing.the-variants.{Bytes, Refused}
 use Rattle.decimal.specs.Decimal.{longest, digitsOf}
 use Rattle.decimal.specs.Field.{lineFeed}
 use Rattle.degrees.specs.Degrees.{degreesText}
-use Rattle.comma_write.specs.declared.Writing.the-variants.{Bytes, Refused}
 use Rattle.comma_line.specs.Line.{comma, lineText}
 use Rattle.comma_line.specs.Text.{textFrom, textOf}
-use Rattle.comma_write.specs.Answers.{lastTime, writing, laidBy}
+use Rattle.comma_write.specs.Answers.{lastTime, writing}
 
 pub line-bytes : (time : ℕ) (x : ℤ) → length (lineText time x) ≡ length (digitsOf time) + (length (degreesText x) + 2)
 unfolding lineText
@@ -66,7 +65,3 @@ module _ (D : ℕ) (xs : List ℤ) (out : List ℕ) where
 -- times of 12 digits are not too many
 pub few : (n D : ℕ) → 1 ≤ D → (n - 1) * D < 10 ^ longest → n ≤ 1000000000000
 few n D some h = omega (arith, mul-le-mul-left {m = 1} {n = D} (n - 1) some)
-
-pub laid-front : (out text : List ℕ) → laid out 0 text ≡ laidBy (Bytes (length text)) text out
-unfolding laid laidBy
-laid-front out text = rw zero-add

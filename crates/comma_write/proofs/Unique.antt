@@ -5,8 +5,9 @@ use mathlib.Core.Path.{_≡_}
 use mathlib.Core.List.{List}
 use lib.IntN.{ℤ}
 use Rattle.comma_line.specs.Text.{textOf}
-use Rattle.comma_write.specs.declared.Writing.{Writing}
-use Rattle.comma_write.specs.Answers.{writing, laidBy}
+use Rattle.text.specs.declared.Writing.{Writing}
+use Rattle.text.specs.Write.{laidBy}
+use Rattle.comma_write.specs.Answers.{writing}
 
 -- the answer and the bytes
 pub write-unique : (xs : List ℤ) (D : ℕ) (out later other : List ℕ) (r q : Writing)

@@ -3,24 +3,18 @@ ghost use mathlib.Core.Path.{_≡_};
 ghost use Prim.Native.Nat.{_+_, _-_, _*_, _^_, _≤_};
 ghost use lib.Dec.{leb};
 ghost use lib.ListN.{length};
-ghost use Rattle.text.specs.Write.{laid, placeAfter, written};
+ghost use Rattle.text.specs.Write.{laid, laidBy, placeAfter, written};
 ghost use Rattle.decimal.specs.Decimal.{longest};
 ghost use Rattle.comma_line.specs.Line.{lineText};
 ghost use Rattle.comma_line.specs.Text.{textOf};
-ghost use Rattle.comma_write.specs.Answers.{writing, laidBy};
+ghost use Rattle.comma_write.specs.Answers.{writing};
 use refusal::Refusal;
+use text::Writing;
 
 const LF: u8 = 10;
 
 // The longest time, of 12 digits.
 const LONGEST_TIME: u64 = 999_999_999_999;
-
-// What writing samples comes to.
-pub enum Writing {
-    // The number of bytes.
-    Bytes(u64),
-    Refused(Refusal),
-}
 
 // The bytes of a line.
 fn line_length(time: u64, x: i32) -> usize

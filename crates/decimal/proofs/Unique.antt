@@ -7,7 +7,7 @@ use lib.ListN.{length, drop}
 use Rattle.text.specs.Write.{written, placeAfter}
 use Rattle.decimal.specs.Decimal.{zeroByte, isDigit, isNumber, longest, leadingDigits, valueOf, digitsOf}
 use Rattle.decimal.specs.Field.{fieldText}
-use Rattle.decimal.specs.Leading.{standsAt, leadingAt}
+use Rattle.decimal.specs.Leading.{leading, leadingAt, standsAt}
 use Rattle.decimal.specs.declared.Lead.{Lead}
 use Rattle.decimal.specs.declared.Run.{Run}
 
@@ -29,6 +29,9 @@ module _ (s : List ℕ) (at : ℕ) where
       → (r .value ≡ valueOf (leadingDigits longest (drop at s))) × (r .end ≡ at + length (leadingDigits longest (drop at s)))
       → (q .value ≡ valueOf (leadingDigits longest (drop at s))) × (q .end ≡ at + length (leadingDigits longest (drop at s))) → r ≡ q
   run-at-unique r q e f i = record { value = (e .0 ∙ sym (f .0)) i; end = (e .1 ∙ sym (f .1)) i }
+
+pub digits-end-unique : (s : List ℕ) (at r q : ℕ) → r ≡ at + length (leading (drop at s)) → q ≡ at + length (leading (drop at s)) → r ≡ q
+digits-end-unique s at r q e f = cc
 
 pub last-digit-unique : (v r q : ℕ) → r ≡ zeroByte + v % 10 → q ≡ zeroByte + v % 10 → r ≡ q
 last-digit-unique v r q e f = cc

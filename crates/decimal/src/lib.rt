@@ -9,7 +9,7 @@ ghost use Rattle.text.specs.Write.{written, placeAfter};
 ghost use Rattle.decimal.specs.Decimal.{zeroByte, longest, isDigit, isNumber, leadingDigits, valueOf, digitsOf};
 ghost use Rattle.decimal.specs.Decimal.{widest};
 ghost use Rattle.decimal.specs.Field.{fieldText};
-ghost use Rattle.decimal.specs.Leading.{leadingAt, standsAt};
+ghost use Rattle.decimal.specs.Leading.{leading, leadingAt, standsAt};
 
 // The byte of the digit 0.
 const ZERO: u8 = 48;
@@ -119,6 +119,20 @@ fn last_place(len: usize, at: usize) -> usize
         return len;
     }
     at + LONGEST
+}
+
+// The place of the first byte from `at` on that is no digit.
+pub fn digits_end(s: &[u8], at: usize) -> usize
+    ensures { λ r. ⌜ r ≡ at + length (leading (drop at (now (s .entry)))) ⌝ }
+{
+    let mut i = at;
+    while i < s.len() {
+        if !is_digit(s[i]) {
+            return i;
+        }
+        i += 1;
+    }
+    i
 }
 
 // Whether `b` is a decimal digit.

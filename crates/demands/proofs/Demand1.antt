@@ -53,7 +53,8 @@ use Rattle.campaign_state.specs.State as campaigning
 use Rattle.sheet_line.specs.Texts.{entryText}
 use Rattle.sheet_line.specs.declared.Sheet.the-variants.{Fresh, Open}
 use Rattle.sheet_line.specs.Line.{lineAfter, outcome, stepping, telling, told}
-use Rattle.sheet_text.specs.Pieces.{feeding, joined}
+use Rattle.text.specs.Pieces.{joined}
+use Rattle.sheet_text.specs.Pieces.{feeding}
 use Rattle.sheet_text.specs.Sheet.{meaning}
 use Rattle.sheet_text.proofs.Pieces.{cut-anywhere}
 use Rattle.sheet_line.proofs.Theorems.{result-line}

@@ -18,8 +18,8 @@ use Rattle.campaign_condition.specs.declared.Answer.the-variants as judged
 use Rattle.campaign_condition.specs.Answers.{brokenFrom, judging}
 use Rattle.campaign_condition.specs.Standing.{accepted, allAccepted, oneRejected, rejected, standing}
 use Rattle.campaign_condition.specs.declared.Standing.the-variants.{Accepted, Open, Rejected}
-use Rattle.campaign_report.specs.declared.Writing.{Writing}
-use Rattle.campaign_report.specs.declared.Writing.the-variants as written
+use Rattle.text.specs.declared.Writing.{Writing}
+use Rattle.text.specs.declared.Writing.the-variants as written
 use Rattle.campaign_report.specs.Answers.{writing}
 use Rattle.campaign_report.specs.Report.{blocks, fourText, letterFor, lineText, linesFrom, reportText, sumOf, totalText}
 

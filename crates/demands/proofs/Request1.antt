@@ -26,11 +26,13 @@ use Rattle.degrees.specs.Degrees.{filled, isSize, size, sizeLength}
 use Rattle.comma_read.specs.declared.Reading.the-variants.{Samples, Refused}
 use Rattle.comma_read.specs.Answers.{filledBy, reading, readingLines}
 use Rattle.comma_stream.specs.Follow.{mayBegin}
-use Rattle.comma_stream.specs.Pieces.{joined, nothing, passing, ending}
+use Rattle.text.specs.Pieces.{joined}
+use Rattle.comma_stream.specs.Pieces.{nothing, passing, ending}
 use Rattle.comma_stream.proofs.Pieces.{followed-whole, followed-samples}
 use Rattle.comma_stream.proofs.Begun.{wrong-stays}
-use Rattle.comma_write.specs.declared.Writing.the-variants.{Bytes, Refused as Declined}
-use Rattle.comma_write.specs.Answers.{laidBy, lastTime, writing}
+use Rattle.text.specs.declared.Writing.the-variants.{Bytes, Refused as Declined}
+use Rattle.text.specs.Write.{laidBy}
+use Rattle.comma_write.specs.Answers.{lastTime, writing}
 use Rattle.comma_write.proofs.Back.{read-again, read-back}
 use Rattle.demands.proofs.Demand1.{Decides, Test, _gives_, decide, decided}
 

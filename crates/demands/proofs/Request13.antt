@@ -28,13 +28,14 @@ use Rattle.campaign_condition.specs.declared.Standing.{Standing}
 use Rattle.campaign_condition.specs.declared.Standing.the-variants.{Accepted, Open, Rejected}
 use Rattle.campaign_condition.proofs.Exactly.{accepted-if, never-both, only-accepted, only-open, only-rejected, open-if, rejected-if}
 use Rattle.campaign_condition.proofs.Theorems.{accepted-accepts, accepts-accepted, all-needed, empty-open, lowest-named, one-rejects, order, rejected-rejects, rejects-rejected}
-use Rattle.campaign_report.specs.Answers.{laidBy, writing}
+use Rattle.campaign_report.specs.Answers.{writing}
 use Rattle.campaign_report.specs.Report.{blocks, fourText, lineText, linesFrom, reportText, standingLetter, sumOf, totalText, totalWord}
 use Rattle.campaign_report.specs.Report as reporting
 use Rattle.sheet_reply.specs.Written as replying
 use Rattle.sheet_reply.specs.Written.{figures, recordText}
 use Rattle.campaign_report.specs.WholeCase.{reportOnThird, reportOnThree, theirReport, thirdAlone, threeSituations, twoSituations}
-use Rattle.campaign_report.specs.declared.Writing.the-variants.{Bytes, Refused as Declined}
+use Rattle.text.specs.Write.{laidBy}
+use Rattle.text.specs.declared.Writing.the-variants.{Bytes, Refused as Declined}
 use Rattle.campaign_report.proofs.Enough.{enough}
 use Rattle.campaign_report.proofs.Rounding.{blocks-enough, blocks-least}
 use Rattle.campaign_report.proofs.WholeCase.{third-case, three-case, whole-case}

@@ -27,9 +27,10 @@ use Rattle.campaign_state.specs.State.{empty, entered, mostRecords, sound, stan
 use Rattle.campaign_state.proofs.Keeping.{opened-sound}
 use Rattle.sheet_text.specs.declared.Reading.the-variants.{Read, Stopped}
 use Rattle.sheet_text.specs.Sheet.{meaning}
-use Rattle.sheet_records.specs.declared.Writing.{Writing}
-use Rattle.sheet_records.specs.declared.Writing.the-variants.{Bytes, Refused as Declined}
-use Rattle.sheet_records.specs.Answers.{afterJudging, judged, judgedAs, judgedFrom, laidBy, onward, writing}
+use Rattle.text.specs.declared.Writing.{Writing}
+use Rattle.text.specs.Write.{laidBy}
+use Rattle.text.specs.declared.Writing.the-variants.{Bytes, Refused as Declined}
+use Rattle.sheet_records.specs.Answers.{afterJudging, judged, judgedAs, judgedFrom, onward, writing}
 use Rattle.sheet_records.specs.Ledger.{exposureIn, failedIn, outcomeIn, sheetText}
 use Rattle.sheet_records.proofs.Enough.{enough}
 use Rattle.sheet_records.proofs.Entered.{judged-campaign, judged-records}

@@ -7,7 +7,8 @@ use Rattle.poisson.specs.Tables.{l, lowerRows, u, upperRows}
 use Rattle.decimal.specs.Decimal.{allDigits, digitsOf, digitsWithin, isNumber, valueOf}
 use Rattle.decimal.specs.Field.{fieldText}
 use Rattle.decimal.specs.Lines.{linesOf}
-use Rattle.sheet_line.specs.Field.{faultIn, fieldAt, fieldOf, readAs, strangeIn}
+use Rattle.decimal.specs.Leading.{leading}
+use Rattle.sheet_line.specs.Field.{faultIn, fieldAt, fieldOf, readAs}
 use Rattle.campaign_state.specs.Answers.{entering}
 use Rattle.campaign_state.specs.State.{censored, sound}
 use Rattle.sheet_line.specs.Column.{howMany, recordColumn, recordFields, standardColumn, standardFields}
@@ -19,7 +20,7 @@ use Rattle.sheet_text.specs.Sheet.{meaning, reading}
 -- what the program writes for a sheet; where it unfolds, all that a sheet's meaning is defined by does
 pub says : List ℕ → List ℕ
 unfolding meaning reading linesOf stepping standardLine recordLine standardColumn recordColumn standardFields
-    recordFields howMany fieldThen endedBy startsWith begins fieldAt readAs faultIn strangeIn fieldOf isNumber
+    recordFields howMany fieldThen endedBy startsWith begins fieldAt readAs faultIn leading fieldOf isNumber
     allDigits valueOf telling entering sound censored recordText figures letterFor fieldText digitsOf digitsWithin
     refusedText reasonText l u lowerRows upperRows
 says text = meaning text .text

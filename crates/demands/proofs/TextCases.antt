@@ -12,6 +12,8 @@ use Rattle.sample_range.specs.Range.{firstBad}
 use Rattle.decimal.specs.Decimal.{allDigits, digitsOf, digitsWithin, isNumber}
 use Rattle.decimal.specs.Decimal as decimal
 use Rattle.decimal.specs.Field.{fieldText}
+use Rattle.text.specs.declared.Writing.{Writing}
+use Rattle.text.specs.declared.Writing.the-variants as written
 use Rattle.decimal.specs.Leading.{leading}
 use Rattle.decimal.specs.Lines.{linesOf}
 use Rattle.degrees.specs.Degrees.{degreesText, filled, isSize, size, sizeLength}
@@ -20,19 +22,15 @@ use Rattle.comma_line.specs.Text.{firstWrong, textFrom, textOf}
 use Rattle.comma_read.specs.declared.Reading.{Reading}
 use Rattle.comma_read.specs.declared.Reading.the-variants as read
 use Rattle.comma_read.specs.Answers.{reading, readingLines}
-use Rattle.comma_write.specs.declared.Writing.{Writing}
-use Rattle.comma_write.specs.declared.Writing.the-variants as scribed
 use Rattle.comma_write.specs.Answers.{lastTime}
 use Rattle.comma_write.specs.Answers as scribe
 use Rattle.campaign_state.specs.Answers.{entering}
 use Rattle.campaign_state.specs.State.{sound}
 use Rattle.sheet_line.specs.Line.{telling}
-use Rattle.sheet_records.specs.declared.Writing.{Writing as SheetWriting}
-use Rattle.sheet_records.specs.declared.Writing.the-variants as written
 use Rattle.sheet_records.specs.Answers as ledger
 use Rattle.sheet_records.specs.Ledger.{linesFrom, sheetText}
 use Rattle.sheet_line.specs.declared.Field.the-variants.{Empty, LeadingZero, Number, Strange, TooLong}
-use Rattle.sheet_line.specs.Field.{endsHere, faultIn, fieldAt, fieldOf, readAs, strangeIn}
+use Rattle.sheet_line.specs.Field.{endsHere, faultIn, fieldAt, fieldOf, readAs}
 use Rattle.sheet_line.specs.Column.{howMany, recordColumn, recordFields, standardColumn, standardFields}
 use Rattle.sheet_line.specs.Form.{begins}
 use Rattle.sheet_reply.specs.Written.{reasonText, refusedText}
@@ -43,9 +41,9 @@ abbrev ofReading : Reading → List ℕ
 ofReading (read.Samples n) = n ∷ []
 ofReading (read.Refused r) = numberOf r ∷ valueOf r ∷ []
 
-abbrev ofScribe : Writing → List ℕ
-ofScribe (scribed.Bytes n) = n ∷ []
-ofScribe (scribed.Refused r) = numberOf r ∷ valueOf r ∷ []
+abbrev ofWriting : Writing → List ℕ
+ofWriting (written.Bytes n) = n ∷ []
+ofWriting (written.Refused r) = numberOf r ∷ valueOf r ∷ []
 
 -- -41.5, 0, 0.007, 1,000 and -0.001 degrees
 abbrev five : List ℤ
@@ -68,11 +66,11 @@ comma-last-time = refl
 
 -- 1; 2 with the place; 7 with the bytes needed; and just enough of them
 comma-writer-refuses :
-    ofScribe (scribe.writing 0 five [])
-    ∷ ofScribe (scribe.writing 10001 five [])
-    ∷ ofScribe (scribe.writing 500 (pos 0 ∷ pos 0 ∷ negsuc 1000000 ∷ []) [])
-    ∷ ofScribe (scribe.writing 500 five (replicate 56 0))
-    ∷ ofScribe (scribe.writing 500 five (replicate 57 0))
+    ofWriting (scribe.writing 0 five [])
+    ∷ ofWriting (scribe.writing 10001 five [])
+    ∷ ofWriting (scribe.writing 500 (pos 0 ∷ pos 0 ∷ negsuc 1000000 ∷ []) [])
+    ∷ ofWriting (scribe.writing 500 five (replicate 56 0))
+    ∷ ofWriting (scribe.writing 500 five (replicate 57 0))
     ∷ []
     ≡ (1 ∷ 1 ∷ []) ∷ (1 ∷ 1 ∷ []) ∷ (2 ∷ 2 ∷ []) ∷ (7 ∷ 57 ∷ []) ∷ (57 ∷ []) ∷ []
 unfolding scribe.writing firstBad textFrom comma.lineText degreesText digitsOf digitsWithin
@@ -111,10 +109,6 @@ unfolding readingLines firstWrong firstBad linesOf comma.isLine comma.right
 comma-reader-refuses = refl
 
 -- ---- [2] the job sheet, written
-abbrev ofLedger : SheetWriting → List ℕ
-ofLedger (written.Bytes n) = n ∷ []
-ofLedger (written.Refused r) = numberOf r ∷ valueOf r ∷ []
-
 -- a record without failure, then a failed one, which has the minus
 sheet-written : sheetText 7200000 (pos 1800000 ∷ negsuc 933979 ∷ [])
     ≡
@@ -127,14 +121,14 @@ sheet-written = refl
 -- 1 with item 5 before all; the first record at fault decides: 4, 3, and after 64 failures 4, 3, 6; then 7 with the
 -- bytes needed, and just enough of them
 sheet-writer-refuses :
-    ofLedger (ledger.writing 0 (pos 0 ∷ []) [])
-    ∷ ofLedger (ledger.writing 7 (pos 0 ∷ pos 10000001 ∷ []) [])
-    ∷ ofLedger (ledger.writing 7 (negsuc 10000000 ∷ pos 0 ∷ []) [])
-    ∷ ofLedger (ledger.writing 7 (replicate 64 (negsuc 0) ++ (pos 0 ∷ [])) [])
-    ∷ ofLedger (ledger.writing 7 (replicate 64 (negsuc 0) ++ (pos 10000001 ∷ [])) [])
-    ∷ ofLedger (ledger.writing 7 (replicate 64 (negsuc 0) ++ (pos 1 ∷ [])) [])
-    ∷ ofLedger (ledger.writing 7 (pos 1 ∷ negsuc 9999999 ∷ []) (replicate 29 0))
-    ∷ ofLedger (ledger.writing 7 (pos 1 ∷ negsuc 9999999 ∷ []) (replicate 30 0))
+    ofWriting (ledger.writing 0 (pos 0 ∷ []) [])
+    ∷ ofWriting (ledger.writing 7 (pos 0 ∷ pos 10000001 ∷ []) [])
+    ∷ ofWriting (ledger.writing 7 (negsuc 10000000 ∷ pos 0 ∷ []) [])
+    ∷ ofWriting (ledger.writing 7 (replicate 64 (negsuc 0) ++ (pos 0 ∷ [])) [])
+    ∷ ofWriting (ledger.writing 7 (replicate 64 (negsuc 0) ++ (pos 10000001 ∷ [])) [])
+    ∷ ofWriting (ledger.writing 7 (replicate 64 (negsuc 0) ++ (pos 1 ∷ [])) [])
+    ∷ ofWriting (ledger.writing 7 (pos 1 ∷ negsuc 9999999 ∷ []) (replicate 29 0))
+    ∷ ofWriting (ledger.writing 7 (pos 1 ∷ negsuc 9999999 ∷ []) (replicate 30 0))
     ∷ []
     ≡ (1 ∷ 5 ∷ []) ∷ (4 ∷ 0 ∷ []) ∷ (3 ∷ 0 ∷ [])
     ∷ (4 ∷ 0 ∷ []) ∷ (3 ∷ 0 ∷ []) ∷ (6 ∷ 0 ∷ [])
@@ -157,7 +151,7 @@ field-faults :
     ∷ readAs (replicate 13 48) 4 ∷ readAs (replicate 13 49) 4 ∷ readAs (replicate 12 49) 4 ∷ readAs (48 ∷ []) 4
     ∷ []
     ≡ Empty ∷ Strange 5 ∷ Strange 5 ∷ LeadingZero ∷ TooLong ∷ Number 111111111111 16 ∷ Number 0 5 ∷ []
-unfolding readAs faultIn strangeIn isNumber allDigits decimal.valueOf
+unfolding readAs faultIn leading isNumber allDigits decimal.valueOf
 field-faults = refl
 
 -- the column of line 1, 0 where nothing is wrong or the line as a whole is; of the lines
@@ -179,7 +173,7 @@ standard-columns : map standardColumn
     ∷ (115 ∷ 116 ∷ 97 ∷ 110 ∷ 100 ∷ 97 ∷ 114 ∷ 100 ∷ 9 ∷ 55 ∷ [])
     ∷ [])
     ≡ 0 ∷ 10 ∷ 12 ∷ 10 ∷ 10 ∷ 1 ∷ 1 ∷ 0 ∷ 0 ∷ 0 ∷ []
-unfolding standardColumn standardFields howMany begins fieldAt fieldOf endsHere readAs faultIn strangeIn
+unfolding standardColumn standardFields howMany begins fieldAt fieldOf endsHere readAs faultIn leading
     isNumber allDigits decimal.valueOf
 standard-columns = refl
 
@@ -209,7 +203,7 @@ record-columns : map (recordColumn 2)
     ∷ (50 ∷ 9 ∷ 49 ∷ 9 ∷ 57 ∷ [])
     ∷ [])
     ≡ 0 ∷ 0 ∷ 1 ∷ 1 ∷ 1 ∷ 3 ∷ 3 ∷ 3 ∷ 5 ∷ 6 ∷ 5 ∷ 5 ∷ 2 ∷ 0 ∷ 0 ∷ 0 ∷ []
-unfolding recordColumn recordFields howMany fieldAt fieldOf endsHere readAs faultIn strangeIn
+unfolding recordColumn recordFields howMany fieldAt fieldOf endsHere readAs faultIn leading
     isNumber allDigits decimal.valueOf
 record-columns = refl
 

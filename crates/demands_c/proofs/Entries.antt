@@ -74,7 +74,6 @@ use Rattle.bureau_table.specs.declared.Work.the-variants.{Enter, GiveBack, Judg
 use Rattle.bureau_table.specs.Table.{at, jobs, lowestFree, mostJobs}
 use Rattle.bureau_table.specs.Calls.{called}
 use Rattle.campaign_condition.specs.Standing.{standing}
-use Rattle.campaign_report.specs.Answers as reporting
 use Rattle.campaign_report.specs.Report.{reportText}
 use Rattle.sheet_line.specs.declared.Sheet.{Sheet as Standing}
 use Rattle.sheet_line.specs.declared.Sheet.the-variants.{Fresh, Open}
@@ -84,14 +83,13 @@ use Rattle.sheet_line.specs.Line.{stepping}
 use Rattle.sheet_text.specs.declared.Reading.{Reading as Ending}
 use Rattle.sheet_text.specs.declared.Reading.the-variants as sheet
 use Rattle.sheet_text.specs.Sheet.{afterStep, meaning, reading}
-use Rattle.sheet_records.specs.Answers as ledger
 use Rattle.sheet_records.specs.Ledger.{sheetText}
 use Rattle.sheet_records.specs.declared.Resumed.the-variants as resumed
 use Rattle.sheet_records.specs.Records.{filledBy, recordsOf, resuming}
+use Rattle.text.specs.Write.{laidBy}
 use Rattle.decimal.specs.Lines.{linesOf}
 use Rattle.comma_line.specs.Text.{samplesOf, textOf}
 use Rattle.comma_read.specs.Answers as intake
-use Rattle.comma_write.specs.Answers as scribe
 use Rattle.peak_groups.specs.Peaks.{handed}
 use Rattle.peak_envelope.specs.declared.Found.{Found}
 use Rattle.peak_envelope.specs.Answers.{momentOf, sizeOf}
@@ -113,7 +111,7 @@ use Rattle.capi.specs.Numbers.{campaignNumbers, campaignOf, flag, numberAt, ofC
 use Rattle.capi.specs.Numbers.{recordNumbers, recordOf, resultNumbers, resultOf}
 use Rattle.capi.specs.Numbers.{isCampaign, isRecord}
 use Rattle.capi.specs.Told as telling
-use Rattle.capi.specs.Told.{Told, campaignKept, campaignTold, channelIn, recordKept, recordTold, resultKept, resultTold}
+use Rattle.capi.specs.Told.{Told, campaignKept, campaignTold, channelIn, recordKept, recordTold, resultKept, resultTold, writeTold}
 use Rattle.capi.proofs.States.{campaign-back, other-campaign, other-record, record-back, result-back}
 use Rattle.capi_record.specs.Told.{channelFed, channelListed, listChannel, listTold, recordEnded, recordFed}
 use Rattle.capi_record.specs.Told.{recordListed, recordOpened}
@@ -127,7 +125,6 @@ use Rattle.capi_bureau.specs.Rows.{placesOf, rowsLeft}
 use Rattle.capi_bureau.specs.Told.{plain}
 use Rattle.capi_bureau.specs.Told as bench-told
 use Rattle.capi_condition.specs.Told.{campaignsOf, conditionJudged, conditionReported, judgeTold, standingCode}
-use Rattle.capi_condition.specs.Told as conditions
 use Rattle.capi_sheet.specs.Told.{sheetColumn, sheetLine, sheetRead}
 use Rattle.capi_sheet_records.specs.Told.{recordsColumn, recordsLeft, recordsLine, recordsRead, recordsStandard, sheetWritten}
 use Rattle.capi_sheet_records.specs.Told as ledgers
@@ -768,7 +765,7 @@ sums-told =
 
 -- ---- a loading condition
 pub conditions-told : Conditions
-unfolding judgeTold conditions.writeTold reporting.laidBy
+unfolding judgeTold writeTold laidBy
 conditions-told =
     record {
       judge = λ rows. tells (request13.request-13 .judge (length rows) (campaignsOf rows))
@@ -776,7 +773,7 @@ conditions-told =
       report =
           λ rows out.
           tells (request13.request-13 .write (length rows) (campaignsOf rows) out)
-          (λ a. array (conditions.writeTold a (reporting.laidBy a (reportText (campaignsOf rows)) out))) out _ _ _
+          (λ a. array (writeTold a (laidBy a (reportText (campaignsOf rows)) out))) out _ _ _
           (λ r. refl) refl refl;
     }
 
@@ -808,7 +805,7 @@ module _ (text : List ℕ) (slice : List ℤ) where
   records-read q n e = record { told = rw e; standard = rw e; line = rw e; column = rw e }
 
 pub sheets-told : Sheets
-unfolding campaignKept campaignTold sheetLine sheetColumn ledgers.writeTold ledger.laidBy
+unfolding campaignKept campaignTold sheetLine sheetColumn writeTold laidBy
 sheets-told =
     record {
       ends = ends-text;
@@ -820,7 +817,7 @@ sheets-told =
       write =
           λ q xs out.
           tells (request2.request-2 .write q xs out)
-          (λ a. array (ledgers.writeTold a (ledger.laidBy a (sheetText q xs) out))) out _ _ _ (λ r. refl) refl refl;
+          (λ a. array (writeTold a (laidBy a (sheetText q xs) out))) out _ _ _ (λ r. refl) refl refl;
       records-refused = λ text slice line column r e. records-refused text slice line column r
           (request2.request-2 .refused-sheet text (length slice) line column r e);
       records-room =
@@ -837,7 +834,7 @@ sheets-told =
 
 -- ---- comma files
 pub commas-told : Commas
-unfolding commas.readTold commas.writeTold intake.filledBy scribe.laidBy
+unfolding commas.readTold writeTold intake.filledBy laidBy
 commas-told =
     record {
       read =
@@ -848,7 +845,7 @@ commas-told =
       write =
           λ D xs out.
           tells (request1.request-1 .write D xs out)
-          (λ a. array (commas.writeTold a (scribe.laidBy a (textOf D xs) out))) out _ _ _ (λ r. refl) refl refl;
+          (λ a. array (writeTold a (laidBy a (textOf D xs) out))) out _ _ _ (λ r. refl) refl refl;
     }
 
 -- ---- peaks

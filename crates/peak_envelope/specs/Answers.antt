@@ -2,16 +2,16 @@
 -- Assumes nothing.
 use Prim.Native.Nat.{ℕ}
 use mathlib.Core.Path.{_≡_}
-use mathlib.Core.Bool.{cond, not}
+use mathlib.Core.Bool.{cond}
 use mathlib.Core.List.{List, _++_, map}
 use lib.ListN.{length, drop}
-use lib.Dec.{ltb, eqb}
+use lib.Dec.{ltb}
 use lib.IntN.{ℤ}
-use Rattle.refusal.specs.declared.Refusal.the-variants.{Item, Sample, TooLong, TooShort, Room}
+use Rattle.refusal.specs.declared.Refusal.the-variants.{Sample, Room}
 use Rattle.sample_items.specs.declared.Items.{Items}
-use Rattle.sample_items.specs.Limits.{itemOutside, mostSamples}
+use Rattle.sample_items.specs.Limits.{itemOutside}
 use Rattle.sample_range.specs.Range.{firstBad}
-use Rattle.crossing_places.specs.Reading.{tooFew}
+use Rattle.record_whole.specs.Tests.{itemThen, lengthThen}
 use Rattle.peak_groups.specs.declared.Peak.{Peak}
 use Rattle.peak_groups.specs.Peaks.{handed, short}
 use Rattle.peak_envelope.specs.declared.Found.{Found}
@@ -39,11 +39,10 @@ placed sizes times k = cond (short sizes times k) (Refused (Room k)) (Peaks k)
 -- 1, 2, 3, 4 as in listing, then 7
 unfoldable pub found : ℕ → ℕ → ℕ → List ℤ → ℕ → ℕ → Found
 found D R τ xs sizes times =
-    cond (not (eqb (itemAsked D R τ) 0)) (Refused (Item (itemAsked D R τ)))
+    itemThen Refused (itemAsked D R τ)
     (cond (ltb (firstBad xs) (length xs)) (Refused (Sample (firstBad xs)))
-    (cond (ltb (mostSamples D R) (length xs)) (Refused TooLong)
-    (cond (tooFew R (length xs)) (Refused TooShort)
-    (placed sizes times (length (handed D R τ xs))))))
+    (lengthThen Refused D R (length xs)
+    (placed sizes times (length (handed D R τ xs)))))
 
 -- a slice afterwards: the figures in order from its start and the rest as it stood; on a refusal all as it stood
 unfoldable pub written : Found → List ℕ → List ℕ → List ℕ

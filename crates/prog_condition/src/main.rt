@@ -10,7 +10,6 @@ ghost use Prim.Native.Nat.{_≤_, _<_};
 ghost use lib.ListN.{length};
 ghost use Rattle.sheet_line.specs.Form.{longestLine};
 ghost use Rattle.prog_condition.specs.Left.{comingBy, keptBy};
-use campaign_report::Writing;
 use campaign_state::Campaign;
 use libc::STDERR_FILENO;
 use libc::STDIN_FILENO;
@@ -18,6 +17,7 @@ use libc::STDOUT_FILENO;
 use refusal::Refusal;
 use sheet_line::Sheet;
 use sheet_text::Reading;
+use text::Writing;
 
 const END_FILENO: i32 = 3;
 

@@ -2,18 +2,17 @@
 -- Assumes nothing.
 use Prim.Native.Nat.{ℕ}
 use mathlib.Core.Path.{_≡_}
-use mathlib.Core.Bool.{cond, not, true, false}
+use mathlib.Core.Bool.{cond, true, false}
 use mathlib.Core.List.{List, _++_}
 use lib.ListN.{length, drop}
-use lib.Dec.{ltb, eqb}
+use lib.Dec.{ltb}
 use lib.IntN.{ℤ}
-use Rattle.refusal.specs.declared.Refusal.the-variants.{Item, TooLong, TooShort, Room, Unequal}
+use Rattle.refusal.specs.declared.Refusal.the-variants.{Room}
 use Rattle.sample_channels.specs.declared.Levels.{Levels}
 use Rattle.sample_items.specs.declared.Items.{Items}
-use Rattle.sample_channels.specs.Channels.{moments, anyBad, badSample}
-use Rattle.sample_items.specs.Limits.{itemOutside, mostSamples}
-use Rattle.sample_range.specs.Range.{firstBad}
-use Rattle.crossing_places.specs.Reading.{counted, countedTimes, tooFew, unramped}
+use Rattle.sample_channels.specs.Channels.{moments, anyBad}
+use Rattle.crossing_places.specs.Reading.{counted, countedTimes, unramped}
+use Rattle.record_whole.specs.Tests.{testsThen}
 use Rattle.record_list.specs.declared.Listed.{Listed}
 use Rattle.record_list.specs.declared.Listed.the-variants.{Times, Refused}
 use Rattle.record_list.specs.declared.Settled.{Settled}
@@ -23,13 +22,9 @@ use Rattle.record_list.specs.declared.Settled.the-variants.{Done, Spoilt
 -- counted times, into a slice of so many places
 unfoldable pub listed : Items → List ℤ → List ℤ → ℕ → Listed
 listed items xs ys places =
-    cond (not (eqb (itemOutside items) 0)) (Refused (Item (itemOutside items)))
-    (cond (not (eqb (length xs) (length ys))) (Refused Unequal)
-    (cond (anyBad xs ys) (Refused (badSample (firstBad xs) (firstBad ys)))
-    (cond (ltb (mostSamples (items .step) (items .ramp)) (length xs)) (Refused TooLong)
-    (cond (tooFew (items .ramp) (length xs)) (Refused TooShort)
+    testsThen Refused items xs ys
     (cond (ltb places (length (counted items (moments xs ys)))) (Refused (Room (length (counted items (moments xs ys)))))
-    (Times (length (counted items (moments xs ys)))))))))
+    (Times (length (counted items (moments xs ys)))))
 
 -- the slice afterwards: the times in order from its start and the rest as it stood; on a refusal all as it stood
 unfoldable pub written : Listed → List ℕ → List ℕ → List ℕ

@@ -6,6 +6,7 @@ use mathlib.Core.List.{List}
 use lib.ListN.{length}
 use lib.Dec.{ltb, leb, eqb}
 use lib.IntN.{ℤ}
+use Rattle.refusal.specs.declared.Refusal.{Refusal}
 use Rattle.refusal.specs.declared.Refusal.the-variants.{Item, TooLong, TooShort, Unequal}
 use Rattle.sample_items.specs.declared.Items.{Items}
 use Rattle.sample_channels.specs.Channels.{anyBad, badSample}
@@ -15,15 +16,26 @@ use Rattle.crossing_places.specs.Reading.{tooFew}
 use Rattle.record_whole.specs.declared.Size.{Size}
 use Rattle.record_whole.specs.declared.Size.the-variants.{Fits, Refused}
 
--- the refusal of the first test that holds
+-- ---- whatever is answered of a whole record: the refusal of the first test that holds, or else what follows
+-- 1 for an item, 0 where none is outside its range
+abbrev pub itemThen : {A : Type 0} → (Refusal → A) → ℕ → A → A
+itemThen refuse item rest = cond (not (eqb item 0)) (refuse (Item item)) rest
+
+-- 3, 4 for n samples
+abbrev pub lengthThen : {A : Type 0} → (Refusal → A) → ℕ → ℕ → ℕ → A → A
+lengthThen refuse D R n rest = cond (ltb (mostSamples D R) n) (refuse TooLong) (cond (tooFew R n) (refuse TooShort) rest)
+
+-- 1, 12, 2, 3, 4
+abbrev pub testsThen : {A : Type 0} → (Refusal → A) → Items → List ℤ → List ℤ → A → A
+testsThen refuse items xs ys rest =
+    itemThen refuse (itemOutside items)
+    (cond (not (eqb (length xs) (length ys))) (refuse Unequal)
+    (cond (anyBad xs ys) (refuse (badSample (firstBad xs) (firstBad ys)))
+    (lengthThen refuse (items .step) (items .ramp) (length xs) rest)))
+
+-- ---- the tests alone
 unfoldable pub tested : Items → List ℤ → List ℤ → Size
-tested items xs ys =
-    cond (not (eqb (itemOutside items) 0)) (Refused (Item (itemOutside items)))
-    (cond (not (eqb (length xs) (length ys))) (Refused Unequal)
-    (cond (anyBad xs ys) (Refused (badSample (firstBad xs) (firstBad ys)))
-    (cond (ltb (mostSamples (items .step) (items .ramp)) (length xs)) (Refused TooLong)
-    (cond (tooFew (items .ramp) (length xs)) (Refused TooShort)
-    Fits))))
+tested items xs ys = testsThen Refused items xs ys Fits
 
 -- the items are in range, the slices are equally long, and n samples are neither too many nor too few
 abbrev pub inSize : Items → ℕ → ℕ → Bool

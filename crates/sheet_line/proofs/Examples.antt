@@ -4,7 +4,8 @@ use mathlib.Core.Path.{_≡_, refl}
 use mathlib.Core.List.{List, [], _∷_, map}
 use Prim.Native.Nat.{ℕ}
 use Rattle.decimal.specs.Decimal.{allDigits, isNumber, valueOf, digitsWithin, digitsOf}
-use Rattle.sheet_line.specs.Field.{fieldOf, strangeIn, faultIn, readAs, fieldAt}
+use Rattle.decimal.specs.Leading.{leading}
+use Rattle.sheet_line.specs.Field.{fieldOf, faultIn, readAs, fieldAt}
 use Rattle.sheet_line.specs.declared.Field.the-variants.{Number, Empty, Strange, LeadingZero, TooLong}
 
 abbrev texts : List (List ℕ)
@@ -25,7 +26,7 @@ texts =
     ∷ []
 
 pub readings : map (λ text. fieldAt text 0) texts ≡ Number 0 1 ∷ Number 40 2 ∷ Number 40 2 ∷ Number 999999999999 12 ∷ TooLong ∷ LeadingZero ∷ LeadingZero ∷ Empty ∷ Strange 1 ∷ Strange 0 ∷ Strange 1 ∷ LeadingZero ∷ Strange 13 ∷ []
-unfolding fieldAt readAs faultIn strangeIn fieldOf isNumber allDigits valueOf
+unfolding fieldAt readAs faultIn leading fieldOf isNumber allDigits valueOf
 readings = refl
 
 pub exposure-written : digitsOf 2733980 ≡ 50 ∷ 55 ∷ 51 ∷ 51 ∷ 57 ∷ 56 ∷ 48 ∷ []

@@ -5,14 +5,14 @@ use mathlib.Core.Bool.{true, false, true≢false}
 use mathlib.Core.List.{List, [], _∷_}
 use Prim.Native.Nat.{ℕ, _+_, _≤_, _<_}
 use native.Mathlib.Nat.{add-zero}
-use native.Mathlib.Numerals.{add-one}
 use native.Mathlib.Omega.{arith}
 use lib.Dec.{eqb}
 use lib.ListN.{length, getD, drop, length-drop, drop-of-length-le}
-use lib.Seq.{drop-cons, drop-drop, getD-drop}
+use lib.Seq.{drop-drop, getD-drop}
 use borrow.Author.Tests.{eq-eqb, ne-eqb, le-leb, le-ltb, lt-ltb}
 use Rattle.truth.proofs.Cases.{by-order, by-test}
 use Rattle.decimal.specs.Decimal.{zeroByte, longest, isDigit, allDigits, isNumber, leadingZero}
+use Rattle.decimal.specs.Leading.{leading}
 use Rattle.sheet_line.specs.Field.{isEnd, endsHere, fieldOf, strangeIn, faultIn, readAs, fieldAt}
 use Rattle.sheet_line.specs.declared.Field.{Field}
 use Rattle.sheet_line.specs.declared.Field.the-variants.{Number, Empty, Strange, LeadingZero, TooLong}
@@ -22,12 +22,15 @@ end-no-digit : (b : ℕ) → isEnd b ≡ true → isDigit b ≡ false
 end-no-digit b e = by-test (isDigit b) (λ d. absurd (true≢false (sym e ∙ digit-no-end b d))) (λ d. d)
 
 strange-field : (text : List ℕ) → strangeIn (fieldOf text) ≡ strangeIn text
-unfolding strangeIn fieldOf
+unfolding leading fieldOf
 strange-field [] = refl
-strange-field (b ∷ text) = by-test (isEnd b) (λ e. rw (e, end-no-digit b e)) (λ e. rw (e, strange-field text))
+strange-field (b ∷ text) =
+    by-test (isEnd b)
+    (λ e. rw (e, end-no-digit b e))
+    (λ e. by-test (isDigit b) (λ d. rw (e, d, strange-field text)) (λ d. rw (e, d)))
 
 all-digits-up : (text : List ℕ) → allDigits (fieldOf text) ≡ endsHere (drop (strangeIn text) text)
-unfolding strangeIn fieldOf allDigits endsHere
+unfolding leading fieldOf allDigits endsHere
 all-digits-up [] = refl
 all-digits-up (b ∷ text) =
     by-test (isEnd b)
@@ -85,23 +88,9 @@ module _ (s : List ℕ) (at : ℕ) (n : isNumber (fieldOf (drop at s)) ≡ false
         unfolding fieldAt readAs faultIn
         is-too-long z = rw (n, none-there (drop at s), some, digits, other-first (fieldOf (drop at s)) (λ k. z (sym byte ∙ k)))
 
--- one turn of the search for the byte that is no digit
-module _ (s : List ℕ) (i : ℕ) where
-  pub strange-here : i < length s → isDigit (getD s i 0) ≡ false → i + strangeIn (drop i s) ≡ i
-  unfolding strangeIn
-  strange-here h d = rw (drop-cons s i 0 h, d) (add-zero i)
-
-  pub strange-on : i < length s → isDigit (getD s i 0) ≡ true → i + strangeIn (drop i s) ≡ i + 1 + strangeIn (drop (i + 1) s)
-  unfolding strangeIn
-  strange-on h d = rw (drop-cons s i 0 h, d, add-one) (omega arith)
-
-  pub strange-none : length s ≤ i → i + strangeIn (drop i s) ≡ i
-  unfolding strangeIn
-  strange-none h = rw (drop-of-length-le s h) (add-zero i)
-
 -- a strange byte stands in the text
 strange-few : (text : List ℕ) → strangeIn text ≤ length text
-unfolding strangeIn
+unfolding leading
 strange-few [] = omega arith
 strange-few (b ∷ text) = by-test (isDigit b) (λ d. rw d (omega (arith, strange-few text))) (λ d. rw d (omega arith))
 

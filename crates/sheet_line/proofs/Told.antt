@@ -12,6 +12,7 @@ use Rattle.truth.proofs.Cases.{by-order, by-test}
 use Rattle.truth.proofs.Laws.{and-true, true≢false}
 use Rattle.decimal.specs.Decimal.{allDigits, isDigit, isNumber, zeroByte}
 use Rattle.decimal.proofs.Text.{all-append}
+use Rattle.decimal.proofs.Leading.{leading-is}
 use Rattle.sheet_line.specs.Field.{faultIn, readAs, strangeIn}
 use Rattle.sheet_line.specs.Told.{FieldIs, FirstStrange, empty, leading-zero, number, strange, too-long}
 use Rattle.sheet_line.specs.declared.Field.{Field}
@@ -29,11 +30,7 @@ strange-parts (b ∷ field) e =
 
 strange-place : (before : List ℕ) (b : ℕ) (after : List ℕ) → allDigits before ≡ true → isDigit b ≡ false
     → strangeIn (before ++ (b ∷ after)) ≡ length before
-unfolding allDigits strangeIn
-strange-place [] b after ds d = rw d
-strange-place (c ∷ before) b after ds d =
-    let (e, rest) = and-true (isDigit c) (allDigits before) ds in
-    rw (e, strange-place before b after rest d)
+strange-place before b after ds d = ap length (leading-is before (b ∷ after) ds d)
 
 strange-not-all : (before : List ℕ) (b : ℕ) (after : List ℕ) → isDigit b ≡ false
     → allDigits (before ++ (b ∷ after)) ≡ false

@@ -1,11 +1,12 @@
 -- Document 01, "The job sheet": the fields of a line, parted by a tab, the line ended by LF. Assumes nothing.
-use Prim.Native.Nat.{ℕ, suc, _+_}
+use Prim.Native.Nat.{ℕ, _+_}
 use mathlib.Core.Bool.{Bool, true, cond, not, _||_}
 use mathlib.Core.List.{List, [], _∷_}
 use lib.ListN.{length, drop}
 use lib.Dec.{eqb}
-use Rattle.decimal.specs.Decimal.{allDigits, isDigit, isNumber, leadingZero, valueOf}
+use Rattle.decimal.specs.Decimal.{allDigits, isNumber, leadingZero, valueOf}
 use Rattle.decimal.specs.Field.{tab, lineFeed}
+use Rattle.decimal.specs.Leading.{leading}
 use Rattle.sheet_line.specs.declared.Field.{Field}
 use Rattle.sheet_line.specs.declared.Field.the-variants.{Number, Empty, Strange, LeadingZero, TooLong}
 
@@ -24,9 +25,8 @@ fieldOf [] = []
 fieldOf (b ∷ text) = cond (isEnd b) [] (b ∷ fieldOf text)
 
 -- where the first byte that is no digit stands
-unfoldable pub strangeIn : List ℕ → ℕ
-strangeIn [] = 0
-strangeIn (b ∷ text) = cond (isDigit b) (suc (strangeIn text)) 0
+abbrev pub strangeIn : List ℕ → ℕ
+strangeIn text = length (leading text)
 
 -- what is wrong with a field that is no number, by document 02, request 10, in this order: it is empty, has a strange
 -- byte (the first one's place is told), has a leading zero, or is too long

@@ -83,9 +83,13 @@ isRecord c line number flag end = (eqb number (c .records + 1) && leb flag 1) &&
 abbrev pub told : Bool → ℕ → Outcome
 told f t = record { failed = f; exposure = t }
 
--- exposure 0 gives 4, above 10,000,000 gives 3; else the outcome enters: 5, 6
+-- exposure 0 gives 4, above 10,000,000 gives 3; else what follows
+abbrev pub exposureThen : ℕ → Answer → Answer
+exposureThen t rest = cond (eqb t 0) (Refused TooShort) (cond (ltb longestTime t) (Refused TooLong) rest)
+
+-- 4, 3; else the outcome enters: 5, 6
 unfoldable pub telling : Campaign → Bool → ℕ → Answer
-telling c f t = cond (eqb t 0) (Refused TooShort) (cond (ltb longestTime t) (Refused TooLong) (entering c (told f t)))
+telling c f t = exposureThen t (entering c (told f t))
 
 unfoldable pub recordLine : ℕ → Campaign → List ℕ → Step
 recordLine column c line =

@@ -7,7 +7,7 @@ ghost use mathlib.Core.Bool.{false, true};
 ghost use Prim.Native.Nat.{_+_, _≤_};
 ghost use lib.ListN.{drop, length};
 ghost use Rattle.decimal.specs.Decimal.{isNumber};
-ghost use Rattle.sheet_line.specs.Field.{endsHere, fieldAt, fieldOf, strangeIn};
+ghost use Rattle.sheet_line.specs.Field.{endsHere, fieldAt, fieldOf};
 ghost use Rattle.sheet_line.specs.Form.{longestLine, isLine, begins};
 ghost use Rattle.sheet_line.specs.Column.{howMany, isParted, columnIn, behind, standardFields, recordFields};
 ghost use Rattle.sheet_line.specs.Column.{standardColumn, recordColumn};
@@ -70,7 +70,7 @@ fn fault_at(s: &[u8], at: usize) -> Field
     if ended(s, at) {
         return Field::Empty;
     }
-    let end = digits_end(s, at);
+    let end = decimal::digits_end(s, at);
     let strange = !ended(s, end);
     let zero = s[at] == ZERO;
     if strange {
@@ -80,20 +80,6 @@ fn fault_at(s: &[u8], at: usize) -> Field
         return Field::LeadingZero;
     }
     Field::TooLong
-}
-
-// The place of the first byte from `at` on that is no digit.
-fn digits_end(s: &[u8], at: usize) -> usize
-    ensures { λ r. ⌜ r ≡ at + strangeIn (drop at (now (s .entry))) ⌝ }
-{
-    let mut place = at;
-    while place < s.len() {
-        if !decimal::is_digit(s[place]) {
-            return place;
-        }
-        place += 1;
-    }
-    place
 }
 
 // Whether a field that comes to `at` ends there.

@@ -29,7 +29,7 @@ use Rattle.sheet_line.specs.declared.Sheet.the-variants.{Fresh, Open}
 use Rattle.sheet_line.specs.Line.{outcome, telling, told}
 use Rattle.sheet_line.proofs.Theorems.{told-entered}
 use Rattle.sheet_text.specs.declared.Reading.the-variants.{Read}
-use Rattle.sheet_text.specs.Pieces.{joined}
+use Rattle.text.specs.Pieces.{joined}
 use Rattle.sheet_text.specs.Sheet.{Account, afterStep, meaning, reading}
 use Rattle.sheet_line.specs.Texts.{entryText, headText}
 use Rattle.sheet_records.proofs.Enough.{in-range}

@@ -26,7 +26,7 @@ use Rattle.sheet_line.specs.Line.{stepping, telling, told}
 use Rattle.sheet_line.proofs.Entries.{says-next, standard-says}
 use Rattle.sheet_line.proofs.Theorems.{flag-of, line-enters, told-entered}
 use Rattle.sheet_text.specs.declared.Reading.the-variants.{Read}
-use Rattle.sheet_text.specs.Pieces.{joined}
+use Rattle.text.specs.Pieces.{joined}
 use Rattle.sheet_text.specs.Sheet.{Account, afterStep, meaning, reading}
 use Rattle.sheet_records.specs.Answers.{judged, judgedFrom}
 use Rattle.sheet_records.proofs.Entered.{judged-standard}

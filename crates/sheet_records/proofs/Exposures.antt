@@ -22,23 +22,6 @@ use Rattle.decimal.proofs.Text.{all-digits, digits-above, digits-first, digits-
 use Rattle.sheet_records.specs.Pass.{ExposureHere}
 use Rattle.sheet_records.proofs.At.{lead-bytes}
 
--- ---- one turn of the search for the byte that is no digit
-module _ (s : List ℕ) (i : ℕ) where
-  abbrev pub Reached : ℕ
-  Reached = i + length (leading (drop i s))
-
-  pub digit-none : length s ≤ i → Reached ≡ i
-  unfolding leading
-  digit-none h = rw (drop-of-length-le s h) (add-zero i)
-
-  pub digit-here : i < length s → isDigit (getD s i 0) ≡ false → Reached ≡ i
-  unfolding leading
-  digit-here h d = rw (drop-cons s i 0 h, d) (add-zero i)
-
-  pub digit-on : i < length s → isDigit (getD s i 0) ≡ true → Reached ≡ i + 1 + length (leading (drop (i + 1) s))
-  unfolding leading
-  digit-on h d = rw (drop-cons s i 0 h, d, add-one) (omega arith)
-
 -- ---- the digits at a place
 module _ (s : List ℕ) (at : ℕ) where
   abbrev Digits : List ℕ

@@ -16,7 +16,7 @@ use Rattle.decimal.proofs.Leading.{leading-is}
 use Rattle.decimal.proofs.Lines.{NoFeed, digits-none, lines-front, none-joined}
 use Rattle.decimal.proofs.Text.{all-digits, value-digits}
 use Rattle.sheet_line.specs.Form.{standardStart}
-use Rattle.sheet_text.specs.Pieces.{joined}
+use Rattle.text.specs.Pieces.{joined}
 use Rattle.degrees.specs.Degrees.{signed}
 use Rattle.sheet_line.specs.Texts.{entryText, headText}
 use Rattle.sheet_records.specs.Records.{afterField, recordIn}

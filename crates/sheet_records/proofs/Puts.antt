@@ -3,7 +3,6 @@ use mathlib.Core.Path.{_≡_, refl, ap, _∙_}
 use mathlib.Core.Bool.{Bool, true, false, cond}
 use mathlib.Core.List.{List, [], _∷_, _++_, append-assoc}
 use Prim.Native.Nat.{ℕ, _+_, _≤_, _<_}
-use native.Mathlib.Nat.{zero-add}
 use native.Mathlib.Omega.{arith}
 use lib.IntN.{ℤ, pos, negsuc}
 use lib.ListN.{length, length-append}
@@ -13,7 +12,7 @@ use borrow.Author.Tests.{le-ltb, lt-ltb, ltb-false}
 use Rattle.truth.proofs.Cases.{by-test}
 use Rattle.refusal.specs.declared.Refusal.{Refusal}
 use Rattle.refusal.specs.declared.Refusal.the-variants.{Room}
-use Rattle.text.specs.Write.{laid}
+use Rattle.text.specs.declared.Writing.the-variants.{Bytes, Refused as Declined}
 use Rattle.decimal.specs.Decimal.{zeroByte, digitsOf}
 use Rattle.decimal.specs.Field.{tab, lineFeed, fieldText}
 use Rattle.decimal.proofs.Text.{digits-one}
@@ -22,10 +21,9 @@ use Rattle.campaign_state.specs.declared.Answer.the-variants.{Taken, Refused}
 use Rattle.campaign_state.specs.declared.Campaign.{Campaign}
 use Rattle.sheet_records.proofs.Judging.{judged-clean, judged-fault}
 use Rattle.sheet_records.specs.declared.Judged.the-variants.{Clean, Fault}
-use Rattle.sheet_records.specs.declared.Writing.the-variants.{Bytes, Refused as Declined}
 use Rattle.sheet_line.specs.Texts.{entryText, headText}
 use Rattle.sheet_records.specs.Ledger.{exposureIn, failedIn, lineText, linesFrom, sheetText}
-use Rattle.sheet_records.specs.Answers.{afterJudging, judged, judgedAs, laidBy, writing}
+use Rattle.sheet_records.specs.Answers.{afterJudging, judged, judgedAs, writing}
 
 -- a record failed if its number is below zero
 pub failed-below : (x : ℤ) → ltZ x (pos 0) ≡ failedIn x
@@ -79,10 +77,6 @@ module _ (q : ℕ) (xs : List ℤ) (out : List ℕ) where
     pub all-written : length (sheetText q xs) ≤ length out → Bytes (length (sheetText q xs)) ≡ writing q xs out
     unfolding writing
     all-written h = rw (judged-clean (judged q xs) clean .1, le-ltb _ _ h)
-
-pub laid-front : (out text : List ℕ) → laid out 0 text ≡ laidBy (Bytes (length text)) text out
-unfolding laid laidBy
-laid-front out text = rw zero-add
 
 -- what was written was judged clean, and there was room for it
 pub record Wrote (q : ℕ) (xs : List ℤ) (out : List ℕ) (n : ℕ) : Type 0 where

@@ -29,7 +29,7 @@ use Rattle.degrees.specs.Degrees.{signed}
 use Rattle.sheet_line.specs.declared.Sheet.the-variants.{Open}
 use Rattle.sheet_line.proofs.Theorems.{flag-of}
 use Rattle.sheet_text.specs.declared.Reading.the-variants.{Read}
-use Rattle.sheet_text.specs.Pieces.{joined}
+use Rattle.text.specs.Pieces.{joined}
 use Rattle.sheet_text.specs.Sheet.{reading}
 use Rattle.sheet_line.specs.Texts.{entryText}
 use Rattle.sheet_records.proofs.Puts.{line-parts}

@@ -4,9 +4,10 @@ use mathlib.Core.Path.{_≡_}
 use mathlib.Core.List.{List}
 use Prim.Native.Nat.{ℕ}
 use lib.IntN.{ℤ}
-use Rattle.sheet_records.specs.declared.Writing.{Writing}
+use Rattle.text.specs.declared.Writing.{Writing}
+use Rattle.text.specs.Write.{laidBy}
 use Rattle.sheet_records.specs.Ledger.{sheetText}
-use Rattle.sheet_records.specs.Answers.{laidBy, writing}
+use Rattle.sheet_records.specs.Answers.{writing}
 use lib.ListN.{length}
 use Rattle.sheet_records.specs.declared.Resumed.{Resumed}
 use Rattle.sheet_records.specs.Records.{filledBy, recordsOf, resuming}

@@ -5,17 +5,16 @@
 ghost use mathlib.Core.Path.{_≡_};
 ghost use mathlib.Core.Bool.{cond};
 ghost use Prim.Native.Nat.{_+_, _≤_, _<_};
-ghost use lib.ListN.{length, drop, set};
+ghost use lib.ListN.{length, set};
 ghost use Rattle.decimal.specs.Decimal.{zeroByte};
-ghost use Rattle.text.specs.Write.{placeAfter, written};
+ghost use Rattle.text.specs.Write.{laidBy, placeAfter, written};
 ghost use Rattle.sheet_line.specs.Texts.{headText};
 ghost use Rattle.sheet_records.specs.Ledger.{lineText, linesFrom, outcomeIn, sheetText};
-ghost use Rattle.sheet_records.specs.Answers.{judged, judgedAs, judgedOne, laidBy, writing};
+ghost use Rattle.sheet_records.specs.Answers.{judged, judgedAs, judgedOne, writing};
 use record_end::Outcome;
 use refusal::Refusal;
 ghost use lib.Seq.{sets};
 ghost use Rattle.sample_items.specs.Limits.{longestTime};
-ghost use Rattle.decimal.specs.Leading.{leading};
 ghost use Rattle.degrees.specs.Degrees.{signed};
 ghost use Rattle.sheet_records.specs.Records.{filledBy, recordsOf, resuming};
 ghost use Rattle.sheet_records.specs.Pass.{CleanFrom, EntryAt, ExposureAt, HeadOf, Passes, flagAt, runEnd};
@@ -23,6 +22,7 @@ ghost use Rattle.sheet_records.specs.Pass.{runValue, stoppedFrom, takenA
 use decimal::Lead;
 use sheet_line::Sheet;
 use sheet_text::Reading;
+use text::Writing;
 
 const TAB: u8 = 9;
 
@@ -30,13 +30,6 @@ const LF: u8 = 10;
 
 // The byte of the digit 0; that of 1 follows it.
 const ZERO: u8 = 48;
-
-// What writing comes to.
-pub enum Writing {
-    // The number of bytes.
-    Bytes(u64),
-    Refused(Refusal),
-}
 
 // What judging the records comes to.
 enum Judged {
@@ -237,25 +230,11 @@ enum Passed {
     Unclean,
 }
 
-// The place of the first byte from `at` on that is no digit.
-fn digits_end(text: &[u8], at: usize) -> usize
-    ensures { λ r. ⌜ r ≡ at + length (leading (drop at (now (text .entry)))) ⌝ }
-{
-    let mut i = at;
-    while i < text.len() {
-        if !decimal::is_digit(text[i]) {
-            return i;
-        }
-        i += 1;
-    }
-    i
-}
-
 // The exposure at `at`, 1 to 10,000,000. What at most seven digits are worth need not be known.
 fn exposure_at(text: &[u8], at: usize) -> Exposure
     ensures { λ r. ⌜ ExposureAt (now (text .entry)) at r ⌝ }
 {
-    let end = digits_end(text, at);
+    let end = decimal::digits_end(text, at);
     if end == at {
         return Exposure::Other;
     }

@@ -7,7 +7,8 @@ use Rattle.poisson.specs.Tables.{l, u, lowerRows, upperRows}
 use Rattle.refusal.specs.declared.Refusal.the-variants.{Line, TooShort}
 use Rattle.decimal.specs.Decimal.{allDigits, isNumber, valueOf, digitsWithin, digitsOf}
 use Rattle.decimal.specs.Field.{fieldText}
-use Rattle.sheet_line.specs.Field.{faultIn, fieldOf, readAs, fieldAt, strangeIn}
+use Rattle.decimal.specs.Leading.{leading}
+use Rattle.sheet_line.specs.Field.{faultIn, fieldOf, readAs, fieldAt}
 use Rattle.campaign_state.specs.Answers.{entering}
 use Rattle.campaign_state.specs.State.{censored, sound}
 use Rattle.sheet_text.specs.declared.Reading.the-variants.{Stopped}
@@ -43,5 +44,5 @@ typed = (115 ∷ 116 ∷ 97 ∷ 110 ∷ 100 ∷ 97 ∷ 114 ∷ 100 ∷ 9 ∷ 53 
 
 -- refused 2 9 6
 pub strange-case : meaning typed ≡ record { text = 114 ∷ 101 ∷ 102 ∷ 117 ∷ 115 ∷ 101 ∷ 100 ∷ 9 ∷ 50 ∷ 9 ∷ 57 ∷ 9 ∷ 54 ∷ 10 ∷ []; end = Stopped 2 6 (Line 2) }
-unfolding meaning reading linesOf stepping standardLine recordLine standardColumn recordColumn recordFields howMany fieldThen endedBy startsWith begins fieldAt readAs faultIn strangeIn fieldOf isNumber allDigits valueOf entering sound censored recordText figures letterFor fieldText digitsOf digitsWithin refusedText reasonText
+unfolding meaning reading linesOf stepping standardLine recordLine standardColumn recordColumn recordFields howMany fieldThen endedBy startsWith begins fieldAt readAs faultIn leading fieldOf isNumber allDigits valueOf entering sound censored recordText figures letterFor fieldText digitsOf digitsWithin refusedText reasonText
 strange-case = refl

@@ -25,7 +25,8 @@ use Rattle.sheet_line.specs.Line.{stepping}
 use Rattle.decimal.specs.Lines.{linesOf}
 use Rattle.sheet_text.specs.Sheet.{Account, prefixed, ended, afterStep, textOf, waits, reading, leftIn, meaning}
 use Rattle.sheet_text.specs.Cut.{cut, firstLine}
-use Rattle.sheet_text.specs.Pieces.{joined, lastBytes, onward, feeding}
+use Rattle.text.specs.Pieces.{joined}
+use Rattle.sheet_text.specs.Pieces.{lastBytes, onward, feeding}
 use Rattle.sheet_text.proofs.Lines.{cut-within, cut-some, cut-append, cut-whole, length-first, reading-turn}
 
 -- a text that has come to its end at this line, or a line that is complete

@@ -10,11 +10,6 @@ use Rattle.sheet_line.specs.declared.Sheet.{Sheet}
 use Rattle.decimal.specs.Lines.{linesOf}
 use Rattle.sheet_text.specs.Sheet.{Account, prefixed, reading}
 
--- the pieces as one text
-unfoldable pub joined : List (List ℕ) → List ℕ
-joined [] = []
-joined (piece ∷ pieces) = piece ++ joined pieces
-
 -- the last n bytes of a text
 abbrev pub lastBytes : ℕ → List ℕ → List ℕ
 lastBytes n text = drop (length text - n) text

@@ -3,14 +3,15 @@
 use mathlib.Core.Path.{_≡_}
 use mathlib.Core.List.{List, [], _∷_, _++_, append-assoc}
 use Prim.Native.Nat.{ℕ, zero, suc, _+_, _-_, _≤_, _<_}
-use native.Mathlib.Nat.{add-zero, add-suc, add-assoc}
+use native.Mathlib.Nat.{add-zero, add-suc, add-assoc, zero-add}
 use native.Mathlib.Numerals.{add-one, sub-one}
 use native.Mathlib.Omega.{arith}
 use lib.ListN.{length, getD, take, drop, set, length-append, length-drop, take-append-drop}
 use lib.Seq.{length-take-le, take-at, take-suc, drop-at, drop-drop, take-set-le, set-split}
 use borrow.Author.Tests.{le-leb, lt-leb}
 use Rattle.truth.proofs.Cases.{by-order}
-use Rattle.text.specs.Write.{laid, written, placeAfter}
+use Rattle.text.specs.declared.Writing.the-variants.{Bytes}
+use Rattle.text.specs.Write.{laid, laidBy, written, placeAfter}
 
 -- the promise of a writer: the place that it answers and the bytes that it leaves
 abbrev pub Wrote : List ℕ → ℕ → List ℕ → List ℕ → ℕ → Type 0
@@ -93,3 +94,8 @@ length-written out at text =
     by-order (length out) (at + length text)
     (λ short. rw (written-short out at text short))
     (λ room. rw (written-fits out at text room) (length-laid out at text room))
+
+-- a whole paper is a text from the first byte on
+pub laid-front : (out text : List ℕ) → laid out 0 text ≡ laidBy (Bytes (length text)) text out
+unfolding laid laidBy
+laid-front out text = rw zero-add

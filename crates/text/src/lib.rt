@@ -7,6 +7,14 @@ ghost use mathlib.Core.List.{[], _∷_};
 ghost use Prim.Native.Nat.{_+_};
 ghost use lib.Dec.{leb};
 ghost use Rattle.text.specs.Write.{written, placeAfter};
+use refusal::Refusal;
+
+// What writing a whole text into lent bytes comes to, for every paper that is written.
+pub enum Writing {
+    // The number of bytes.
+    Bytes(u64),
+    Refused(Refusal),
+}
 
 // Moves `count` bytes from `from` on to the start of `bytes`, whose rest stays; where there are not so many, nothing.
 pub fn keep(bytes: &mut [u8], from: usize, count: usize)

@@ -6,7 +6,8 @@ use mathlib.Core.List.{List, _++_}
 use native.Mathlib.Omega.{arith}
 use lib.ListN.{length, length-append, take}
 use denote.Ref.{now}
-use Rattle.text.proofs.Laws.{written-fits}
+use Rattle.text.specs.Write.{laidBy}
+use Rattle.text.proofs.Laws.{laid-front, written-fits}
 use Rattle.text.proofs.Parts.{Left, left-all, left-fits, left-last, left-next}
 use Rattle.campaign_state.specs.declared.Campaign.{Campaign}
 use Rattle.campaign_condition.specs.Answers.{judging}
@@ -14,8 +15,7 @@ use Rattle.campaign_condition.specs.declared.Answer.the-variants.{Given}
 use Rattle.campaign_condition.specs.declared.Standing.{Standing}
 use Rattle.campaign_condition.proofs.Whole.{Stood, stood}
 use Rattle.campaign_report.specs.Report.{linesFrom, reportText, totalText}
-use Rattle.campaign_report.specs.Answers.{laidBy}
-use Rattle.campaign_report.proofs.Texts.{all-written, at-fault, laid-front, no-room, report-parts}
+use Rattle.campaign_report.proofs.Texts.{all-written, at-fault, no-room, report-parts}
 use borrow.Author.Needs.{needs}
 use Rattle.campaign_report.proofs.write.Statement.{statement}
 use Rattle.campaign_report.proofs.write.Tie as tie

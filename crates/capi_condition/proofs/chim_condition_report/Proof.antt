@@ -1,14 +1,17 @@
 -- `capi_condition::chim_condition_report` meets its contract: too many rows are refused, and else what `write` answered
--- of their campaigns is known in each arm, and the bytes are as it left them. Assumes nothing.
+-- of their campaigns is told, and the bytes are as it left them. Assumes nothing.
 use mathlib.Core.Path.{_≡_, ap, _∙_}
 use mathlib.Core.List.{List}
 use lib.ListN.{length}
 use denote.Ref.{now}
 use borrow.Author.Needs.{needs}
 use Rattle.campaign_state.specs.declared.Campaign.{Campaign}
-use Rattle.campaign_report.specs.Answers.{laidBy, writing}
+use Rattle.text.specs.Write.{laidBy}
+use Rattle.campaign_report.specs.Answers.{writing}
 use Rattle.campaign_report.specs.Report.{reportText}
-use Rattle.capi_condition.specs.Told.{campaignsOf, writeTold}
+use Rattle.capi.specs.Told.{writeTold}
+use Rattle.capi.proofs.Written.{writing-told}
+use Rattle.capi_condition.specs.Told.{campaignsOf}
 use Rattle.capi_condition.proofs.Rows.{many-declined}
 use Rattle.capi_condition.proofs.chim_condition_report.Statement.{statement}
 use Rattle.capi_condition.proofs.chim_condition_report.Tie as tie
@@ -35,22 +38,12 @@ returns c =
     rw (many-declined (length rows) (campaignsOf rows) (s .if1 .taken) (now (a .out)), c .refuse .ensures .0, c .refuse .ensures .1)
 
 returns-2 : tie.Need-returns-2
-unfolding writeTold
 returns-2 c =
-    let n = c .before .before .before in
-    let w = n .before .before .before .before in
-    rw (← answered w, ← left w, n .n .given .1, c .give .ensures .0, c .give .ensures .1)
-
-returns-3 : tie.Need-returns-3
-unfolding writeTold
-returns-3 c =
-    let f = c .before .before .before in
-    let w = f .before .before .before .before in
-    rw (← answered w, ← left w, f .f .given .1, c .refuse2 .ensures .0, c .refuse2 .ensures .1)
+    let w = c .before .before .before .before in
+    rw (← answered w, ← left w) (writing-told (w .write .result) _ _ _ (c .tell-writing .ensures))
 
 pub chim-condition-report-spec : {M : Type 1} → statement M
 chim-condition-report-spec =
     tie.close
-    (tie.spec (λ c κs. search needs) returns (λ c κs. search needs) (λ c κs. search needs) (λ c. search needs)
-    (λ c κs. search needs) (λ c. search needs) (λ c κs. search needs) (λ c. search needs) returns-2 (λ c. search needs)
-    returns-3)
+    (tie.spec (λ c κs. search needs) returns (λ c κs. search needs) (λ c κs. search needs) (λ c κs. search needs)
+    (λ c. search needs) returns-2)

@@ -14,10 +14,12 @@ use denote.Ref.{now}
 use Rattle.truth.proofs.Laws.{and-true, said-no, said-yes}
 use Rattle.sample_items.specs.Limits.{stepInRange}
 use Rattle.sample_range.specs.Range.{firstBad}
+use Rattle.text.specs.Write.{laidBy}
+use Rattle.text.proofs.Laws.{laid-front}
 use Rattle.decimal.specs.Decimal.{longest}
 use Rattle.comma_line.specs.Text.{textOf}
-use Rattle.comma_write.specs.Answers.{lastTime, laidBy}
-use Rattle.comma_write.proofs.Puts.{bad-step, bad-sample, too-late, no-room, all-written, few, laid-front}
+use Rattle.comma_write.specs.Answers.{lastTime}
+use Rattle.comma_write.proofs.Puts.{bad-step, bad-sample, too-late, no-room, all-written, few}
 use Rattle.comma_write.proofs.write.Statement.{statement}
 use Rattle.comma_write.proofs.write.Tie as tie
 

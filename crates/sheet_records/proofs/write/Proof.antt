@@ -8,13 +8,14 @@ use lib.IntN.{ℤ}
 use lib.ListN.{length}
 use borrow.Author.Needs.{needs}
 use denote.Ref.{now}
-use Rattle.text.proofs.Laws.{written-fits}
+use Rattle.text.specs.Write.{laidBy}
+use Rattle.text.proofs.Laws.{laid-front, written-fits}
 use Rattle.sheet_records.specs.declared.Judged.the-variants.{Clean}
 use Rattle.sheet_records.specs.Ledger.{sheetText}
-use Rattle.sheet_records.specs.Answers.{judged, judgedAs, laidBy}
+use Rattle.sheet_records.specs.Answers.{judged, judgedAs}
 use Rattle.sheet_records.proofs.Entered.{judged-few}
 use Rattle.sheet_records.proofs.Judging.{judged-clean}
-use Rattle.sheet_records.proofs.Puts.{all-written, at-fault, laid-front, no-room}
+use Rattle.sheet_records.proofs.Puts.{all-written, at-fault, no-room}
 use Rattle.sheet_records.proofs.write.Statement.{statement}
 use Rattle.sheet_records.proofs.write.Tie as tie
 

@@ -1,4 +1,4 @@
--- `sheet_records::digits_end` meets its contract. The invariant: the digits from here on end where those from `at` on
+-- `decimal::digits_end` meets its contract. The invariant: the digits from here on end where those from `at` on
 -- end. What is left falls. Assumes nothing.
 use mathlib.Core.Path.{_≡_, refl, sym, _∙_}
 use Prim.Native.Nat.{_-_}
@@ -7,15 +7,15 @@ use borrow.Author.Needs.{needs}
 use borrow.Author.Tests.{not-false, not-true}
 use lib.ListN.{length}
 use denote.Ref.{now}
-use Rattle.sheet_records.proofs.Exposures.{Reached, digit-here, digit-none, digit-on}
-use Rattle.sheet_records.proofs.digits_end.Statement.{statement}
-use Rattle.sheet_records.proofs.digits_end.Tie as tie
+use Rattle.decimal.proofs.Ends.{Reached, digit-here, digit-none, digit-on}
+use Rattle.decimal.proofs.digits_end.Statement.{statement}
+use Rattle.decimal.proofs.digits_end.Tie as tie
 
 abbrev Inv-loop : tie.InvT-loop
-Inv-loop text at i₀ i = Reached text i ≡ Reached text at
+Inv-loop s at i₀ i = Reached s i ≡ Reached s at
 
 abbrev μ-loop : tie.MeasureT-loop
-μ-loop text at i₀ i = length text - i
+μ-loop s at i₀ i = length s - i
 
 loop-holds : tie.Need-loop-holds Inv-loop μ-loop
 loop-holds c = refl
@@ -29,7 +29,7 @@ is-digit-requires c κs = search needs
 returns : tie.Need-returns Inv-loop μ-loop
 returns c =
     let l = c .before .before .before .before in
-    sym (digit-here (now (l .before .before .args .text)) (l .loop .i) (c .before .before .before .loop-test .taken) (sym (c .before .is-digit .ensures) ∙ not-true _ (c .if1 .taken))) ∙ l .loop .inv
+    sym (digit-here (now (l .before .before .args .s)) (l .loop .i) (c .before .before .before .loop-test .taken) (sym (c .before .is-digit .ensures) ∙ not-true _ (c .if1 .taken))) ∙ l .loop .inv
 
 add-i : tie.Need-add-i Inv-loop μ-loop
 add-i c = search needs
@@ -40,10 +40,10 @@ loop-less c = omega arith
 loop-again : tie.Need-loop-again Inv-loop μ-loop
 loop-again c =
     let l = c .before .before .before .before in
-    sym (digit-on (now (l .before .before .args .text)) (l .loop .i) (c .before .before .before .loop-test .taken) (sym (c .before .is-digit .ensures) ∙ not-false _ (c .if1 .left))) ∙ l .loop .inv
+    sym (digit-on (now (l .before .before .args .s)) (l .loop .i) (c .before .before .before .loop-test .taken) (sym (c .before .is-digit .ensures) ∙ not-false _ (c .if1 .left))) ∙ l .loop .inv
 
 returns-2 : tie.Need-returns-2 Inv-loop μ-loop
-returns-2 c = let l = c .before in sym (digit-none (now (l .before .before .args .text)) (l .loop .i) (c .loop-test .left)) ∙ l .loop .inv
+returns-2 c = let l = c .before in sym (digit-none (now (l .before .before .args .s)) (l .loop .i) (c .loop-test .left)) ∙ l .loop .inv
 
 pub digits-end-spec : {M : Type 1} → statement M
 digits-end-spec =

@@ -16,19 +16,19 @@ static bool above(int32_t x, uint64_t level, int32_t y, uint64_t acceleration_le
 /* the groups; a number past any count for a bad sample */
 uint64_t plain_feed(uint64_t step, uint64_t ramp, uint64_t level, uint64_t decorrelation, uint64_t acceleration_level, const int32_t *roll,
                     const int32_t *acceleration, size_t n, uint64_t *crossings, uint64_t *largest_set) {
-    uint64_t groups = 0, recent = 0, largest = 0, latest = 0, met = 0;
+    uint64_t groups = 0, last_crossing = 0, largest = 0, last_chosen = 0, met = 0;
     bool before = false;
     for (size_t i = 0; i < n; i++) {
         if (bad(roll[i]) || bad(acceleration[i]))
             return UINT64_MAX;
         bool now = above(roll[i], level, acceleration[i], acceleration_level);
         if (i > ramp && !before && now) {
-            if (met == 0 || (i - latest) * step >= decorrelation) {
+            if (met == 0 || (i - last_chosen) * step >= decorrelation) {
                 largest++;
-                latest = i;
+                last_chosen = i;
             }
-            groups += met == 0 || (i - recent) * step >= decorrelation;
-            recent = i;
+            groups += met == 0 || (i - last_crossing) * step >= decorrelation;
+            last_crossing = i;
             met++;
         }
         before = now;
@@ -41,19 +41,19 @@ uint64_t plain_feed(uint64_t step, uint64_t ramp, uint64_t level, uint64_t decor
 /* the number of counted times, those for which there is a place written; a number past any count for a bad sample */
 uint64_t plain_list(uint64_t step, uint64_t ramp, uint64_t level, uint64_t decorrelation, uint64_t acceleration_level, const int32_t *roll,
                     const int32_t *acceleration, size_t n, uint32_t *times, size_t places) {
-    uint64_t counted = 0, recent = 0;
+    uint64_t counted = 0, last_crossing = 0;
     bool before = false;
     for (size_t i = 0; i < n; i++) {
         if (bad(roll[i]) || bad(acceleration[i]))
             return UINT64_MAX;
         bool now = above(roll[i], level, acceleration[i], acceleration_level);
         if (i > ramp && !before && now) {
-            if (counted == 0 || (i - recent) * step >= decorrelation) {
+            if (counted == 0 || (i - last_crossing) * step >= decorrelation) {
                 if (counted < places)
                     times[counted] = (uint32_t)((i - ramp) * step);
                 counted++;
             }
-            recent = i;
+            last_crossing = i;
         }
         before = now;
     }

@@ -26,31 +26,31 @@ fn each_crossing(items: &Items, roll: &[i32], acceleration: &[i32], mut met: imp
 
 /// Groups, and the largest set; nothing for a bad sample.
 fn feed(items: &Items, roll: &[i32], acceleration: &[i32]) -> Option<(u64, u64)> {
-    let (mut groups, mut recent, mut largest, mut latest) = (0, 0, 0, 0);
+    let (mut groups, mut last_crossing, mut largest, mut last_chosen) = (0, 0, 0, 0);
     let good = each_crossing(items, roll, acceleration, |i| {
-        if largest == 0 || (i - latest) * items.step >= items.decorrelation {
+        if largest == 0 || (i - last_chosen) * items.step >= items.decorrelation {
             largest += 1;
-            latest = i;
+            last_chosen = i;
         }
-        if groups == 0 || (i - recent) * items.step >= items.decorrelation {
+        if groups == 0 || (i - last_crossing) * items.step >= items.decorrelation {
             groups += 1;
         }
-        recent = i;
+        last_crossing = i;
     });
     good.then_some((groups, largest))
 }
 
 /// The number of counted times, those for which there is a place written; nothing for a bad sample.
 fn list(items: &Items, roll: &[i32], acceleration: &[i32], times: &mut [u32]) -> Option<u64> {
-    let (mut counted, mut recent) = (0, 0);
+    let (mut counted, mut last_crossing) = (0, 0);
     let good = each_crossing(items, roll, acceleration, |i| {
-        if counted == 0 || (i - recent) * items.step >= items.decorrelation {
+        if counted == 0 || (i - last_crossing) * items.step >= items.decorrelation {
             if let Some(place) = times.get_mut(counted) {
                 *place = ((i - items.ramp) * items.step) as u32;
             }
             counted += 1;
         }
-        recent = i;
+        last_crossing = i;
     });
     good.then_some(counted as u64)
 }

@@ -70,7 +70,7 @@ def signs(words, text):
     return [int(n) for n in re.findall(rb"\d+", shown)] if re.fullmatch(rb"(?:\d+ lines\r)*", shown) else None
 
 
-def lively(words, text):
+def shows_progress(words, text):
     """Whether each million lines of the text made one sign, by the end of the 64 KiB that were being read."""
     shown, lines = signs(words, text), text.count(b"\n")
     return shown is not None and len(shown) == lines // 1_000_000 and all(0 <= n - 1_000_000 * k <= 65_536 for k, n in enumerate(shown, 1))

@@ -15,8 +15,8 @@ use Rattle.refusal.specs.declared.Refusal.the-variants.{BrokenState, Item, SumF
 use Rattle.record_state.specs.State as reading
 use Rattle.record_state.specs.State.{tooShort}
 use Rattle.record_state.specs.declared.Record.{Record}
-use Rattle.binomial_sum.specs.declared.Answer.{Answer}
-use Rattle.binomial_sum.specs.declared.Answer.the-variants.{Refused, Taken}
+use Rattle.binomial_sum.specs.declared.SumAnswer.{SumAnswer}
+use Rattle.binomial_sum.specs.declared.SumAnswer.the-variants.{Refused, Taken}
 use Rattle.binomial_sum.specs.declared.Sum.{Sum}
 use Rattle.binomial_sum.specs.Answers.{adding, opened, taken}
 use Rattle.binomial_sum.specs.Kept.{Kept}
@@ -28,7 +28,7 @@ never : {t : Sum} (r : Refusal) → ¬ (Refused r ≡ Taken t)
 never r e = let z : _≡_ {A = ℕ} 0 1 = cc in absurd (omega arith)
 
 -- past one test of a list of refusals
-past : (b : Bool) (f : Refusal) (a : Answer) {t : Sum} → cond b (Refused f) a ≡ Taken t → (b ≡ false) × (a ≡ Taken t)
+past : (b : Bool) (f : Refusal) (a : SumAnswer) {t : Sum} → cond b (Refused f) a ≡ Taken t → (b ≡ false) × (a ≡ Taken t)
 past true f a e = absurd (never f e)
 past false f a e = (refl, e)
 

@@ -6,7 +6,7 @@ use mathlib.Core.List.{List, [], _∷_, _++_}
 use Prim.Native.Nat.{ℕ, _+_}
 use native.Mathlib.Omega.{arith}
 use Rattle.record_state.specs.declared.Record.{Record}
-use Rattle.binomial_sum.specs.declared.Answer.the-variants.{Taken}
+use Rattle.binomial_sum.specs.declared.SumAnswer.the-variants.{Taken}
 use Rattle.binomial_sum.specs.declared.Sum.{Sum}
 use Rattle.binomial_sum.specs.Answers.{opened}
 use Rattle.binomial_sum.specs.Records.{AllAdded, groupsIn, none, one, sumOf, timedIn}
@@ -78,9 +78,9 @@ module _ {s t u : Sum} {a b : Record} (first : Added s a t) (second : Added t b 
         after = refl;
       }
 
-  behind-it : Added between a u
+  after-it : Added between a u
   unfolding between
-  behind-it =
+  after-it =
       record {
         sum = added-sound before-it;
         record-sound = first .record-sound;
@@ -96,9 +96,9 @@ module _ {s t u : Sum} {a b : Record} (first : Added s a t) (second : Added t b 
             same (x ∙ d) (omega (arith, n)) (omega (arith, p));
       }
 
-pub any-order : (before : List Record) (a b : Record) (behind : List Record) {s t : Sum} → AllAdded s (before ++ (a ∷ (b ∷ behind))) t → AllAdded s (before ++ (b ∷ (a ∷ behind))) t
-any-order [] a b behind (one {s = s} {t = t} e (one {t = u} f rest)) =
+pub any-order : (before : List Record) (a b : Record) (after : List Record) {s t : Sum} → AllAdded s (before ++ (a ∷ (b ∷ after))) t → AllAdded s (before ++ (b ∷ (a ∷ after))) t
+any-order [] a b after (one {s = s} {t = t} e (one {t = u} f rest)) =
     let first = added-from s a t e in
     let second = added-from t b u f in
-    one (added-back _ _ _ (before-it first second)) (one (added-back _ _ _ (behind-it first second)) rest)
-any-order (r ∷ before) a b behind (one e rest) = one e (any-order before a b behind rest)
+    one (added-back _ _ _ (before-it first second)) (one (added-back _ _ _ (after-it first second)) rest)
+any-order (r ∷ before) a b after (one e rest) = one e (any-order before a b after rest)

@@ -5,16 +5,16 @@ use mathlib.Core.Bool.{Bool}
 use Prim.Native.Nat.{ℕ}
 use Rattle.truth.proofs.Unique.{settled}
 use Rattle.record_state.specs.declared.Record.{Record}
-use Rattle.binomial_sum.specs.declared.Answer.{Answer}
+use Rattle.binomial_sum.specs.declared.SumAnswer.{SumAnswer}
 use Rattle.binomial_sum.specs.declared.Sum.{Sum}
 use Rattle.binomial_sum.specs.Answers.{adding, opened}
 use Rattle.binomial_sum.specs.State.{sound}
 
-pub open-unique : (D : ℕ) (a b : Answer) → a ≡ opened D → b ≡ opened D → a ≡ b
+pub open-unique : (D : ℕ) (a b : SumAnswer) → a ≡ opened D → b ≡ opened D → a ≡ b
 open-unique D a b = settled
 
 pub sound-unique : (s : Sum) (a b : Bool) → a ≡ sound s → b ≡ sound s → a ≡ b
 sound-unique s a b = settled
 
-pub add-unique : (s : Sum) (r : Record) (a b : Answer) → a ≡ adding s r → b ≡ adding s r → a ≡ b
+pub add-unique : (s : Sum) (r : Record) (a b : SumAnswer) → a ≡ adding s r → b ≡ adding s r → a ≡ b
 add-unique s r a b = settled

@@ -4,7 +4,7 @@ use mathlib.Core.Path.{_≡_}
 use mathlib.Core.List.{List, [], _∷_}
 use Prim.Native.Nat.{ℕ, _+_}
 use Rattle.record_state.specs.declared.Record.{Record}
-use Rattle.binomial_sum.specs.declared.Answer.the-variants.{Taken}
+use Rattle.binomial_sum.specs.declared.SumAnswer.the-variants.{Taken}
 use Rattle.binomial_sum.specs.declared.Sum.{Sum}
 use Rattle.binomial_sum.specs.Answers.{adding}
 use Rattle.binomial_sum.specs.State.{timed}

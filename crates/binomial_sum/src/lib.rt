@@ -20,23 +20,23 @@ pub struct Sum {
     pub samples: u64,
 }
 
-pub enum Answer {
+pub enum SumAnswer {
     Taken(Sum),
     Refused(Refusal),
 }
 
 // The sum of no records; or refusal 1 with item 1.
-pub fn open(step: u64) -> Answer
+pub fn open(step: u64) -> SumAnswer
     ensures { λ r. ⌜ r ≡ opened step ⌝ }
 {
     if truth::both(1 <= step, step <= sample_items::LONGEST_STEP) {
-        Answer::Taken(Sum {
+        SumAnswer::Taken(Sum {
             step: step,
             failures: 0,
             samples: 0,
         })
     } else {
-        Answer::Refused(Refusal::Item(1))
+        SumAnswer::Refused(Refusal::Item(1))
     }
 }
 
@@ -54,7 +54,7 @@ pub fn sound(s: Sum) -> bool
 }
 
 // The sum with a record of so many groups and timed samples; or refusal 11.
-fn take(s: Sum, groups: u64, timed: u64) -> Answer
+fn take(s: Sum, groups: u64, timed: u64) -> SumAnswer
     requires { ⌜ Kept s × (groups ≤ 11000001) × (timed ≤ 11000001) ⌝ }
     ensures { λ r. ⌜ r ≡ taken s groups timed ⌝ }
 {
@@ -62,9 +62,9 @@ fn take(s: Sum, groups: u64, timed: u64) -> Answer
         s.failures + groups > MOST_FAILURES,
         s.samples + timed > MOST_SAMPLES,
     ) {
-        return Answer::Refused(Refusal::SumFull);
+        return SumAnswer::Refused(Refusal::SumFull);
     }
-    Answer::Taken(Sum {
+    SumAnswer::Taken(Sum {
         step: s.step,
         failures: s.failures + groups,
         samples: s.samples + timed,
@@ -74,20 +74,20 @@ fn take(s: Sum, groups: u64, timed: u64) -> Answer
 impl Sum {
     // The sum with a record added; or refusal 8 for the sum or for the record, 4 for a record that is too short, 1
     // with item 1 for another step, 11.
-    pub fn add(self, r: Record) -> Answer
+    pub fn add(self, r: Record) -> SumAnswer
         ensures { λ a. ⌜ a ≡ adding self r ⌝ }
     {
         if !sound(self) {
-            return Answer::Refused(Refusal::BrokenState);
+            return SumAnswer::Refused(Refusal::BrokenState);
         }
         if !record_state::sound(r) {
-            return Answer::Refused(Refusal::BrokenState);
+            return SumAnswer::Refused(Refusal::BrokenState);
         }
         if r.n < r.items.ramp + 2 {
-            return Answer::Refused(Refusal::TooShort);
+            return SumAnswer::Refused(Refusal::TooShort);
         }
         if r.items.step != self.step {
-            return Answer::Refused(Refusal::Item(1));
+            return SumAnswer::Refused(Refusal::Item(1));
         }
         take(self, r.groups, r.n - r.items.ramp)
     }

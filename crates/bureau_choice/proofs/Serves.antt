@@ -12,8 +12,8 @@ use borrow.Author.Tests.{le-ltb, leb-false, lt-ltb}
 use Rattle.truth.proofs.Cases.{by-test}
 use Rattle.refusal.specs.declared.Refusal.{Refusal}
 use Rattle.refusal.specs.declared.Refusal.the-variants.{BrokenState, BureauFull, NoBureau, NotItsOwn}
-use Rattle.campaign_state.specs.declared.Answer.{Answer as Campaigned}
-use Rattle.campaign_state.specs.declared.Answer.the-variants as campaigned
+use Rattle.campaign_state.specs.declared.CampaignAnswer.{CampaignAnswer}
+use Rattle.campaign_state.specs.declared.CampaignAnswer.the-variants as campaigned
 use Rattle.campaign_state.specs.Answers.{opened}
 use Rattle.bureau_table.specs.declared.Ask.{Ask}
 use Rattle.bureau_table.specs.declared.Ask.the-variants.{On, Take}
@@ -43,7 +43,7 @@ module _ (t : List Place) (b : ℕ) where
   unfolding acted
   takes q l = go (opened q) refl
     where
-      go : (o : Campaigned) → opened q ≡ o → workedOn t (record { bureau = b; ask = Take q }) (opening (looked unseen 0 t) (length t) o) ≡ placed t b o
+      go : (o : CampaignAnswer) → opened q ≡ o → workedOn t (record { bureau = b; ask = Take q }) (opening (looked unseen 0 t) (length t) o) ≡ placed t b o
       go (campaigned.Taken c) e = rw (low t l) (pick-yes (ltb (lowestFree t) (length t)) _ _ (lt-ltb (lowestFree t) (length t) l) ∙ rw e)
       go (campaigned.Refused r) e = stops (Take q) r
 

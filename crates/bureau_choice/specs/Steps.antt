@@ -7,11 +7,11 @@ use lib.Dec.{eqb, leb, ltb}
 use lib.ListN.{length}
 use Rattle.refusal.specs.declared.Refusal.{Refusal}
 use Rattle.refusal.specs.declared.Refusal.the-variants.{BrokenState, BureauFull, NoBureau, NotItsOwn}
-use Rattle.campaign_state.specs.declared.Answer.{Answer as Campaigned}
-use Rattle.campaign_state.specs.declared.Answer.the-variants as campaigned
+use Rattle.campaign_state.specs.declared.CampaignAnswer.{CampaignAnswer}
+use Rattle.campaign_state.specs.declared.CampaignAnswer.the-variants as campaigned
 use Rattle.campaign_state.specs.Answers.{opened}
-use Rattle.bureau_table.specs.declared.Answer.{Answer}
-use Rattle.bureau_table.specs.declared.Answer.the-variants.{Placed, Refused}
+use Rattle.bureau_table.specs.declared.TableAnswer.{TableAnswer}
+use Rattle.bureau_table.specs.declared.TableAnswer.the-variants.{Placed, Refused}
 use Rattle.bureau_table.specs.declared.Ask.{Ask}
 use Rattle.bureau_table.specs.declared.Ask.the-variants.{On, Take}
 use Rattle.bureau_table.specs.declared.Call.{Call}
@@ -27,7 +27,7 @@ use Rattle.bureau_choice.specs.declared.Choice.{Choice}
 abbrev pub refusing : ℕ → Refusal → Choice
 refusing n r = record { at = n; answer = Refused r }
 
-abbrev pub opening : Seen → ℕ → Campaigned → Choice
+abbrev pub opening : Seen → ℕ → CampaignAnswer → Choice
 opening s n (campaigned.Taken c) = record { at = s .lowest; answer = Placed (s .lowest) }
 opening s n (campaigned.Refused r) = refusing n r
 
@@ -48,11 +48,11 @@ chosen c s n =
     (choosing s n (c .bureau) (c .ask)))
 
 -- ---- the work on the chosen place
-abbrev pub taking : ℕ → Place → Answer → Campaigned → Worked
+abbrev pub taking : ℕ → Place → TableAnswer → CampaignAnswer → Worked
 taking b p x (campaigned.Taken c) = record { answer = x; place = owned b c }
 taking b p x (campaigned.Refused r) = record { answer = Refused r; place = p }
 
-abbrev pub acting : ℕ → Place → Answer → Ask → Worked
+abbrev pub acting : ℕ → Place → TableAnswer → Ask → Worked
 acting b p x (Take q) = taking b p x (opened q)
 acting b p x (On j w) = cond (eqb (p .owner) b) (worked b (p .campaign) w) (record { answer = Refused NotItsOwn; place = p })
 

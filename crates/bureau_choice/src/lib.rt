@@ -3,11 +3,11 @@
 // place back. All refusals are decided here. Whoever holds the table, as places or as numbers, has these steps to
 // take (proofs/Serves.antt: they come to what the call is said to answer and leave).
 ghost use mathlib.Core.Path.{_≡_};
-ghost use Rattle.bureau_table.specs.declared.Answer.the-variants.{Freed, Refused};
+ghost use Rattle.bureau_table.specs.declared.TableAnswer.the-variants.{Freed, Refused};
 ghost use Rattle.bureau_table.specs.Table.{free, owned, isBureau};
 ghost use Rattle.bureau_table.specs.Calls.{entry, ratesAnswer, verdictAnswer, worked};
-use bureau_table::Answer;
 use bureau_table::Place;
+use bureau_table::TableAnswer;
 use bureau_table::Work;
 use bureau_table::Worked;
 use campaign_state::Campaign;
@@ -22,19 +22,19 @@ use bureau_table::Ask;
 use bureau_table::Call;
 use refusal::Refusal;
 
-fn entry(b: u64, c: Campaign, a: campaign_state::Answer) -> Worked
+fn entry(b: u64, c: Campaign, a: campaign_state::CampaignAnswer) -> Worked
     ensures { λ r. ⌜ r ≡ entry b c a ⌝ }
 {
     match a {
-        campaign_state::Answer::Taken(d) => Worked {
-            answer: Answer::Entered,
+        campaign_state::CampaignAnswer::Taken(d) => Worked {
+            answer: TableAnswer::Entered,
             place: Place {
                 owner: b,
                 campaign: d,
             },
         },
-        campaign_state::Answer::Refused(r) => Worked {
-            answer: Answer::Refused(r),
+        campaign_state::CampaignAnswer::Refused(r) => Worked {
+            answer: TableAnswer::Refused(r),
             place: Place {
                 owner: b,
                 campaign: c,
@@ -43,25 +43,25 @@ fn entry(b: u64, c: Campaign, a: campaign_state::Answer) -> Worked
     }
 }
 
-fn verdict_answer(a: campaign_verdict::Judged) -> Answer
+fn verdict_answer(a: campaign_verdict::Judged) -> TableAnswer
     ensures { λ r. ⌜ r ≡ verdictAnswer a ⌝ }
 {
     match a {
-        campaign_verdict::Judged::Given(v) => Answer::Judged(v),
-        campaign_verdict::Judged::Refused(r) => Answer::Refused(r),
+        campaign_verdict::Judged::Given(v) => TableAnswer::Judged(v),
+        campaign_verdict::Judged::Refused(r) => TableAnswer::Refused(r),
     }
 }
 
-fn rates_answer(a: campaign_verdict::Rated) -> Answer
+fn rates_answer(a: campaign_verdict::Rated) -> TableAnswer
     ensures { λ r. ⌜ r ≡ ratesAnswer a ⌝ }
 {
     match a {
-        campaign_verdict::Rated::Given(some, r) => Answer::Rated(some, r),
-        campaign_verdict::Rated::Refused(r) => Answer::Refused(r),
+        campaign_verdict::Rated::Given(some, r) => TableAnswer::Rated(some, r),
+        campaign_verdict::Rated::Refused(r) => TableAnswer::Refused(r),
     }
 }
 
-fn read(b: u64, c: Campaign, a: Answer) -> Worked
+fn read(b: u64, c: Campaign, a: TableAnswer) -> Worked
     ensures { λ r. ⌜ r ≡ record { answer = a; place = owned b c } ⌝ }
 {
     Worked {
@@ -77,7 +77,7 @@ fn given_back() -> Worked
     ensures { λ r. ⌜ r ≡ record { answer = Freed; place = free } ⌝ }
 {
     Worked {
-        answer: Answer::Freed,
+        answer: TableAnswer::Freed,
         place: Place {
             owner: 0,
             campaign: Campaign {
@@ -107,7 +107,7 @@ pub fn work(b: u64, c: Campaign, w: Work) -> Worked
 // The place to work on, past the table if there is none, and the answer unless the work says otherwise.
 pub struct Choice {
     pub at: usize,
-    pub answer: Answer,
+    pub answer: TableAnswer,
 }
 
 fn is_bureau(b: u64) -> bool
@@ -122,7 +122,7 @@ fn refusing(n: usize, r: Refusal) -> Choice
 {
     Choice {
         at: n,
-        answer: Answer::Refused(r),
+        answer: TableAnswer::Refused(r),
     }
 }
 
@@ -132,15 +132,15 @@ fn own_count(s: Seen, b: u64) -> u64
     truth::pick(b == 1, s.first, s.second)
 }
 
-fn opening(s: Seen, n: usize, a: campaign_state::Answer) -> Choice
+fn opening(s: Seen, n: usize, a: campaign_state::CampaignAnswer) -> Choice
     ensures { λ x. ⌜ x ≡ opening s n a ⌝ }
 {
     match a {
-        campaign_state::Answer::Taken(_) => Choice {
+        campaign_state::CampaignAnswer::Taken(_) => Choice {
             at: s.lowest as usize,
-            answer: Answer::Placed(s.lowest),
+            answer: TableAnswer::Placed(s.lowest),
         },
-        campaign_state::Answer::Refused(r) => refusing(n, r),
+        campaign_state::CampaignAnswer::Refused(r) => refusing(n, r),
     }
 }
 
@@ -160,7 +160,7 @@ fn choosing(s: Seen, n: usize, b: u64, ask: Ask) -> Choice
         Ask::Take(q) => taking(s, n, b, q),
         Ask::On(j, _) => Choice {
             at: j as usize,
-            answer: Answer::Refused(Refusal::NotItsOwn),
+            answer: TableAnswer::Refused(Refusal::NotItsOwn),
         },
     }
 }
@@ -189,19 +189,19 @@ pub fn choose(c: Call, s: Seen, n: usize) -> Choice
     choosing(s, n, c.bureau, ask)
 }
 
-fn placing(b: u64, p: Place, answer: Answer, a: campaign_state::Answer) -> Worked
+fn placing(b: u64, p: Place, answer: TableAnswer, a: campaign_state::CampaignAnswer) -> Worked
     ensures { λ r. ⌜ r ≡ taking b p answer a ⌝ }
 {
     match a {
-        campaign_state::Answer::Taken(c) => Worked {
+        campaign_state::CampaignAnswer::Taken(c) => Worked {
             answer: answer,
             place: Place {
                 owner: b,
                 campaign: c,
             },
         },
-        campaign_state::Answer::Refused(r) => Worked {
-            answer: Answer::Refused(r),
+        campaign_state::CampaignAnswer::Refused(r) => Worked {
+            answer: TableAnswer::Refused(r),
             place: p,
         },
     }
@@ -213,7 +213,7 @@ fn working(b: u64, p: Place, w: Work) -> Worked
 {
     if p.owner != b {
         return Worked {
-            answer: Answer::Refused(Refusal::NotItsOwn),
+            answer: TableAnswer::Refused(Refusal::NotItsOwn),
             place: p,
         };
     }
@@ -221,7 +221,7 @@ fn working(b: u64, p: Place, w: Work) -> Worked
     work(b, c, w)
 }
 
-fn acting(b: u64, p: Place, answer: Answer, ask: Ask) -> Worked
+fn acting(b: u64, p: Place, answer: TableAnswer, ask: Ask) -> Worked
     ensures { λ r. ⌜ r ≡ acting b p answer ask ⌝ }
 {
     match ask {

@@ -31,7 +31,7 @@ use Rattle.bureau_choice.specs.declared.Choice.{Choice}
 use Rattle.bureau_survey.specs.declared.Seen.{Seen}
 use Rattle.bureau_choice.specs.Steps.{acted, chosen}
 use Rattle.bureau_survey.specs.Survey.{surveyed, unseen}
-use Rattle.bureau_table.proofs.Answer as E
+use Rattle.bureau_table.proofs.TableAnswer as E
 use Rattle.bureau_table.proofs.Call as P
 use Rattle.bureau_table.proofs.Call.Laws as P′
 use Rattle.bureau_table.proofs.Place as T

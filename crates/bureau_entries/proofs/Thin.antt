@@ -38,13 +38,13 @@ use denote.Triple.Entry.{onEntry}
 use denote.Triple.Spec.{Meets, tripleOf}
 use denote.Triple.Walked.{says, Stays, gave-slice, stay-none, walkOf, goes-gave-slice, goes-none, Walks, ends-at, walked, walk-meets}
 use denote.Exit.{yes}
-use Rattle.bureau_table.specs.declared.Answer.{Answer}
+use Rattle.bureau_table.specs.declared.TableAnswer.{TableAnswer}
 use Rattle.bureau_table.specs.declared.Ask.{Ask}
 use Rattle.bureau_table.specs.declared.Call.{Call}
 use Rattle.bureau_table.specs.declared.Place.{Place}
 use Rattle.bureau_table.specs.Calls.{called}
-use Rattle.bureau_table.proofs.Answer as E
-use Rattle.bureau_table.proofs.Answer.Laws as E′
+use Rattle.bureau_table.proofs.TableAnswer as E
+use Rattle.bureau_table.proofs.TableAnswer.Laws as E′
 use Rattle.bureau_table.proofs.Call as P
 use Rattle.bureau_table.proofs.Call.Laws as P′
 use Rattle.bureau_table.proofs.Place.Laws as T′
@@ -81,7 +81,7 @@ thin m =
 abbrev stayed : Stays (entry.ended .signature .params) (entry.ended .kept)
 stayed = (gave-slice (0 ∷ []) tt (plain (λ _. R)), (stay-none (λ _. u64) yes, (stay-none (λ _. u64) yes, tt)))
 
-abbrev pub Says : List Place → Call → Answer → List Place → Type 0
+abbrev pub Says : List Place → Call → TableAnswer → List Place → Type 0
 Says xs c r ys = (r ≡ called xs (c .bureau) (c .ask) .answer) × (ys ≡ called xs (c .bureau) (c .ask) .table)
 
 module _ {M : Type 1} (𝓤 : URA M) (H : Heap 𝓤) (A : Atoms 𝓤) (mem : Memory → SProp 𝓤) (run : Routine → Fun 𝓤) where
@@ -140,7 +140,7 @@ module _ {M : Type 1} (𝓤 : URA M) (H : Heap 𝓤) (A : Atoms 𝓤) (W : Given
       qed W ((‵ (flft κ q) ⊛ ‵ ftrue) ∷ ‵ (MutSlice (named 0) κ R .own x (s ∷ [])) ∷ []) ∵
       nothing ! $ owned ! RP (Is RP) ((LL.makes P.the-type P′.the-plain) 𝓤 H A) c _ gc $ fjoin ! $ move ! (2 ∷ 0 ∷ []) $ fjoin ! $ move ! (1 ∷ 0 ∷ []) $ join ! $ frame ! $ done !
 
-  exits : (r : Answer) (w : Val) (zs : List Place) → Says ys c r zs → length zs ≡ length ys
+  exits : (r : TableAnswer) (w : Val) (zs : List Place) → Says ys c r zs → length zs ≡ length ys
       → ent 𝓤 (sep 𝓤 (sep 𝓤 (A .lft κ q) (sem 𝓤 H A ftrue)) (sep 𝓤 (sem 𝓤 H A (finally R γ zs)) (sem 𝓤 H A (RE .own r (w ∷ []))))) (Post w)
   exits r w zs e l =
       qed W ((‵ (flft κ q) ⊛ ‵ ftrue) ∷ ‵ (finally R γ zs) ∷ ‵ (RE .own r (w ∷ [])) ∷ []) ∵
@@ -167,7 +167,7 @@ module _ {M : Type 1} (𝓤 : URA M) (H : Heap 𝓤) (A : Atoms 𝓤) (W : Given
         move ! (15 ∷ []) $ fsplit ! $ move ! (16 ∷ 0 ∷ []) $ use2 W (raw (Serve 𝓤 H A mem run .pre (to-serve d))) (goes d gd) $
         -- [what `serve` asks; what the numbers own; _6; …]
         calls-at ! fm (Serve 𝓤 H A mem run) known (to-serve d) (and-then ! (load ! (from ! (stop !)) (look ! 4 refl)) (and-then ! (load ! (from ! (stop !)) (look ! 2 refl)) (no-more !))) (λ w.
-        use1 W (later (some (λ (r : Answer). ((‵ (flft κ q) ⊛ ‵ ftrue) ⊛ ‵ (RE .own r (w ∷ []))) ⊛ raw (ensured 𝓤 H A serve.ended (serve.clauses 𝓤 H A mem run) (κ, tt) (x, (d, tt)) tt r)))) (id⊢ 𝓤 _) $ await ! tt $ pick ! (λ r.
+        use1 W (later (some (λ (r : TableAnswer). ((‵ (flft κ q) ⊛ ‵ ftrue) ⊛ ‵ (RE .own r (w ∷ []))) ⊛ raw (ensured 𝓤 H A serve.ended (serve.clauses 𝓤 H A mem run) (κ, tt) (x, (d, tt)) tt r)))) (id⊢ 𝓤 _) $ await ! tt $ pick ! (λ r.
         split ! $ move ! (1 ∷ []) $ use1 W (some (λ (zs : List Place × (Unit {0} × Unit {0})). ‵ (lasts serve.ended (κ, tt) (x, (d, tt)) zs) ⊛ raw (fact 𝓤 (Says ys d r (zs .0))))) (id⊢ 𝓤 _) $ pick ! (λ zs.
         split ! $ move ! (1 ∷ []) $ heard ! (Says ys d r (zs .0)) (λ e. fsplit ! $ fsplit ! $ move ! (1 ∷ []) $ feqL ! (λ l.
         move ! (2 ∷ []) $ split ! $ move ! (1 ∷ []) $ peeks ! RE (Is RE) (shows 𝓤 H A RE) r (w ∷ []) (λ is.

@@ -4,15 +4,15 @@ ghost use mathlib.Core.Path.{_≡_};
 ghost use Rattle.bureau_table.specs.declared.Ask.the-variants.{On, Take};
 ghost use Rattle.bureau_table.specs.declared.Work.the-variants.{Enter, GiveBack, Judge, Rate};
 ghost use Rattle.bureau_table.specs.Calls.{called};
-use bureau_table::Answer;
 use bureau_table::Ask;
 use bureau_table::Call;
 use bureau_table::Place;
+use bureau_table::TableAnswer;
 use bureau_table::Work;
 use record_end::Outcome;
 
 // The call's answer; the table is as the call leaves it. Refusals 8, 13, 14 or 15, then document 01's.
-pub fn serve(t: &mut [Place], c: Call) -> Answer
+pub fn serve(t: &mut [Place], c: Call) -> TableAnswer
     ensures { λ r. ⌜ (r ≡ called (now (t .entry)) (c .bureau) (c .ask) .answer)
         × (now (t .exit) ≡ called (now (t .entry)) (c .bureau) (c .ask) .table) ⌝ }
 {
@@ -78,7 +78,7 @@ fn for_entering(bureau: u64, place: u64, o: Outcome) -> Call
 }
 
 // A job: the lowest free place, with a fresh campaign at this standard in it. Refusals 8, 13, 14, 1 with item 5.
-pub fn take(t: &mut [Place], bureau: u64, standard: u64) -> Answer
+pub fn take(t: &mut [Place], bureau: u64, standard: u64) -> TableAnswer
     ensures { λ r. ⌜ (r ≡ called (now (t .entry)) bureau (Take standard) .answer)
         × (now (t .exit) ≡ called (now (t .entry)) bureau (Take standard) .table) ⌝ }
 {
@@ -86,7 +86,7 @@ pub fn take(t: &mut [Place], bureau: u64, standard: u64) -> Answer
 }
 
 // The verdict of the campaign in a place of the bureau. Refusals 8, 13, 15.
-pub fn verdict(t: &mut [Place], bureau: u64, place: u64) -> Answer
+pub fn verdict(t: &mut [Place], bureau: u64, place: u64) -> TableAnswer
     ensures { λ r. ⌜ (r ≡ called (now (t .entry)) bureau (On place Judge) .answer)
         × (now (t .exit) ≡ called (now (t .entry)) bureau (On place Judge) .table) ⌝ }
 {
@@ -94,7 +94,7 @@ pub fn verdict(t: &mut [Place], bureau: u64, place: u64) -> Answer
 }
 
 // The rates of the campaign in a place of the bureau. Refusals 8, 13, 15.
-pub fn rates(t: &mut [Place], bureau: u64, place: u64) -> Answer
+pub fn rates(t: &mut [Place], bureau: u64, place: u64) -> TableAnswer
     ensures { λ r. ⌜ (r ≡ called (now (t .entry)) bureau (On place Rate) .answer)
         × (now (t .exit) ≡ called (now (t .entry)) bureau (On place Rate) .table) ⌝ }
 {
@@ -102,7 +102,7 @@ pub fn rates(t: &mut [Place], bureau: u64, place: u64) -> Answer
 }
 
 // The place is free and all zeros again. Refusals 8, 13, 15.
-pub fn give_back(t: &mut [Place], bureau: u64, place: u64) -> Answer
+pub fn give_back(t: &mut [Place], bureau: u64, place: u64) -> TableAnswer
     ensures { λ r. ⌜ (r ≡ called (now (t .entry)) bureau (On place GiveBack) .answer)
         × (now (t .exit) ≡ called (now (t .entry)) bureau (On place GiveBack) .table) ⌝ }
 {
@@ -111,7 +111,7 @@ pub fn give_back(t: &mut [Place], bureau: u64, place: u64) -> Answer
 
 // What a campaign takes of a record's result, entered into the campaign in a place of the bureau. Refusals 8, 13, 15,
 // 8 for the result, 5, 6.
-pub fn enter(t: &mut [Place], bureau: u64, place: u64, o: Outcome) -> Answer
+pub fn enter(t: &mut [Place], bureau: u64, place: u64, o: Outcome) -> TableAnswer
     ensures { λ r. ⌜ (r ≡ called (now (t .entry)) bureau (On place (Enter o)) .answer)
         × (now (t .exit) ≡ called (now (t .entry)) bureau (On place (Enter o)) .table) ⌝ }
 {
@@ -121,7 +121,7 @@ pub fn enter(t: &mut [Place], bureau: u64, place: u64, o: Outcome) -> Answer
 // A table by value, and an answer.
 pub struct Served {
     pub places: [Place; 32],
-    pub answer: Answer,
+    pub answer: TableAnswer,
 }
 
 // The call served at a table by value, which is lent to `serve` and handed back: for callers that keep their table in

@@ -13,8 +13,8 @@ use lib.ListN.{length, set}
 use borrow.Author.Tests.{eq-eqb, eqb-false, eqb-true, leb-false, lt-ltb, le-ltb, ne-eqb}
 use Rattle.refusal.specs.declared.Refusal.the-variants.{NotItsOwn}
 use Rattle.truth.proofs.Cases.{by-order, by-test}
-use Rattle.campaign_state.specs.declared.Answer.{Answer as Campaigned}
-use Rattle.campaign_state.specs.declared.Answer.the-variants as campaigned
+use Rattle.campaign_state.specs.declared.CampaignAnswer.{CampaignAnswer}
+use Rattle.campaign_state.specs.declared.CampaignAnswer.the-variants as campaigned
 use Rattle.campaign_state.specs.declared.Campaign.{Campaign}
 use Rattle.campaign_verdict.specs.declared.Judged.{Judged as CampaignJudged}
 use Rattle.campaign_verdict.specs.declared.Judged.the-variants as judged
@@ -23,7 +23,7 @@ use Rattle.campaign_verdict.specs.declared.Rated.the-variants as rated
 use Rattle.campaign_state.specs.Answers.{entering}
 use Rattle.campaign_verdict.specs.Answers.{judging, rating}
 use Rattle.campaign_state.specs.State.{empty, standardInRange}
-use Rattle.bureau_table.specs.declared.Answer.the-variants.{Refused}
+use Rattle.bureau_table.specs.declared.TableAnswer.the-variants.{Refused}
 use Rattle.bureau_table.specs.declared.Ask.{Ask}
 use Rattle.bureau_table.specs.declared.Ask.the-variants.{On, Take}
 use Rattle.bureau_table.specs.declared.Place.{Place}
@@ -73,7 +73,7 @@ module _ (b : ℕ) (bureau : isBureau b ≡ true) where
         → Agree book (On k w) (stored t (bookPlace book k) (worked b c w)) (stored v k (worked b c w))
     works k (Enter x) c l h = go (entering c x) h
       where
-        go : (a : Campaigned) → kept (set t (bookPlace book k) (entry b c a .place)) ≡ true → Agree book (On k (Enter x)) (stored t (bookPlace book k) (entry b c a)) (stored v k (entry b c a))
+        go : (a : CampaignAnswer) → kept (set t (bookPlace book k) (entry b c a .place)) ≡ true → Agree book (On k (Enter x)) (stored t (bookPlace book k) (entry b c a)) (stored v k (entry b c a))
         go (campaigned.Taken d) h = record { same = refl; booked = stores s k l (owned b d) refl h }
         go (campaigned.Refused r) h = record { same = refl; booked = stores s k l (owned b c) refl h }
     works k Judge c l h = go (judging c)

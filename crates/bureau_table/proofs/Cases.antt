@@ -13,8 +13,8 @@ use Rattle.refusal.specs.declared.Refusal.{Refusal}
 use Rattle.refusal.specs.declared.Refusal.the-variants.{BrokenState, BureauFull, Item, NoBureau, NotItsOwn}
 use Rattle.truth.proofs.Cases.{by-test}
 use Rattle.record_end.specs.declared.Outcome.{Outcome}
-use Rattle.campaign_state.specs.declared.Answer.{Answer as Campaigned}
-use Rattle.campaign_state.specs.declared.Answer.the-variants as campaigned
+use Rattle.campaign_state.specs.declared.CampaignAnswer.{CampaignAnswer}
+use Rattle.campaign_state.specs.declared.CampaignAnswer.the-variants as campaigned
 use Rattle.campaign_state.specs.declared.Campaign.{Campaign}
 use Rattle.campaign_verdict.specs.declared.Judged.{Judged as CampaignJudged}
 use Rattle.campaign_verdict.specs.declared.Judged.the-variants as judged
@@ -25,8 +25,8 @@ use Rattle.campaign_verdict.specs.declared.Verdict.{Verdict}
 use Rattle.campaign_state.specs.Answers.{entering}
 use Rattle.campaign_verdict.specs.Answers.{judging, rating}
 use Rattle.campaign_state.specs.State.{empty, standardInRange}
-use Rattle.bureau_table.specs.declared.Answer.{Answer}
-use Rattle.bureau_table.specs.declared.Answer.the-variants.{Entered, Freed, Judged, Placed, Rated, Refused}
+use Rattle.bureau_table.specs.declared.TableAnswer.{TableAnswer}
+use Rattle.bureau_table.specs.declared.TableAnswer.the-variants.{Entered, Freed, Judged, Placed, Rated, Refused}
 use Rattle.bureau_table.specs.declared.Ask.{Ask}
 use Rattle.bureau_table.specs.declared.Ask.the-variants.{On, Take}
 use Rattle.bureau_table.specs.declared.Place.{Place}
@@ -37,7 +37,7 @@ use Rattle.bureau_table.specs.Calls.{Done, asked, called, entry, ratesAn
 use Rattle.bureau_table.specs.Taken.{Room}
 
 -- a verdict or rates
-pub data Reading : Answer → Type 0 where
+pub data Reading : TableAnswer → Type 0 where
   verdict : (v : Verdict) → Reading (Judged v)
   rates : (some : Bool) (r : Rates) → Reading (Rated some r)
 
@@ -51,7 +51,7 @@ pub record Own (t : List Place) (b i : ℕ) : Type 0 where
 pub data Made (t : List Place) (b : ℕ) : Ask → Done → Type 0 where
   refuses : (a : Ask) (r : Refusal) → Made t b a (refused t r)
   places : (q : ℕ) → Room t b q → Made t b (Take q) (record { answer = Placed (lowestFree t); table = set t (lowestFree t) (owned b (empty q)) })
-  reads : (i : ℕ) (w : Work) (x : Answer) → Reading x → Own t b i → Made t b (On i w) (record { answer = x; table = t })
+  reads : (i : ℕ) (w : Work) (x : TableAnswer) → Reading x → Own t b i → Made t b (On i w) (record { answer = x; table = t })
   enters :
       (i : ℕ) (x : Outcome) (d : Campaign)
       → Own t b i
@@ -67,7 +67,7 @@ module _ (t : List Place) (b : ℕ) where
   work-made : (i : ℕ) (w : Work) → Own t b i → Made t b (On i w) (stored t i (worked b (at t i .campaign) w))
   work-made i (Enter x) o = go (entering (at t i .campaign) x) refl
     where
-      go : (a : Campaigned) → entering (at t i .campaign) x ≡ a → Made t b (On i (Enter x)) (stored t i (entry b (at t i .campaign) a))
+      go : (a : CampaignAnswer) → entering (at t i .campaign) x ≡ a → Made t b (On i (Enter x)) (stored t i (entry b (at t i .campaign) a))
       go (campaigned.Taken d) e = enters i x d o e
       go (campaigned.Refused r) e = rw (same i o) (refuses _ r)
   work-made i Judge o = go (judging (at t i .campaign))

@@ -8,8 +8,8 @@ use Rattle.campaign_verdict.specs.declared.Verdict.the-variants.{NoRecord}
 use Rattle.campaign_state.specs.Answers.{entering}
 use Rattle.campaign_verdict.specs.Answers.{judging}
 use Rattle.campaign_state.specs.State.{sound}
-use Rattle.bureau_table.specs.declared.Answer.{Answer}
-use Rattle.bureau_table.specs.declared.Answer.the-variants.{Entered, Freed, Judged, Placed, Refused}
+use Rattle.bureau_table.specs.declared.TableAnswer.{TableAnswer}
+use Rattle.bureau_table.specs.declared.TableAnswer.the-variants.{Entered, Freed, Judged, Placed, Refused}
 use Rattle.bureau_table.specs.declared.Ask.{Ask}
 use Rattle.bureau_table.specs.declared.Ask.the-variants.{On, Take}
 use Rattle.bureau_table.specs.declared.Place.{Place}
@@ -19,7 +19,7 @@ use Rattle.bureau_table.specs.Calls.{called}
 use Rattle.bureau_table.specs.declared.Call.{Call}
 
 -- the answers to calls, one after the other
-told : List Place → List Call → List Answer
+told : List Place → List Call → List TableAnswer
 told t [] = []
 told t (c ∷ cs) = called t (c .bureau) (c .ask) .answer ∷ told (called t (c .bureau) (c .ask) .table) cs
 

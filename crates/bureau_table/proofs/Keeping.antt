@@ -14,12 +14,12 @@ use borrow.Author.Tests.{eqb-true}
 use Rattle.refusal.specs.declared.Refusal.{Refusal}
 use Rattle.truth.proofs.Cases.{by-test}
 use Rattle.truth.proofs.Laws.{is-true}
-use Rattle.campaign_state.specs.declared.Answer.the-variants as campaigned
+use Rattle.campaign_state.specs.declared.CampaignAnswer.the-variants as campaigned
 use Rattle.campaign_state.specs.declared.Campaign.{Campaign}
 use Rattle.campaign_state.specs.Answers.{opened}
 use Rattle.campaign_state.specs.State.{empty, sound, standardInRange}
 use Rattle.campaign_state.proofs.Keeping.{entering-sound, opened-sound}
-use Rattle.bureau_table.specs.declared.Answer.the-variants.{Refused}
+use Rattle.bureau_table.specs.declared.TableAnswer.the-variants.{Refused}
 use Rattle.bureau_table.specs.declared.Ask.{Ask}
 use Rattle.bureau_table.specs.declared.Ask.the-variants.{On}
 use Rattle.bureau_table.specs.declared.Place.{Place}

@@ -15,7 +15,7 @@ use Rattle.refusal.specs.declared.Refusal.{Refusal}
 use Rattle.truth.proofs.Cases.{by-test}
 use Rattle.truth.proofs.Laws.{true≢false}
 use Rattle.record_end.specs.declared.Outcome.{Outcome}
-use Rattle.campaign_state.specs.declared.Answer.the-variants as campaigned
+use Rattle.campaign_state.specs.declared.CampaignAnswer.the-variants as campaigned
 use Rattle.campaign_state.specs.declared.Campaign.{Campaign}
 use Rattle.campaign_state.specs.Answers.{entering}
 use Rattle.campaign_verdict.specs.Answers.{judging, rating}
@@ -23,8 +23,8 @@ use Rattle.campaign_verdict.specs.Figures.{ratesOf, verdictOf}
 use Rattle.campaign_state.specs.Records.{AllEntered, campaignOf, censoredIn, none, one}
 use Rattle.campaign_state.specs.State.{censored, empty, sound, standardInRange}
 use Rattle.campaign_state.proofs.Records.{censored-grown, grown-by-entering}
-use Rattle.bureau_table.specs.declared.Answer.{Answer}
-use Rattle.bureau_table.specs.declared.Answer.the-variants.{Judged, Placed, Rated, Refused}
+use Rattle.bureau_table.specs.declared.TableAnswer.{TableAnswer}
+use Rattle.bureau_table.specs.declared.TableAnswer.the-variants.{Judged, Placed, Rated, Refused}
 use Rattle.bureau_table.specs.declared.Ask.{Ask}
 use Rattle.bureau_table.specs.declared.Ask.the-variants.{On, Take}
 use Rattle.bureau_table.specs.declared.Place.{Place}
@@ -65,7 +65,7 @@ work-refused Judge r = refl
 work-refused Rate r = refl
 work-refused GiveBack r = refl
 
-work-read : (w : Work) {x : Answer} → Reading x → workEnters w x ≡ []
+work-read : (w : Work) {x : TableAnswer} → Reading x → workEnters w x ≡ []
 work-read (Enter y) (verdict v) = refl
 work-read (Enter y) (rates some r) = refl
 work-read Judge r = refl
@@ -79,7 +79,7 @@ module _ (i b q : ℕ) (bureau : isBureau b ≡ true) where
     stands : at t i ≡ owned b campaign
     entered : AllEntered (empty q) os campaign
 
-  none-entered : (j : ℕ) (w : Work) (x : Answer) → workEnters w x ≡ [] → enters i (On j w) x ≡ []
+  none-entered : (j : ℕ) (w : Work) (x : TableAnswer) → workEnters w x ≡ [] → enters i (On j w) x ≡ []
   none-entered j w x e = by-test (eqb j i) (λ h. rw (h, e)) (λ h. rw h)
 
   not-entered : (a : Ask) (r : Refusal) → enters i a (Refused r) ≡ []

@@ -8,7 +8,7 @@ use Prim.Native.Nat.{ℕ, _<_}
 use lib.ListN.{length, set}
 use borrow.Author.Tests.{eq-eqb, lt-leb, lt-ltb}
 use Rattle.campaign_state.specs.State.{empty, standardInRange}
-use Rattle.bureau_table.specs.declared.Answer.the-variants.{Freed, Placed}
+use Rattle.bureau_table.specs.declared.TableAnswer.the-variants.{Freed, Placed}
 use Rattle.bureau_table.specs.declared.Ask.the-variants.{On, Take}
 use Rattle.bureau_table.specs.declared.Place.{Place}
 use Rattle.bureau_table.specs.declared.Work.{Work}

@@ -6,17 +6,17 @@ use lib.Dec.{eqb, leb, ltb}
 use lib.ListN.{length, set}
 use Rattle.refusal.specs.declared.Refusal.{Refusal}
 use Rattle.refusal.specs.declared.Refusal.the-variants.{BrokenState, BureauFull, NoBureau, NotItsOwn}
-use Rattle.campaign_state.specs.declared.Answer.{Answer as Campaigned}
+use Rattle.campaign_state.specs.declared.CampaignAnswer.{CampaignAnswer}
 use Rattle.campaign_state.specs.declared.Campaign.{Campaign}
 use Rattle.campaign_verdict.specs.declared.Judged.{Judged as CampaignJudged}
 use Rattle.campaign_verdict.specs.declared.Rated.{Rated as CampaignRated}
 use Rattle.campaign_state.specs.Answers.{entering, opened}
 use Rattle.campaign_verdict.specs.Answers.{judging, rating}
-use Rattle.campaign_state.specs.declared.Answer.the-variants as campaigned
+use Rattle.campaign_state.specs.declared.CampaignAnswer.the-variants as campaigned
 use Rattle.campaign_verdict.specs.declared.Judged.the-variants as judged
 use Rattle.campaign_verdict.specs.declared.Rated.the-variants as rated
-use Rattle.bureau_table.specs.declared.Answer.{Answer}
-use Rattle.bureau_table.specs.declared.Answer.the-variants.{Entered, Freed, Judged, Placed, Rated, Refused}
+use Rattle.bureau_table.specs.declared.TableAnswer.{TableAnswer}
+use Rattle.bureau_table.specs.declared.TableAnswer.the-variants.{Entered, Freed, Judged, Placed, Rated, Refused}
 use Rattle.bureau_table.specs.declared.Ask.{Ask}
 use Rattle.bureau_table.specs.declared.Ask.the-variants.{On, Take}
 use Rattle.bureau_table.specs.declared.Place.{Place}
@@ -26,15 +26,15 @@ use Rattle.bureau_table.specs.declared.Work.the-variants.{Enter, GiveBac
 use Rattle.bureau_table.specs.Table.{at, free, isBureau, jobs, kept, lowestFree, mostJobs, owned}
 
 -- ---- work on a campaign, by value: what is answered, and what stands in its place then
-abbrev pub entry : ℕ → Campaign → Campaigned → Worked
+abbrev pub entry : ℕ → Campaign → CampaignAnswer → Worked
 entry b c (campaigned.Taken d) = record { answer = Entered; place = owned b d }
 entry b c (campaigned.Refused r) = record { answer = Refused r; place = owned b c }
 
-abbrev pub verdictAnswer : CampaignJudged → Answer
+abbrev pub verdictAnswer : CampaignJudged → TableAnswer
 verdictAnswer (judged.Given v) = Judged v
 verdictAnswer (judged.Refused r) = Refused r
 
-abbrev pub ratesAnswer : CampaignRated → Answer
+abbrev pub ratesAnswer : CampaignRated → TableAnswer
 ratesAnswer (rated.Given some r) = Rated some r
 ratesAnswer (rated.Refused r) = Refused r
 
@@ -47,7 +47,7 @@ worked b c GiveBack = record { answer = Freed; place = free }
 
 -- ---- a call
 pub record Done : Type 0 where
-  pub answer : Answer
+  pub answer : TableAnswer
   pub table : List Place
 
 -- a refusal leaves the table as it was
@@ -55,7 +55,7 @@ abbrev pub refused : List Place → Refusal → Done
 refused t r = record { answer = Refused r; table = t }
 
 -- "taking a job gives the lowest free place and a fresh campaign", or document 01's refusal of its standard
-abbrev pub placed : List Place → ℕ → Campaigned → Done
+abbrev pub placed : List Place → ℕ → CampaignAnswer → Done
 placed t b (campaigned.Taken c) = record { answer = Placed (lowestFree t); table = set t (lowestFree t) (owned b c) }
 placed t b (campaigned.Refused r) = refused t r
 

@@ -6,13 +6,13 @@ use mathlib.Core.List.{List, [], _∷_, _++_}
 use Prim.Native.Nat.{ℕ, suc}
 use lib.Dec.{eqb, leb}
 use lib.ListN.{getD, set}
-use Rattle.campaign_state.specs.declared.Answer.{Answer as Campaigned}
-use Rattle.campaign_state.specs.declared.Answer.the-variants as campaigned
+use Rattle.campaign_state.specs.declared.CampaignAnswer.{CampaignAnswer}
+use Rattle.campaign_state.specs.declared.CampaignAnswer.the-variants as campaigned
 use Rattle.campaign_state.specs.Answers.{opened}
 use Rattle.record_end.specs.declared.Outcome.{Outcome}
 use Rattle.refusal.specs.declared.Refusal.the-variants.{BureauFull}
-use Rattle.bureau_table.specs.declared.Answer.{Answer}
-use Rattle.bureau_table.specs.declared.Answer.the-variants.{Entered, Freed, Judged, Placed, Rated, Refused}
+use Rattle.bureau_table.specs.declared.TableAnswer.{TableAnswer}
+use Rattle.bureau_table.specs.declared.TableAnswer.the-variants.{Entered, Freed, Judged, Placed, Rated, Refused}
 use Rattle.bureau_table.specs.declared.Ask.{Ask}
 use Rattle.bureau_table.specs.declared.Ask.the-variants.{On, Take}
 use Rattle.bureau_table.specs.declared.Call.{Call}
@@ -49,7 +49,7 @@ struck book (Take q) = book
 struck book (On k w) = set book k places
 
 -- what it notes of the answer
-abbrev pub noted : List ℕ → Ask → Answer → List ℕ
+abbrev pub noted : List ℕ → Ask → TableAnswer → List ℕ
 noted book a (Placed i) = book ++ (i ∷ [])
 noted book a Freed = struck book a
 noted book a Entered = book
@@ -63,7 +63,7 @@ pub data Move (b : ℕ) : Type 0 where
   other : (c : ℕ) → ¬ (c ≡ b) → Ask → Move b
 
 -- an answer, the place number aside
-abbrev pub aside : Answer → Answer
+abbrev pub aside : TableAnswer → TableAnswer
 aside (Placed i) = Placed 0
 aside Entered = Entered
 aside (Judged v) = Judged v
@@ -72,7 +72,7 @@ aside Freed = Freed
 aside (Refused r) = Refused r
 
 -- what bureau b's script is answered, place numbers aside, from a table and a book on
-unfoldable pub answers : (b : ℕ) → List Place → List ℕ → List (Move b) → List Answer
+unfoldable pub answers : (b : ℕ) → List Place → List ℕ → List (Move b) → List TableAnswer
 answers b t book [] = []
 answers b t book (mine a ∷ ms) =
     let d : Done = called t b (sent book a) in
@@ -80,7 +80,7 @@ answers b t book (mine a ∷ ms) =
 answers b t book (other c n a ∷ ms) = answers b (called t c a .table) book ms
 
 -- from a table on
-abbrev pub answersFrom : (b : ℕ) → List Place → List (Move b) → List Answer
+abbrev pub answersFrom : (b : ℕ) → List Place → List (Move b) → List TableAnswer
 answersFrom b t ms = answers b t (ownPlaces b 0 t) ms
 
 -- the script
@@ -97,7 +97,7 @@ alone (other c n a ∷ ms) = alone ms
 
 -- ---- a desk of the bureau's own
 -- Its jobs stand in the order of taking, so the k-th is at place k; there is no end to its places and no other bureau.
-abbrev pub openedAtDesk : List Place → ℕ → Campaigned → Done
+abbrev pub openedAtDesk : List Place → ℕ → CampaignAnswer → Done
 openedAtDesk v b (campaigned.Taken c) = record { answer = Placed 0; table = v ++ (owned b c ∷ []) }
 openedAtDesk v b (campaigned.Refused r) = refused v r
 
@@ -105,7 +105,7 @@ abbrev pub atDesk : List Place → ℕ → Ask → Done
 atDesk v b (Take q) = cond (leb mostJobs (jobs b v)) (refused v BureauFull) (openedAtDesk v b (opened q))
 atDesk v b (On k w) = working v b k w
 
-unfoldable pub deskAnswers : ℕ → List Place → List Ask → List Answer
+unfoldable pub deskAnswers : ℕ → List Place → List Ask → List TableAnswer
 deskAnswers b v [] = []
 deskAnswers b v (a ∷ more) = atDesk v b a .answer ∷ deskAnswers b (atDesk v b a .table) more
 
@@ -120,7 +120,7 @@ after t [] = t
 after t (c ∷ cs) = after (made t c .table) cs
 
 -- the record that a call, answered so, enters in place i
-abbrev pub workEnters : Work → Answer → List Outcome
+abbrev pub workEnters : Work → TableAnswer → List Outcome
 workEnters (Enter o) Entered = o ∷ []
 workEnters (Enter o) (Placed i) = []
 workEnters (Enter o) (Judged v) = []
@@ -131,12 +131,12 @@ workEnters Judge x = []
 workEnters Rate x = []
 workEnters GiveBack x = []
 
-abbrev pub enters : ℕ → Ask → Answer → List Outcome
+abbrev pub enters : ℕ → Ask → TableAnswer → List Outcome
 enters i (Take q) x = []
 enters i (On j w) x = cond (eqb j i) (workEnters w x) []
 
 -- whether it gives place i back
-abbrev pub isFreed : Answer → Bool
+abbrev pub isFreed : TableAnswer → Bool
 isFreed Freed = true
 isFreed (Placed i) = false
 isFreed Entered = false
@@ -144,7 +144,7 @@ isFreed (Judged v) = false
 isFreed (Rated some r) = false
 isFreed (Refused r) = false
 
-abbrev pub frees : ℕ → Ask → Answer → Bool
+abbrev pub frees : ℕ → Ask → TableAnswer → Bool
 frees i (Take q) x = false
 frees i (On j w) x = cond (eqb j i) (isFreed x) false
 

@@ -33,7 +33,7 @@ pub struct Call {
     pub ask: Ask,
 }
 
-pub enum Answer {
+pub enum TableAnswer {
     Placed(u64),
     Entered,
     Judged(Verdict),
@@ -44,6 +44,6 @@ pub enum Answer {
 
 // What work on a campaign answers, and what stands in its place then.
 pub struct Worked {
-    pub answer: Answer,
+    pub answer: TableAnswer,
     pub place: Place,
 }

@@ -8,7 +8,7 @@ use Rattle.refusal.specs.declared.Refusal.the-variants.{Situation}
 use Rattle.campaign_state.specs.declared.Campaign.{Campaign}
 use Rattle.campaign_condition.specs.Standing.{allAccepted, oneRejected, standing}
 use Rattle.campaign_condition.specs.Answers.{situationsInRange, judging, lowestBroken, seenOf}
-use Rattle.campaign_condition.specs.declared.Answer.the-variants.{Given, Refused}
+use Rattle.campaign_condition.specs.declared.ConditionAnswer.the-variants.{Given, Refused}
 use Rattle.campaign_condition.specs.declared.Seen.{Seen}
 use Rattle.campaign_condition.specs.declared.Standing.the-variants.{Accepted, Open, Rejected}
 

@@ -82,47 +82,47 @@ accepted-all cs e =
     (λ a. a)
     (λ a. let z : Open ≡ Accepted = rw (o, a) at e in let n : _≡_ {A = ℕ} 0 1 = cc in absurd (omega arith)))
 
-module _ (before : List Campaign) (c : Campaign) (behind : List Campaign) where
-  pub one-rejects : rejected c ≡ true → standing (before ++ (c ∷ behind)) ≡ Rejected
+module _ (before : List Campaign) (c : Campaign) (after : List Campaign) where
+  pub one-rejects : rejected c ≡ true → standing (before ++ (c ∷ after)) ≡ Rejected
   unfolding standing oneRejected
-  one-rejects r = rw (one-among before (c ∷ behind), r, or-true (oneRejected before))
+  one-rejects r = rw (one-among before (c ∷ after), r, or-true (oneRejected before))
     where
       or-true : (a : Bool) → (a || true) ≡ true
       or-true true = refl
       or-true false = refl
 
-  pub all-needed : standing (before ++ (c ∷ behind)) ≡ Accepted → accepted c ≡ true
+  pub all-needed : standing (before ++ (c ∷ after)) ≡ Accepted → accepted c ≡ true
   unfolding allAccepted
   all-needed e =
-      let all = sym (all-among before (c ∷ behind)) ∙ accepted-all (before ++ (c ∷ behind)) e in
-      and-true (accepted c) (allAccepted behind) (and-true (allAccepted before) (allAccepted (c ∷ behind)) all .1) .0
+      let all = sym (all-among before (c ∷ after)) ∙ accepted-all (before ++ (c ∷ after)) e in
+      and-true (accepted c) (allAccepted after) (and-true (allAccepted before) (allAccepted (c ∷ after)) all .1) .0
 
   -- without a record in one of them no condition is accepted
-  pub empty-open : c .records ≡ 0 → ¬ (standing (before ++ (c ∷ behind)) ≡ Accepted)
+  pub empty-open : c .records ≡ 0 → ¬ (standing (before ++ (c ∷ after)) ≡ Accepted)
   empty-open none e = let (_, some, _) = accepted-accepts c (all-needed e) in omega arith
 
   -- refusal 8 names the lowest
-  pub lowest-named : lowestBroken before ≡ 0 → sound c ≡ false → lowestBroken (before ++ (c ∷ behind)) ≡ length before + 1
+  pub lowest-named : lowestBroken before ≡ 0 → sound c ≡ false → lowestBroken (before ++ (c ∷ after)) ≡ length before + 1
   unfolding brokenFrom
   lowest-named w b = rw (named 1 before (omega arith) w b) (omega arith)
     where
-      named : (n : ℕ) (cs : List Campaign) → 1 ≤ n → brokenFrom n cs ≡ 0 → sound c ≡ false → brokenFrom n (cs ++ (c ∷ behind)) ≡ n + length cs
+      named : (n : ℕ) (cs : List Campaign) → 1 ≤ n → brokenFrom n cs ≡ 0 → sound c ≡ false → brokenFrom n (cs ++ (c ∷ after)) ≡ n + length cs
       named n [] h w b = rw b (omega arith)
       named n (d ∷ cs) h w b =
           let (good, left) = whole-next n d cs h w in
           rw good (named (n + 1) cs (omega arith) left b ∙ omega arith)
 
 -- two neighbours may change places, and by such changes any order comes from any other
-pub order : (before : List Campaign) (a b : Campaign) (behind : List Campaign) → standing (before ++ (a ∷ (b ∷ behind))) ≡ standing (before ++ (b ∷ (a ∷ behind)))
+pub order : (before : List Campaign) (a b : Campaign) (after : List Campaign) → standing (before ++ (a ∷ (b ∷ after))) ≡ standing (before ++ (b ∷ (a ∷ after)))
 unfolding standing oneRejected allAccepted
-order before a b behind =
+order before a b after =
     rw (
-      one-among before (a ∷ (b ∷ behind)),
-      all-among before (a ∷ (b ∷ behind)),
-      one-among before (b ∷ (a ∷ behind)),
-      all-among before (b ∷ (a ∷ behind)),
-      or-turn (rejected a) (rejected b) (oneRejected behind),
-      and-turn (accepted a) (accepted b) (allAccepted behind),
+      one-among before (a ∷ (b ∷ after)),
+      all-among before (a ∷ (b ∷ after)),
+      one-among before (b ∷ (a ∷ after)),
+      all-among before (b ∷ (a ∷ after)),
+      or-turn (rejected a) (rejected b) (oneRejected after),
+      and-turn (accepted a) (accepted b) (allAccepted after),
     )
   where
     or-turn : (x y z : Bool) → (x || (y || z)) ≡ (y || (x || z))

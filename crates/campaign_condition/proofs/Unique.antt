@@ -5,8 +5,8 @@ use Prim.Native.Nat.{ℕ}
 use lib.ListN.{take}
 use Rattle.truth.proofs.Unique.{settled}
 use Rattle.campaign_state.specs.declared.Campaign.{Campaign}
-use Rattle.campaign_condition.specs.declared.Answer.{Answer}
+use Rattle.campaign_condition.specs.declared.ConditionAnswer.{ConditionAnswer}
 use Rattle.campaign_condition.specs.Answers.{judging}
 
-pub judge-unique : (all : List Campaign) (number : ℕ) (r s : Answer) → r ≡ judging number (take number all) → s ≡ judging number (take number all) → r ≡ s
+pub judge-unique : (all : List Campaign) (number : ℕ) (r s : ConditionAnswer) → r ≡ judging number (take number all) → s ≡ judging number (take number all) → r ≡ s
 judge-unique all number r s = settled

@@ -15,7 +15,7 @@ use Rattle.campaign_state.specs.declared.Campaign.{Campaign}
 use Rattle.campaign_state.specs.State.{empty, sound}
 use Rattle.campaign_condition.specs.Standing.{standing}
 use Rattle.campaign_condition.specs.Answers.{situationsInRange, brokenFrom, judging, lowestBroken}
-use Rattle.campaign_condition.specs.declared.Answer.the-variants.{Given, Refused}
+use Rattle.campaign_condition.specs.declared.ConditionAnswer.the-variants.{Given, Refused}
 use Rattle.campaign_condition.specs.declared.Standing.{Standing}
 use Rattle.campaign_condition.proofs.Front.{front-next}
 

@@ -7,8 +7,8 @@ use Rattle.refusal.specs.declared.Refusal.the-variants.{Situation, Situations}
 use Rattle.sample_items.specs.Limits.{within}
 use Rattle.campaign_state.specs.declared.Campaign.{Campaign}
 use Rattle.campaign_state.specs.State.{sound}
-use Rattle.campaign_condition.specs.declared.Answer.{Answer}
-use Rattle.campaign_condition.specs.declared.Answer.the-variants.{Given, Refused}
+use Rattle.campaign_condition.specs.declared.ConditionAnswer.{ConditionAnswer}
+use Rattle.campaign_condition.specs.declared.ConditionAnswer.the-variants.{Given, Refused}
 use Rattle.campaign_condition.specs.declared.Told.{Told}
 use Rattle.campaign_condition.specs.declared.Seen.{Seen}
 use Rattle.campaign_condition.specs.Standing.{accepted, allAccepted, oneRejected, rejected, standing}
@@ -30,7 +30,7 @@ abbrev pub lowestBroken : List Campaign → ℕ
 lowestBroken cs = brokenFrom 1 cs
 
 -- 18 for none or more than 64, then 8 with the lowest situation, else the standing
-unfoldable pub judging : ℕ → List Campaign → Answer
+unfoldable pub judging : ℕ → List Campaign → ConditionAnswer
 judging number cs =
     cond (not (situationsInRange number)) (Refused Situations)
     (cond (not (eqb (lowestBroken cs) 0)) (Refused (Situation (lowestBroken cs)))

@@ -1,6 +1,6 @@
 // A loading condition, by document 02 [13]: up to 64 design situations, a campaign for each, and one answer for all
 // of them. The campaigns come by value, so many of them as `number` says, at the start of 64 places; the places
-// behind them are not looked at.
+// after them are not looked at.
 ghost use mathlib.Core.Path.{_≡_};
 ghost use Prim.Native.Nat.{_≤_};
 ghost use lib.ListN.{take};
@@ -20,7 +20,7 @@ pub enum Standing {
     Open,
 }
 
-pub enum Answer {
+pub enum ConditionAnswer {
     Given(Standing),
     Refused(Refusal),
 }
@@ -116,21 +116,21 @@ fn look(campaigns: [Campaign; 64], number: usize) -> Seen
 
 // Where the loading condition stands: rejected if a campaign is, accepted if all are, else open. Or refusal 18 for no
 // campaign or more than 64, then 8 with the lowest situation whose campaign breaks a relation.
-pub fn judge(campaigns: [Campaign; 64], number: usize) -> Answer
+pub fn judge(campaigns: [Campaign; 64], number: usize) -> ConditionAnswer
     ensures { λ r. ⌜ r ≡ judging number (take number campaigns) ⌝ }
 {
     if !truth::both(1 <= number, number <= MOST_SITUATIONS) {
-        return Answer::Refused(Refusal::Situations);
+        return ConditionAnswer::Refused(Refusal::Situations);
     }
     let s = look(campaigns, number);
     if s.broken != 0 {
-        return Answer::Refused(Refusal::Situation(s.broken));
+        return ConditionAnswer::Refused(Refusal::Situation(s.broken));
     }
     if s.rejected {
-        return Answer::Given(Standing::Rejected);
+        return ConditionAnswer::Given(Standing::Rejected);
     }
     if s.accepted {
-        return Answer::Given(Standing::Accepted);
+        return ConditionAnswer::Given(Standing::Accepted);
     }
-    Answer::Given(Standing::Open)
+    ConditionAnswer::Given(Standing::Open)
 }

@@ -20,11 +20,11 @@ use Rattle.campaign_state.proofs.Relations.{censored-row, kept-from}
 use Rattle.refusal.specs.declared.Refusal.{Refusal}
 use Rattle.campaign_condition.specs.Answers.{brokenFrom, judging}
 use Rattle.campaign_condition.specs.Standing.{standing}
-use Rattle.campaign_condition.specs.declared.Answer.{Answer}
-use Rattle.campaign_condition.specs.declared.Answer.the-variants.{Given, Refused}
+use Rattle.campaign_condition.specs.declared.ConditionAnswer.{ConditionAnswer}
+use Rattle.campaign_condition.specs.declared.ConditionAnswer.the-variants.{Given, Refused}
 use Rattle.campaign_condition.proofs.Whole.{stood, whole-next}
-use Rattle.campaign_report.specs.Report.{blocks, lineText, linesFrom, reportText, standingLetter, sumOf, totalOf, totalText}
-use Rattle.campaign_report.specs.Answers.{afterJudging, writing}
+use Rattle.campaign_report.specs.Report.{blocks, situationText, linesFrom, reportText, standingLetter, sumOf, totalOf, totalText}
+use Rattle.campaign_report.specs.Answers.{afterJudging, writingReport}
 use Rattle.campaign_report.proofs.Texts.{line-bytes, next-bytes, total-bytes}
 
 censored-few : (c : Campaign) → Kept c → censored c < 100
@@ -34,7 +34,7 @@ censored-few c k =
     (λ e. rw e (omega arith))
     (λ e. let ne : ¬ (c .records ≡ 0) = eqb-false (c .records) 0 e in omega (arith, censored-row c k (omega arith) .high))
 
-line-few : (number : ℕ) (c : Campaign) → number < 100 → sound c ≡ true → length (lineText number c) ≤ 28
+line-few : (number : ℕ) (c : Campaign) → number < 100 → sound c ≡ true → length (situationText number c) ≤ 28
 line-few number c h s =
     let k = kept-from c (holds s) in
     omega (
@@ -78,14 +78,14 @@ total-few cs letter h w =
       digits-below 2 (totalOf cs .blocks) (omega arith),
     )
 
-pub enough : (number : ℕ) (cs : List Campaign) (out : List ℕ) (n : ℕ) → length cs ≡ number → writing number cs out ≡ Bytes n → n ≤ 40 + 28 * number
-unfolding writing reportText
+pub enough : (number : ℕ) (cs : List Campaign) (out : List ℕ) (n : ℕ) → length cs ≡ number → writingReport number cs out ≡ Bytes n → n ≤ 40 + 28 * number
+unfolding writingReport reportText
 enough number cs out n all e = go (judging number cs) refl e
   where
     never : {r : Refusal} → ¬ (Declined r ≡ Bytes n)
     never f = let z : _≡_ {A = ℕ} 0 1 = cc in absurd (omega arith)
 
-    go : (a : Answer) → judging number cs ≡ a → afterJudging a (length (reportText cs)) (length out) ≡ Bytes n → n ≤ 40 + 28 * number
+    go : (a : ConditionAnswer) → judging number cs ≡ a → afterJudging a (length (reportText cs)) (length out) ≡ Bytes n → n ≤ 40 + 28 * number
     go (Refused r) is e = absurd (never e)
     go (Given s) is e =
         let st = stood number cs s is in

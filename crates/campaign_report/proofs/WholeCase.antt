@@ -6,20 +6,20 @@ use Rattle.campaign_verdict.specs.Answers.{judging}
 use Rattle.decimal.specs.Decimal.{digitsOf, digitsWithin}
 use Rattle.decimal.specs.Field.{fieldText}
 use Rattle.campaign_condition.specs.Standing.{accepted, allAccepted, oneRejected, rejected, standing}
-use Rattle.campaign_report.specs.Report.{fourText, letterFor, lineText, linesFrom, reportText, sumOf, totalText}
+use Rattle.campaign_report.specs.Report.{fourText, letterFor, situationText, linesFrom, reportText, sumOf, totalText}
 use Rattle.campaign_report.specs.WholeCase.{reportOnThird, reportOnThree, theirReport, thirdAlone, threeSituations, twoSituations}
 
 pub whole-case : reportText twoSituations ≡ theirReport
-unfolding twoSituations theirReport reportText linesFrom lineText fourText fieldText letterFor totalText sumOf digitsOf digitsWithin censored sound judging accepted rejected oneRejected allAccepted standing u l upperRows lowerRows
+unfolding twoSituations theirReport reportText linesFrom situationText fourText fieldText letterFor totalText sumOf digitsOf digitsWithin censored sound judging accepted rejected oneRejected allAccepted standing u l upperRows lowerRows
 whole-case = refl
 
 -- and the one with all letters, then its accepted campaign alone
 pub three-case : reportText threeSituations ≡ reportOnThree
-unfolding threeSituations reportOnThree reportText linesFrom lineText fourText fieldText letterFor totalText sumOf digitsOf
+unfolding threeSituations reportOnThree reportText linesFrom situationText fourText fieldText letterFor totalText sumOf digitsOf
     digitsWithin censored sound judging accepted rejected oneRejected allAccepted standing u l upperRows lowerRows
 three-case = refl
 
 pub third-case : reportText thirdAlone ≡ reportOnThird
-unfolding thirdAlone reportOnThird reportText linesFrom lineText fourText fieldText letterFor totalText sumOf digitsOf
+unfolding thirdAlone reportOnThird reportText linesFrom situationText fourText fieldText letterFor totalText sumOf digitsOf
     digitsWithin censored sound judging accepted rejected oneRejected allAccepted standing u l upperRows lowerRows
 third-case = refl

@@ -7,14 +7,14 @@ use Rattle.text.specs.declared.Writing.{Writing}
 use Rattle.text.specs.declared.Writing.the-variants.{Refused as Declined}
 use Rattle.campaign_state.specs.declared.Campaign.{Campaign}
 use Rattle.campaign_condition.specs.Answers.{judging}
-use Rattle.campaign_condition.specs.declared.Answer.{Answer}
-use Rattle.campaign_condition.specs.declared.Answer.the-variants.{Given, Refused}
+use Rattle.campaign_condition.specs.declared.ConditionAnswer.{ConditionAnswer}
+use Rattle.campaign_condition.specs.declared.ConditionAnswer.the-variants.{Given, Refused}
 use Rattle.campaign_report.specs.Report.{reportText}
 
 -- 18, then 8 with the lowest situation, as the condition is judged; then 7 with the bytes needed
-abbrev pub afterJudging : Answer → ℕ → ℕ → Writing
+abbrev pub afterJudging : ConditionAnswer → ℕ → ℕ → Writing
 afterJudging (Refused r) needed room = Declined r
 afterJudging (Given s) needed room = withinRoom needed room
 
-unfoldable pub writing : ℕ → List Campaign → List ℕ → Writing
-writing number cs out = afterJudging (judging number cs) (length (reportText cs)) (length out)
+unfoldable pub writingReport : ℕ → List Campaign → List ℕ → Writing
+writingReport number cs out = afterJudging (judging number cs) (length (reportText cs)) (length out)

@@ -34,13 +34,13 @@ standingLetter Open = 79
 unfoldable pub fourText : ℕ → ℕ → ℕ → ℕ → List ℕ
 fourText a b c d = fieldText a tab ++ (fieldText b tab ++ (fieldText c tab ++ fieldText d tab))
 
-unfoldable pub lineText : ℕ → Campaign → List ℕ
-lineText number c = fourText number (c .failures) (censored c) (c .exposure) ++ (letterFor c ∷ tab ∷ fieldText (blocks (c .failures)) lineFeed)
+unfoldable pub situationText : ℕ → Campaign → List ℕ
+situationText number c = fourText number (c .failures) (censored c) (c .exposure) ++ (letterFor c ∷ tab ∷ fieldText (blocks (c .failures)) lineFeed)
 
 -- the lines of situations, from the number of the first on
 unfoldable pub linesFrom : ℕ → List Campaign → List ℕ
 linesFrom number [] = []
-linesFrom number (c ∷ cs) = lineText number c ++ linesFrom (number + 1) cs
+linesFrom number (c ∷ cs) = situationText number c ++ linesFrom (number + 1) cs
 
 -- ---- the last line: the word total, the sums of M, N, T and blocks, the letter
 unfoldable pub sumOf : (Campaign → ℕ) → List Campaign → ℕ

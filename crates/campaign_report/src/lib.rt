@@ -7,10 +7,10 @@ ghost use lib.ListN.{length, take};
 ghost use Rattle.text.specs.Write.{laidBy, placeAfter, written};
 ghost use Rattle.campaign_state.specs.State.{censored, sound};
 ghost use Rattle.campaign_condition.specs.Answers.{lowestBroken};
-ghost use Rattle.campaign_report.specs.Report.{blocks, fourText, letterFor, lineText, linesFrom, reportText};
+ghost use Rattle.campaign_report.specs.Report.{blocks, fourText, letterFor, situationText, linesFrom, reportText};
 ghost use Rattle.campaign_report.specs.Report.{standingLetter, totalOf, totalText, verdictLetter};
-ghost use Rattle.campaign_report.specs.Answers.{writing};
-use campaign_condition::Answer;
+ghost use Rattle.campaign_report.specs.Answers.{writingReport};
+use campaign_condition::ConditionAnswer;
 use campaign_condition::Standing;
 use campaign_state::Campaign;
 use campaign_verdict::Counted;
@@ -114,7 +114,7 @@ fn sum(campaigns: [Campaign; 64], number: usize) -> Total
 // The bytes of a situation's line.
 fn line_length(number: u64, c: Campaign) -> usize
     requires { ⌜ sound c ≡ true ⌝ }
-    ensures { λ r. ⌜ (r ≡ length (lineText number c)) × (r ≤ 107) ⌝ }
+    ensures { λ r. ⌜ (r ≡ length (situationText number c)) × (r ≤ 107) ⌝ }
 {
     decimal::digits(number)
         + decimal::digits(c.failures)
@@ -150,7 +150,7 @@ fn lines_length(campaigns: [Campaign; 64], number: usize) -> u64
     total
 }
 
-// Puts four numbers, a tab behind each, into `out` from `at` on.
+// Puts four numbers, a tab after each, into `out` from `at` on.
 fn put_four(a: u64, b: u64, c: u64, d: u64, out: &mut [u8], at: usize) -> usize
     requires { ⌜ at + length (fourText a b c d) ≤ length (now out) ⌝ }
     ensures { λ r. ⌜ r ≡ placeAfter (now (out .entry)) at (fourText a b c d) ⌝ }
@@ -164,9 +164,9 @@ fn put_four(a: u64, b: u64, c: u64, d: u64, out: &mut [u8], at: usize) -> usize
 
 // Puts a situation's line into `out` from `at` on.
 fn put_line(number: u64, c: Campaign, out: &mut [u8], at: usize) -> usize
-    requires { ⌜ (sound c ≡ true) × (at + length (lineText number c) ≤ length (now out)) ⌝ }
-    ensures { λ r. ⌜ r ≡ placeAfter (now (out .entry)) at (lineText number c) ⌝ }
-    ensures { λ _. ⌜ now (out .exit) ≡ written (now (out .entry)) at (lineText number c) ⌝ }
+    requires { ⌜ (sound c ≡ true) × (at + length (situationText number c) ≤ length (now out)) ⌝ }
+    ensures { λ r. ⌜ r ≡ placeAfter (now (out .entry)) at (situationText number c) ⌝ }
+    ensures { λ _. ⌜ now (out .exit) ≡ written (now (out .entry)) at (situationText number c) ⌝ }
 {
     let censors = censored(c);
     let mark = letter(c);
@@ -209,12 +209,12 @@ fn put_total(t: Total, letter: u8, out: &mut [u8], at: usize) -> usize
 // Writes the report on a loading condition into `out`, whose rest stays, and answers its bytes; or refusal 18, 8 with
 // the lowest situation, then 7 with the bytes needed, and `out` as it stood.
 pub fn write(campaigns: [Campaign; 64], number: usize, out: &mut [u8]) -> Writing
-    ensures { λ r. ⌜ r ≡ writing number (take number campaigns) (now (out .entry)) ⌝ }
+    ensures { λ r. ⌜ r ≡ writingReport number (take number campaigns) (now (out .entry)) ⌝ }
     ensures { λ r. ⌜ now (out .exit) ≡ laidBy r (reportText (take number campaigns)) (now (out .entry)) ⌝ }
 {
     match campaign_condition::judge(campaigns, number) {
-        Answer::Refused(r) => Writing::Refused(r),
-        Answer::Given(s) => {
+        ConditionAnswer::Refused(r) => Writing::Refused(r),
+        ConditionAnswer::Given(s) => {
             let t = sum(campaigns, number);
             let mark = standing_letter(s);
             let needed = lines_length(campaigns, number) + (total_length(t, mark) as u64);

@@ -10,8 +10,8 @@ use Rattle.refusal.specs.declared.Refusal.the-variants.{BrokenState, CampaignFu
 use Rattle.sample_items.specs.Limits.{longestTime}
 use Rattle.truth.proofs.Laws.{and-true, holds}
 use Rattle.record_end.specs.declared.Outcome.{Outcome}
-use Rattle.campaign_state.specs.declared.Answer.{Answer}
-use Rattle.campaign_state.specs.declared.Answer.the-variants.{Refused, Taken}
+use Rattle.campaign_state.specs.declared.CampaignAnswer.{CampaignAnswer}
+use Rattle.campaign_state.specs.declared.CampaignAnswer.the-variants.{Refused, Taken}
 use Rattle.campaign_state.specs.declared.Campaign.{Campaign}
 use Rattle.campaign_state.specs.Answers.{entering, opened, outcomeKept, taken}
 use Rattle.campaign_state.specs.State.{empty, entered, mostRecords, sound, standardInRange}
@@ -21,7 +21,7 @@ never : {d : Campaign} (r : Refusal) → ¬ (Refused r ≡ Taken d)
 never r e = let z : _≡_ {A = ℕ} 0 1 = cc in absurd (omega arith)
 
 -- past one test of a list of refusals
-past : (b : Bool) (r : Refusal) (a : Answer) {d : Campaign} → cond b (Refused r) a ≡ Taken d → (b ≡ false) × (a ≡ Taken d)
+past : (b : Bool) (r : Refusal) (a : CampaignAnswer) {d : Campaign} → cond b (Refused r) a ≡ Taken d → (b ≡ false) × (a ≡ Taken d)
 past true r a e = absurd (never r e)
 past false r a e = (refl, e)
 

@@ -8,7 +8,7 @@ use lib.Dec.{T, leb→le}
 use lib.Ieee.Fits.{and-l, and-r}
 use Rattle.sample_items.specs.Limits.{longestTime}
 use Rattle.record_end.specs.declared.Outcome.{Outcome}
-use Rattle.campaign_state.specs.declared.Answer.the-variants.{Taken}
+use Rattle.campaign_state.specs.declared.CampaignAnswer.the-variants.{Taken}
 use Rattle.campaign_state.specs.declared.Campaign.{Campaign}
 use Rattle.campaign_state.specs.Answers.{entering, opened}
 use Rattle.campaign_state.specs.Kept.{Kept}

@@ -11,7 +11,7 @@ use borrow.Author.Tests.{ne-eqb}
 use Rattle.record_state.specs.declared.Record.{Record}
 use Rattle.record_end.specs.declared.Outcome.{Outcome}
 use Rattle.record_end.proofs.Given.{given}
-use Rattle.campaign_state.specs.declared.Answer.the-variants.{Taken}
+use Rattle.campaign_state.specs.declared.CampaignAnswer.the-variants.{Taken}
 use Rattle.campaign_state.specs.declared.Campaign.{Campaign}
 use Rattle.campaign_state.specs.Answers.{opened}
 use Rattle.campaign_state.specs.Records.{AllEnded, AllEntered, butLast, campaignOf, censoredIn, exposureIn, failuresIn, lastFailed, none, one, outcome}

@@ -10,7 +10,7 @@ use Rattle.record_end.specs.Result.{ending, outcomeOf, resultOf}
 use Rattle.record_end.specs.declared.Ended.the-variants.{Given}
 use Rattle.record_end.specs.declared.Outcome.{Outcome}
 use Rattle.record_end.specs.declared.Result.{Result}
-use Rattle.campaign_state.specs.declared.Answer.the-variants.{Taken}
+use Rattle.campaign_state.specs.declared.CampaignAnswer.the-variants.{Taken}
 use Rattle.campaign_state.specs.declared.Campaign.{Campaign}
 use Rattle.campaign_state.specs.Answers.{entering}
 

@@ -26,17 +26,17 @@ pub struct Campaign {
     pub failed: bool,
 }
 
-pub enum Answer {
+pub enum CampaignAnswer {
     Taken(Campaign),
     Refused(Refusal),
 }
 
 // The campaign without a record; or refusal 1 with item 5.
-pub fn open(q: u64) -> Answer
+pub fn open(q: u64) -> CampaignAnswer
     ensures { λ r. ⌜ r ≡ opened q ⌝ }
 {
     if truth::both(1 <= q, q <= LONGEST_STANDARD) {
-        Answer::Taken(Campaign {
+        CampaignAnswer::Taken(Campaign {
             standard: q,
             records: 0,
             failures: 0,
@@ -44,7 +44,7 @@ pub fn open(q: u64) -> Answer
             failed: false,
         })
     } else {
-        Answer::Refused(Refusal::Item(5))
+        CampaignAnswer::Refused(Refusal::Item(5))
     }
 }
 
@@ -95,17 +95,17 @@ pub fn sound(c: Campaign) -> bool
 }
 
 // The campaign with a record entered; or refusal 5, then 6.
-fn take(c: Campaign, failed: bool, exposure: u64) -> Answer
+fn take(c: Campaign, failed: bool, exposure: u64) -> CampaignAnswer
     requires { ⌜ Kept c × (exposure ≤ longestTime) ⌝ }
     ensures { λ r. ⌜ r ≡ taken c failed exposure ⌝ }
 {
     if c.records == MOST_RECORDS {
-        return Answer::Refused(Refusal::CampaignFull);
+        return CampaignAnswer::Refused(Refusal::CampaignFull);
     }
     if c.failures == ROWS {
-        return Answer::Refused(Refusal::RowsUsedUp);
+        return CampaignAnswer::Refused(Refusal::RowsUsedUp);
     }
-    Answer::Taken(Campaign {
+    CampaignAnswer::Taken(Campaign {
         standard: c.standard,
         records: c.records + 1,
         failures: truth::pick(failed, c.failures + 1, c.failures),
@@ -117,14 +117,14 @@ fn take(c: Campaign, failed: bool, exposure: u64) -> Answer
 impl Campaign {
     // The campaign with a record's outcome entered; or refusal 8 for the campaign, or for an exposure that is not
     // from 1 to 10,000,000 ms, 5, 6.
-    pub fn enter(self, o: Outcome) -> Answer
+    pub fn enter(self, o: Outcome) -> CampaignAnswer
         ensures { λ r. ⌜ r ≡ entering self o ⌝ }
     {
         if !sound(self) {
-            return Answer::Refused(Refusal::BrokenState);
+            return CampaignAnswer::Refused(Refusal::BrokenState);
         }
         if !truth::both(1 <= o.exposure, o.exposure <= sample_items::LONGEST_TIME) {
-            return Answer::Refused(Refusal::BrokenState);
+            return CampaignAnswer::Refused(Refusal::BrokenState);
         }
         take(self, o.failed, o.exposure)
     }

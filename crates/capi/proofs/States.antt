@@ -12,13 +12,13 @@ use Rattle.sample_range.specs.Range.{sampleInRange}
 use Rattle.record_state.proofs.Relations.{kept-from}
 use Rattle.sample_items.specs.Limits.{itemOutside}
 use Rattle.record_state.specs.State as state
-use Rattle.record_state.specs.declared.Answer.{Answer as Reading}
-use Rattle.record_state.specs.declared.Answer.the-variants as read
+use Rattle.record_state.specs.declared.RecordAnswer.{RecordAnswer}
+use Rattle.record_state.specs.declared.RecordAnswer.the-variants as read
 use Rattle.record_state.specs.declared.Record.{Record}
 use Rattle.record_end.specs.declared.Result.{Result}
 use Rattle.campaign_state.specs.State.{sound}
-use Rattle.campaign_state.specs.declared.Answer.{Answer}
-use Rattle.campaign_state.specs.declared.Answer.the-variants.{Taken}
+use Rattle.campaign_state.specs.declared.CampaignAnswer.{CampaignAnswer}
+use Rattle.campaign_state.specs.declared.CampaignAnswer.the-variants.{Taken}
 use Rattle.campaign_state.specs.declared.Campaign.{Campaign}
 use Rattle.capi.specs.Numbers.{campaignAt, campaignNumbers, campaignOf, codeOf, flag, highestCode, isCampaign}
 use Rattle.capi.specs.Numbers.{isRecord, noCampaign, ofCampaign, ofRecord, ofResult, recordNumbers, recordOf}
@@ -58,10 +58,10 @@ unfolding resultOf
 result-back x = refl
 
 -- so what an entry leaves in an array is the state that it answers
-pub record-left : (a : Reading) (s : List ℕ) (r : Record) → length s ≡ recordNumbers → a ≡ read.Taken r → state.sound r ≡ true → recordOf (recordKept a s .lent) ≡ r
+pub record-left : (a : RecordAnswer) (s : List ℕ) (r : Record) → length s ≡ recordNumbers → a ≡ read.Taken r → state.sound r ≡ true → recordOf (recordKept a s .lent) ≡ r
 unfolding recordKept recordTold
 record-left a s r l e h = rw (eq-eqb (length s) recordNumbers l, e) (record-back r h)
 
-pub campaign-left : (a : Answer) (s : List ℕ) (c : Campaign) → length s ≡ campaignNumbers → a ≡ Taken c → campaignOf (campaignKept a s .lent) ≡ c
+pub campaign-left : (a : CampaignAnswer) (s : List ℕ) (c : Campaign) → length s ≡ campaignNumbers → a ≡ Taken c → campaignOf (campaignKept a s .lent) ≡ c
 unfolding campaignKept campaignTold
 campaign-left a s c l e = rw (eq-eqb (length s) campaignNumbers l, e) (campaign-back c)

@@ -7,10 +7,10 @@ use mathlib.Core.List.{List, []}
 use Rattle.truth.proofs.Unique.{settled}
 use Rattle.refusal.specs.Numbers.{numberOf, valueOf}
 use Rattle.refusal.specs.declared.Refusal.{Refusal}
-use Rattle.record_state.specs.declared.Answer.{Answer as Reading}
+use Rattle.record_state.specs.declared.RecordAnswer.{RecordAnswer}
 use Rattle.record_state.specs.declared.Record.{Record}
 use Rattle.record_end.specs.declared.Ended.{Ended}
-use Rattle.campaign_state.specs.declared.Answer.{Answer}
+use Rattle.campaign_state.specs.declared.CampaignAnswer.{CampaignAnswer}
 use Rattle.campaign_state.specs.declared.Campaign.{Campaign}
 use Rattle.text.specs.declared.Writing.{Writing}
 use Rattle.capi.specs.Numbers.{campaignOf, flag, recordOf}
@@ -37,16 +37,16 @@ refuse-unique f n m c d p q = (settled (p .0) (q .0), settled (p .1) (q .1))
 pub tell-writing-unique : (w : Writing) (x y : Told) → x ≡ writeTold w [] → y ≡ writeTold w [] → x ≡ y
 tell-writing-unique w x y = settled
 
-pub channel-in-unique : (a : Reading) (x y : ℕ) → x ≡ channelIn a → y ≡ channelIn a → x ≡ y
+pub channel-in-unique : (a : RecordAnswer) (x y : ℕ) → x ≡ channelIn a → y ≡ channelIn a → x ≡ y
 channel-in-unique a x y = settled
 
-pub keep-record-unique : (a : Reading) (s : List ℕ) (x y : Told) → x ≡ recordKept a s → y ≡ recordKept a s → x ≡ y
+pub keep-record-unique : (a : RecordAnswer) (s : List ℕ) (x y : Told) → x ≡ recordKept a s → y ≡ recordKept a s → x ≡ y
 keep-record-unique a s x y = settled
 
 pub keep-result-unique : (a : Ended) (s : List ℕ) (x y : Told) → x ≡ resultKept a s → y ≡ resultKept a s → x ≡ y
 keep-result-unique a s x y = settled
 
-pub keep-campaign-unique : (a : Answer) (s : List ℕ) (x y : Told) → x ≡ campaignKept a s → y ≡ campaignKept a s → x ≡ y
+pub keep-campaign-unique : (a : CampaignAnswer) (s : List ℕ) (x y : Told) → x ≡ campaignKept a s → y ≡ campaignKept a s → x ≡ y
 keep-campaign-unique a s x y = settled
 
 -- where they are the same together, each part is

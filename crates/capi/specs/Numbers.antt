@@ -34,7 +34,7 @@ recordNumbers = 14
 abbrev pub ofRecord : Record → List ℕ
 ofRecord r =
     r .items .step ∷ r .items .ramp ∷ r .items .levels .roll ∷ r .items .decorrelation ∷ r .n
-    ∷ codeOf (r .last .roll) ∷ r .crossings ∷ r .largest ∷ r .first ∷ r .latest ∷ r .recent ∷ r .groups
+    ∷ codeOf (r .last .roll) ∷ r .crossings ∷ r .largest ∷ r .first ∷ r .«last_chosen» ∷ r .«last_crossing» ∷ r .groups
     ∷ r .items .levels .acceleration ∷ codeOf (r .last .acceleration) ∷ []
 
 abbrev pub noRecord : Record
@@ -46,8 +46,8 @@ noRecord =
       crossings = 0;
       largest = 0;
       first = 0;
-      latest = 0;
-      recent = 0;
+      «last_chosen» = 0;
+      «last_crossing» = 0;
       groups = 0;
     }
 
@@ -66,8 +66,8 @@ recordAt s =
       crossings = numberAt s 6;
       largest = numberAt s 7;
       first = numberAt s 8;
-      latest = numberAt s 9;
-      recent = numberAt s 10;
+      «last_chosen» = numberAt s 9;
+      «last_crossing» = numberAt s 10;
       groups = numberAt s 11;
     }
 

@@ -9,12 +9,12 @@ use lib.ListN.{length}
 use Rattle.refusal.specs.Numbers.{numberOf, valueOf, channelOf}
 use Rattle.refusal.specs.declared.Refusal.{Refusal}
 use Rattle.refusal.specs.declared.Refusal.the-variants.{BrokenState}
-use Rattle.record_state.specs.declared.Answer.{Answer as Reading}
-use Rattle.record_state.specs.declared.Answer.the-variants as read
+use Rattle.record_state.specs.declared.RecordAnswer.{RecordAnswer}
+use Rattle.record_state.specs.declared.RecordAnswer.the-variants as read
 use Rattle.record_end.specs.declared.Ended.{Ended}
 use Rattle.record_end.specs.declared.Ended.the-variants as ended
-use Rattle.campaign_state.specs.declared.Answer.{Answer}
-use Rattle.campaign_state.specs.declared.Answer.the-variants.{Taken, Refused}
+use Rattle.campaign_state.specs.declared.CampaignAnswer.{CampaignAnswer}
+use Rattle.campaign_state.specs.declared.CampaignAnswer.the-variants.{Taken, Refused}
 use Rattle.text.specs.declared.Writing.{Writing}
 use Rattle.text.specs.declared.Writing.the-variants as wrote
 use Rattle.capi.specs.Numbers.{recordNumbers, ofRecord, resultNumbers, ofResult, campaignNumbers, ofCampaign}
@@ -36,7 +36,7 @@ unfoldable pub placed : List ℕ → List ℕ → List ℕ
 placed from to = cond (eqb (length to) (length from)) from to
 
 -- the state that was taken stands in the array
-unfoldable pub recordTold : Reading → List ℕ → Told
+unfoldable pub recordTold : RecordAnswer → List ℕ → Told
 recordTold (read.Taken r) s = told 0 0 (ofRecord r)
 recordTold (read.Refused f) s = refused f s
 
@@ -44,7 +44,7 @@ unfoldable pub resultTold : Ended → List ℕ → Told
 resultTold (ended.Given x) s = told 0 0 (ofResult x)
 resultTold (ended.Refused f) s = refused f s
 
-unfoldable pub campaignTold : Answer → List ℕ → Told
+unfoldable pub campaignTold : CampaignAnswer → List ℕ → Told
 campaignTold (Taken c) s = told 0 0 (ofCampaign c)
 campaignTold (Refused f) s = refused f s
 
@@ -54,7 +54,7 @@ writeTold (wrote.Bytes n) out = told 0 n out
 writeTold (wrote.Refused f) out = refused f out
 
 -- the channel that refusal 2 names, 0 where there is none
-unfoldable pub channelIn : Reading → ℕ
+unfoldable pub channelIn : RecordAnswer → ℕ
 channelIn (read.Taken r) = 0
 channelIn (read.Refused f) = channelOf f
 
@@ -62,11 +62,11 @@ channelIn (read.Refused f) = channelOf f
 abbrev pub inPlaces : ℕ → List ℕ → Told → Told
 inPlaces places s answer = cond (eqb (length s) places) answer (refused BrokenState s)
 
-unfoldable pub recordKept : Reading → List ℕ → Told
+unfoldable pub recordKept : RecordAnswer → List ℕ → Told
 recordKept a s = inPlaces recordNumbers s (recordTold a s)
 
 unfoldable pub resultKept : Ended → List ℕ → Told
 resultKept a s = inPlaces resultNumbers s (resultTold a s)
 
-unfoldable pub campaignKept : Answer → List ℕ → Told
+unfoldable pub campaignKept : CampaignAnswer → List ℕ → Told
 campaignKept a s = inPlaces campaignNumbers s (campaignTold a s)

@@ -69,8 +69,8 @@ fn no_record() -> Record
         crossings: 0,
         largest: 0,
         first: 0,
-        latest: 0,
-        recent: 0,
+        last_chosen: 0,
+        last_crossing: 0,
         groups: 0,
     }
 }
@@ -108,8 +108,8 @@ pub fn record_of(s: &[u64]) -> Record
         crossings: s[6],
         largest: s[7],
         first: s[8],
-        latest: s[9],
-        recent: s[10],
+        last_chosen: s[9],
+        last_crossing: s[10],
         groups: s[11],
     }
 }
@@ -130,8 +130,8 @@ fn of_record(r: Record) -> [u64; 14]
         r.crossings,
         r.largest,
         r.first,
-        r.latest,
-        r.recent,
+        r.last_chosen,
+        r.last_crossing,
         r.groups,
         levels.acceleration,
         code_of(last.acceleration),
@@ -236,29 +236,29 @@ pub fn tell_writing(w: Writing, carried: &mut u64) -> u64
 }
 
 // The record of an answer in `state`; or refusal 8 for an array of another length, else the answer's.
-pub fn keep_record(a: record_state::Answer, state: &mut [u64], carried: &mut u64) -> u64
+pub fn keep_record(a: record_state::RecordAnswer, state: &mut [u64], carried: &mut u64) -> u64
     ensures { λ n. ⌜ told n (now (carried .exit)) (now (state .exit)) ≡ recordKept a (now (state .entry)) ⌝ }
 {
     if state.len() != RECORD_NUMBERS {
         return refuse(Refusal::BrokenState, carried);
     }
     match a {
-        record_state::Answer::Taken(s) => {
+        record_state::RecordAnswer::Taken(s) => {
             let numbers = of_record(s);
             put(&numbers, state);
             give(0, carried)
         }
-        record_state::Answer::Refused(f) => refuse(f, carried),
+        record_state::RecordAnswer::Refused(f) => refuse(f, carried),
     }
 }
 
 // The channel that an answer names.
-pub fn channel_in(a: record_state::Answer) -> u64
+pub fn channel_in(a: record_state::RecordAnswer) -> u64
     ensures { λ k. ⌜ k ≡ channelIn a ⌝ }
 {
     match a {
-        record_state::Answer::Taken(_) => 0,
-        record_state::Answer::Refused(f) => refusal::channel(f),
+        record_state::RecordAnswer::Taken(_) => 0,
+        record_state::RecordAnswer::Refused(f) => refusal::channel(f),
     }
 }
 
@@ -280,18 +280,18 @@ pub fn keep_result(a: Ended, result: &mut [u64], carried: &mut u64) -> u64
 }
 
 // The campaign of an answer in `state`; or refusal 8 for an array of another length, else the answer's.
-pub fn keep_campaign(a: campaign_state::Answer, state: &mut [u64], carried: &mut u64) -> u64
+pub fn keep_campaign(a: campaign_state::CampaignAnswer, state: &mut [u64], carried: &mut u64) -> u64
     ensures { λ n. ⌜ told n (now (carried .exit)) (now (state .exit)) ≡ campaignKept a (now (state .entry)) ⌝ }
 {
     if state.len() != CAMPAIGN_NUMBERS {
         return refuse(Refusal::BrokenState, carried);
     }
     match a {
-        campaign_state::Answer::Taken(s) => {
+        campaign_state::CampaignAnswer::Taken(s) => {
             let numbers = of_campaign(s);
             put(&numbers, state);
             give(0, carried)
         }
-        campaign_state::Answer::Refused(f) => refuse(f, carried),
+        campaign_state::CampaignAnswer::Refused(f) => refuse(f, carried),
     }
 }

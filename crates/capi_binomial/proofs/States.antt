@@ -8,8 +8,8 @@ use borrow.Author.Tests.{eq-eqb}
 use lib.Dec.{eqb}
 use lib.ListN.{length}
 use Rattle.binomial_sum.specs.State.{sound}
-use Rattle.binomial_sum.specs.declared.Answer.{Answer}
-use Rattle.binomial_sum.specs.declared.Answer.the-variants.{Taken}
+use Rattle.binomial_sum.specs.declared.SumAnswer.{SumAnswer}
+use Rattle.binomial_sum.specs.declared.SumAnswer.the-variants.{Taken}
 use Rattle.binomial_sum.specs.declared.Sum.{Sum}
 use Rattle.capi_binomial.specs.Told.{ofSum, sumKept, sumNumbers, sumOf, sumTold}
 
@@ -22,6 +22,6 @@ unfolding sumOf
 sum-back s = refl
 
 -- so what an entry leaves in an array is the sum that it answers
-pub sum-left : (a : Answer) (s : List ℕ) (t : Sum) → length s ≡ sumNumbers → a ≡ Taken t → sumOf (sumKept a s .lent) ≡ t
+pub sum-left : (a : SumAnswer) (s : List ℕ) (t : Sum) → length s ≡ sumNumbers → a ≡ Taken t → sumOf (sumKept a s .lent) ≡ t
 unfolding sumKept sumTold
 sum-left a s t l e = rw (eq-eqb (length s) sumNumbers l, e) (sum-back t)

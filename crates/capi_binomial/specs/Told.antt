@@ -8,8 +8,8 @@ use lib.Dec.{eqb}
 use lib.ListN.{length}
 use Rattle.campaign_verdict.specs.declared.Rates.{Rates}
 use Rattle.binomial_sum.specs.Answers.{adding, opened}
-use Rattle.binomial_sum.specs.declared.Answer.{Answer}
-use Rattle.binomial_sum.specs.declared.Answer.the-variants.{Refused, Taken}
+use Rattle.binomial_sum.specs.declared.SumAnswer.{SumAnswer}
+use Rattle.binomial_sum.specs.declared.SumAnswer.the-variants.{Refused, Taken}
 use Rattle.binomial_sum.specs.declared.Sum.{Sum}
 use Rattle.binomial_bounds.specs.Answers.{bounding, rating}
 use Rattle.binomial_bounds.specs.declared.Bounded.{Bounded}
@@ -43,11 +43,11 @@ abbrev pub ofBounds : Bounds → List ℕ
 ofBounds b = b .estimate ∷ b .lower ∷ b .upper ∷ b .time ∷ []
 
 -- ---- what is told: an array of another length is 8, before any other refusal
-unfoldable pub sumTold : Answer → List ℕ → Told
+unfoldable pub sumTold : SumAnswer → List ℕ → Told
 sumTold (Taken t) s = told 0 0 (ofSum t)
 sumTold (Refused f) s = refused f s
 
-unfoldable pub sumKept : Answer → List ℕ → Told
+unfoldable pub sumKept : SumAnswer → List ℕ → Told
 sumKept a s = inPlaces sumNumbers s (sumTold a s)
 
 abbrev pub sumOpened : ℕ → List ℕ → Told

@@ -52,19 +52,19 @@ fn of_bounds(b: Bounds) -> [u64; 4]
 }
 
 // The sum of an answer in `state`; or refusal 8 for an array of another length, else the answer's.
-fn keep_sum(a: binomial_sum::Answer, state: &mut [u64], carried: &mut u64) -> u64
+fn keep_sum(a: binomial_sum::SumAnswer, state: &mut [u64], carried: &mut u64) -> u64
     ensures { λ n. ⌜ told n (now (carried .exit)) (now (state .exit)) ≡ sumKept a (now (state .entry)) ⌝ }
 {
     if state.len() != SUM_NUMBERS {
         return capi::refuse(Refusal::BrokenState, carried);
     }
     match a {
-        binomial_sum::Answer::Taken(s) => {
+        binomial_sum::SumAnswer::Taken(s) => {
             let numbers = of_sum(s);
             capi::put(&numbers, state);
             capi::give(0, carried)
         }
-        binomial_sum::Answer::Refused(f) => capi::refuse(f, carried),
+        binomial_sum::SumAnswer::Refused(f) => capi::refuse(f, carried),
     }
 }
 

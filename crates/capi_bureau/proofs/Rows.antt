@@ -11,7 +11,7 @@ use lib.ListN.{drop, getD, length, set}
 use borrow.Author.Tests.{eq-eqb, eqb-true, le-ltb, lt-ltb}
 use Rattle.truth.proofs.Cases.{by-test}
 use Rattle.truth.proofs.Laws.{and-true, both-true}
-use Rattle.bureau_table.specs.declared.Answer.{Answer}
+use Rattle.bureau_table.specs.declared.TableAnswer.{TableAnswer}
 use Rattle.bureau_table.specs.declared.Call.{Call}
 use Rattle.bureau_table.specs.declared.Place.{Place}
 use Rattle.bureau_table.specs.declared.Worked.{Worked}
@@ -130,7 +130,7 @@ module _ (rows : List (List ℕ)) (c : Call) (s : Seen) (d : Choice) (es : s ≡
       ap (workedOn (placesOf rows) c) (ed ∙ ap (λ (u : Seen). chosen c u (length rows)) es ∙ ap (chosen c (looked unseen 0 (placesOf rows))) (sym (rows-length rows)))
       ∙ serves (placesOf rows) c
 
-  abbrev pub Says : Answer → List (List ℕ) → Type 0
+  abbrev pub Says : TableAnswer → List (List ℕ) → Type 0
   Says x left = (x ≡ called (placesOf rows) (c .bureau) (c .ask) .answer) × (left ≡ rowsLeft rows (called (placesOf rows) (c .bureau) (c .ask) .table))
 
   pub none-chosen : length rows ≤ d .at → Says (d .answer) rows

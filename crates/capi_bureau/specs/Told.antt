@@ -3,13 +3,13 @@
 use lib.Ieee.{Float}
 use Rattle.refusal.specs.Numbers.{numberOf, valueOf}
 use Rattle.campaign_verdict.specs.declared.Rates.{Rates}
-use Rattle.bureau_table.specs.declared.Answer.{Answer}
-use Rattle.bureau_table.specs.declared.Answer.the-variants.{Entered, Freed, Judged, Placed, Rated, Refused}
+use Rattle.bureau_table.specs.declared.TableAnswer.{TableAnswer}
+use Rattle.bureau_table.specs.declared.TableAnswer.the-variants.{Entered, Freed, Judged, Placed, Rated, Refused}
 use Rattle.capi.specs.Numbers.{flag}
 use Rattle.capi_verdict.specs.Told.{Count, Judgement, Rating, count, judgement, ratings, verdictTold}
 
 -- taking carries the place
-unfoldable pub plain : Answer → Count
+unfoldable pub plain : TableAnswer → Count
 plain (Placed i) = count 0 i
 plain Entered = count 0 0
 plain Freed = count 0 0
@@ -17,7 +17,7 @@ plain (Judged v) = count 0 0
 plain (Rated b r) = count 0 0
 plain (Refused f) = count (numberOf f) (valueOf f)
 
-unfoldable pub judged : Answer → Float → Float → Judgement
+unfoldable pub judged : TableAnswer → Float → Float → Judgement
 judged (Judged v) x y = verdictTold v
 judged (Placed i) x y = judgement 0 0 x y
 judged Entered x y = judgement 0 0 x y
@@ -25,7 +25,7 @@ judged (Rated b r) x y = judgement 0 0 x y
 judged Freed x y = judgement 0 0 x y
 judged (Refused f) x y = judgement (numberOf f) (valueOf f) x y
 
-unfoldable pub rated : Answer → Rates → Rating
+unfoldable pub rated : TableAnswer → Rates → Rating
 rated (Rated b r) y = ratings 0 (flag b) r
 rated (Placed i) y = ratings 0 0 y
 rated Entered y = ratings 0 0 y

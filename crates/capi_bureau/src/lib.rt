@@ -15,10 +15,10 @@ ghost use Rattle.capi_bureau.specs.Rows.{ofPlace, outcomeOf, placeOf, pl
 ghost use Rattle.capi_bureau.specs.Rows.{samePlace};
 ghost use Rattle.capi_bureau.specs.Told.{judged, plain, rated};
 use bureau_survey::Seen;
-use bureau_table::Answer;
 use bureau_table::Ask;
 use bureau_table::Call;
 use bureau_table::Place;
+use bureau_table::TableAnswer;
 use bureau_table::Work;
 use campaign_state::Campaign;
 use record_end::Outcome;
@@ -104,7 +104,7 @@ fn put(table: &mut [[u64; 6]], i: usize, p: Place, q: Place)
     table[i] = row_of(q);
 }
 
-fn serve(table: &mut [[u64; 6]], c: Call) -> Answer
+fn serve(table: &mut [[u64; 6]], c: Call) -> TableAnswer
     ensures { λ r. ⌜ (r ≡ called (placesOf (now (table .entry))) (c .bureau) (c .ask) .answer)
         × (now (table .exit)
         ≡ rowsLeft (now (table .entry)) (called (placesOf (now (table .entry))) (c .bureau) (c .ask) .table)) ⌝ }
@@ -124,35 +124,35 @@ fn serve(table: &mut [[u64; 6]], c: Call) -> Answer
 }
 
 // What an answer without rates tells: the place where a job was taken, else nothing.
-fn tell(a: Answer, carried: &mut u64) -> u64
+fn tell(a: TableAnswer, carried: &mut u64) -> u64
     ensures { λ n. ⌜ count n (now (carried .exit)) ≡ plain a ⌝ }
 {
     match a {
-        Answer::Placed(i) => capi::give(i, carried),
-        Answer::Entered => capi::give(0, carried),
-        Answer::Judged(_) => capi::give(0, carried),
-        Answer::Rated(_, _) => capi::give(0, carried),
-        Answer::Freed => capi::give(0, carried),
-        Answer::Refused(f) => capi::refuse(f, carried),
+        TableAnswer::Placed(i) => capi::give(i, carried),
+        TableAnswer::Entered => capi::give(0, carried),
+        TableAnswer::Judged(_) => capi::give(0, carried),
+        TableAnswer::Rated(_, _) => capi::give(0, carried),
+        TableAnswer::Freed => capi::give(0, carried),
+        TableAnswer::Refused(f) => capi::refuse(f, carried),
     }
 }
 
-fn tell_verdict(a: Answer, lower: &mut f64, upper: &mut f64, carried: &mut u64) -> u64
+fn tell_verdict(a: TableAnswer, lower: &mut f64, upper: &mut f64, carried: &mut u64) -> u64
     ensures { λ n. ⌜ judgement n (now (carried .exit)) (now (lower .exit)) (now (upper .exit))
         ≡ judged a (now (lower .entry)) (now (upper .entry)) ⌝ }
 {
     match a {
-        Answer::Judged(v) => capi_verdict::tell(v, lower, upper, carried),
-        Answer::Refused(f) => capi::refuse(f, carried),
-        Answer::Placed(_) => capi::give(0, carried),
-        Answer::Entered => capi::give(0, carried),
-        Answer::Rated(_, _) => capi::give(0, carried),
-        Answer::Freed => capi::give(0, carried),
+        TableAnswer::Judged(v) => capi_verdict::tell(v, lower, upper, carried),
+        TableAnswer::Refused(f) => capi::refuse(f, carried),
+        TableAnswer::Placed(_) => capi::give(0, carried),
+        TableAnswer::Entered => capi::give(0, carried),
+        TableAnswer::Rated(_, _) => capi::give(0, carried),
+        TableAnswer::Freed => capi::give(0, carried),
     }
 }
 
 fn tell_rates(
-    a: Answer,
+    a: TableAnswer,
     estimate: &mut f64,
     lower: &mut f64,
     upper: &mut f64,
@@ -163,17 +163,17 @@ fn tell_rates(
         ≡ rated a (rates (now (estimate .entry)) (now (lower .entry)) (now (upper .entry))) ⌝ }
 {
     match a {
-        Answer::Rated(b, r) => {
+        TableAnswer::Rated(b, r) => {
             *estimate = r.estimate;
             *lower = r.lower;
             *upper = r.upper;
             capi::give(capi::flag(b), carried)
         }
-        Answer::Refused(f) => capi::refuse(f, carried),
-        Answer::Placed(_) => capi::give(0, carried),
-        Answer::Entered => capi::give(0, carried),
-        Answer::Judged(_) => capi::give(0, carried),
-        Answer::Freed => capi::give(0, carried),
+        TableAnswer::Refused(f) => capi::refuse(f, carried),
+        TableAnswer::Placed(_) => capi::give(0, carried),
+        TableAnswer::Entered => capi::give(0, carried),
+        TableAnswer::Judged(_) => capi::give(0, carried),
+        TableAnswer::Freed => capi::give(0, carried),
     }
 }
 

@@ -10,8 +10,8 @@ use Rattle.decimal.specs.Lines.{linesOf}
 use Rattle.comma_line.specs.Text.{samplesOf, textOf}
 use Rattle.comma_read.specs.declared.Reading.{Reading}
 use Rattle.comma_read.specs.declared.Reading.the-variants.{Samples, Refused}
-use Rattle.comma_read.specs.Answers.{reading, filledBy}
-use Rattle.comma_write.specs.Answers.{writing}
+use Rattle.comma_read.specs.Answers.{readingComma, filledBy}
+use Rattle.comma_write.specs.Answers.{writingComma}
 
 -- the number and what it carries
 unfoldable pub readTold : Reading → Told
@@ -19,11 +19,11 @@ readTold (Samples n) = told 0 n []
 readTold (Refused f) = refused f []
 
 abbrev pub commaRead : ℕ → List ℕ → List ℤ → Told
-commaRead D text slice = readTold (reading D text (length slice))
+commaRead D text slice = readTold (readingComma D text (length slice))
 
 -- the lent samples afterwards
 abbrev pub commaSamples : ℕ → List ℕ → List ℤ → List ℤ
-commaSamples D text slice = filledBy (reading D text (length slice)) (samplesOf (linesOf text)) slice
+commaSamples D text slice = filledBy (readingComma D text (length slice)) (samplesOf (linesOf text)) slice
 
 abbrev pub commaWritten : ℕ → List ℤ → List ℕ → Told
-commaWritten D xs out = writeTold (writing D xs out) (laidBy (writing D xs out) (textOf D xs) out)
+commaWritten D xs out = writeTold (writingComma D xs out) (laidBy (writingComma D xs out) (textOf D xs) out)

@@ -12,8 +12,8 @@ use Rattle.truth.proofs.Cases.{by-test}
 use Rattle.refusal.specs.declared.Refusal.the-variants.{Situations}
 use Rattle.campaign_state.specs.declared.Campaign.{Campaign}
 use Rattle.campaign_condition.specs.Answers.{judging}
-use Rattle.campaign_condition.specs.declared.Answer.the-variants.{Refused}
-use Rattle.campaign_report.specs.Answers.{writing}
+use Rattle.campaign_condition.specs.declared.ConditionAnswer.the-variants.{Refused}
+use Rattle.campaign_report.specs.Answers.{writingReport}
 use Rattle.text.specs.declared.Writing.the-variants.{Refused as Declined}
 use Rattle.capi.specs.Numbers.{campaignOf}
 use Rattle.capi_condition.specs.Told.{campaignsOf}
@@ -37,6 +37,6 @@ module _ (n : ℕ) (cs : List Campaign) (many : 64 < n) where
       below : (k : ℕ) → (leb 1 k && false) ≡ false
       below k = by-test (leb 1 k) (λ e. rw e) (λ e. rw e)
 
-  pub many-declined : (out : List ℕ) → writing n cs out ≡ Declined Situations
-  unfolding writing
+  pub many-declined : (out : List ℕ) → writingReport n cs out ≡ Declined Situations
+  unfolding writingReport
   many-declined out = rw many-refused

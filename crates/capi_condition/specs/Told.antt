@@ -5,11 +5,11 @@ use mathlib.Core.List.{List, [], map}
 use lib.ListN.{length}
 use Rattle.campaign_state.specs.declared.Campaign.{Campaign}
 use Rattle.campaign_condition.specs.Answers.{judging}
-use Rattle.campaign_condition.specs.declared.Answer.{Answer}
-use Rattle.campaign_condition.specs.declared.Answer.the-variants.{Given, Refused}
+use Rattle.campaign_condition.specs.declared.ConditionAnswer.{ConditionAnswer}
+use Rattle.campaign_condition.specs.declared.ConditionAnswer.the-variants.{Given, Refused}
 use Rattle.campaign_condition.specs.declared.Standing.{Standing}
 use Rattle.campaign_condition.specs.declared.Standing.the-variants.{Accepted, Open, Rejected}
-use Rattle.campaign_report.specs.Answers.{writing}
+use Rattle.campaign_report.specs.Answers.{writingReport}
 use Rattle.campaign_report.specs.Report.{reportText}
 use Rattle.text.specs.declared.Writing.{Writing}
 use Rattle.capi.specs.Numbers.{campaignOf}
@@ -26,7 +26,7 @@ standingCode Rejected = 2
 standingCode Open = 3
 
 -- the number and what it carries
-unfoldable pub judgeTold : Answer → Told
+unfoldable pub judgeTold : ConditionAnswer → Told
 judgeTold (Given s) = told 0 (standingCode s) []
 judgeTold (Refused f) = refused f []
 
@@ -35,5 +35,5 @@ conditionJudged rows = judgeTold (judging (length rows) (campaignsOf rows))
 
 abbrev pub conditionReported : List (List ℕ) → List ℕ → Told
 conditionReported rows out =
-    let w : Writing = writing (length rows) (campaignsOf rows) out in
+    let w : Writing = writingReport (length rows) (campaignsOf rows) out in
     writeTold w (laidBy w (reportText (campaignsOf rows)) out)

@@ -9,7 +9,7 @@ ghost use lib.ListN.{length, take};
 ghost use Rattle.capi.specs.Numbers.{campaignOf};
 ghost use Rattle.capi.specs.Told.{told};
 ghost use Rattle.capi_condition.specs.Told.{campaignsOf, conditionJudged, conditionReported, standingCode};
-use campaign_condition::Answer;
+use campaign_condition::ConditionAnswer;
 use campaign_condition::Standing;
 use campaign_state::Campaign;
 use refusal::Refusal;
@@ -62,8 +62,8 @@ pub extern "C" fn chim_condition_judge(campaigns: &[[u64; 5]], carried: &mut u64
         return capi::refuse(Refusal::Situations, carried);
     }
     match campaign_condition::judge(campaigns_of(campaigns), campaigns.len()) {
-        Answer::Given(s) => capi::give(standing_code(s), carried),
-        Answer::Refused(f) => capi::refuse(f, carried),
+        ConditionAnswer::Given(s) => capi::give(standing_code(s), carried),
+        ConditionAnswer::Refused(f) => capi::refuse(f, carried),
     }
 }
 

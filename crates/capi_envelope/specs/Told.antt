@@ -5,13 +5,13 @@ use mathlib.Core.List.{List, map}
 use lib.ListN.{length}
 use lib.IntN.{ℤ}
 use Rattle.peak_groups.specs.Peaks.{handed}
-use Rattle.peak_envelope.specs.declared.Found.{Found}
-use Rattle.peak_envelope.specs.declared.Found.the-variants.{Peaks, Refused}
+use Rattle.peak_envelope.specs.declared.PeaksFound.{PeaksFound}
+use Rattle.peak_envelope.specs.declared.PeaksFound.the-variants.{Peaks, Refused}
 use Rattle.peak_envelope.specs.Answers.{sizeOf, momentOf, found, written}
 use Rattle.capi.specs.Told.{Told, refused, told}
 
 -- the number of peaks is carried, and the lent array is that of the magnitudes
-unfoldable pub foundTold : Found → List ℕ → Told
+unfoldable pub foundTold : PeaksFound → List ℕ → Told
 foundTold (Peaks k) s = told 0 k s
 foundTold (Refused f) s = refused f s
 

@@ -23,7 +23,7 @@ pub extern "C" fn chim_envelope_find(
 {
     let a = peak_envelope::find(step, ramp, decorrelation, samples, sizes, times);
     match a {
-        peak_envelope::Found::Peaks(k) => capi::give(k, carried),
-        peak_envelope::Found::Refused(f) => capi::refuse(f, carried),
+        peak_envelope::PeaksFound::Peaks(k) => capi::give(k, carried),
+        peak_envelope::PeaksFound::Refused(f) => capi::refuse(f, carried),
     }
 }

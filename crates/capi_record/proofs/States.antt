@@ -15,7 +15,7 @@ use Rattle.record_feed.proofs.Theorems.{fed-sound}
 use Rattle.record_state.specs.Answers.{opened}
 use Rattle.record_feed.specs.Answers.{fed}
 use Rattle.record_state.specs.State.{sound}
-use Rattle.record_state.specs.declared.Answer.the-variants.{Refused, Taken}
+use Rattle.record_state.specs.declared.RecordAnswer.the-variants.{Refused, Taken}
 use Rattle.record_state.specs.declared.Record.{Record}
 use Rattle.refusal.specs.declared.Refusal.the-variants.{BrokenState}
 use Rattle.sample_items.specs.declared.Items.{Items}

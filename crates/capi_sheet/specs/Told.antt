@@ -6,8 +6,8 @@ use mathlib.Core.List.{List}
 use lib.Dec.{eqb}
 use lib.ListN.{length}
 use Rattle.refusal.specs.declared.Refusal.the-variants.{BrokenState}
-use Rattle.campaign_state.specs.declared.Answer.{Answer}
-use Rattle.campaign_state.specs.declared.Answer.the-variants.{Refused, Taken}
+use Rattle.campaign_state.specs.declared.CampaignAnswer.{CampaignAnswer}
+use Rattle.campaign_state.specs.declared.CampaignAnswer.the-variants.{Refused, Taken}
 use Rattle.sheet_text.specs.declared.Reading.{Reading}
 use Rattle.sheet_text.specs.declared.Reading.the-variants.{Read, Stopped, Waiting}
 use Rattle.sheet_text.specs.Sheet.{meaning}
@@ -15,7 +15,7 @@ use Rattle.capi.specs.Numbers.{campaignNumbers}
 use Rattle.capi.specs.Told.{Told, campaignKept}
 
 -- what a reading ends in; a whole text never waits for more
-abbrev pub answerOf : Reading → Answer
+abbrev pub answerOf : Reading → CampaignAnswer
 answerOf (Read c) = Taken c
 answerOf (Stopped line column r) = Refused r
 answerOf (Waiting s left) = Refused BrokenState

@@ -7,13 +7,13 @@ use sheet_line::Sheet;
 use sheet_text::Reading;
 
 // What the reading of a whole sheet answers.
-fn ended(end: Reading) -> campaign_state::Answer
+fn ended(end: Reading) -> campaign_state::CampaignAnswer
     ensures { λ a. ⌜ a ≡ answerOf end ⌝ }
 {
     match end {
-        Reading::Read(c) => campaign_state::Answer::Taken(c),
-        Reading::Stopped(_, _, f) => campaign_state::Answer::Refused(f),
-        Reading::Waiting(_, _) => campaign_state::Answer::Refused(Refusal::BrokenState),
+        Reading::Read(c) => campaign_state::CampaignAnswer::Taken(c),
+        Reading::Stopped(_, _, f) => campaign_state::CampaignAnswer::Refused(f),
+        Reading::Waiting(_, _) => campaign_state::CampaignAnswer::Refused(Refusal::BrokenState),
     }
 }
 

@@ -6,14 +6,14 @@ use lib.IntN.{ℤ}
 use lib.ListN.{length}
 use Rattle.text.specs.Write.{laidBy}
 use Rattle.capi.specs.Told.{Told, refused, told, writeTold}
-use Rattle.sheet_records.specs.Answers.{writing}
+use Rattle.sheet_records.specs.Answers.{writingSheet}
 use Rattle.sheet_records.specs.Ledger.{sheetText}
 use Rattle.sheet_records.specs.Records.{filledBy, recordsOf, resuming}
 use Rattle.sheet_records.specs.declared.Resumed.{Resumed}
 use Rattle.sheet_records.specs.declared.Resumed.the-variants.{Records, Stopped}
 
 abbrev pub sheetWritten : ℕ → List ℤ → List ℕ → Told
-sheetWritten q xs out = writeTold (writing q xs out) (laidBy (writing q xs out) (sheetText q xs) out)
+sheetWritten q xs out = writeTold (writingSheet q xs out) (laidBy (writingSheet q xs out) (sheetText q xs) out)
 
 -- the number and what it carries
 unfoldable pub readTold : Resumed → Told

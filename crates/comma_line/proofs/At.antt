@@ -1,4 +1,4 @@
--- What a line at a place of a text is, test by test: the number there, the comma behind it, the degrees, the LF.
+-- What a line at a place of a text is, test by test: the number there, the comma after it, the degrees, the LF.
 -- Assumes nothing.
 use mathlib.Core.Path.{_≡_, sym, ap}
 use mathlib.Core.Bool.{Bool, true, false, and-false}
@@ -13,16 +13,16 @@ use borrow.Author.Tests.{eq-eqb, ne-eqb}
 use Rattle.truth.proofs.Cases.{by-test}
 use Rattle.decimal.specs.Decimal.{isNumber}
 use Rattle.decimal.specs.Field.{lineFeed}
-use Rattle.decimal.specs.Leading.{leading, behind}
+use Rattle.decimal.specs.Leading.{leading, afterLeading}
 use Rattle.decimal.proofs.Leading.{LeadsTo}
 use Rattle.degrees.specs.Degrees.{first, below, unsigned, size, isDegrees, degreesLength}
 use Rattle.degrees.proofs.Signs.{ReadsAs}
 use Rattle.comma_line.specs.declared.Line.the-variants.{Says, Wrong}
-use Rattle.comma_line.specs.Line.{comma, roll, isLine, right, lineLength, lineAt}
+use Rattle.comma_line.specs.Line.{comma, roll, isCommaLine, right, lineLength, lineAt}
 
 module _ (s : List ℕ) (at time : ℕ) where
   pub no-number : isNumber (leading (drop at s)) ≡ false → lineAt s at time ≡ Wrong
-  unfolding lineAt right isLine
+  unfolding lineAt right isCommaLine
   no-number n = rw n
 
   module _ (v end : ℕ) (l : LeadsTo s at v end) where
@@ -30,21 +30,21 @@ module _ (s : List ℕ) (at time : ℕ) where
     unfolding lineAt right
     other-time e = rw (← l .value, ne-eqb v time e, and-false)
 
-    behind-is : behind (drop at s) ≡ drop end s
-    behind-is = rw (drop-drop, ← l .place)
+    after-is : afterLeading (drop at s) ≡ drop end s
+    after-is = rw (drop-drop, ← l .place)
 
-    mark : first (behind (drop at s)) ≡ getD s end 0
-    mark = rw (behind-is, getD-drop, add-zero)
+    mark : first (afterLeading (drop at s)) ≡ getD s end 0
+    mark = rw (after-is, getD-drop, add-zero)
 
     roll-is : roll (drop at s) ≡ drop (end + 1) s
-    roll-is = rw (behind-is, drop-drop)
+    roll-is = rw (after-is, drop-drop)
 
     pub no-comma : eqb (getD s end 0) comma ≡ false → lineAt s at time ≡ Wrong
-    unfolding lineAt right isLine
+    unfolding lineAt right isCommaLine
     no-comma e = rw (mark, e, l .number)
 
     pub no-degrees : isDegrees (drop (end + 1) s) ≡ false → lineAt s at time ≡ Wrong
-    unfolding lineAt right isLine
+    unfolding lineAt right isCommaLine
     no-degrees e = rw (roll-is, e, and-false, and-false)
 
     module _ (b : Bool) (n next : ℕ) (d : ReadsAs s (end + 1) b n next) where
@@ -52,11 +52,11 @@ module _ (s : List ℕ) (at time : ℕ) where
       last-byte = rw (roll-is, drop-drop, ← d .place, getD-drop, add-zero)
 
       pub no-feed : eqb (getD s next 0) lineFeed ≡ false → lineAt s at time ≡ Wrong
-      unfolding lineAt right isLine
+      unfolding lineAt right isCommaLine
       no-feed e = rw (last-byte, e, and-false, and-false, and-false)
 
       pub whole-line : v ≡ time → eqb (getD s end 0) comma ≡ true → eqb (getD s next 0) lineFeed ≡ true → Says b n (next + 1) ≡ lineAt s at time
-      unfolding lineAt right isLine lineLength
+      unfolding lineAt right isCommaLine lineLength
       whole-line t c f =
           let place : next + 1 ≡ at + (length (leading (drop at s)) + (1 + (degreesLength (drop (end + 1) s) + 1))) = omega (arith, d .place, l .place) in
           rw (last-byte, f, mark, c, l .number, roll-is, d .right, ← l .value, eq-eqb v time t, d .value, ← place) (ap (λ x. Says x n (next + 1)) (sym (d .sign)))

@@ -8,7 +8,7 @@ use lib.Dec.{eqb}
 use lib.IntN.{ℤ}
 use Rattle.decimal.specs.Decimal.{isNumber, valueOf, digitsOf}
 use Rattle.decimal.specs.Field.{lineFeed}
-use Rattle.decimal.specs.Leading.{leading, behind}
+use Rattle.decimal.specs.Leading.{leading, afterLeading}
 use Rattle.degrees.specs.Degrees.{first, below, unsigned, size, isDegrees, degreesLength, degreesText}
 use Rattle.comma_line.specs.declared.Line.{Line}
 use Rattle.comma_line.specs.declared.Line.the-variants.{Says, Wrong}
@@ -20,28 +20,28 @@ comma = 44
 abbrev pub timeOf : List ℕ → ℕ
 timeOf line = valueOf (leading line)
 
--- the roll: what stands behind the time and the comma
+-- the roll: what stands after the time and the comma
 abbrev pub roll : List ℕ → List ℕ
-roll line = drop 1 (behind line)
+roll line = drop 1 (afterLeading line)
 
 -- a time that is a number as on the sheet, a comma, degrees, and LF
-unfoldable pub isLine : List ℕ → Bool
-isLine line =
+unfoldable pub isCommaLine : List ℕ → Bool
+isCommaLine line =
     isNumber (leading line)
-    && (eqb (first (behind line)) comma
+    && (eqb (first (afterLeading line)) comma
     && (isDegrees (roll line)
     && eqb (first (drop (degreesLength (roll line)) (roll line))) lineFeed))
 
 -- the line is well formed and has the time that is due
 unfoldable pub right : ℕ → List ℕ → Bool
-right time line = isLine line && eqb (timeOf line) time
+right time line = isCommaLine line && eqb (timeOf line) time
 
 -- its bytes, the LF with them
 unfoldable pub lineLength : List ℕ → ℕ
 lineLength line = length (leading line) + (1 + (degreesLength (roll line) + 1))
 
 -- what stands at a place of a text, read as the line of a time: the sign and the thousandths of its sample, and the
--- place behind it
+-- place after it
 unfoldable pub lineAt : List ℕ → ℕ → ℕ → Line
 lineAt text at time =
     cond (right time (drop at text))
@@ -49,5 +49,5 @@ lineAt text at time =
     Wrong
 
 -- a line as it is written
-unfoldable pub lineText : ℕ → ℤ → List ℕ
-lineText time x = digitsOf time ++ (comma ∷ (degreesText x ++ (lineFeed ∷ [])))
+unfoldable pub sampleText : ℕ → ℤ → List ℕ
+sampleText time x = digitsOf time ++ (comma ∷ (degreesText x ++ (lineFeed ∷ [])))

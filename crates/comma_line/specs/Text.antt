@@ -4,7 +4,7 @@ use mathlib.Core.Bool.{cond}
 use mathlib.Core.List.{List, [], _∷_, _++_, map}
 use lib.IntN.{ℤ}
 use Rattle.degrees.specs.Degrees.{sampleOf}
-use Rattle.comma_line.specs.Line.{roll, right, lineText}
+use Rattle.comma_line.specs.Line.{roll, right, sampleText}
 
 -- the place of the first line that is malformed or has a wrong time, from the time of the first on; their number where
 -- there is none. Times grow by D
@@ -19,7 +19,7 @@ samplesOf lines = map (λ line. sampleOf (roll line)) lines
 -- the text of samples, from the time of the first on
 unfoldable pub textFrom : ℕ → ℕ → List ℤ → List ℕ
 textFrom D time [] = []
-textFrom D time (x ∷ xs) = lineText time x ++ textFrom D (time + D) xs
+textFrom D time (x ∷ xs) = sampleText time x ++ textFrom D (time + D) xs
 
 -- times start at 0
 abbrev pub textOf : ℕ → List ℤ → List ℕ

@@ -16,7 +16,7 @@ const LF: u8 = 10;
 
 // What a line says.
 pub enum Line {
-    // Whether a minus stands before the degrees, their thousandths, and the place behind the line.
+    // Whether a minus stands before the degrees, their thousandths, and the place after the line.
     Says(bool, u64, usize),
     // The line is malformed or has another time.
     Wrong,

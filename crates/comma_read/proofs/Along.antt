@@ -16,7 +16,7 @@ use Rattle.truth.proofs.Cases.{by-test}
 use Rattle.sample_range.specs.Range.{sampleInRange, firstBad}
 use Rattle.decimal.specs.Lines.{linesOf}
 use Rattle.degrees.specs.Degrees.{below, unsigned, size, sampleOf, signed, largestSize}
-use Rattle.comma_read.specs.declared.Found.the-variants.{Wrong, Right}
+use Rattle.comma_read.specs.declared.LinesFound.the-variants.{Wrong, Right}
 use Rattle.comma_line.specs.Line.{roll, right, lineLength}
 use Rattle.comma_line.specs.Text.{firstWrong, samplesOf}
 use Rattle.comma_read.specs.Plain.{PlainLines, none, more}
@@ -184,7 +184,7 @@ module _ {D : ℕ} {text : List ℕ} {at time count : ℕ} (a : Along D text at 
   good-on : (r : right time (drop at text) ≡ true) → D ≤ 10000 → Along D text (next D text at time r) (time + D) (count + 1) (count + 1)
   good-on r small = rw (eq-eqb count count refl) at (on a r small true (sym (in-size a r (g .in-range))))
 
--- the samples that are left go behind those that are put
+-- the samples that are left go after those that are put
 pub record Putting (D : ℕ) (text : List ℕ) (at₀ count₀ : ℕ) (samples₀ samples : List ℤ) (at count : ℕ) : Type 0 where
   pub same : length samples ≡ length samples₀
   pub left : AllGood D (linesOf text) → sets samples count (samplesOf (Lines text at)) ≡ sets samples₀ count₀ (samplesOf (Lines text at₀))

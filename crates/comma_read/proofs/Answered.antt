@@ -17,7 +17,7 @@ use Rattle.sample_items.specs.Limits.{stepInRange}
 use Rattle.sample_range.specs.Range.{sampleInRange, firstBad}
 use Rattle.decimal.specs.Field.{lineFeed}
 use Rattle.decimal.specs.Lines.{startLine, linesOf}
-use Rattle.comma_read.specs.declared.Found.the-variants.{Wrong, Right}
+use Rattle.comma_read.specs.declared.LinesFound.the-variants.{Wrong, Right}
 use Rattle.comma_read.specs.declared.Reading.the-variants.{Samples, Refused}
 use Rattle.comma_line.specs.Line.{right}
 use Rattle.comma_line.specs.Text.{firstWrong, samplesOf}

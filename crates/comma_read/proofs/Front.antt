@@ -1,4 +1,4 @@
--- The plain lines that a text starts with: runs of them one behind the other, and from the first to the last. Assumes
+-- The plain lines that a text starts with: runs of them one after the other, and from the first to the last. Assumes
 -- nothing.
 use mathlib.Core.Path.{_≡_, refl, subst}
 use mathlib.Core.List.{List}
@@ -7,12 +7,12 @@ use native.Mathlib.Nat.{add-zero, add-assoc}
 use native.Mathlib.Omega.{arith}
 use Rattle.comma_read.specs.Plain.{RollLine, PlainLines, none, more}
 
--- a run behind a run
-pub behind : {s : List ℕ} {D next lines end more-lines : ℕ} → PlainLines s D 0 0 next lines → PlainLines s D next (lines * D) end more-lines → PlainLines s D 0 0 end (lines + more-lines)
-behind ls none = rw add-zero ls
-behind {s} {D} {next} {lines} ls (more {next = n} {lines = k} {end = e} ks l) =
+-- a run after a run
+pub run-after-run : {s : List ℕ} {D next lines end more-lines : ℕ} → PlainLines s D 0 0 next lines → PlainLines s D next (lines * D) end more-lines → PlainLines s D 0 0 end (lines + more-lines)
+run-after-run ls none = rw add-zero ls
+run-after-run {s} {D} {next} {lines} ls (more {next = n} {lines = k} {end = e} ks l) =
     let time : lines * D + k * D ≡ 0 + (lines + k) * D = omega arith in
-    rw (← add-assoc lines k 1) (more (behind ls ks) (subst (λ (t : ℕ). RollLine s n t e) time l))
+    rw (← add-assoc lines k 1) (more (run-after-run ls ks) (subst (λ (t : ℕ). RollLine s n t e) time l))
 
 -- from the first to the last: from a place and its time to a place and its time
 pub data Ahead (s : List ℕ) (D : ℕ) : ℕ → ℕ → ℕ → ℕ → Type 0 where

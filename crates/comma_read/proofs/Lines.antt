@@ -1,4 +1,4 @@
--- The lines of a text, one at a time: a right line is the text's first line, and so is a wrong one; what is behind it
+-- The lines of a text, one at a time: a right line is the text's first line, and so is a wrong one; what is after it
 -- is the rest. Assumes nothing.
 use mathlib.Core.Path.{_≡_, refl, sym, ap, subst, _∙_}
 use mathlib.Core.Bool.{Bool, true, false}

@@ -53,7 +53,7 @@ no-zero s at due (suc (suc k)) n room all worth =
     absurd (omega (arith, n .few, digits-below k due small)))
     (λ e. rw (e, and-false))
 
--- plain degrees behind the comma that stands behind the time
+-- plain degrees after the comma that stands after the time
 module _ (s : List ℕ) (at width : ℕ) {roll : ℕ} (p : PlainRoll s (at + width) roll) where
   abbrev From : ℕ
   From = at + width + 1 + roll % 2

@@ -1,4 +1,4 @@
--- The four forms of plain degrees behind a comma, as eight bytes side by side are held against them. Assumes nothing.
+-- The four forms of plain degrees after a comma, as eight bytes side by side are held against them. Assumes nothing.
 use mathlib.Core.Path.{_≡_, refl, ap, _∙_}
 use mathlib.Core.Bool.{true}
 use mathlib.Core.List.{List, []}
@@ -69,7 +69,7 @@ module _ (s : List ℕ) (c : ℕ) {roll : ℕ} (p : PlainRoll s c roll) where
       by-form (long m t) e = omega arith
 
 module _ (s : List ℕ) (c : ℕ) (room : c + 9 ≤ length s) where
-  -- a byte behind a place that is behind the comma
+  -- a byte after a place that is after the comma
   near : (k n : ℕ) → getD s (c + k + n) 0 ≡ getD s (c + (k + n)) 0
   near k n = ap (λ (i : ℕ). getD s i 0) (add-assoc c k n)
 

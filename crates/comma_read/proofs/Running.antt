@@ -1,4 +1,4 @@
--- Plain lines one behind the other: the digits of the time that is due are those of the line, if eight bytes are the
+-- Plain lines one after the other: the digits of the time that is due are those of the line, if eight bytes are the
 -- same number; and they are moved on with the time. Assumes nothing.
 use mathlib.Core.Path.{_≡_, sym, ap, _∙_}
 use mathlib.Core.Bool.{true}

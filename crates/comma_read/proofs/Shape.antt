@@ -1,5 +1,5 @@
 -- A line taken apart and put together: a text that starts with the line of a time is a front without LF, an LF and the
--- rest; and behind such a front and an LF anything may stand. Assumes nothing.
+-- rest; and after such a front and an LF anything may stand. Assumes nothing.
 use mathlib.Core.Path.{_≡_, refl, ap, _∙_}
 use mathlib.Core.Bool.{Bool, true}
 use mathlib.Core.List.{List, _∷_, _++_, append-assoc}
@@ -13,12 +13,12 @@ use borrow.Author.Tests.{eqb-true, eq-eqb}
 use Rattle.truth.proofs.Laws.{and-true}
 use Rattle.decimal.specs.Decimal.{isNumber, valueOf}
 use Rattle.decimal.specs.Field.{lineFeed}
-use Rattle.decimal.specs.Leading.{leading, behind}
+use Rattle.decimal.specs.Leading.{leading, afterLeading}
 use Rattle.decimal.proofs.Text.{sound}
 use Rattle.decimal.proofs.Leading.{leading-is, led}
 use Rattle.degrees.specs.Degrees.{first, below, unsigned, size, isDegrees, degreesLength}
 use Rattle.degrees.proofs.Parts.{IsSize, Ends, Signed, signBytes, degrees-of, degrees-parts, starts-with}
-use Rattle.comma_line.specs.Line.{comma, roll, isLine, right, lineLength}
+use Rattle.comma_line.specs.Line.{comma, roll, isCommaLine, right, lineLength}
 
 -- the bytes of a line before its LF
 abbrev pub Front : List ℕ → Bool → List ℕ → List ℕ
@@ -52,7 +52,7 @@ module _ (time : List ℕ) (number : isNumber time ≡ true) (b : Bool) {u : Lis
   digits : leading Text ≡ time
   digits = rw apart (leading-is time (comma ∷ ((signBytes b ++ u) ++ (lineFeed ∷ rest))) (sound time number .all) refl)
 
-  after : behind Text ≡ comma ∷ ((signBytes b ++ u) ++ (lineFeed ∷ rest))
+  after : afterLeading Text ≡ comma ∷ ((signBytes b ++ u) ++ (lineFeed ∷ rest))
   after = rw (digits, apart) (drop-append-seam time (comma ∷ ((signBytes b ++ u) ++ (lineFeed ∷ rest))))
 
   degrees : Signed (roll Text) b n (length (signBytes b ++ u))
@@ -62,7 +62,7 @@ module _ (time : List ℕ) (number : isNumber time ≡ true) (b : Bool) {u : Lis
   end = rw (degrees .count, after) (drop-append-seam (signBytes b ++ u) (lineFeed ∷ rest))
 
   pub front-line : LineFacts (valueOf time) Text b n (length (Front time b u) + 1)
-  unfolding right isLine lineLength
+  unfolding right isCommaLine lineLength
   front-line =
       record {
         is = rw (end, degrees .right, after, digits, number, eq-eqb (valueOf time) (valueOf time) refl);
@@ -82,14 +82,14 @@ pub record Shape (time : ℕ) (text : List ℕ) : Type 0 where
   pub parts : text ≡ Front bytes (below (roll text)) size-bytes ++ (lineFeed ∷ drop (lineLength text) text)
 
 pub shape : (time : ℕ) (text : List ℕ) → right time text ≡ true → Shape time text
-unfolding right isLine lineLength
+unfolding right isCommaLine lineLength
 shape time text h =
-    let (line, due) = and-true (isLine text) _ h in
+    let (line, due) = and-true (isCommaLine text) _ h in
     let (number, line₁) = and-true (isNumber (leading text)) _ line in
-    let (mark, line₂) = and-true (eqb (first (behind text)) comma) _ line₁ in
+    let (mark, line₂) = and-true (eqb (first (afterLeading text)) comma) _ line₁ in
     let (degrees, feed) = and-true (isDegrees (roll text)) _ line₂ in
     let d = degrees-parts (roll text) degrees in
-    let split : behind text ≡ comma ∷ roll text = starts-with (behind text) comma (omega arith) (eqb-true _ _ mark) in
+    let split : afterLeading text ≡ comma ∷ roll text = starts-with (afterLeading text) comma (omega arith) (eqb-true _ _ mark) in
     let last : drop (degreesLength (roll text)) (roll text) ≡ lineFeed ∷ drop 1 (drop (degreesLength (roll text)) (roll text)) = starts-with _ lineFeed (omega arith) (eqb-true _ _ feed) in
     let rest : drop 1 (drop (degreesLength (roll text)) (roll text)) ≡ drop (lineLength text) text = past (length (leading text)) (degreesLength (roll text)) text in
     record {

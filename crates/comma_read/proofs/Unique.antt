@@ -8,10 +8,10 @@ use lib.ListN.{length}
 use Rattle.decimal.specs.Lines.{linesOf}
 use Rattle.comma_line.specs.Text.{samplesOf}
 use Rattle.comma_read.specs.declared.Reading.{Reading}
-use Rattle.comma_read.specs.Answers.{reading, filledBy}
+use Rattle.comma_read.specs.Answers.{readingComma, filledBy}
 
 -- the answer and the samples
 pub read-unique : (text : List ℕ) (D : ℕ) (slice later other : List ℤ) (r q : Reading)
-    → r ≡ reading D text (length slice) → later ≡ filledBy r (samplesOf (linesOf text)) slice
-    → q ≡ reading D text (length slice) → other ≡ filledBy q (samplesOf (linesOf text)) slice → (r ≡ q) × (later ≡ other)
+    → r ≡ readingComma D text (length slice) → later ≡ filledBy r (samplesOf (linesOf text)) slice
+    → q ≡ readingComma D text (length slice) → other ≡ filledBy q (samplesOf (linesOf text)) slice → (r ≡ q) × (later ≡ other)
 read-unique text D slice later other r q e f g h = (cc, cc)

@@ -24,8 +24,8 @@ readingLines D lines places =
     (cond (ltb places (length lines)) (Refused (Room (length lines)))
     (Samples (length lines)))))
 
-abbrev pub reading : ℕ → List ℕ → ℕ → Reading
-reading D text places = readingLines D (linesOf text) places
+abbrev pub readingComma : ℕ → List ℕ → ℕ → Reading
+readingComma D text places = readingLines D (linesOf text) places
 
 -- the slice afterwards: the samples from its start and the rest as it stood; on a refusal all as it stood
 unfoldable pub filledBy : Reading → List ℤ → List ℤ → List ℤ

@@ -1,4 +1,4 @@
--- The four forms of plain degrees behind a comma, as far as eight bytes show them. Assumes nothing.
+-- The four forms of plain degrees after a comma, as far as eight bytes show them. Assumes nothing.
 use mathlib.Core.List.{List, [], _∷_}
 use Rattle.comma_word.specs.Form.{Kind, the, digit, any}
 

@@ -15,7 +15,7 @@ pub record Narrow (width time : ℕ) : Type 0 where
   pub some : 1 ≤ width
   pub few : width ≤ length (digitsOf time)
 
--- the line of a time stands at a place, its sample in range, and this is the place behind it
+-- the line of a time stands at a place, its sample in range, and this is the place after it
 pub record PlainLine (s : List ℕ) (at time next : ℕ) : Type 0 where
   pub is : right time (drop at s) ≡ true
   pub place : next ≡ at + lineLength (drop at s)
@@ -27,7 +27,7 @@ pub record RollLine (s : List ℕ) (at time next : ℕ) : Type 0 where
   pub roll : ℕ
   pub found : PlainRoll s (at + length (digitsOf time)) roll
 
--- plain lines stand one behind the other from a place on, the first of a time; this is the place behind the last of
+-- plain lines stand one after the other from a place on, the first of a time; this is the place after the last of
 -- them, and their number
 pub data PlainLines (s : List ℕ) (D at time : ℕ) : ℕ → ℕ → Type 0 where
   none : PlainLines s D at time at 0

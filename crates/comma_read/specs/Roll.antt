@@ -1,4 +1,4 @@
--- Plain degrees behind a comma: what the private functions that look for them promise where they stand. Assumes
+-- Plain degrees after a comma: what the private functions that look for them promise where they stand. Assumes
 -- nothing.
 use Prim.Native.Nat.{ℕ, _+_, _-_, _/_, _%_}
 use mathlib.Core.Path.{_≡_}
@@ -23,7 +23,7 @@ pub record AnyRoll (s : List ℕ) (c : ℕ) : Type 0 where
   pub roll : ℕ
   pub found : PlainRoll s c roll
 
--- the degrees behind their sign, and the sample that they are
+-- the degrees after their sign, and the sample that they are
 abbrev pub rollSize : List ℕ → ℕ → ℕ → ℕ
 rollSize s c roll = size (drop (c + 1 + roll % 2) s)
 

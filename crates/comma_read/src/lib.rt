@@ -19,7 +19,7 @@ ghost use Rattle.comma_word.specs.Form.{mask, bits, more};
 ghost use Rattle.comma_read.specs.Forms.{plusShort};
 ghost use Rattle.comma_read.specs.Roll.{PlainRoll, AnyRoll, rollSample};
 ghost use Rattle.comma_read.specs.Plain.{Narrow, PlainLines};
-ghost use Rattle.comma_read.specs.Answers.{reading, filledBy};
+ghost use Rattle.comma_read.specs.Answers.{readingComma, filledBy};
 ghost use Rattle.comma_read.specs.Survey.{AllGood, surveyed};
 use comma_line::Line;
 use degrees::Degrees;
@@ -45,14 +45,14 @@ pub enum Reading {
 }
 
 // What all lines of a text come to.
-enum Found {
+enum LinesFound {
     // The number of lines before the first wrong one.
     Wrong(u64),
     // The number of lines, and the place of the first sample out of range, or that number.
     Right(u64, u64),
 }
 
-// Plain lines one behind the other: the place behind them, and their number.
+// Plain lines one after the other: the place after them, and their number.
 struct Run {
     at: usize,
     lines: u64,
@@ -318,7 +318,7 @@ fn plain_front(text: &[u8], step: u64) -> Run
 }
 
 // Judges all lines of `text`, those of its front being plain: one that may be of any form, and plain ones together.
-fn survey(text: &[u8], step: u64, front: usize, lines: u64) -> Found
+fn survey(text: &[u8], step: u64, front: usize, lines: u64) -> LinesFound
     requires { ⌜ (step ≤ 10000) × PlainLines (now text) step 0 0 front lines ⌝ }
     ensures { λ r. ⌜ r ≡ surveyed step (linesOf (now (text .entry))) ⌝ }
 {
@@ -335,17 +335,17 @@ fn survey(text: &[u8], step: u64, front: usize, lines: u64) -> Found
         due += run.lines * step;
         at = run.at;
         if text.len() <= at {
-            return Found::Right(count, sound);
+            return LinesFound::Right(count, sound);
         }
         let Line::Says(_, size, end) = comma_line::line_at(text, at, due) else {
-            return Found::Wrong(count);
+            return LinesFound::Wrong(count);
         };
         sound = tallied(sound, count, size <= comma_line::SAMPLE_LIMIT as u64);
         count += 1;
         due += step;
         at = end;
     }
-    Found::Right(count, sound)
+    LinesFound::Right(count, sound)
 }
 
 // Puts `x` into its place, where `samples` has that place.
@@ -385,7 +385,7 @@ fn signed_size(minus: bool, size: u64) -> i32
     if minus { 0 - x } else { x }
 }
 
-// The sample of the plain degrees behind the comma at `c`, of which `plain_roll` said so much: each of its four
+// The sample of the plain degrees after the comma at `c`, of which `plain_roll` said so much: each of its four
 // answers goes a way of its own.
 fn plain_sample(s: &[u8], c: usize, roll: usize) -> i32
     requires { ⌜ PlainRoll (now s) c roll ⌝ }
@@ -403,7 +403,7 @@ fn plain_sample(s: &[u8], c: usize, roll: usize) -> i32
     signed_size(true, plain_size(s, c + 2, 5))
 }
 
-// Which of the four forms the plain degrees behind the comma at `c` have: those of a plain line are told apart by two
+// Which of the four forms the plain degrees after the comma at `c` have: those of a plain line are told apart by two
 // bytes.
 fn form_of(s: &[u8], c: usize) -> usize
     requires { ⌜ AnyRoll (now s) c ⌝ }
@@ -452,7 +452,7 @@ fn fill_front(text: &[u8], step: u64, front: usize, lines: u64, samples: &mut [i
     }
 }
 
-// Puts the samples of the lines behind the front, which are right and in range. Their times are passed over.
+// Puts the samples of the lines after the front, which are right and in range. Their times are passed over.
 fn fill_rest(text: &[u8], step: u64, front: usize, lines: u64, samples: &mut [i32])
     requires { ⌜ (step ≤ 10000) × AllGood step (linesOf (now text)) × PlainLines (now text) step 0 0 front lines ⌝ }
     ensures { λ _. ⌜ now (samples .exit)
@@ -502,7 +502,7 @@ fn fill(text: &[u8], step: u64, front: usize, lines: u64, samples: &mut [i32])
 // with the line number, 2 with the sample's place, 7 with the number of samples, each judged over all lines, and
 // `samples` as it stood.
 pub fn read(text: &[u8], step: u64, samples: &mut [i32]) -> Reading
-    ensures { λ r. ⌜ r ≡ reading step (now (text .entry)) (length (now (samples .entry))) ⌝ }
+    ensures { λ r. ⌜ r ≡ readingComma step (now (text .entry)) (length (now (samples .entry))) ⌝ }
     ensures { λ r. ⌜ now (samples .exit)
         ≡ filledBy r (samplesOf (linesOf (now (text .entry)))) (now (samples .entry)) ⌝ }
 {
@@ -511,8 +511,8 @@ pub fn read(text: &[u8], step: u64, samples: &mut [i32]) -> Reading
     }
     let front = plain_front(text, step);
     match survey(text, step, front.at, front.lines) {
-        Found::Wrong(lines) => Reading::Refused(Refusal::CommaLine(lines + 1)),
-        Found::Right(count, sound) => {
+        LinesFound::Wrong(lines) => Reading::Refused(Refusal::CommaLine(lines + 1)),
+        LinesFound::Right(count, sound) => {
             if sound < count {
                 return Reading::Refused(Refusal::Sample(sound));
             }

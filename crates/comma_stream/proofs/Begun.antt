@@ -1,4 +1,4 @@
--- A line that may not have begun stays wrong, whatever comes behind it: a line has 31 bytes at most, and no LF before
+-- A line that may not have begun stays wrong, whatever comes after it: a line has 31 bytes at most, and no LF before
 -- its last. Assumes nothing.
 use Prim.Native.Nat.{ℕ, zero, suc, _+_, _≤_, _<_}
 use mathlib.Core.Path.{_≡_, refl, sym, ap, _∙_}
@@ -17,7 +17,7 @@ use Rattle.degrees.proofs.Parts.{IsSize, plain, pointed-by, signBytes}
 use Rattle.comma_line.specs.Line.{comma, roll, right, lineLength}
 use Rattle.comma_read.proofs.Shape.{Front, shape}
 use Rattle.comma_read.proofs.Lines.{Turn, turn, front-none, right-front}
-use Rattle.comma_stream.specs.Follow.{longestLine, unended, mayBegin}
+use Rattle.comma_stream.specs.Follow.{longestCommaLine, unended, mayBegin}
 
 -- ---- a line's bytes
 size-few : {u : List ℕ} {n : ℕ} → IsSize u n → length u ≤ 16
@@ -28,7 +28,7 @@ sign-few : (b : Bool) → length (signBytes b) ≤ 1
 sign-few true = omega arith
 sign-few false = omega arith
 
-pub line-few : (time : ℕ) (text : List ℕ) → right time text ≡ true → lineLength text ≤ longestLine
+pub line-few : (time : ℕ) (text : List ℕ) → right time text ≡ true → lineLength text ≤ longestCommaLine
 line-few time text r =
     let s = shape time text r in
     omega (
@@ -48,7 +48,7 @@ unended-front zero s f = refl
 unended-front (suc n) [] f = refl
 unended-front (suc n) (b ∷ s) f = rw (f .0, unended-front n s (f .1))
 
--- ---- what more behind it makes of it
+-- ---- what more after it makes of it
 module _ (time : ℕ) (text more : List ℕ) where
   -- the line stands in the text already
   within : (t : Turn time (text ++ more)) → length (t .line) ≤ length text → right time text ≡ true
@@ -67,7 +67,7 @@ module _ (time : ℕ) (text more : List ℕ) where
       let same : text ≡ take (length text) front =
       sym (take-append-seam text more) ∙ ap (take (length text)) (s .parts) ∙ take-append-le (length text) front _ short in
       let ends : unended text ≡ true = ap unended same ∙ unended-front (length text) front (front-none (s .bytes) (s .number) (below (roll (text ++ more))) (s .is)) in
-      rw (lt-ltb (length text) longestLine (omega (arith, line-few time (text ++ more) r)), ends)
+      rw (lt-ltb (length text) longestCommaLine (omega (arith, line-few time (text ++ more) r)), ends)
 
   pub wrong-stays : mayBegin text ≡ false → right time text ≡ false → right time (text ++ more) ≡ false
   wrong-stays m r =

@@ -27,7 +27,7 @@ use Rattle.comma_read.proofs.Lines.{Turn, turn, first-line}
 use Rattle.comma_read.proofs.Along.{Lines, in-range}
 use Rattle.comma_stream.specs.declared.Follow.{Follow}
 use Rattle.comma_stream.specs.declared.Followed.the-variants.{Taken}
-use Rattle.comma_stream.specs.Follow.{bytesOf, rightLines, behind, takenBy, taking, held, numberOf, leaving}
+use Rattle.comma_stream.specs.Follow.{bytesOf, rightLines, afterLines, takenBy, taking, held, numberOf, leaving}
 
 -- the bytes of lines and one more
 pub bytes-last : (lines : List (List ℕ)) (line : List ℕ) → bytesOf (lines ++ (line ∷ [])) ≡ bytesOf lines + length line
@@ -39,11 +39,11 @@ bytes-last (l ∷ lines) line = omega (arith, bytes-last lines line)
 abbrev pub Outside : Follow → List ℤ → ℕ
 Outside f xs = cond (eqb (f .outside) 0 && ltb (firstBad xs) (length xs)) (f .lines + firstBad xs + 1) (f .outside)
 
-pub outside-is : (f : Follow) (lines : List (List ℕ)) → behind f lines .outside ≡ Outside f (samplesOf lines)
-unfolding behind
+pub outside-is : (f : Follow) (lines : List (List ℕ)) → afterLines f lines .outside ≡ Outside f (samplesOf lines)
+unfolding afterLines
 outside-is f lines = rw (length-map lines (λ line. sampleOf (roll line)))
 
--- behind more samples
+-- after more samples
 pub outside-join : (f : Follow) (xs ys : List ℤ)
     → Outside f (xs ++ ys) ≡ cond (eqb (Outside f xs) 0 && ltb (firstBad ys) (length ys)) (f .lines + length xs + firstBad ys + 1) (Outside f xs)
 outside-join f xs ys =
@@ -108,7 +108,7 @@ held-signed b n = rw (in-range b n)
 flip : (n : ℕ) → ltb largestSize n ≡ cond (leb n largestSize) false true
 flip n = by-order largestSize n (λ h. rw (lt-ltb largestSize n h, lt-leb n largestSize h)) (λ h. rw (le-ltb largestSize n h, le-leb n largestSize h))
 
--- a sample put behind those before it
+-- a sample put after those before it
 put-last : (xs slice : List ℤ) (x : ℤ) (n : ℕ) → length xs ≡ n → n < length slice → set (xs ++ drop n slice) n x ≡ (xs ++ (x ∷ [])) ++ drop (n + 1) slice
 put-last xs slice x n e h =
     rw (drop-cons slice n (pos 0) h, set-at xs _ (drop (suc n) slice) x n e, append-assoc, add-one)
@@ -192,7 +192,7 @@ module _ {f : Follow} {text : List ℕ} {slice : List ℤ} {at number outside : 
     stand = record { step = f .step; lines = lines; outside = outside }
 
     pub going-taken : Taken stand at number ≡ taking f text places
-    unfolding taking takenBy behind
+    unfolding taking takenBy afterLines
     going-taken =
         rw (step, all)
         (λ i. Taken (record { step = f .step; lines = (e ∙ ap (λ n. f .lines + n) (sym (g .count))) i; outside = (g .noted ∙ sym (outside-is f (g .front))) i }) (g .bytes i) (sym (g .count) i))
@@ -201,10 +201,10 @@ module _ {f : Follow} {text : List ℕ} {slice : List ℤ} {at number outside : 
     unfolding leaving numberOf
     going-left = rw (g .lines, take-at (g .front) (Lines text at) number (g .count)) (g .put)
 
--- behind so many lines that no time has 12 digits nothing is taken
+-- after so many lines that no time has 12 digits nothing is taken
 module _ (f : Follow) (text : List ℕ) (places : ℕ) (step : stepInRange (f .step) ≡ true) where
   pub none-late : 10 ^ longest < f .lines → Taken f 0 0 ≡ taking f text places
-  unfolding taking takenBy rightLines behind bytesOf firstBad
+  unfolding taking takenBy rightLines afterLines bytesOf firstBad
   none-late h =
       let late : 10 ^ longest ≤ f .lines * f .step = omega (arith, mul-le-mul {n₁ = f .lines} {m₁ = 1} {n₂ = f .lines} {m₂ = f .step} (omega arith) (low 1 10000 (f .step) step)) in
       rw (step, wrong-none (f .step) (f .lines * f .step) text (too-late (f .lines * f .step) text late), take-nil)

@@ -20,10 +20,10 @@ use Rattle.comma_line.specs.Line.{roll, right, lineLength}
 use Rattle.comma_line.specs.Text.{firstWrong, samplesOf}
 use Rattle.refusal.specs.declared.Refusal.the-variants.{Sample, CommaLine}
 use Rattle.comma_read.specs.declared.Reading.the-variants.{Samples, Refused}
-use Rattle.comma_read.specs.Answers.{reading, readingLines}
+use Rattle.comma_read.specs.Answers.{readingComma, readingLines}
 use Rattle.comma_read.proofs.Lines.{Turn, turn, first-line}
 use Rattle.comma_stream.specs.declared.Follow.{Follow}
-use Rattle.comma_stream.specs.Follow.{bytesOf, rightLines, behind}
+use Rattle.comma_stream.specs.Follow.{bytesOf, rightLines, afterLines}
 use Rattle.text.specs.Pieces.{joined}
 use Rattle.comma_stream.specs.Pieces.{Passed, nothing, withPiece, passing, ending}
 use Rattle.comma_stream.proofs.Going.{Outside, outside-is, outside-join, wrong-none}
@@ -32,7 +32,7 @@ use Rattle.comma_stream.proofs.Going.{Outside, outside-is, outside-join
 abbrev Rights : ℕ → ℕ → List ℕ → List (List ℕ)
 Rights D time text = take (firstWrong D time (linesOf text)) (linesOf text)
 
--- what is left behind them
+-- what is left after them
 abbrev Left : ℕ → ℕ → List ℕ → List ℕ
 Left D time text = drop (bytesOf (Rights D time text)) text
 
@@ -46,7 +46,7 @@ module _ (D time : ℕ) (text : List ℕ) (r : right time text ≡ true) where
   abbrev rest : List ℕ
   rest = drop (lineLength text) text
 
-  -- one line, and those behind it, with more behind the text or not
+  -- one line, and those after it, with more after the text or not
   one : (more : List ℕ) → Rights D time (t .line ++ more) ≡ t .line ∷ Rights D (time + D) more
   unfolding firstWrong
   one more = rw (t .before more, t .is)
@@ -61,7 +61,7 @@ module _ (D time : ℕ) (text : List ℕ) (r : right time text ≡ true) where
   shorter : length rest < length text
   shorter = omega (arith, length-drop (lineLength text) text, t .some, t .within)
 
--- the lines of a text with more behind it: those of the text, and those of what is left with more behind it
+-- the lines of a text with more after it: those of the text, and those of what is left with more after it
 record Joins (D time : ℕ) (a b : List ℕ) : Type 0 where
   lines : Rights D time (a ++ b) ≡ Rights D time a ++ Rights D (time + length (Rights D time a) * D) (Left D time a ++ b)
   left : Left D time (a ++ b) ≡ Left D (time + length (Rights D time a) * D) (Left D time a ++ b)
@@ -120,26 +120,26 @@ joins (suc n) D time a b h =
     (joins-none D time a b)
 
 -- ---- piece by piece
--- behind lines the reading stands where it stands behind each of them
+-- after lines the reading stands where it stands after each of them
 module _ (f : Follow) (us vs : List (List ℕ)) where
-  many-join : behind (behind f us) vs .lines ≡ behind f (us ++ vs) .lines
-  unfolding behind
+  many-join : afterLines (afterLines f us) vs .lines ≡ afterLines f (us ++ vs) .lines
+  unfolding afterLines
   many-join = rw length-append (add-assoc (f .lines) (length us) (length vs))
 
-  outside-both : behind (behind f us) vs .outside ≡ behind f (us ++ vs) .outside
-  unfolding behind
+  outside-both : afterLines (afterLines f us) vs .outside ≡ afterLines f (us ++ vs) .outside
+  unfolding afterLines
   outside-both =
-      outside-is (behind f us) vs
+      outside-is (afterLines f us) vs
       ∙ rw (outside-is f us, ← length-map us (λ line. sampleOf (roll line))) (sym (outside-join f (samplesOf us) (samplesOf vs)))
       ∙ sym (outside-is f (us ++ vs) ∙ ap (Outside f) (map-append (λ line. sampleOf (roll line)) us vs))
 
-  pub behind-join : behind (behind f us) vs ≡ behind f (us ++ vs)
-  unfolding behind
-  behind-join i = record { step = f .step; lines = many-join i; outside = outside-both i }
+  pub after-join : afterLines (afterLines f us) vs ≡ afterLines f (us ++ vs)
+  unfolding afterLines
+  after-join i = record { step = f .step; lines = many-join i; outside = outside-both i }
 
 -- what was passed is what the text so far leaves
 record Level (D : ℕ) (p : Passed) (text : List ℕ) : Type 0 where
-  stands : p .stands ≡ behind (nothing D .stands) (Rights D 0 text)
+  stands : p .stands ≡ afterLines (nothing D .stands) (Rights D 0 text)
   samples : p .samples ≡ samplesOf (Rights D 0 text)
   left : p .left ≡ Left D 0 text
 
@@ -150,7 +150,7 @@ module _ (D : ℕ) where
     Taken = Rights D 0 text
 
     more : rightLines (p .stands) (p .left ++ piece) ≡ Rights D (0 + length Taken * D) (Left D 0 text ++ piece)
-    unfolding rightLines behind
+    unfolding rightLines afterLines
     more =
         let due : (0 + length Taken) * D ≡ 0 + length Taken * D = omega arith in
         rw (l .stands, l .left) (rw due)
@@ -161,7 +161,7 @@ module _ (D : ℕ) where
     level-on : Level D (withPiece p piece) (text ++ piece)
     level-on =
         record {
-          stands = ap (λ f. behind f (rightLines (p .stands) (p .left ++ piece))) (l .stands) ∙ behind-join (nothing D .stands) Taken _ ∙ ap (behind (nothing D .stands)) (sym all);
+          stands = ap (λ f. afterLines f (rightLines (p .stands) (p .left ++ piece))) (l .stands) ∙ after-join (nothing D .stands) Taken _ ∙ ap (afterLines (nothing D .stands)) (sym all);
           samples = ap (λ x. x ++ samplesOf (rightLines (p .stands) (p .left ++ piece))) (l .samples) ∙ sym (ap samplesOf all ∙ map-append (λ line. sampleOf (roll line)) Taken _);
           left = rw (more, l .left) (sym (joins (length text) D 0 text piece (omega arith) .left));
         }
@@ -173,7 +173,7 @@ module _ (D : ℕ) where
       subst (Level D (passing (withPiece p piece) pieces)) (append-assoc text piece (joined pieces)) (level-all pieces (withPiece p piece) (text ++ piece) (level-on p text piece l))
 
   level-start : Level D (nothing D) []
-  unfolding linesOf firstWrong bytesOf behind firstBad
+  unfolding linesOf firstWrong bytesOf afterLines firstBad
   level-start = record { stands = refl; samples = refl; left = refl }
 
   -- a file in pieces is passed as one that comes whole
@@ -209,11 +209,11 @@ module _ (D : ℕ) (text : List ℕ) (p : Passed) (l : Level D p text) where
     same = sym (rest-of ∙ ap (λ x. Rights D 0 text ++ linesOf x) e ∙ append-nil (Rights D 0 text))
 
     lines : p .stands .lines ≡ length L
-    unfolding behind
+    unfolding afterLines
     lines = rw (l .stands, same) (zero-add (length L))
 
     outside : p .stands .outside ≡ cond (ltb Bad (length L)) (Bad + 1) 0
-    unfolding behind
+    unfolding afterLines
     outside = rw (l .stands, same) (rw zero-add)
 
     all-taken : ending p ≡ cond (ltb Bad (length L)) (Refused (Sample Bad)) (Samples (length L))
@@ -232,7 +232,7 @@ module _ (D : ℕ) (text : List ℕ) (p : Passed) (l : Level D p text) where
 
     -- bytes are left
     some-left : (b : ℕ) (left : List ℕ) → Left D 0 text ≡ b ∷ left → ending p ≡ readingLines D L places
-    unfolding ending behind readingLines
+    unfolding ending afterLines readingLines
     some-left b left e =
         let f = first-line 0 (b ∷ left) (omega arith) in
         let more : length (linesOf (Left D 0 text)) ≡ suc (length (f .lines)) = ap (λ x. length (linesOf x)) e ∙ ap length (f .is) in
@@ -249,7 +249,7 @@ module _ (D : ℕ) (text : List ℕ) (p : Passed) (l : Level D p text) where
 
 -- a file in pieces ends as it reads whole
 pub followed-whole : (D places : ℕ) (pieces : List (List ℕ)) → stepInRange D ≡ true → length (linesOf (joined pieces)) ≤ places
-    → ending (passing (nothing D) pieces) ≡ reading D (joined pieces) places
+    → ending (passing (nothing D) pieces) ≡ readingComma D (joined pieces) places
 followed-whole D places pieces step room =
     ending-whole D (joined pieces) _ (level-all D pieces (nothing D) [] (level-start D)) places step room
 

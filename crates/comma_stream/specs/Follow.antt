@@ -1,5 +1,5 @@
 -- Document 02 [1]: a comma file read as it comes. A text here is what is left of the pieces so far, and the next piece
--- behind it. Assumes nothing.
+-- after it. Assumes nothing.
 use Prim.Native.Nat.{ℕ, _+_, _*_}
 use mathlib.Core.Bool.{Bool, true, cond, not, _&&_}
 use mathlib.Core.List.{List, [], _∷_, _++_, map}
@@ -19,8 +19,8 @@ use Rattle.comma_stream.specs.declared.Rest.{Rest}
 use Rattle.comma_stream.specs.declared.Rest.the-variants.{Waits, Over, Wrong}
 
 -- the most bytes of a line: two numbers of 12 digits, comma, minus, point, three digits, LF
-abbrev pub longestLine : ℕ
-longestLine = 31
+abbrev pub longestCommaLine : ℕ
+longestCommaLine = 31
 
 -- no byte is an LF
 unfoldable pub unended : List ℕ → Bool
@@ -29,9 +29,9 @@ unended (b ∷ text) = not (eqb b lineFeed) && unended text
 
 -- a text may become a line that starts with it
 unfoldable pub mayBegin : List ℕ → Bool
-mayBegin text = ltb (length text) longestLine && unended text
+mayBegin text = ltb (length text) longestCommaLine && unended text
 
--- what is left behind the right lines, and whether more may come: it waits, the file is over, or the next line is wrong
+-- what is left after the right lines, and whether more may come: it waits, the file is over, or the next line is wrong
 unfoldable pub resting : List ℕ → Bool → Rest
 resting text more = cond (eqb (length text) 0) (cond more (Waits 0) Over) (cond (more && mayBegin text) (Waits (length text)) Wrong)
 
@@ -50,9 +50,9 @@ bytesOf (line ∷ lines) = length line + bytesOf lines
 unfoldable pub rightLines : Follow → List ℕ → List (List ℕ)
 rightLines f text = take (firstWrong (f .step) (f .lines * f .step) (linesOf text)) (linesOf text)
 
--- where the reading stands behind lines: their number more, and the first sample out of range is kept
-unfoldable pub behind : Follow → List (List ℕ) → Follow
-behind f lines =
+-- where the reading stands after lines: their number more, and the first sample out of range is kept
+unfoldable pub afterLines : Follow → List (List ℕ) → Follow
+afterLines f lines =
     record {
       step = f .step;
       lines = f .lines + length lines;
@@ -61,7 +61,7 @@ behind f lines =
 
 -- what lines that were taken come to
 unfoldable pub takenBy : Follow → List (List ℕ) → Followed
-takenBy f lines = Taken (behind f lines) (bytesOf lines) (length lines)
+takenBy f lines = Taken (afterLines f lines) (bytesOf lines) (length lines)
 
 -- taking a text's lines into so many places: 1 for the step, or its right lines, as many as there are places
 unfoldable pub taking : Follow → List ℕ → ℕ → Followed

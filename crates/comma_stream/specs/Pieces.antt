@@ -10,9 +10,9 @@ use Rattle.comma_line.specs.Text.{samplesOf}
 use Rattle.comma_read.specs.declared.Reading.{Reading}
 use Rattle.comma_read.specs.declared.Reading.the-variants.{Samples, Refused}
 use Rattle.comma_stream.specs.declared.Follow.{Follow}
-use Rattle.comma_stream.specs.Follow.{bytesOf, rightLines, behind}
+use Rattle.comma_stream.specs.Follow.{bytesOf, rightLines, afterLines}
 
--- where the reading stands, the samples that were taken, and the bytes that are left behind them
+-- where the reading stands, the samples that were taken, and the bytes that are left after them
 pub record Passed : Type 0 where
   pub stands : Follow
   pub samples : List ℤ
@@ -26,13 +26,13 @@ nothing D = record { stands = record { step = D; lines = 0; outside = 0 }; sampl
 abbrev pub withPiece : Passed → List ℕ → Passed
 withPiece p piece =
     let more = rightLines (p .stands) (p .left ++ piece) in
-    record { stands = behind (p .stands) more; samples = p .samples ++ samplesOf more; left = drop (bytesOf more) (p .left ++ piece) }
+    record { stands = afterLines (p .stands) more; samples = p .samples ++ samplesOf more; left = drop (bytesOf more) (p .left ++ piece) }
 
 unfoldable pub passing : Passed → List (List ℕ) → Passed
 passing p [] = p
 passing p (piece ∷ pieces) = passing (withPiece p piece) pieces
 
--- behind the last piece: 10 for bytes that are no right line, 2 for a sample out of range, or the number of samples
+-- after the last piece: 10 for bytes that are no right line, 2 for a sample out of range, or the number of samples
 unfoldable pub ending : Passed → Reading
 ending p =
     cond (eqb (length (p .left)) 0)

@@ -31,12 +31,12 @@ pub struct Follow {
 
 // What a piece comes to.
 pub enum Followed {
-    // Where the reading stands behind its right lines, their bytes, and their number.
+    // Where the reading stands after its right lines, their bytes, and their number.
     Taken(Follow, usize, usize),
     Refused(Refusal),
 }
 
-// What stands behind the right lines.
+// What stands after the right lines.
 pub enum Rest {
     // So many bytes of a line that may have begun; more is to come.
     Waits(usize),

@@ -1,4 +1,4 @@
--- Laws of bytes side by side, whose list is one of numbers below 256: one more byte behind them, and how large they
+-- Laws of bytes side by side, whose list is one of numbers below 256: one more byte after them, and how large they
 -- get. Assumes nothing.
 use mathlib.Core.Path.{_≡_, ap, _∙_}
 use mathlib.Core.List.{List, [], _∷_, _++_, foldl-append}
@@ -25,7 +25,7 @@ pub word-last : (bytes : List ℕ) (b : ℕ) → word (bytes ++ (b ∷ [])) ≡ 
 unfolding word
 word-last bytes b = foldl-append beside 0 bytes (b ∷ [])
 
--- the first k + 1 bytes are the first k and the one behind them
+-- the first k + 1 bytes are the first k and the one after them
 pub word-suc : (bytes : List ℕ) (k : ℕ) → k < length bytes → word (take (suc k) bytes) ≡ beside (word (take k bytes)) (getD bytes k 0)
 word-suc bytes k h = rw (take-suc bytes k 0 h, word-last)
 

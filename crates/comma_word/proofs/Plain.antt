@@ -18,7 +18,7 @@ use Rattle.decimal.proofs.Text.{digit-range, value-below}
 use Rattle.degrees.specs.declared.Degrees.the-variants.{Says}
 use Rattle.degrees.specs.Degrees.{point, filled, signLength, size, degreesAt}
 use Rattle.degrees.proofs.Forms.{Sized, with-point, sized-at}
-use Rattle.degrees.proofs.Signs.{behind-sign}
+use Rattle.degrees.proofs.Signs.{after-sign}
 use Rattle.comma_word.specs.Plain.{byteAt, shortDigits, longDigits, shortAt, longAt, Form, short, long, Plain, plainBytes, shortSize, longSize, plainSize}
 
 -- the bytes from a place on, one by one
@@ -132,7 +132,7 @@ module _ (s : List ℕ) (at : ℕ) where
       (λ e. rw (le-leb _ _ (p .room), e) (sym (short-of p (eqb-true _ _ e) .1 .value)))
       (λ e. rw (le-leb _ _ (p .room), e) (sym (long-of p (eqb-false _ _ e) .1 .value)))
 
-  -- what plain degrees are: a size in range, and LF behind it
+  -- what plain degrees are: a size in range, and LF after it
   pub record PlainFacts (bytes : ℕ) : Type 0 where
     pub is : Sized (drop at s) (size (drop at s)) bytes
     pub small : size (drop at s) < 100000
@@ -175,7 +175,7 @@ module _ (s : List ℕ) (at : ℕ) where
   pub plain-of : {bytes : ℕ} → bytes ≡ plainBytes s at → 1 ≤ bytes → Plain s at bytes
   plain-of e some = rw e (stands (rw (← e) some))
 
--- plain degrees behind a sign are what is read
+-- plain degrees after a sign are what is read
 pub plain-read : (s : List ℕ) (at from : ℕ) {bytes : ℕ} → from ≡ at + signLength (drop at s) → Plain s from bytes
     → Says (not (eqb from at)) (size (drop from s)) (from + bytes) ≡ degreesAt s at
-plain-read s at from e p = sized-at s from (not (eqb from at)) refl (plain-facts s from p .is) ∙ behind-sign s at from e
+plain-read s at from e p = sized-at s from (not (eqb from at)) refl (plain-facts s from p .is) ∙ after-sign s at from e

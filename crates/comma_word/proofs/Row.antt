@@ -9,7 +9,7 @@ use lib.Seq.{drop-cons}
 use Rattle.truth.proofs.Cases.{by-order}
 use Rattle.comma_word.specs.Word.{word, Small}
 
--- k bytes, from n behind a place on
+-- k bytes, from n after a place on
 unfoldable pub row : List ℕ → ℕ → ℕ → ℕ → List ℕ
 row s at n zero = []
 row s at n (suc k) = getD s (at + n) 0 ∷ row s at (suc n) k

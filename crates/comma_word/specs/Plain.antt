@@ -9,7 +9,7 @@ use Rattle.decimal.specs.Decimal.{zeroByte, isDigit, allDigits, valueOf}
 use Rattle.decimal.specs.Field.{lineFeed}
 use Rattle.degrees.specs.Degrees.{point}
 
--- the byte so many places behind a place
+-- the byte so many places after a place
 abbrev pub byteAt : List ℕ → ℕ → ℕ → ℕ
 byteAt s at n = getD s (at + n) 0
 

@@ -3,7 +3,7 @@ use Prim.Native.Nat.{ℕ, _+_, _*_, _<_}
 use mathlib.Core.List.{List, foldl}
 use lib.ListN.{getD}
 
--- a number, and one byte more behind it
+-- a number, and one byte more after it
 abbrev pub beside : ℕ → ℕ → ℕ
 beside v b = v * 256 + b
 

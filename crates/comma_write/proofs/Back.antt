@@ -20,9 +20,9 @@ use Rattle.decimal.proofs.Text.{value-digits, number-digits, digit-byte}
 use Rattle.degrees.specs.Degrees.{point, filled, sign, signed, sampleOf, threeDigits, degreesText}
 use Rattle.degrees.proofs.Parts.{IsSize, pointed-by, signBytes}
 use Rattle.comma_read.specs.declared.Reading.the-variants.{Samples}
-use Rattle.comma_line.specs.Line.{roll, right, lineText}
+use Rattle.comma_line.specs.Line.{roll, right, sampleText}
 use Rattle.comma_line.specs.Text.{firstWrong, samplesOf, textFrom, textOf}
-use Rattle.comma_read.specs.Answers.{readingLines, reading}
+use Rattle.comma_read.specs.Answers.{readingLines, readingComma}
 use Rattle.comma_write.specs.Answers.{lastTime}
 use Rattle.comma_read.proofs.Shape.{Front, LineFacts, front-line}
 use Rattle.comma_read.proofs.Lines.{turn, front-none}
@@ -73,8 +73,8 @@ Bytes x = digitsOf (natAbs x / 1000) ++ (point ∷ threeDigits (natAbs x))
 abbrev Written : ℕ → ℤ → List ℕ
 Written time x = Front (digitsOf time) (isBelow x) (Bytes x)
 
-line-is : (time : ℕ) (x : ℤ) → lineText time x ≡ Written time x ++ (lineFeed ∷ [])
-unfolding lineText degreesText
+line-is : (time : ℕ) (x : ℤ) → sampleText time x ≡ Written time x ++ (lineFeed ∷ [])
+unfolding sampleText degreesText
 line-is time x = rw (sign-is, append-assoc (digitsOf time))
 
 small-sample : (x : ℤ) → sampleInRange x ≡ true → natAbs x < 10 ^ longest
@@ -87,13 +87,13 @@ module _ (time : ℕ) (x : ℤ) (due : time < 10 ^ longest) (in-range : sampleIn
   facts : LineFacts (valueOf (digitsOf time)) (Written time x ++ (lineFeed ∷ [])) (isBelow x) (natAbs x) (length (Written time x) + 1)
   facts = front-line (digitsOf time) (number-digits time due) (isBelow x) Size []
 
-  line-right : right time (lineText time x) ≡ true
+  line-right : right time (sampleText time x) ≡ true
   line-right = rw line-is (subst (λ t. right t (Written time x ++ (lineFeed ∷ [])) ≡ true) (value-digits time) (facts .is))
 
-  line-sample : sampleOf (roll (lineText time x)) ≡ x
+  line-sample : sampleOf (roll (sampleText time x)) ≡ x
   line-sample = rw line-is (rw (facts .value, facts .sign) (signed-is x))
 
-  first-line : (rest : List ℕ) → linesOf (lineText time x ++ rest) ≡ lineText time x ∷ linesOf rest
+  first-line : (rest : List ℕ) → linesOf (sampleText time x ++ rest) ≡ sampleText time x ∷ linesOf rest
   first-line rest =
       rw (line-is, append-assoc (Written time x))
       (lines-front (Written time x) rest (front-none (digitsOf time) (number-digits time due) (isBelow x) Size))
@@ -145,7 +145,7 @@ last-due : (D n : ℕ) → (n - 1) * D < 10 ^ longest → Due D 0 n
 last-due D n h k l = omega (arith, mul-le-mul-right {m = k} {n = n - 1} D (omega arith))
 
 back : (D : ℕ) (xs : List ℤ) (places : ℕ) → stepInRange D ≡ true → firstBad xs ≡ length xs → Due D 0 (length xs) → length xs ≤ places
-    → (reading D (textOf D xs) places ≡ Samples (length xs)) × (samplesOf (linesOf (textOf D xs)) ≡ xs)
+    → (readingComma D (textOf D xs) places ≡ Samples (length xs)) × (samplesOf (linesOf (textOf D xs)) ≡ xs)
 unfolding readingLines
 back D xs places step good due room =
     let r = read D 0 xs good due in
@@ -153,12 +153,12 @@ back D xs places step good due room =
 
 -- READING WHAT WAS WRITTEN gives the samples back, where there is room for them
 pub read-back : (D : ℕ) (xs : List ℤ) (places : ℕ) → stepInRange D ≡ true → firstBad xs ≡ length xs → lastTime D xs < 10 ^ longest → length xs ≤ places
-    → (reading D (textOf D xs) places ≡ Samples (length xs)) × (samplesOf (linesOf (textOf D xs)) ≡ xs)
+    → (readingComma D (textOf D xs) places ≡ Samples (length xs)) × (samplesOf (linesOf (textOf D xs)) ≡ xs)
 read-back D xs places step good due room = back D xs places step good (last-due D (length xs) due) room
 
 -- WHAT A TEXT READS AS, WRITTEN AND READ AGAIN, is the same
-pub read-again : (D : ℕ) (text : List ℕ) (places n : ℕ) → reading D text places ≡ Samples n
-    → (reading D (textOf D (samplesOf (linesOf text))) places ≡ Samples n) × (samplesOf (linesOf (textOf D (samplesOf (linesOf text)))) ≡ samplesOf (linesOf text))
+pub read-again : (D : ℕ) (text : List ℕ) (places n : ℕ) → readingComma D text places ≡ Samples n
+    → (readingComma D (textOf D (samplesOf (linesOf text))) places ≡ Samples n) × (samplesOf (linesOf (textOf D (samplesOf (linesOf text)))) ≡ samplesOf (linesOf text))
 read-again D text places n e =
     let r = samples-read D (linesOf text) places n e in
     let few = samples-number (linesOf text) in

@@ -20,8 +20,8 @@ abbrev pub lastTime : ℕ → List ℤ → ℕ
 lastTime D xs = (length xs - 1) * D
 
 -- writing samples: 1, 2, 3 where the last time needs more than 12 digits, 7 with the bytes needed
-unfoldable pub writing : ℕ → List ℤ → List ℕ → Writing
-writing D xs out =
+unfoldable pub writingComma : ℕ → List ℤ → List ℕ → Writing
+writingComma D xs out =
     cond (not (stepInRange D)) (Refused (Item 1))
     (cond (ltb (firstBad xs) (length xs)) (Refused (Sample (firstBad xs)))
     (cond (leb (10 ^ longest) (lastTime D xs)) (Refused TooLong)

@@ -5,9 +5,9 @@ ghost use lib.Dec.{leb};
 ghost use lib.ListN.{length};
 ghost use Rattle.text.specs.Write.{laid, laidBy, placeAfter, written};
 ghost use Rattle.decimal.specs.Decimal.{longest};
-ghost use Rattle.comma_line.specs.Line.{lineText};
+ghost use Rattle.comma_line.specs.Line.{sampleText};
 ghost use Rattle.comma_line.specs.Text.{textOf};
-ghost use Rattle.comma_write.specs.Answers.{writing};
+ghost use Rattle.comma_write.specs.Answers.{writingComma};
 use refusal::Refusal;
 use text::Writing;
 
@@ -18,7 +18,7 @@ const LONGEST_TIME: u64 = 999_999_999_999;
 
 // The bytes of a line.
 fn line_length(time: u64, x: i32) -> usize
-    ensures { λ r. ⌜ (r ≡ length (lineText time x)) × (r ≤ 34) ⌝ }
+    ensures { λ r. ⌜ (r ≡ length (sampleText time x)) × (r ≤ 34) ⌝ }
 {
     decimal::digits(time) + degrees::degrees_length(x) + 2
 }
@@ -41,9 +41,9 @@ fn text_length(samples: &[i32], step: u64) -> u64
 
 // Puts a line into `out` from `at` on.
 fn put_line(time: u64, x: i32, out: &mut [u8], at: usize) -> usize
-    requires { ⌜ at + length (lineText time x) ≤ length (now out) ⌝ }
-    ensures { λ r. ⌜ r ≡ placeAfter (now (out .entry)) at (lineText time x) ⌝ }
-    ensures { λ _. ⌜ now (out .exit) ≡ written (now (out .entry)) at (lineText time x) ⌝ }
+    requires { ⌜ at + length (sampleText time x) ≤ length (now out) ⌝ }
+    ensures { λ r. ⌜ r ≡ placeAfter (now (out .entry)) at (sampleText time x) ⌝ }
+    ensures { λ _. ⌜ now (out .exit) ≡ written (now (out .entry)) at (sampleText time x) ⌝ }
 {
     let comma = decimal::write_number(time, out, at);
     let roll = text::write_byte(comma_line::COMMA, out, comma);
@@ -81,7 +81,7 @@ fn too_long(n: u64, step: u64) -> bool
 // Writes samples as a text into `out`, whose rest stays, and answers its bytes; or refusal 1, 2 with the sample's
 // place, 3 where the last time needs more than 12 digits, 7 with the bytes needed, and `out` as it stood.
 pub fn write(samples: &[i32], step: u64, out: &mut [u8]) -> Writing
-    ensures { λ r. ⌜ r ≡ writing step (now (samples .entry)) (now (out .entry)) ⌝ }
+    ensures { λ r. ⌜ r ≡ writingComma step (now (samples .entry)) (now (out .entry)) ⌝ }
     ensures { λ r. ⌜ now (out .exit) ≡ laidBy r (textOf step (now (samples .entry))) (now (out .entry)) ⌝ }
 {
     if !comma_line::step_in_range(step) {

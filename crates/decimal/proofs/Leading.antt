@@ -1,4 +1,4 @@
--- Laws of the number that a text starts with. The reader takes at most 12 digits and looks at the byte behind them: is
+-- Laws of the number that a text starts with. The reader takes at most 12 digits and looks at the byte after them: is
 -- it no digit, they are all the digits that the text starts with; is it one, there are more than 12. Assumes nothing.
 use mathlib.Core.Path.{_≡_, refl, sym, ap, _∙_}
 use mathlib.Core.Bool.{Bool, true, false, cond, not, _&&_, and-false, true≢false}
@@ -12,7 +12,7 @@ use borrow.Author.Tests.{lt-leb, lt-ltb, le-ltb, ltb-true, ne-eqb}
 use Rattle.truth.proofs.Cases.{by-test, by-order}
 use Rattle.truth.proofs.Laws.{and-true}
 use Rattle.decimal.specs.Decimal.{zeroByte, longest, isDigit, allDigits, leadingDigits, isNumber, valueOf}
-use Rattle.decimal.specs.Leading.{standsAt, leading, behind, leadingAt}
+use Rattle.decimal.specs.Leading.{standsAt, leading, afterLeading, leadingAt}
 use Rattle.decimal.specs.declared.Lead.the-variants.{Number, Nothing}
 use Rattle.decimal.proofs.Text.{sound, number-below}
 use Rattle.decimal.proofs.Reading.{run, run-number}
@@ -26,11 +26,11 @@ leading-is (b ∷ digits) after ds e =
     let (d, rest) = and-true (isDigit b) (allDigits digits) ds in
     rw (d, leading-is digits after rest e)
 
--- they and what stands behind them are the text; and no digit stands behind them
+-- they and what stands after them are the text; and no digit stands after them
 pub record Led (text : List ℕ) : Type 0 where
-  pub parts : text ≡ leading text ++ behind text
+  pub parts : text ≡ leading text ++ afterLeading text
   pub all : allDigits (leading text) ≡ true
-  pub stops : isDigit (getD (behind text) 0 0) ≡ false
+  pub stops : isDigit (getD (afterLeading text) 0 0) ≡ false
 
 pub led : (text : List ℕ) → Led text
 unfolding leading allDigits
@@ -55,7 +55,7 @@ leading-front zero text = refl
 leading-front (suc n) [] = refl
 leading-front (suc n) (b ∷ text) = by-test (isDigit b) (λ d. rw (d, leading-front n text)) (λ d. rw d)
 
--- at most n of them, and the byte behind
+-- at most n of them, and the byte after
 leads-to : (n : ℕ) (text : List ℕ) → isDigit (getD text (length (leadingDigits n text)) 0) ≡ false → leading text ≡ leadingDigits n text
 unfolding leading leadingDigits
 leads-to zero [] e = refl
@@ -76,7 +76,7 @@ leads-on (suc n) (b ∷ text) e =
 long : (a s l z : Bool) → l ≡ false → (a && (s && (l && z))) ≡ false
 long a s l z e = rw (e, and-false, and-false)
 
--- what a number at a place reads as, by its digits, 12 at most, and the byte behind them
+-- what a number at a place reads as, by its digits, 12 at most, and the byte after them
 module _ (s : List ℕ) (at end : ℕ) (e : end ≡ at + length (run s at)) where
   byte : getD (drop at s) (length (run s at)) 0 ≡ getD s end 0
   byte = rw (getD-drop, ← e)

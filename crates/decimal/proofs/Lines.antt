@@ -30,7 +30,7 @@ digits-none (b ∷ ds) all =
     let range = digit-range b d in
     (ne-eqb b lineFeed (λ e. omega arith), digits-none ds rest)
 
--- a line up to its LF, and the lines behind it
+-- a line up to its LF, and the lines after it
 pub lines-front : (front rest : List ℕ) → NoFeed front → linesOf (front ++ (lineFeed ∷ rest)) ≡ (front ++ (lineFeed ∷ [])) ∷ linesOf rest
 unfolding linesOf NoFeed
 lines-front [] rest none = refl

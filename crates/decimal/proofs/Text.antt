@@ -143,7 +143,7 @@ digit-range b d =
     let (low, high) = and-true (leb zeroByte b) (ltb b (zeroByte + 10)) d in
     (leb-true zeroByte b low, ltb-true b (zeroByte + 10) high)
 
--- a digit more behind a number is a digit more behind its text
+-- a digit more after a number is a digit more after its text
 digits-push : (v b : ℕ) → 1 ≤ v → isDigit b ≡ true → digitsOf (push v b) ≡ digitsOf v ++ (b ∷ [])
 digits-push v b some d =
     let (low, high) = digit-range b d in

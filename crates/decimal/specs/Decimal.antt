@@ -36,7 +36,7 @@ leadingDigits zero text = []
 leadingDigits (suc n) [] = []
 leadingDigits (suc n) (b ∷ text) = cond (isDigit b) (b ∷ leadingDigits n text) []
 
--- a number, and one digit more behind it
+-- a number, and one digit more after it
 abbrev pub push : ℕ → ℕ → ℕ
 push v b = v * 10 + (b - zeroByte)
 

@@ -1,4 +1,4 @@
--- The number that a text starts with, whatever stands behind it: its digits are all the digits at the text's start.
+-- The number that a text starts with, whatever stands after it: its digits are all the digits at the text's start.
 -- Assumes nothing.
 use Prim.Native.Nat.{ℕ, _+_}
 use mathlib.Core.Bool.{Bool, cond, _&&_}
@@ -18,9 +18,9 @@ unfoldable pub leading : List ℕ → List ℕ
 leading [] = []
 leading (b ∷ text) = cond (isDigit b) (b ∷ leading text) []
 
--- what stands behind them
-abbrev pub behind : List ℕ → List ℕ
-behind text = drop (length (leading text)) text
+-- what stands after them
+abbrev pub afterLeading : List ℕ → List ℕ
+afterLeading text = drop (length (leading text)) text
 
 -- what stands at a place of a text, read as a number up to the first byte that is no digit: its number and the place of
 -- that byte

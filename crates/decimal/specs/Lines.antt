@@ -5,7 +5,7 @@ use mathlib.Core.List.{List, [], _∷_}
 use lib.Dec.{eqb}
 use Rattle.decimal.specs.Field.{lineFeed}
 
--- each goes up to an LF and has it; what stands behind the last LF is a line too, without one
+-- each goes up to an LF and has it; what stands after the last LF is a line too, without one
 abbrev pub startLine : ℕ → List (List ℕ) → List (List ℕ)
 startLine b [] = (b ∷ []) ∷ []
 startLine b (line ∷ lines) = (b ∷ line) ∷ lines

@@ -17,9 +17,9 @@ const ZERO: u8 = 48;
 // The most digits of a number.
 const LONGEST: usize = 12;
 
-// The number that a text starts with, whatever stands behind it.
+// The number that a text starts with, whatever stands after it.
 pub enum Lead {
-    // The number, and the place of the byte behind its digits.
+    // The number, and the place of the byte after its digits.
     Number(u64, usize),
     Nothing,
 }
@@ -181,7 +181,7 @@ pub fn write_number(v: u64, out: &mut [u8], at: usize) -> usize
     at + count
 }
 
-// Writes `v` and the byte `end` behind it into `out` from `at` on, both or neither.
+// Writes `v` and the byte `end` after it into `out` from `at` on, both or neither.
 pub fn write_field(v: u64, end: u8, out: &mut [u8], at: usize) -> usize
     ensures { λ r. ⌜ r ≡ placeAfter (now (out .entry)) at (fieldText v end) ⌝ }
     ensures { λ _. ⌜ now (out .exit) ≡ written (now (out .entry)) at (fieldText v end) ⌝ }

@@ -1,4 +1,4 @@
--- Degrees by their parts: whole degrees, a point or none, digits behind it, and what follows. Assumes nothing.
+-- Degrees by their parts: whole degrees, a point or none, digits after it, and what follows. Assumes nothing.
 use mathlib.Core.Path.{_≡_, refl}
 use mathlib.Core.Bool.{Bool, true, false}
 use mathlib.Core.List.{List, _∷_, _++_}

@@ -14,7 +14,7 @@ use borrow.Author.Tests.{eqb-true, leb-true, ne-eqb}
 use Rattle.truth.proofs.Cases.{by-test}
 use Rattle.truth.proofs.Laws.{and-true}
 use Rattle.decimal.specs.Decimal.{isDigit, allDigits, isNumber, valueOf}
-use Rattle.decimal.specs.Leading.{leading, behind}
+use Rattle.decimal.specs.Leading.{leading, afterLeading}
 use Rattle.decimal.proofs.Text.{sound, digit-range}
 use Rattle.decimal.proofs.Leading.{led}
 use Rattle.degrees.specs.Degrees.{minus, point, first, pointed, isSize, sizeLength, filled, size, below, unsigned, isDegrees, degreesLength}
@@ -52,16 +52,16 @@ pub record SizeParts (text : List ℕ) : Type 0 where
   pub parts : text ≡ bytes ++ drop (sizeLength text) text
 
 module _ (text : List ℕ) (number : isNumber (leading text) ≡ true) where
-  -- what stands behind a point
+  -- what stands after a point
   abbrev Tail : List ℕ
-  Tail = drop 1 (behind text)
+  Tail = drop 1 (afterLeading text)
 
   pointed-parts : pointed text ≡ true → (leb 1 (length (leading Tail)) && leb (length (leading Tail)) 3) ≡ true → SizeParts text
   unfolding size sizeLength
   pointed-parts p counts =
       let (some, few) = and-true (leb 1 (length (leading Tail))) _ counts in
-      let end : drop (length (leading text) + (1 + length (leading Tail))) text ≡ behind Tail = rw (← drop-drop, ← drop-drop) in
-      let rest : behind text ≡ point ∷ (leading Tail ++ behind Tail) = starts-with (behind text) point (omega arith) (eqb-true _ _ p) ∙ ap (λ x. point ∷ x) (led Tail .parts) in
+      let end : drop (length (leading text) + (1 + length (leading Tail))) text ≡ afterLeading Tail = rw (← drop-drop, ← drop-drop) in
+      let rest : afterLeading text ≡ point ∷ (leading Tail ++ afterLeading Tail) = starts-with (afterLeading text) point (omega arith) (eqb-true _ _ p) ∙ ap (λ x. point ∷ x) (led Tail .parts) in
       record {
         bytes = leading text ++ (point ∷ leading Tail);
         is = rw p (pointed-by (leading text) (leading Tail) number (led Tail .all) (leb-true _ _ some) (leb-true _ _ few));

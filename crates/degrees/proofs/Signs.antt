@@ -40,18 +40,18 @@ pub abs-small : (x : ℤ) → SFits w32 x → natAbs x ≤ 2147483648
 abs-small (pos n) f = omega arith
 abs-small (negsuc n) f = omega arith
 
--- whether there is a minus is told by the place behind it
+-- whether there is a minus is told by the place after it
 sign-told : (b : Bool) (at : ℕ) → not (eqb (at + cond b 1 0) at) ≡ b
 sign-told true at = rw (ne-eqb (at + 1) at (λ e. omega arith))
 sign-told false at = rw (eq-eqb (at + 0) at (omega arith))
 
--- degrees are read behind their sign
+-- degrees are read after their sign
 by-size : (s : List ℕ) (at : ℕ) → degreesAt s at ≡ sizeAt s (at + signLength (drop at s)) (below (drop at s))
 unfolding degreesAt sizeAt
 by-size s at = simp (drop-drop, add-assoc)
 
-pub behind-sign : (s : List ℕ) (at from : ℕ) → from ≡ at + signLength (drop at s) → sizeAt s from (not (eqb from at)) ≡ degreesAt s at
-behind-sign s at from e =
+pub after-sign : (s : List ℕ) (at from : ℕ) → from ≡ at + signLength (drop at s) → sizeAt s from (not (eqb from at)) ≡ degreesAt s at
+after-sign s at from e =
     let b = below (drop at s) in
     ap (λ f. sizeAt s f (not (eqb f at))) e ∙ ap (sizeAt s (at + cond b 1 0)) (sign-told b at) ∙ sym (by-size s at)
 

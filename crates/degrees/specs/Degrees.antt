@@ -6,7 +6,7 @@ use lib.ListN.{length, getD, take, drop}
 use lib.Dec.{leb, eqb}
 use lib.IntN.{ℤ, pos, negsuc, negℤ, natAbs}
 use Rattle.decimal.specs.Decimal.{zeroByte, isNumber, valueOf, digitsOf}
-use Rattle.decimal.specs.Leading.{leading, behind}
+use Rattle.decimal.specs.Leading.{leading, afterLeading}
 use Rattle.degrees.specs.declared.Degrees.{Degrees}
 use Rattle.degrees.specs.declared.Degrees.the-variants.{Says, Bad}
 
@@ -23,12 +23,12 @@ first text = getD text 0 0
 -- ---- the degrees that a text starts with, without a sign
 -- whole degrees; a point may follow, and then digits
 abbrev pub pointed : List ℕ → Bool
-pointed text = eqb (first (behind text)) point
+pointed text = eqb (first (afterLeading text)) point
 
 abbrev pub decimals : List ℕ → List ℕ
-decimals text = cond (pointed text) (leading (drop 1 (behind text))) []
+decimals text = cond (pointed text) (leading (drop 1 (afterLeading text))) []
 
--- whole degrees are a number as on the sheet, and behind a point stand one to three digits
+-- whole degrees are a number as on the sheet, and after a point stand one to three digits
 unfoldable pub isSize : List ℕ → Bool
 isSize text = isNumber (leading text) && cond (pointed text) (leb 1 (length (decimals text)) && leb (length (decimals text)) 3) true
 
@@ -36,7 +36,7 @@ isSize text = isNumber (leading text) && cond (pointed text) (leb 1 (length (dec
 unfoldable pub sizeLength : List ℕ → ℕ
 sizeLength text = length (leading text) + cond (pointed text) (1 + length (decimals text)) 0
 
--- digits behind the point are filled up with zeros to three
+-- digits after the point are filled up with zeros to three
 unfoldable pub filled : List ℕ → List ℕ
 filled digits = take 3 (digits ++ (zeroByte ∷ zeroByte ∷ zeroByte ∷ []))
 
@@ -72,12 +72,12 @@ largestSize = 1000000
 abbrev pub sampleOf : List ℕ → ℤ
 sampleOf text = signed (below text) (size (unsigned text))
 
--- what stands at a place of a text, read as degrees: the sign, the thousandths and the place behind
+-- what stands at a place of a text, read as degrees: the sign, the thousandths and the place after
 unfoldable pub degreesAt : List ℕ → ℕ → Degrees
 degreesAt text at =
     cond (isDegrees (drop at text)) (Says (below (drop at text)) (size (unsigned (drop at text))) (at + degreesLength (drop at text))) Bad
 
--- the same behind the sign
+-- the same after the sign
 unfoldable pub sizeAt : List ℕ → ℕ → Bool → Degrees
 sizeAt text at minus = cond (isSize (drop at text)) (Says minus (size (drop at text)) (at + sizeLength (drop at text))) Bad
 

@@ -18,7 +18,7 @@ const POINT: u8 = 46;
 
 // What degrees in text say.
 pub enum Degrees {
-    // Whether a minus stands before them, their thousandths, and the place behind them.
+    // Whether a minus stands before them, their thousandths, and the place after them.
     Says(bool, u64, usize),
     Bad,
 }
@@ -31,7 +31,7 @@ pub fn degrees_at(s: &[u8], at: usize) -> Degrees
     size_at(s, from, from != at)
 }
 
-// The place behind the minus that may stand at `at`.
+// The place after the minus that may stand at `at`.
 pub fn past_minus(s: &[u8], at: usize) -> usize
     ensures { λ r. ⌜ r ≡ at + signLength (drop at (now (s .entry))) ⌝ }
 {
@@ -62,7 +62,7 @@ fn size_at(s: &[u8], at: usize, minus: bool) -> Degrees
     Degrees::Says(minus, whole * 1000 + filled(run.value, count), run.end)
 }
 
-// One to three digits behind a point, as thousandths.
+// One to three digits after a point, as thousandths.
 fn filled(value: u64, count: usize) -> u64
     requires { ⌜ value < 1000 ⌝ }
     ensures { λ r. ⌜ r ≡ cond (eqb count 1) (value * 100) (cond (eqb count 2) (value * 10) value) ⌝ }

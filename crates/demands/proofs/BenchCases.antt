@@ -11,8 +11,8 @@ use Rattle.campaign_state.specs.declared.Campaign.{Campaign}
 use Rattle.campaign_state.specs.Answers.{entering}
 use Rattle.campaign_state.specs.State.{sound}
 use Rattle.campaign_verdict.specs.Answers.{judging, rating}
-use Rattle.bureau_table.specs.declared.Answer.{Answer}
-use Rattle.bureau_table.specs.declared.Answer.the-variants.{Entered, Freed, Judged, Placed, Rated, Refused}
+use Rattle.bureau_table.specs.declared.TableAnswer.{TableAnswer}
+use Rattle.bureau_table.specs.declared.TableAnswer.the-variants.{Entered, Freed, Judged, Placed, Rated, Refused}
 use Rattle.bureau_table.specs.declared.Ask.{Ask}
 use Rattle.bureau_table.specs.declared.Ask.the-variants.{On, Take}
 use Rattle.bureau_table.specs.declared.Place.{Place}
@@ -68,7 +68,7 @@ table-relations = refl
 two-bureaus : map isBureau (0 ∷ 1 ∷ 2 ∷ 3 ∷ []) ≡ false ∷ true ∷ true ∷ false ∷ []
 two-bureaus = refl
 
-abbrev ofAnswer : Answer → List ℕ
+abbrev ofAnswer : TableAnswer → List ℕ
 ofAnswer (Placed i) = i ∷ []
 ofAnswer Entered = []
 ofAnswer (Judged v) = []

@@ -22,7 +22,7 @@ use lib.ListN.{length}
 use Rattle.refusal.specs.declared.Refusal.{Refusal}
 use Rattle.refusal.specs.declared.Refusal.the-variants.{BrokenState, CampaignFull, Item, Room, RowsUsedUp, TooLong, TooShort, Unequal}
 use Rattle.poisson.specs.Rows.{rows}
-use Rattle.record_state.specs.declared.Answer.the-variants.{Refused, Taken}
+use Rattle.record_state.specs.declared.RecordAnswer.the-variants.{Refused, Taken}
 use Rattle.record_state.specs.declared.Record.{Record}
 use Rattle.record_state.specs.Answers.{opened}
 use Rattle.record_feed.specs.Answers.{fed}
@@ -39,7 +39,7 @@ use Rattle.record_end.specs.declared.Ended.the-variants as ended
 use Rattle.record_end.specs.declared.Outcome.{Outcome}
 use Rattle.record_end.specs.declared.Result.{Result}
 use Rattle.record_end.specs.Result.{ending, outcomeOf, resultOf}
-use Rattle.campaign_state.specs.declared.Answer.the-variants as campaigned
+use Rattle.campaign_state.specs.declared.CampaignAnswer.the-variants as campaigned
 use Rattle.campaign_state.specs.declared.Campaign.{Campaign}
 use Rattle.campaign_verdict.specs.declared.Counted.the-variants as counting
 use Rattle.campaign_verdict.specs.declared.Judged.the-variants as judging
@@ -52,7 +52,7 @@ use Rattle.campaign_state.specs.State.{censored, empty, entered, mostRecords, s
 use Rattle.campaign_state.specs.State as campaigning
 use Rattle.sheet_line.specs.Texts.{entryText}
 use Rattle.sheet_line.specs.declared.Sheet.the-variants.{Fresh, Open}
-use Rattle.sheet_line.specs.Line.{lineAfter, outcome, stepping, telling, told}
+use Rattle.sheet_line.specs.Line.{lineAfter, outcome, stepping, telling, lineOutcome}
 use Rattle.text.specs.Pieces.{joined}
 use Rattle.sheet_text.specs.Pieces.{feeding}
 use Rattle.sheet_text.specs.Sheet.{meaning}
@@ -250,7 +250,7 @@ unfolding telling entering
 tells c f t g = go (eqb t 0) refl (ltb longestTime t) refl
   where
     go : (a : Bool) → eqb t 0 ≡ a → (b : Bool) → ltb longestTime t ≡ b
-        → cond a (campaigned.Refused TooShort) (cond b (campaigned.Refused TooLong) (entering c (told f t))) ≡ cond a (campaigned.Refused TooShort) (cond b (campaigned.Refused TooLong) (taken c f t))
+        → cond a (campaigned.Refused TooShort) (cond b (campaigned.Refused TooLong) (entering c (lineOutcome f t))) ≡ cond a (campaigned.Refused TooShort) (cond b (campaigned.Refused TooLong) (taken c f t))
     go true e b l = refl
     go false e true l = refl
     go false e false l = rw (g, le-leb 1 t (some t (eqb-false t 0 e)), le-leb t longestTime (ltb-false longestTime t l))

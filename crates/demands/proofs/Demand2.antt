@@ -29,7 +29,7 @@ use Rattle.crossing_places.proofs.Places.{itself}
 use Rattle.record_list.specs.Answers.{ListsTo, written}
 use Rattle.record_list.specs.declared.Listed.the-variants.{Times}
 use Rattle.record_list.proofs.Answered.{times-number}
-use Rattle.record_state.specs.declared.Answer.the-variants.{Refused, Taken}
+use Rattle.record_state.specs.declared.RecordAnswer.the-variants.{Refused, Taken}
 use Rattle.record_state.specs.declared.Record.{Record}
 use Rattle.record_state.specs.Answers.{opened}
 use Rattle.record_feed.specs.Answers.{fed}
@@ -41,7 +41,7 @@ use Rattle.record_feed.proofs.Theorems.{all-sound, empty-taken}
 use Rattle.record_feed.proofs.Theorems.{every-cutting, groups-fewer, groups-parted, join-taken, never-broken, pieces-whole, search-found, search-none, set-largest, times-apart}
 use Rattle.campaign_state.specs.declared.Campaign.{Campaign}
 use Rattle.campaign_state.specs.Answers as campaigns
-use Rattle.campaign_state.specs.declared.Answer.the-variants as campaigned
+use Rattle.campaign_state.specs.declared.CampaignAnswer.the-variants as campaigned
 use Rattle.campaign_state.specs.Records.{AllEnded, campaignOf, censoredIn, outcome}
 use Rattle.campaign_state.specs.State.{censored}
 use Rattle.campaign_state.proofs.Records.{censored-grown, grown-by-results}

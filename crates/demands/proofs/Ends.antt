@@ -15,8 +15,8 @@ use Rattle.sample_channels.specs.Channels.{moments, still}
 use Rattle.sample_range.specs.Range.{firstBad}
 use Rattle.sample_items.specs.declared.Items.{Items}
 use Rattle.sample_items.specs.Limits.{itemOutside}
-use Rattle.record_state.specs.declared.Answer.{Answer as OfRecord}
-use Rattle.record_state.specs.declared.Answer.the-variants as recorded
+use Rattle.record_state.specs.declared.RecordAnswer.{RecordAnswer}
+use Rattle.record_state.specs.declared.RecordAnswer.the-variants as recorded
 use Rattle.record_state.specs.declared.Record.{Record}
 use Rattle.record_state.specs.Answers as records
 use Rattle.record_state.specs.State as recording
@@ -30,22 +30,22 @@ use Rattle.record_end.specs.declared.Ended.{Ended}
 use Rattle.record_end.specs.declared.Ended.the-variants as ended
 use Rattle.record_end.specs.declared.Outcome.{Outcome}
 use Rattle.record_end.specs.Result.{ending}
-use Rattle.campaign_state.specs.declared.Answer.{Answer as OfCampaign}
-use Rattle.campaign_state.specs.declared.Answer.the-variants as campaigned
+use Rattle.campaign_state.specs.declared.CampaignAnswer.{CampaignAnswer}
+use Rattle.campaign_state.specs.declared.CampaignAnswer.the-variants as campaigned
 use Rattle.campaign_state.specs.declared.Campaign.{Campaign}
 use Rattle.campaign_state.specs.Answers as campaigns
 use Rattle.campaign_state.specs.State as campaigning
 use Rattle.sheet_line.specs.Line.{telling}
-use Rattle.binomial_sum.specs.declared.Answer.{Answer as OfSum}
-use Rattle.binomial_sum.specs.declared.Answer.the-variants as summed
+use Rattle.binomial_sum.specs.declared.SumAnswer.{SumAnswer}
+use Rattle.binomial_sum.specs.declared.SumAnswer.the-variants as summed
 use Rattle.binomial_sum.specs.declared.Sum.{Sum}
 use Rattle.binomial_sum.specs.Answers as sums
 use Rattle.binomial_sum.specs.State as summing
 use Rattle.peak_tail.specs.declared.Fitted.{Fitted}
 use Rattle.peak_tail.specs.declared.Fitted.the-variants as fitting
 use Rattle.peak_tail.specs.Fitting as tails
-use Rattle.campaign_condition.specs.declared.Answer.{Answer as OfCondition}
-use Rattle.campaign_condition.specs.declared.Answer.the-variants as conditioned
+use Rattle.campaign_condition.specs.declared.ConditionAnswer.{ConditionAnswer}
+use Rattle.campaign_condition.specs.declared.ConditionAnswer.the-variants as conditioned
 use Rattle.campaign_condition.specs.Answers as conditions
 
 abbrev pub refused : Refusal → ℕ × ℕ
@@ -55,7 +55,7 @@ abbrev pub taken : ℕ × ℕ
 taken = (0, 0)
 
 -- what each kind of answer comes to
-abbrev pub ofRecord : OfRecord → ℕ × ℕ
+abbrev pub ofRecord : RecordAnswer → ℕ × ℕ
 ofRecord (recorded.Taken r) = taken
 ofRecord (recorded.Refused f) = refused f
 
@@ -67,11 +67,11 @@ abbrev pub ofListed : Listed → ℕ × ℕ
 ofListed (listing.Times n) = taken
 ofListed (listing.Refused f) = refused f
 
-abbrev pub ofCampaign : OfCampaign → ℕ × ℕ
+abbrev pub ofCampaign : CampaignAnswer → ℕ × ℕ
 ofCampaign (campaigned.Taken c) = taken
 ofCampaign (campaigned.Refused f) = refused f
 
-abbrev pub ofSum : OfSum → ℕ × ℕ
+abbrev pub ofSum : SumAnswer → ℕ × ℕ
 ofSum (summed.Taken s) = taken
 ofSum (summed.Refused f) = refused f
 
@@ -79,7 +79,7 @@ abbrev pub ofTail : Fitted → ℕ × ℕ
 ofTail (fitting.Sum s) = taken
 ofTail (fitting.Refused f) = refused f
 
-abbrev pub ofCondition : OfCondition → ℕ × ℕ
+abbrev pub ofCondition : ConditionAnswer → ℕ × ℕ
 ofCondition (conditioned.Given s) = taken
 ofCondition (conditioned.Refused f) = refused f
 
@@ -103,8 +103,8 @@ quiet D n =
       crossings = 0;
       largest = 0;
       first = 0;
-      latest = 0;
-      recent = 0;
+      «last_chosen» = 0;
+      «last_crossing» = 0;
       groups = 0;
     }
 
@@ -118,8 +118,8 @@ failing D n =
       crossings = 1;
       largest = 1;
       first = 6;
-      latest = 6;
-      recent = 6;
+      «last_chosen» = 6;
+      «last_crossing» = 6;
       groups = 1;
     }
 

@@ -12,7 +12,7 @@ use Rattle.refusal.specs.Numbers.{channelOf, numberOf, valueOf}
 use Rattle.campaign_condition.specs.Answers.{situationsInRange}
 use Rattle.decimal.specs.Decimal.{longest}
 use Rattle.sheet_line.specs.Column.{mostNumber}
-use Rattle.sheet_line.specs.Form.{longestLine}
+use Rattle.sheet_line.specs.Form.{longestSheetLine}
 use Rattle.binomial_sum.specs.State.{wouldPass}
 use Rattle.binomial_sum.specs.declared.Sum.{Sum}
 use Rattle.peak_tail.specs.Fitting.{peakInRange, tailOutside}
@@ -38,7 +38,7 @@ pub record Figures : Type 0 where
       ∷ (9 ∷ 99 ∷ 0 ∷ []) ∷ (10 ∷ 910 ∷ 0 ∷ []) ∷ (11 ∷ 0 ∷ 0 ∷ []) ∷ (12 ∷ 0 ∷ 0 ∷ []) ∷ (13 ∷ 0 ∷ 0 ∷ [])
       ∷ (14 ∷ 0 ∷ 0 ∷ []) ∷ (15 ∷ 0 ∷ 0 ∷ []) ∷ (16 ∷ 0 ∷ 0 ∷ []) ∷ (17 ∷ 917 ∷ 0 ∷ []) ∷ (18 ∷ 0 ∷ 0 ∷ []) ∷ []
   -- a number on a sheet has at most 12 digits, a line at most 64 bytes
-  pub sheet-numbers : (longest ≡ 12) × (mostNumber ≡ 999999999999) × (longestLine ≡ 64)
+  pub sheet-numbers : (longest ≡ 12) × (mostNumber ≡ 999999999999) × (longestSheetLine ≡ 64)
   -- [7] 10,000 failures and 100,000,000 samples are the most of a sum
   pub sums :
       wouldPass (summed 9999 9999) 1 1 ∷ wouldPass (summed 10000 10000) 1 1

@@ -31,11 +31,11 @@ use Rattle.sheet_line.specs.declared.Step.the-variants.{Next, Stop}
 use Rattle.sheet_line.specs.Line.{soundSheet, stepping}
 use Rattle.text.specs.Write.{fits, laid, written}
 use Rattle.sheet_reply.specs.declared.Written.the-variants.{Upto, Refused}
-use Rattle.sheet_reply.specs.Written.{recordLeft, recordText, recordWriting, refusedText, writing}
+use Rattle.sheet_reply.specs.Written.{recordLeft, recordText, recordWriting, refusedText, writingReply}
 use Rattle.sheet_text.specs.declared.Ran.the-variants.{Came, Refused as Declined}
 use Rattle.sheet_text.specs.declared.Reading.{Reading}
 use Rattle.sheet_text.specs.declared.Reading.the-variants.{Read, Stopped, Waiting}
-use Rattle.sheet_text.specs.Sheet.{Account, afterStep, meaning, prefixed, reading, readingEnd, runLeft, running, textOf, waits}
+use Rattle.sheet_text.specs.Sheet.{Account, afterStep, meaning, prefixed, readingSheet, readingEnd, runLeft, running, textOf, waits}
 use Rattle.sheet_text.proofs.Steps.{step-led}
 use Rattle.demands.proofs.Exactly.{Exactly}
 use Rattle.demands.proofs.Demand1.{Decides, First, None, Test, _gives_, decide, decided, end, here, later, not-it}
@@ -121,11 +121,11 @@ pub record JobSheet : Type 0 where
   pub read-broken : (more : Bool) (text : List ℕ) (s : Sheet) → soundSheet s ≡ false
       → readingEnd more text s ≡ Stopped 0 0 BrokenState
   pub read-sound : (more : Bool) (text : List ℕ) (s : Sheet) → soundSheet s ≡ true
-      → readingEnd more text s ≡ reading more (linesOf text) s .end
+      → readingEnd more text s ≡ readingSheet more (linesOf text) s .end
   pub read-whole : (text : List ℕ) → readingEnd false text Fresh ≡ meaning text .end
   -- a text run: 8, then 7 with the bytes needed; a refusal leaves the lent bytes, and else they start with what is
   -- written
-  pub run : (more : Bool) (text : List ℕ) (s : Sheet) (out : List ℕ) → let a = reading more (linesOf text) s in
+  pub run : (more : Bool) (text : List ℕ) (s : Sheet) (out : List ℕ) → let a = readingSheet more (linesOf text) s in
       Decides Declined
       (not (soundSheet s) gives BrokenState ∷ (not (leb (length (a .text)) (length out)) gives Room (length (a .text)) ∷ []))
       (Came (a .end) (length (a .text)))
@@ -133,7 +133,7 @@ pub record JobSheet : Type 0 where
   pub run-kept : (more : Bool) (text : List ℕ) (s : Sheet) (out : List ℕ) (r : Refusal)
       → running more text s out ≡ Declined r → runLeft more text s out ≡ out
   pub run-left : (more : Bool) (text : List ℕ) (s : Sheet) (out : List ℕ) (e : Reading) (n : ℕ)
-      → running more text s out ≡ Came e n → runLeft more text s out ≡ reading more (linesOf text) s .text ++ drop n out
+      → running more text s out ≡ Came e n → runLeft more text s out ≡ readingSheet more (linesOf text) s .text ++ drop n out
   -- a record's line written: 8, then 7; the refused line written: 7
   pub record-written : (c : Campaign) (out : List ℕ) (at : ℕ)
       → Decides Refused (not (sound c) gives BrokenState ∷ roomTests out at (recordText c))
@@ -144,11 +144,11 @@ pub record JobSheet : Type 0 where
   pub record-left : (c : Campaign) (out : List ℕ) (at n : ℕ)
       → recordWriting c out at ≡ Upto n → recordLeft c out at ≡ take at out ++ (recordText c ++ drop n out)
   pub refused-written : (line column : ℕ) (r : Refusal) (out : List ℕ) (at : ℕ) → let text = refusedText line column r in
-      Decides Refused (roomTests out at text) (Upto (at + length text)) (writing out at text)
+      Decides Refused (roomTests out at text) (Upto (at + length text)) (writingReply out at text)
   pub refused-kept : (line column : ℕ) (r : Refusal) (out : List ℕ) (at : ℕ) (q : Refusal)
-      → writing out at (refusedText line column r) ≡ Refused q → written out at (refusedText line column r) ≡ out
+      → writingReply out at (refusedText line column r) ≡ Refused q → written out at (refusedText line column r) ≡ out
   pub refused-left : (line column : ℕ) (r : Refusal) (out : List ℕ) (at n : ℕ) → let text = refusedText line column r in
-      writing out at text ≡ Upto n → written out at text ≡ take at out ++ (text ++ drop n out)
+      writingReply out at text ≡ Upto n → written out at text ≡ take at out ++ (text ++ drop n out)
 
 -- ---- the proof
 no : _≡_ {A = ℕ} 0 1 → ⊥
@@ -199,14 +199,14 @@ due-or-bad (Open c) line g = go (refusal-9 .line-either c line g)
 
 -- ---- the reading, line by line
 one-on : (line : List ℕ) (lines : List (List ℕ)) (s t : Sheet) → stepping s line ≡ Next t
-    → reading false (line ∷ lines) s ≡ prefixed (textOf t) (reading false lines t)
-unfolding reading
-one-on line lines s t e = ap (λ (x : Step). afterStep x (reading false lines)) e
+    → readingSheet false (line ∷ lines) s ≡ prefixed (textOf t) (readingSheet false lines t)
+unfolding readingSheet
+one-on line lines s t e = ap (λ (x : Step). afterStep x (readingSheet false lines)) e
 
 one-stop : (line : List ℕ) (lines : List (List ℕ)) (s : Sheet) {n k : ℕ} {r : Refusal} → stepping s line ≡ Stop n k r
-    → reading false (line ∷ lines) s ≡ stopped [] n k r
-unfolding reading
-one-stop line lines s e = ap (λ (x : Step). afterStep x (reading false lines)) e
+    → readingSheet false (line ∷ lines) s ≡ stopped [] n k r
+unfolding readingSheet
+one-stop line lines s e = ap (λ (x : Step). afterStep x (readingSheet false lines)) e
 
 prefixed-twice : (x y : List ℕ) (a : Account) → prefixed x (prefixed y a) ≡ prefixed (x ++ y) a
 prefixed-twice x y a = ap (λ (text : List ℕ). record { text = text; end = a .end }) (sym (append-assoc x y (a .text)))
@@ -227,13 +227,13 @@ leads-number start = refl
 leads-number (on l y n) = simp length-append (omega (arith, leads-number l, says-next y))
 
 leads-end : {before : List (List ℕ)} {s : Sheet} {text : List ℕ} → Leads before s text → (lines : List (List ℕ))
-    → reading false (before ++ lines) Fresh ≡ prefixed text (reading false lines s)
+    → readingSheet false (before ++ lines) Fresh ≡ prefixed text (readingSheet false lines s)
 leads-end start lines = refl
 leads-end (on {before} {s} {text} {line} {ts} {t} l y n) lines =
-    ap (λ (ls : List (List ℕ)). reading false ls Fresh) (append-assoc before (line ∷ []) lines)
+    ap (λ (ls : List (List ℕ)). readingSheet false ls Fresh) (append-assoc before (line ∷ []) lines)
     ∙ leads-end l (line ∷ lines)
     ∙ ap (prefixed text) (one-on line lines s t (says-decides (leads-sound l) y .answers n))
-    ∙ prefixed-twice text (textOf t) (reading false lines t)
+    ∙ prefixed-twice text (textOf t) (readingSheet false lines t)
 
 fresh-none : {before : List (List ℕ)} {s : Sheet} {text : List ℕ} → Leads before s text → s ≡ Fresh
     → (before ≡ []) × (text ≡ [])
@@ -244,8 +244,8 @@ fresh-none (on l (record-of c flag exposure f few) n) e = absurd (no (cc))
 -- ---- how it ends
 module _ (all : List (List ℕ)) where
   ends-from : (before lines : List (List ℕ)) (s : Sheet) (text : List ℕ) → Leads before s text → all ≡ before ++ lines
-      → Ends all (prefixed text (reading false lines s))
-  unfolding reading
+      → Ends all (prefixed text (readingSheet false lines s))
+  unfolding readingSheet
   ends-from before [] Fresh text l e =
       let (none, nothing) = fresh-none l refl in
       rw nothing (absent (e ∙ append-nil before ∙ none))
@@ -258,27 +258,27 @@ module _ (all : List (List ℕ)) where
       g : soundSheet s ≡ true
       g = leads-sound l
 
-      tested : ((t : Sheet) (more : List ℕ) → Leads (before ++ (line ∷ [])) t more → Ends all (prefixed more (reading false lines t)))
+      tested : ((t : Sheet) (more : List ℕ) → Leads (before ++ (line ∷ [])) t more → Ends all (prefixed more (readingSheet false lines t)))
           → (ts : List Test) (t : Sheet) → Says s line ts t → None ts ⊎ ((r : Refusal) × First ts r)
-          → Ends all (prefixed text (reading false (line ∷ lines) s))
+          → Ends all (prefixed text (readingSheet false (line ∷ lines) s))
       tested rest ts t y (inl n) =
-          rw (one-on line lines s t (says-decides g y .answers n), prefixed-twice text (textOf t) (reading false lines t))
+          rw (one-on line lines s t (says-decides g y .answers n), prefixed-twice text (textOf t) (readingSheet false lines t))
           (rest t (text ++ textOf t) (on l y n))
       tested rest ts t y (inr (r, f)) =
           rw (one-stop line lines s (says-decides g y .refuses r f), ← leads-number l)
           (refused before s text line lines ts t r e l y f)
 
-      go : ((t : Sheet) (more : List ℕ) → Leads (before ++ (line ∷ [])) t more → Ends all (prefixed more (reading false lines t)))
+      go : ((t : Sheet) (more : List ℕ) → Leads (before ++ (line ∷ [])) t more → Ends all (prefixed more (readingSheet false lines t)))
           → ((ts : List Test) × (t : Sheet) × Says s line ts t) ⊎ (¬ Due s line)
-          → Ends all (prefixed text (reading false (line ∷ lines) s))
+          → Ends all (prefixed text (readingSheet false (line ∷ lines) s))
       go rest (inl (ts, t, y)) = tested rest ts t y (none-or-first ts)
       go rest (inr bad) =
           rw (one-stop line lines s (bad-step s line g bad), ← leads-number l) (malformed before s text line lines e l bad)
 
-  only-end : {a : Account} → Ends all a → reading false all Fresh ≡ a
-  unfolding reading
+  only-end : {a : Account} → Ends all a → readingSheet false all Fresh ≡ a
+  unfolding readingSheet
   only-end (clean text c l) =
-      ap (λ (ls : List (List ℕ)). reading false ls Fresh) (sym (append-nil all))
+      ap (λ (ls : List (List ℕ)). readingSheet false ls Fresh) (sym (append-nil all))
       ∙ leads-end l []
       ∙ ap (λ (x : List ℕ). record { text = x; end = Read c }) (append-nil text)
   only-end (absent e) = rw e
@@ -311,7 +311,7 @@ is-nine lines n k (malformed before s text line after a l bad) e =
 is-nine lines n k (refused before s text line after ts t r a l y f) e =
     absurd (says-small y r f .0 (ap numberOf (same-stop e .1)))
 
-nine-is : (lines : List (List ℕ)) {n : ℕ} → Malformed lines n → StopsByNine n (reading false lines Fresh .end)
+nine-is : (lines : List (List ℕ)) {n : ℕ} → Malformed lines n → StopsByNine n (readingSheet false lines Fresh .end)
 nine-is lines (no-line a) = record { column = 0; is = ap (λ (x : Account). x .end) (only-end lines (absent a)) }
 nine-is lines (not-due before s text line after a l bad) =
     record {
@@ -345,8 +345,8 @@ numberOfEnd (Stopped l k r) = numberOf r
 numberOfEnd (Read c) = 0
 numberOfEnd (Waiting s left) = 0
 
-never-eight : (more : Bool) (lines : List (List ℕ)) (s : Sheet) → soundSheet s ≡ true → ¬ (numberOfEnd (reading more lines s .end) ≡ 8)
-unfolding reading
+never-eight : (more : Bool) (lines : List (List ℕ)) (s : Sheet) → soundSheet s ≡ true → ¬ (numberOfEnd (readingSheet more lines s .end) ≡ 8)
+unfolding readingSheet
 never-eight true [] s g e = omega arith
 never-eight false [] Fresh g e = omega arith
 never-eight false [] (Open c) g e = omega arith
@@ -358,8 +358,8 @@ never-eight more (line ∷ lines) s g e =
     zero : ¬ (_≡_ {A = ℕ} 0 8)
     zero z = omega arith
 
-    go : (x : Step) → stepping s line ≡ x → ((t : Sheet) → stepping s line ≡ Next t → ¬ (numberOfEnd (reading more lines t .end) ≡ 8))
-        → ¬ (numberOfEnd (afterStep x (reading more lines) .end) ≡ 8)
+    go : (x : Step) → stepping s line ≡ x → ((t : Sheet) → stepping s line ≡ Next t → ¬ (numberOfEnd (readingSheet more lines t .end) ≡ 8))
+        → ¬ (numberOfEnd (afterStep x (readingSheet more lines) .end) ≡ 8)
     go (Next t) f rest z = rest t f z
     go (Stop n k r) f rest z = not-eight s line g (ap numberIn f ∙ z)
 
@@ -368,16 +368,16 @@ own-written : (r q : Refusal) → Refused r ≡ Refused q → r ≡ q
 own-written r q e = cc
 
 module _ (out : List ℕ) (at : ℕ) (text : List ℕ) where
-  writing-tests : writing out at text ≡ decide Refused (roomTests out at text) (Upto (at + length text))
-  unfolding writing decide
+  writing-tests : writingReply out at text ≡ decide Refused (roomTests out at text) (Upto (at + length text))
+  unfolding writingReply decide
   writing-tests = by-test (fits out at text) (λ e. rw e) (λ e. rw e)
 
-  writing-kept : (r : Refusal) → writing out at text ≡ Refused r → written out at text ≡ out
-  unfolding writing written
+  writing-kept : (r : Refusal) → writingReply out at text ≡ Refused r → written out at text ≡ out
+  unfolding writingReply written
   writing-kept r e = by-test (fits out at text) (λ f. absurd (no (cc (rw f at e)))) (λ f. rw f)
 
-  writing-left : (n : ℕ) → writing out at text ≡ Upto n → written out at text ≡ take at out ++ (text ++ drop n out)
-  unfolding writing written laid
+  writing-left : (n : ℕ) → writingReply out at text ≡ Upto n → written out at text ≡ take at out ++ (text ++ drop n out)
+  unfolding writingReply written laid
   writing-left n e =
       by-test (fits out at text)
       (λ f. let same : at + length text ≡ n = cc (rw f at e) in rw (f, ← same))
@@ -404,7 +404,7 @@ own-run r q e = cc
 
 module _ (more : Bool) (text : List ℕ) (s : Sheet) (out : List ℕ) where
   abbrev account : Account
-  account = reading more (linesOf text) s
+  account = readingSheet more (linesOf text) s
 
   abbrev room : Bool
   room = leb (length (account .text)) (length out)
@@ -455,7 +455,7 @@ job-sheet =
       read-sound = λ more text s g. rw g;
       read-whole = λ text. refl;
       run = λ more text s out.
-          decided Declined (Came (reading more (linesOf text) s .end) (length (reading more (linesOf text) s .text)))
+          decided Declined (Came (readingSheet more (linesOf text) s .end) (length (readingSheet more (linesOf text) s .text)))
           own-run (λ r e. no (cc)) _ (running more text s out) (run-tests more text s out);
       run-kept = run-keeps;
       run-left = run-leaves;
@@ -464,11 +464,11 @@ job-sheet =
       record-kept = record-keeps;
       record-left = record-leaves;
       refused-written = λ line column r out at. let text = refusedText line column r in
-          decided Refused (Upto (at + length text)) own-written (λ q e. no (cc)) _ (writing out at text) (writing-tests out at text);
+          decided Refused (Upto (at + length text)) own-written (λ q e. no (cc)) _ (writingReply out at text) (writing-tests out at text);
       refused-kept = λ line column r out at q e. writing-kept out at (refusedText line column r) q e;
       refused-left = λ line column r out at n e. writing-left out at (refusedText line column r) n e;
     }
   where
     sound-read : (more : Bool) (text : List ℕ) (s : Sheet) → soundSheet s ≡ true → {q : Reading}
-        → readingEnd more text s ≡ q → reading more (linesOf text) s .end ≡ q
+        → readingEnd more text s ≡ q → readingSheet more (linesOf text) s .end ≡ q
     sound-read more text s g e = rw g at e

@@ -17,8 +17,8 @@ use Rattle.crossing_places.specs.Reading.{countedTimes, crossings, firstCrossin
 use Rattle.refusal.specs.declared.Refusal.the-variants.{Room}
 use Rattle.record_list.specs.declared.Listed.the-variants.{Refused, Times}
 use Rattle.record_list.specs.Answers.{listed, written}
-use Rattle.record_state.specs.declared.Answer.{Answer}
-use Rattle.record_state.specs.declared.Answer.the-variants as answered
+use Rattle.record_state.specs.declared.RecordAnswer.{RecordAnswer}
+use Rattle.record_state.specs.declared.RecordAnswer.the-variants as answered
 use Rattle.record_state.specs.declared.Record.{Record}
 use Rattle.record_state.specs.Answers.{opened}
 use Rattle.record_state.specs.State.{sound, stateOf}
@@ -90,11 +90,11 @@ unfolding ending sound itemOutside stateOf passing moments groups attach walk la
 ended-unfailed = refl
 
 -- ---- pieces
-abbrev ofPieces : Answer → List ℕ
-ofPieces (answered.Taken r) = r .n ∷ r .crossings ∷ r .first ∷ r .recent ∷ []
+abbrev ofPieces : RecordAnswer → List ℕ
+ofPieces (answered.Taken r) = r .n ∷ r .crossings ∷ r .first ∷ r .«last_crossing» ∷ []
 ofPieces (answered.Refused r) = []
 
-abbrev next : List ℤ → Answer → Answer
+abbrev next : List ℤ → RecordAnswer → RecordAnswer
 next xs (answered.Taken r) = fed r xs (map (λ (x : ℤ). pos 0) xs)
 next xs (answered.Refused r) = answered.Refused r
 

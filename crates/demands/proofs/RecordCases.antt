@@ -18,8 +18,8 @@ use Rattle.sample_channels.specs.declared.Levels.{Levels}
 use Rattle.sample_channels.specs.declared.Moment.{Moment}
 use Rattle.sample_channels.specs.Channels.{above, moment, moments}
 use Rattle.crossing_places.specs.Reading.{countedTimes, firstOf, groups, lastOf, passing}
-use Rattle.record_state.specs.declared.Answer.{Answer as Fed}
-use Rattle.record_state.specs.declared.Answer.the-variants as fed
+use Rattle.record_state.specs.declared.RecordAnswer.{RecordAnswer}
+use Rattle.record_state.specs.declared.RecordAnswer.the-variants as fed
 use Rattle.record_state.specs.declared.Record.{Record}
 use Rattle.record_state.specs.State.{sound, stateOf}
 use Rattle.record_feed.specs.Answers as feeding
@@ -28,13 +28,13 @@ use Rattle.record_end.specs.declared.Ended.the-variants as ended
 use Rattle.record_end.specs.declared.Outcome.{Outcome}
 use Rattle.record_end.specs.declared.Result.{Result}
 use Rattle.record_end.specs.Result.{ending, outcomeOf}
-use Rattle.campaign_state.specs.declared.Answer.{Answer as Entered}
-use Rattle.campaign_state.specs.declared.Answer.the-variants as entered
+use Rattle.campaign_state.specs.declared.CampaignAnswer.{CampaignAnswer}
+use Rattle.campaign_state.specs.declared.CampaignAnswer.the-variants as entered
 use Rattle.campaign_state.specs.declared.Campaign.{Campaign}
 use Rattle.campaign_state.specs.Answers.{entering}
 use Rattle.campaign_state.specs.State as campaigning
-use Rattle.binomial_sum.specs.declared.Answer.{Answer as Summed}
-use Rattle.binomial_sum.specs.declared.Answer.the-variants as summed
+use Rattle.binomial_sum.specs.declared.SumAnswer.{SumAnswer}
+use Rattle.binomial_sum.specs.declared.SumAnswer.the-variants as summed
 use Rattle.binomial_sum.specs.declared.Sum.{Sum}
 use Rattle.binomial_sum.specs.Answers as summing
 use Rattle.binomial_sum.specs.Answers.{adding}
@@ -93,7 +93,7 @@ groups-parted-at-the-gap = refl
 -- a state of 9 samples with 4 crossings, of which the largest set has 3: the first at 2, the set's last at 5; the last
 -- crossing's place and the groups
 abbrev with : ℕ → ℕ → Record
-with recent groups =
+with last-crossing groups =
     record {
       items = usual 1 0;
       n = 9;
@@ -101,8 +101,8 @@ with recent groups =
       crossings = 4;
       largest = 3;
       first = 2;
-      latest = 5;
-      recent = recent;
+      «last_chosen» = 5;
+      «last_crossing» = last-crossing;
       groups = groups;
     }
 
@@ -116,7 +116,7 @@ groups-relations = refl
 
 -- without a crossing; its levels and its last sample
 abbrev still : ℕ → Levels → Moment → ℕ → ℕ → Record
-still n a last recent groups =
+still n a last last-crossing groups =
     record {
       items = record { step = 500; ramp = 1; levels = a; decorrelation = 0 };
       n = n;
@@ -124,8 +124,8 @@ still n a last recent groups =
       crossings = 0;
       largest = 0;
       first = 0;
-      latest = 0;
-      recent = recent;
+      «last_chosen» = 0;
+      «last_crossing» = last-crossing;
       groups = groups;
     }
 
@@ -162,7 +162,7 @@ either-channel-above :
 either-channel-above = refl
 
 -- nothing for what is taken; the number, the value and the channel for what is refused
-abbrev ofFed : Fed → List ℕ
+abbrev ofFed : RecordAnswer → List ℕ
 ofFed (fed.Taken r) = []
 ofFed (fed.Refused r) = numberOf r ∷ valueOf r ∷ channelOf r ∷ []
 
@@ -183,7 +183,7 @@ unfolding feeding.fed sound itemOutside firstBad
 channels-refused = refl
 
 -- ---- [4] results
-abbrev ofEntered : Entered → List ℕ
+abbrev ofEntered : CampaignAnswer → List ℕ
 ofEntered (entered.Taken c) = c .records ∷ c .failures ∷ c .exposure ∷ []
 ofEntered (entered.Refused r) = numberOf r ∷ valueOf r ∷ []
 
@@ -247,7 +247,7 @@ rates-figures = refl
 no-record : map recorded (sum 500 0 0 ∷ sum 500 0 2 ∷ []) ≡ false ∷ true ∷ []
 no-record = refl
 
-abbrev ofSum : Summed → List ℕ
+abbrev ofSum : SumAnswer → List ℕ
 ofSum (summed.Taken s) = s .step ∷ s .failures ∷ s .samples ∷ []
 ofSum (summed.Refused r) = numberOf r ∷ valueOf r ∷ []
 

@@ -15,7 +15,7 @@ use Rattle.refusal.specs.declared.Refusal.the-variants.{CampaignFull, Item, Lin
 use Rattle.refusal.specs.Numbers.{numberOf}
 use Rattle.poisson.specs.Rows.{rows}
 use Rattle.sample_items.specs.Limits.{longestTime}
-use Rattle.campaign_state.specs.declared.Answer.the-variants.{Refused, Taken}
+use Rattle.campaign_state.specs.declared.CampaignAnswer.the-variants.{Refused, Taken}
 use Rattle.campaign_state.specs.declared.Campaign.{Campaign}
 use Rattle.campaign_state.specs.State.{empty, entered, mostRecords, sound, standardInRange}
 use Rattle.decimal.specs.Decimal.{longest}

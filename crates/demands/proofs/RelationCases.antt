@@ -16,7 +16,7 @@ use Rattle.campaign_state.specs.State as campaigning
 -- ---- a record of n samples at R = 2, the last of them x, with so many crossings, so many in the largest set, the
 -- places of the first crossing, of the largest set's last and of the last crossing, and so many groups
 abbrev taking : ℕ → ℕ → ℤ → ℕ → ℕ → ℕ → ℕ → ℕ → ℕ → Record
-taking D n x crossings largest first latest recent groups =
+taking D n x crossings largest first last-chosen last-crossing groups =
     record {
       items = record { step = D; ramp = 2; levels = record { roll = 1; acceleration = 1 }; decorrelation = 1 };
       n = n;
@@ -24,8 +24,8 @@ taking D n x crossings largest first latest recent groups =
       crossings = crossings;
       largest = largest;
       first = first;
-      latest = latest;
-      recent = recent;
+      «last_chosen» = last-chosen;
+      «last_crossing» = last-crossing;
       groups = groups;
     }
 

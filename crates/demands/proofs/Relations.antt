@@ -27,7 +27,7 @@ use Rattle.sample_items.specs.Limits.{decorrelationInRange, itemOutside, levelI
 use Rattle.sample_items.specs.Limits.{within}
 use Rattle.sample_items.proofs.Ranges.{high, low}
 use Rattle.record_state.specs.State as recording
-use Rattle.record_state.specs.declared.Answer.the-variants as recorded
+use Rattle.record_state.specs.declared.RecordAnswer.the-variants as recorded
 use Rattle.record_state.specs.declared.Record.{Record}
 use Rattle.record_state.proofs.Relations as record-facts
 use Rattle.record_feed.specs.Answers.{fed}
@@ -38,7 +38,7 @@ use Rattle.record_end.specs.declared.Outcome.{Outcome}
 use Rattle.record_end.specs.declared.Result.{Result}
 use Rattle.campaign_state.specs.Answers.{entering, outcomeKept}
 use Rattle.campaign_state.specs.State as campaigning
-use Rattle.campaign_state.specs.declared.Answer.the-variants as campaigned
+use Rattle.campaign_state.specs.declared.CampaignAnswer.the-variants as campaigned
 use Rattle.campaign_state.specs.declared.Campaign.{Campaign}
 use Rattle.campaign_state.proofs.Relations as campaign-facts
 use Rattle.campaign_verdict.specs.Answers as verdicts
@@ -48,13 +48,13 @@ use Rattle.campaign_verdict.specs.declared.Judged.the-variants as judging
 use Rattle.campaign_verdict.specs.declared.Rated.the-variants as rating
 use Rattle.binomial_sum.specs.Answers.{adding}
 use Rattle.binomial_sum.specs.State as summing
-use Rattle.binomial_sum.specs.declared.Answer.the-variants as summed
+use Rattle.binomial_sum.specs.declared.SumAnswer.the-variants as summed
 use Rattle.binomial_sum.specs.declared.Sum.{Sum}
 use Rattle.binomial_sum.proofs.Relations as sum-facts
 use Rattle.binomial_bounds.specs.Answers as spreads
 use Rattle.binomial_bounds.specs.Bounds.{boundsOf, ratesOf as sumRates}
 use Rattle.binomial_bounds.specs.declared.Bounded.the-variants as bounded
-use Rattle.bureau_table.specs.declared.Answer.the-variants as benched
+use Rattle.bureau_table.specs.declared.TableAnswer.the-variants as benched
 use Rattle.bureau_table.specs.declared.Ask.{Ask}
 use Rattle.bureau_table.specs.declared.Place.{Place}
 use Rattle.bureau_table.specs.Calls.{called}
@@ -84,15 +84,15 @@ pub record RecordRelations (r : Record) : Type 0 where
   pub length : r .n ≤ r .items .ramp + 1 + 10000000 / r .items .step
   -- the largest set at most the crossings; both 0 exactly if there is no first failure, and then all places and groups
   pub counted : r .largest ≤ r .crossings
-  pub none : r .first ≡ 0 → (r .crossings ≡ 0) × (r .largest ≡ 0) × (r .latest ≡ 0) × (r .recent ≡ 0) × (r .groups ≡ 0)
+  pub none : r .first ≡ 0 → (r .crossings ≡ 0) × (r .largest ≡ 0) × (r .«last_chosen» ≡ 0) × (r .«last_crossing» ≡ 0) × (r .groups ≡ 0)
   pub some : ¬ (r .first ≡ 0) → ¬ (r .crossings ≡ 0) × ¬ (r .largest ≡ 0)
   -- where there is one: crossings at most n - 1 - R, its place above R and at most the set's last, which is below n
   pub crossings : ¬ (r .first ≡ 0) → r .crossings ≤ r .n - 1 - r .items .ramp
   pub above : ¬ (r .first ≡ 0) → r .items .ramp < r .first
-  pub ordered : ¬ (r .first ≡ 0) → r .first ≤ r .latest
-  pub below : ¬ (r .first ≡ 0) → r .latest < r .n
+  pub ordered : ¬ (r .first ≡ 0) → r .first ≤ r .«last_chosen»
+  pub below : ¬ (r .first ≡ 0) → r .«last_chosen» < r .n
   -- with any crossing: the last one's place below n and not before the set's last, groups from 1 to the set
-  pub recent : ¬ (r .crossings ≡ 0) → (r .latest ≤ r .recent) × (r .recent < r .n)
+  pub last-crossing : ¬ (r .crossings ≡ 0) → (r .«last_chosen» ≤ r .«last_crossing») × (r .«last_crossing» < r .n)
   pub groups : ¬ (r .crossings ≡ 0) → From 1 (r .largest) (r .groups)
 
 -- a campaign
@@ -217,8 +217,8 @@ module _ (r : Record) where
   -- a first failure, or none: what holds in both cases
   module _ (l : r .largest ≤ r .crossings) where
     no-failure : record-facts.None r ⊎ record-facts.Failure r → r .first ≡ 0
-        → (r .crossings ≡ 0) × (r .largest ≡ 0) × (r .latest ≡ 0) × (r .recent ≡ 0) × (r .groups ≡ 0)
-    no-failure (inl n) z = (n .crossings, n .largest, n .latest, n .recent, n .groups)
+        → (r .crossings ≡ 0) × (r .largest ≡ 0) × (r .«last_chosen» ≡ 0) × (r .«last_crossing» ≡ 0) × (r .groups ≡ 0)
+    no-failure (inl n) z = (n .crossings, n .largest, n .last-chosen, n .last-crossing, n .groups)
     no-failure (inr f) z = absurd (omega (arith, f .above))
 
     failure : record-facts.None r ⊎ record-facts.Failure r → ¬ (r .first ≡ 0) → record-facts.Failure r
@@ -254,7 +254,7 @@ module _ (r : Record) where
         above = λ h. f h .above;
         ordered = λ h. f h .ordered;
         below = λ h. f h .below;
-        recent = λ h. (c h .recent, c h .recent-below);
+        last-crossing = λ h. (c h .last-crossing, c h .last-crossing-below);
         groups = λ h. (c h .groups, c h .within);
       }
 
@@ -262,11 +262,11 @@ module _ (r : Record) where
   figures k true e =
       let z = eqb-true (r .first) 0 e in
       let n = k .none z in
-      inl (record { first = z; crossings = n .0; largest = n .1; latest = n .2; recent = n .3; groups = n .4 })
+      inl (record { first = z; crossings = n .0; largest = n .1; last-chosen = n .2; last-crossing = n .3; groups = n .4 })
   figures k false e =
       let h = eqb-false (r .first) 0 e in
       let some = k .some h in
-      let p = k .recent (some .0) in
+      let p = k .last-crossing (some .0) in
       let g = k .groups (some .0) in
       inr
       (record {
@@ -275,8 +275,8 @@ module _ (r : Record) where
         above = k .above h;
         ordered = k .ordered h;
         below = k .below h;
-        recent = p .0;
-        recent-below = p .1;
+        last-crossing = p .0;
+        last-crossing-below = p .1;
         groups = g .0;
         within = g .1;
       })

@@ -13,15 +13,15 @@ use Rattle.campaign_state.specs.State.{censored, sound}
 use Rattle.decimal.specs.Decimal.{digitsOf, digitsWithin}
 use Rattle.decimal.specs.Field.{fieldText}
 use Rattle.campaign_verdict.specs.Answers as verdict
-use Rattle.campaign_condition.specs.declared.Answer.{Answer}
-use Rattle.campaign_condition.specs.declared.Answer.the-variants as judged
+use Rattle.campaign_condition.specs.declared.ConditionAnswer.{ConditionAnswer}
+use Rattle.campaign_condition.specs.declared.ConditionAnswer.the-variants as judged
 use Rattle.campaign_condition.specs.Answers.{brokenFrom, judging}
 use Rattle.campaign_condition.specs.Standing.{accepted, allAccepted, oneRejected, rejected, standing}
 use Rattle.campaign_condition.specs.declared.Standing.the-variants.{Accepted, Open, Rejected}
 use Rattle.text.specs.declared.Writing.{Writing}
 use Rattle.text.specs.declared.Writing.the-variants as written
-use Rattle.campaign_report.specs.Answers.{writing}
-use Rattle.campaign_report.specs.Report.{blocks, fourText, letterFor, lineText, linesFrom, reportText, sumOf, totalText}
+use Rattle.campaign_report.specs.Answers.{writingReport}
+use Rattle.campaign_report.specs.Report.{blocks, fourText, letterFor, situationText, linesFrom, reportText, sumOf, totalText}
 
 -- at q = 7,200,000: accepted, rejected, neither, without a record, broken
 abbrev campaign : ℕ → ℕ → ℕ → Bool → Campaign
@@ -55,7 +55,7 @@ condition-standings = refl
 blocks-of-five : map blocks (0 ∷ 1 ∷ 5 ∷ 6 ∷ 10 ∷ 11 ∷ 64 ∷ []) ≡ 0 ∷ 1 ∷ 1 ∷ 2 ∷ 2 ∷ 3 ∷ 13 ∷ []
 blocks-of-five = refl
 
-abbrev ofJudged : Answer → List ℕ
+abbrev ofJudged : ConditionAnswer → List ℕ
 ofJudged (judged.Given s) = []
 ofJudged (judged.Refused r) = numberOf r ∷ valueOf r ∷ []
 
@@ -75,11 +75,11 @@ ofWriting (written.Refused r) = numberOf r ∷ valueOf r ∷ []
 
 -- and then 7, with the bytes needed: 12 for the line of an empty situation and 16 for the total
 report-refused :
-    ofWriting (writing 0 [] []) ∷ ofWriting (writing 2 (none ∷ broken ∷ []) [])
-    ∷ ofWriting (writing 1 (none ∷ []) (replicate 27 0)) ∷ ofWriting (writing 1 (none ∷ []) (replicate 28 0))
+    ofWriting (writingReport 0 [] []) ∷ ofWriting (writingReport 2 (none ∷ broken ∷ []) [])
+    ∷ ofWriting (writingReport 1 (none ∷ []) (replicate 27 0)) ∷ ofWriting (writingReport 1 (none ∷ []) (replicate 28 0))
     ∷ []
     ≡ (18 ∷ 0 ∷ []) ∷ (8 ∷ 2 ∷ []) ∷ (7 ∷ 28 ∷ []) ∷ (28 ∷ []) ∷ []
-unfolding writing judging brokenFrom sound standing oneRejected allAccepted accepted rejected verdict.judging
-    censored u l upperRows lowerRows reportText linesFrom lineText fourText totalText sumOf letterFor
+unfolding writingReport judging brokenFrom sound standing oneRejected allAccepted accepted rejected verdict.judging
+    censored u l upperRows lowerRows reportText linesFrom situationText fourText totalText sumOf letterFor
     fieldText digitsOf digitsWithin
 report-refused = refl

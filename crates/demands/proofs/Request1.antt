@@ -20,11 +20,11 @@ use Rattle.sample_range.proofs.Bad.{bad-within}
 use Rattle.decimal.specs.Decimal.{allDigits, isNumber, longest, valueOf}
 use Rattle.decimal.specs.Leading.{leading}
 use Rattle.decimal.specs.Lines.{linesOf}
-use Rattle.comma_line.specs.Line.{isLine, right}
+use Rattle.comma_line.specs.Line.{isCommaLine, right}
 use Rattle.comma_line.specs.Text.{firstWrong, samplesOf, textOf}
 use Rattle.degrees.specs.Degrees.{filled, isSize, size, sizeLength}
 use Rattle.comma_read.specs.declared.Reading.the-variants.{Samples, Refused}
-use Rattle.comma_read.specs.Answers.{filledBy, reading, readingLines}
+use Rattle.comma_read.specs.Answers.{filledBy, readingComma, readingLines}
 use Rattle.comma_stream.specs.Follow.{mayBegin}
 use Rattle.text.specs.Pieces.{joined}
 use Rattle.comma_stream.specs.Pieces.{nothing, passing, ending}
@@ -32,7 +32,7 @@ use Rattle.comma_stream.proofs.Pieces.{followed-whole, followed-samples}
 use Rattle.comma_stream.proofs.Begun.{wrong-stays}
 use Rattle.text.specs.declared.Writing.the-variants.{Bytes, Refused as Declined}
 use Rattle.text.specs.Write.{laidBy}
-use Rattle.comma_write.specs.Answers.{lastTime, writing}
+use Rattle.comma_write.specs.Answers.{lastTime, writingComma}
 use Rattle.comma_write.proofs.Back.{read-again, read-back}
 use Rattle.demands.proofs.Demand1.{Decides, Test, _gives_, decide, decided}
 
@@ -99,29 +99,29 @@ noForm =
     ∷ []
 
 pub record Request1 : Type 0 where
-  pub read : (D : ℕ) (text : List ℕ) (places : ℕ) → Decides Refused (readTests D (linesOf text) places) (Samples (length (linesOf text))) (reading D text places)
-  pub write : (D : ℕ) (xs : List ℤ) (out : List ℕ) → Decides Declined (writeTests D xs (length out)) (Bytes (length (textOf D xs))) (writing D xs out)
+  pub read : (D : ℕ) (text : List ℕ) (places : ℕ) → Decides Refused (readTests D (linesOf text) places) (Samples (length (linesOf text))) (readingComma D text places)
+  pub write : (D : ℕ) (xs : List ℤ) (out : List ℕ) → Decides Declined (writeTests D xs (length out)) (Bytes (length (textOf D xs))) (writingComma D xs out)
   -- a refusal leaves what was lent as it stood
   pub samples-kept : (r : Refusal) (xs slice : List ℤ) → filledBy (Refused r) xs slice ≡ slice
   pub bytes-kept : (r : Refusal) (text out : List ℕ) → laidBy (Declined r) text out ≡ out
   -- each form reads as its sample, and what has no form is refused by 10 on its line
-  pub forms : (reading 500 everyForm 12 ≡ Samples 12)
+  pub forms : (readingComma 500 everyForm 12 ≡ Samples 12)
       × (samplesOf (linesOf everyForm)
       ≡ negsuc 41499 ∷ pos 41500 ∷ pos 50 ∷ pos 7000 ∷ pos 0 ∷ pos 0
       ∷ pos 12345 ∷ pos 1000000 ∷ negsuc 999999 ∷ pos 500 ∷ negsuc 0 ∷ pos 9990 ∷ [])
-  pub formless : map (λ (text : List ℕ). reading 500 text 1) noForm
+  pub formless : map (λ (text : List ℕ). readingComma 500 text 1) noForm
       ≡ map (λ (text : List ℕ). Refused (CommaLine 1)) noForm
   -- reading what was written gives the samples back
-  pub back : (D : ℕ) (xs : List ℤ) (out : List ℕ) (n places : ℕ) → writing D xs out ≡ Bytes n → length xs ≤ places
+  pub back : (D : ℕ) (xs : List ℤ) (out : List ℕ) (n places : ℕ) → writingComma D xs out ≡ Bytes n → length xs ≤ places
       → let text = take n (laidBy (Bytes n) (textOf D xs) out) in
-      (reading D text places ≡ Samples (length xs)) × (samplesOf (linesOf text) ≡ xs)
+      (readingComma D text places ≡ Samples (length xs)) × (samplesOf (linesOf text) ≡ xs)
   -- what a text reads as, written and read again, is the same
-  pub again : (D : ℕ) (text : List ℕ) (places n : ℕ) → reading D text places ≡ Samples n
-      → (reading D (textOf D (samplesOf (linesOf text))) places ≡ Samples n) × (samplesOf (linesOf (textOf D (samplesOf (linesOf text)))) ≡ samplesOf (linesOf text))
+  pub again : (D : ℕ) (text : List ℕ) (places n : ℕ) → readingComma D text places ≡ Samples n
+      → (readingComma D (textOf D (samplesOf (linesOf text))) places ≡ Samples n) × (samplesOf (linesOf (textOf D (samplesOf (linesOf text)))) ≡ samplesOf (linesOf text))
   -- in whatever pieces a file comes, it ends as it reads whole, with the same samples; and a line that is told to be
-  -- wrong before its end is wrong with anything behind it
+  -- wrong before its end is wrong with anything after it
   pub pieces : (D places : ℕ) (pieces : List (List ℕ)) → stepInRange D ≡ true → length (linesOf (joined pieces)) ≤ places
-      → ending (passing (nothing D) pieces) ≡ reading D (joined pieces) places
+      → ending (passing (nothing D) pieces) ≡ readingComma D (joined pieces) places
   pub same-samples : (D : ℕ) (pieces : List (List ℕ)) → let p = passing (nothing D) pieces in p .left ≡ [] → p .samples ≡ samplesOf (linesOf (joined pieces))
   pub early : (time : ℕ) (text more : List ℕ) → mayBegin text ≡ false → right time text ≡ false → right time (text ++ more) ≡ false
 
@@ -143,8 +143,8 @@ pub record Wrote (D : ℕ) (xs : List ℤ) (n : ℕ) : Type 0 where
   pub short : lastTime D xs < 10 ^ longest
   pub bytes : n ≡ length (textOf D xs)
 
-wrote : (D : ℕ) (xs : List ℤ) (out : List ℕ) (n : ℕ) → writing D xs out ≡ Bytes n → Wrote D xs n
-unfolding writing
+wrote : (D : ℕ) (xs : List ℤ) (out : List ℕ) (n : ℕ) → writingComma D xs out ≡ Bytes n → Wrote D xs n
+unfolding writingComma
 wrote D xs out n e =
     by-test (stepInRange D)
     (λ a.
@@ -164,34 +164,34 @@ wrote D xs out n e =
     }))))
     (λ a. absurd (no (cc (rw a at e))))
 
-written-back : (D : ℕ) (xs : List ℤ) (out : List ℕ) (n places : ℕ) → writing D xs out ≡ Bytes n → length xs ≤ places
+written-back : (D : ℕ) (xs : List ℤ) (out : List ℕ) (n places : ℕ) → writingComma D xs out ≡ Bytes n → length xs ≤ places
     → let text = take n (laidBy (Bytes n) (textOf D xs) out) in
-    (reading D text places ≡ Samples (length xs)) × (samplesOf (linesOf text) ≡ xs)
+    (readingComma D text places ≡ Samples (length xs)) × (samplesOf (linesOf text) ≡ xs)
 unfolding laidBy
 written-back D xs out n places e room =
     let w = wrote D xs out n e in
     let front : take n (textOf D xs ++ drop n out) ≡ textOf D xs = rw (w .bytes) (take-append-seam (textOf D xs) _) in
     rw front (read-back D xs places (w .step) (w .good) (w .short) room)
 
-computed-forms : (reading 500 everyForm 12 ≡ Samples 12)
+computed-forms : (readingComma 500 everyForm 12 ≡ Samples 12)
     × (samplesOf (linesOf everyForm)
     ≡ negsuc 41499 ∷ pos 41500 ∷ pos 50 ∷ pos 7000 ∷ pos 0 ∷ pos 0
     ∷ pos 12345 ∷ pos 1000000 ∷ negsuc 999999 ∷ pos 500 ∷ negsuc 0 ∷ pos 9990 ∷ [])
-unfolding everyForm readingLines linesOf firstWrong right isLine isNumber allDigits leading valueOf isSize sizeLength filled size
+unfolding everyForm readingLines linesOf firstWrong right isCommaLine isNumber allDigits leading valueOf isSize sizeLength filled size
     firstBad
 computed-forms = (refl, refl)
 
-computed-formless : map (λ (text : List ℕ). reading 500 text 1) noForm ≡ map (λ (text : List ℕ). Refused (CommaLine 1)) noForm
-unfolding noForm readingLines linesOf firstWrong right isLine isNumber allDigits leading valueOf isSize sizeLength filled size
+computed-formless : map (λ (text : List ℕ). readingComma 500 text 1) noForm ≡ map (λ (text : List ℕ). Refused (CommaLine 1)) noForm
+unfolding noForm readingLines linesOf firstWrong right isCommaLine isNumber allDigits leading valueOf isSize sizeLength filled size
     firstBad
 computed-formless = refl
 
 pub request-1 : Request1
-unfolding decide readingLines writing filledBy laidBy
+unfolding decide readingLines writingComma filledBy laidBy
 request-1 =
     record {
-      read = λ D text places. decided Refused (Samples (length (linesOf text))) own-read (λ r e. no (cc)) (readTests D (linesOf text) places) (reading D text places) refl;
-      write = λ D xs out. decided Declined (Bytes (length (textOf D xs))) own-write (λ r e. no (cc)) (writeTests D xs (length out)) (writing D xs out) refl;
+      read = λ D text places. decided Refused (Samples (length (linesOf text))) own-read (λ r e. no (cc)) (readTests D (linesOf text) places) (readingComma D text places) refl;
+      write = λ D xs out. decided Declined (Bytes (length (textOf D xs))) own-write (λ r e. no (cc)) (writeTests D xs (length out)) (writingComma D xs out) refl;
       samples-kept = λ r xs slice. refl;
       bytes-kept = λ r text out. refl;
       forms = computed-forms;

@@ -28,7 +28,7 @@ use Rattle.decimal.specs.Field.{fieldText, lineFeed, tab}
 use Rattle.decimal.proofs.Text.{all-digits, digit-range, digits-value, field-few, number-below, number-digits, value-digits}
 use Rattle.sheet_line.specs.Field.{fieldAt, fieldOf, readAs}
 use Rattle.sheet_line.specs.declared.Field.{Field}
-use Rattle.sheet_line.specs.Column.{behind, columnIn, howMany, isWhole, mostNumber, recordColumn, recordFields, standardColumn, standardFields}
+use Rattle.sheet_line.specs.Column.{nextField, columnIn, howMany, isWhole, mostNumber, recordColumn, recordFields, standardColumn, standardFields}
 use Rattle.sheet_line.specs.Form.{begins, standardStart, standardWord}
 use Rattle.sheet_line.specs.declared.Sheet.the-variants.{Fresh, Open}
 use Rattle.sheet_line.specs.declared.Step.{Step}
@@ -153,25 +153,25 @@ module _ (due : ℕ) (line a b d : List ℕ) (w : Three line a b d) where
     first-good : columnIn due due 0 (fieldAt line 0) ≡ 0
     first-good = ap (columnIn due due 0) first-read ∙ good-column due due 0 a g
 
-    behind-first : behind (fieldAt line 0) ≡ length a + 1
-    behind-first = rw (first-read, is-told a 0 (number (g .number))) (omega arith)
+    after-first : nextField (fieldAt line 0) ≡ length a + 1
+    after-first = rw (first-read, is-told a 0 (number (g .number))) (omega arith)
 
     bad-second : {k : ℕ} → Bad 0 1 b k → recordColumn due line ≡ length a + 1 + k
     unfolding recordFields
     bad-second x =
         let e = ap (columnIn 0 1 (length a + 1)) second-read ∙ bad-column 0 1 (length a + 1) b x in
-        column-is ∙ rw (first-good, behind-first, ne-eqb (columnIn 0 1 (length a + 1) (fieldAt line (length a + 1))) 0 (λ z. omega (arith, bad-some x, e))) e
+        column-is ∙ rw (first-good, after-first, ne-eqb (columnIn 0 1 (length a + 1) (fieldAt line (length a + 1))) 0 (λ z. omega (arith, bad-some x, e))) e
 
     module _ (h : Good 0 1 b) where
       second-good : columnIn 0 1 (length a + 1) (fieldAt line (length a + 1)) ≡ 0
       second-good = ap (columnIn 0 1 (length a + 1)) second-read ∙ good-column 0 1 (length a + 1) b h
 
-      behind-second : behind (fieldAt line (length a + 1)) ≡ length a + 1 + length b + 1
-      behind-second = rw (second-read, is-told b (length a + 1) (number (h .number))) refl
+      after-second : nextField (fieldAt line (length a + 1)) ≡ length a + 1 + length b + 1
+      after-second = rw (second-read, is-told b (length a + 1) (number (h .number))) refl
 
       third-column : recordColumn due line ≡ columnIn 0 mostNumber (length a + 1 + length b + 1) (readAs d (length a + 1 + length b + 1))
       unfolding recordFields
-      third-column = column-is ∙ rw (first-good, behind-first, second-good, behind-second, third-read)
+      third-column = column-is ∙ rw (first-good, after-first, second-good, after-second, third-read)
 
       bad-third : {k : ℕ} → Bad 0 mostNumber d k → recordColumn due line ≡ length a + 1 + length b + 1 + k
       bad-third x = third-column ∙ bad-column 0 mostNumber (length a + 1 + length b + 1) d x

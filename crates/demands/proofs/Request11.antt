@@ -32,8 +32,8 @@ use Rattle.peak_groups.specs.Peaks.{close, handed, high, kept, sum}
 use Rattle.peak_groups.specs.Meaning.{Stands}
 use Rattle.peak_groups.proofs.Stretches.{standing-stands, stands-standing}
 use Rattle.peak_groups.proofs.Apart.{handed-apart}
-use Rattle.peak_envelope.specs.declared.Found.{Found}
-use Rattle.peak_envelope.specs.declared.Found.the-variants.{Peaks, Refused}
+use Rattle.peak_envelope.specs.declared.PeaksFound.{PeaksFound}
+use Rattle.peak_envelope.specs.declared.PeaksFound.the-variants.{Peaks, Refused}
 use Rattle.peak_envelope.specs.Answers.{FindsTo, found, itemAsked, momentOf, placed, sizeOf, written}
 use Rattle.peak_envelope.proofs.Unique.{find-unique}
 use Rattle.demands.proofs.Demand1.{Decides, Test, _gives_, decide, decided, no}
@@ -77,7 +77,7 @@ pub record Request11 : Type 0 where
   pub highest : (l : List Peak) → All (Highest l) (kept l)
   pub all-kept : (l : List Peak) (p : Peak) (g : List Peak) → Stands (high (length l) (sum l)) l (p ∷ g) → In (largest (p ∷ g)) (kept l)
   pub apart : (D R τ : ℕ) (xs : List ℤ) → 1 ≤ D → Spaced (τ + 1) 0 (handed D R τ xs)
-  pub settled : (D R τ : ℕ) (xs : List ℤ) (sizes times : List ℕ) (x y : Found) (s t u v : List ℕ) → FindsTo D R τ xs sizes times x s u → FindsTo D R τ xs sizes times y t v → (x ≡ y) × (s ≡ t) × (u ≡ v)
+  pub settled : (D R τ : ℕ) (xs : List ℤ) (sizes times : List ℕ) (x y : PeaksFound) (s t u v : List ℕ) → FindsTo D R τ xs sizes times x s u → FindsTo D R τ xs sizes times y t v → (x ≡ y) × (s ≡ t) × (u ≡ v)
 
 -- ---- the proof
 level-in-range : (D R τ : ℕ) → ¬ (itemAsked D R τ ≡ 3) × ¬ (itemAsked D R τ ≡ 6)

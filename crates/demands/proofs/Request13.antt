@@ -23,13 +23,13 @@ use Rattle.campaign_verdict.specs.Letters.{letterE, letterOf}
 use Rattle.campaign_verdict.proofs.Letters.{of-accept, of-continue, of-reject}
 use Rattle.campaign_condition.specs.Answers.{situationsInRange, judging, lowestBroken}
 use Rattle.campaign_condition.specs.Standing.{All, One, accepted, rejected, standing}
-use Rattle.campaign_condition.specs.declared.Answer.the-variants.{Given, Refused}
+use Rattle.campaign_condition.specs.declared.ConditionAnswer.the-variants.{Given, Refused}
 use Rattle.campaign_condition.specs.declared.Standing.{Standing}
 use Rattle.campaign_condition.specs.declared.Standing.the-variants.{Accepted, Open, Rejected}
 use Rattle.campaign_condition.proofs.Exactly.{accepted-if, never-both, only-accepted, only-open, only-rejected, open-if, rejected-if}
 use Rattle.campaign_condition.proofs.Theorems.{accepted-accepts, accepts-accepted, all-needed, empty-open, lowest-named, one-rejects, order, rejected-rejects, rejects-rejected}
-use Rattle.campaign_report.specs.Answers.{writing}
-use Rattle.campaign_report.specs.Report.{blocks, fourText, lineText, linesFrom, reportText, standingLetter, sumOf, totalText, totalWord}
+use Rattle.campaign_report.specs.Answers.{writingReport}
+use Rattle.campaign_report.specs.Report.{blocks, fourText, situationText, linesFrom, reportText, standingLetter, sumOf, totalText, totalWord}
 use Rattle.campaign_report.specs.Report as reporting
 use Rattle.sheet_reply.specs.Written as replying
 use Rattle.sheet_reply.specs.Written.{figures, recordText}
@@ -43,7 +43,7 @@ use Rattle.demands.proofs.Exactly.{Exactly}
 use Rattle.demands.proofs.Demand1.{Decides, Test, _gives_, decide, decided}
 
 -- ---- the statement
--- 18, then 8 with the lowest situation; then what is tested behind them
+-- 18, then 8 with the lowest situation; then what is tested after them
 abbrev pub tests : ℕ → List Campaign → List Test → List Test
 tests number cs ts = not (situationsInRange number) gives Situations ∷ (not (eqb (lowestBroken cs) 0) gives Situation (lowestBroken cs) ∷ ts)
 
@@ -86,10 +86,10 @@ totalLine cs letter =
 
 pub record Request13 : Type 0 where
   pub judge : (number : ℕ) (cs : List Campaign) → Decides Refused (tests number cs []) (Given (standing cs)) (judging number cs)
-  pub write : (number : ℕ) (cs : List Campaign) (out : List ℕ) → Decides Declined (writeTests number cs (length out)) (Bytes (length (reportText cs))) (writing number cs out)
+  pub write : (number : ℕ) (cs : List Campaign) (out : List ℕ) → Decides Declined (writeTests number cs (length out)) (Bytes (length (reportText cs))) (writingReport number cs out)
   -- those before it keep their relations, and it does not
-  pub lowest : (before : List Campaign) (c : Campaign) (behind : List Campaign) → lowestBroken before ≡ 0 → sound c ≡ false
-      → lowestBroken (before ++ (c ∷ behind)) ≡ length before + 1
+  pub lowest : (before : List Campaign) (c : Campaign) (after : List Campaign) → lowestBroken before ≡ 0 → sound c ≡ false
+      → lowestBroken (before ++ (c ∷ after)) ≡ length before + 1
   pub bytes-kept : (r : Refusal) (text out : List ℕ) → laidBy (Declined r) text out ≡ out
   -- a campaign is rejected or accepted by document 01's tests, with a record
   pub rejecting : (c : Campaign) → rejected c ≡ true → (sound c ≡ true) × (1 ≤ c .records) × (rejects c ≡ true)
@@ -102,23 +102,23 @@ pub record Request13 : Type 0 where
   pub open-exactly : (cs : List Campaign) → Exactly (standing cs ≡ Open) (¬ One rejected cs × ¬ All accepted cs)
   pub not-both : (c : Campaign) → accepted c ≡ true → rejected c ≡ true → ⊥
   -- one rejected rejects; an accepted condition has all accepted, and none without a record
-  pub one : (before : List Campaign) (c : Campaign) (behind : List Campaign) → rejected c ≡ true → standing (before ++ (c ∷ behind)) ≡ Rejected
-  pub all : (before : List Campaign) (c : Campaign) (behind : List Campaign) → standing (before ++ (c ∷ behind)) ≡ Accepted → accepted c ≡ true
-  pub no-record : (before : List Campaign) (c : Campaign) (behind : List Campaign) → c .records ≡ 0 → ¬ (standing (before ++ (c ∷ behind)) ≡ Accepted)
+  pub one : (before : List Campaign) (c : Campaign) (after : List Campaign) → rejected c ≡ true → standing (before ++ (c ∷ after)) ≡ Rejected
+  pub all : (before : List Campaign) (c : Campaign) (after : List Campaign) → standing (before ++ (c ∷ after)) ≡ Accepted → accepted c ≡ true
+  pub no-record : (before : List Campaign) (c : Campaign) (after : List Campaign) → c .records ≡ 0 → ¬ (standing (before ++ (c ∷ after)) ≡ Accepted)
   -- two neighbours may change places, and by such changes any order comes from any other
-  pub in-any-order : (before : List Campaign) (a b : Campaign) (behind : List Campaign) → standing (before ++ (a ∷ (b ∷ behind))) ≡ standing (before ++ (b ∷ (a ∷ behind)))
+  pub in-any-order : (before : List Campaign) (a b : Campaign) (after : List Campaign) → standing (before ++ (a ∷ (b ∷ after))) ≡ standing (before ++ (b ∷ (a ∷ after)))
   -- as many blocks as N needs, and no fewer do
   pub billed : (n : ℕ) → n ≤ 5 * blocks n
   pub no-fewer : (n b : ℕ) → n ≤ 5 * b → blocks n ≤ b
   -- 40 bytes and 28 for each situation are always room
-  pub enough : (number : ℕ) (cs : List Campaign) (out : List ℕ) (n : ℕ) → length cs ≡ number → writing number cs out ≡ Bytes n → n ≤ 40 + 28 * number
+  pub enough : (number : ℕ) (cs : List Campaign) (out : List ℕ) (n : ℕ) → length cs ≡ number → writingReport number cs out ≡ Bytes n → n ≤ 40 + 28 * number
   pub case : reportText twoSituations ≡ theirReport
   -- the letter on the sheet, in a situation's line and in the last one; E where there is no record
   pub sheet-letter : (c : Campaign) → sound c ≡ true → 1 ≤ c .records
       → (letter : ℕ) × (recordText c ≡ sheetLine c letter) × Letters c letter
   pub line-letter : (c : Campaign) (number : ℕ) → sound c ≡ true → 1 ≤ c .records
-      → (letter : ℕ) × (lineText number c ≡ situationLine number c letter) × Letters c letter
-  pub empty-letter : (c : Campaign) (number : ℕ) → c .records ≡ 0 → lineText number c ≡ situationLine number c 69
+      → (letter : ℕ) × (situationText number c ≡ situationLine number c letter) × Letters c letter
+  pub empty-letter : (c : Campaign) (number : ℕ) → c .records ≡ 0 → situationText number c ≡ situationLine number c 69
   pub total-letter : (cs : List Campaign)
       → (letter : ℕ) × (reportText cs ≡ linesFrom 1 cs ++ totalLine cs letter) × TotalLetters cs letter
   -- all letters, N* apart from N, and blocks summed line by line: byte for byte
@@ -145,8 +145,8 @@ judging-decides : (number : ℕ) (cs : List Campaign) → judging number cs ≡ 
 unfolding decide judging
 judging-decides number cs = refl
 
-writing-decides : (number : ℕ) (cs : List Campaign) (out : List ℕ) → writing number cs out ≡ decide Declined (writeTests number cs (length out)) (Bytes (length (reportText cs)))
-unfolding decide judging writing
+writing-decides : (number : ℕ) (cs : List Campaign) (out : List ℕ) → writingReport number cs out ≡ decide Declined (writeTests number cs (length out)) (Bytes (length (reportText cs)))
+unfolding decide judging writingReport
 writing-decides number cs out =
     by-test (situationsInRange number)
     (λ e. by-test (eqb (lowestBroken cs) 0) (λ f. rw (e, f)) (λ f. rw (e, f)))
@@ -202,12 +202,12 @@ module _ (c : Campaign) (kept : sound c ≡ true) (some : 1 ≤ c .records) wher
   unfolding recordText figures replying.letterFor
   on-sheet = (letterOf 0 (verdictOf c), rw (ne-eqb (c .records) 0 (λ e. omega arith)), of-verdict 0)
 
-  in-report : (number : ℕ) → (letter : ℕ) × (lineText number c ≡ situationLine number c letter) × Letters c letter
-  unfolding lineText fourText reporting.letterFor
+  in-report : (number : ℕ) → (letter : ℕ) × (situationText number c ≡ situationLine number c letter) × Letters c letter
+  unfolding situationText fourText reporting.letterFor
   in-report number = (letterOf letterE (verdictOf c), refl, of-verdict letterE)
 
-empty-line : (c : Campaign) (number : ℕ) → c .records ≡ 0 → lineText number c ≡ situationLine number c 69
-unfolding lineText fourText reporting.letterFor
+empty-line : (c : Campaign) (number : ℕ) → c .records ≡ 0 → situationText number c ≡ situationLine number c 69
+unfolding situationText fourText reporting.letterFor
 empty-line c number e = rw (eq-eqb (c .records) 0 e)
 
 in-total : (cs : List Campaign)
@@ -221,7 +221,7 @@ request-13 =
     record {
       judge = λ number cs. decided Refused (Given (standing cs)) own (λ r e. no (cc)) (tests number cs []) (judging number cs) (judging-decides number cs);
       write = λ number cs out.
-          decided Declined (Bytes (length (reportText cs))) own-writing (λ r e. no (cc)) (writeTests number cs (length out)) (writing number cs out) (writing-decides number cs out);
+          decided Declined (Bytes (length (reportText cs))) own-writing (λ r e. no (cc)) (writeTests number cs (length out)) (writingReport number cs out) (writing-decides number cs out);
       lowest = lowest-named;
       bytes-kept = λ r text out. refl;
       rejecting = rejected-rejects;

@@ -18,8 +18,8 @@ use Rattle.poisson.specs.Rows.{rows}
 use Rattle.refusal.specs.declared.Refusal.{Refusal}
 use Rattle.refusal.specs.declared.Refusal.the-variants.{CampaignFull, Item, Room, RowsUsedUp, TooLong, TooShort}
 use Rattle.sample_items.specs.Limits.{longestTime}
-use Rattle.campaign_state.specs.declared.Answer.{Answer}
-use Rattle.campaign_state.specs.declared.Answer.the-variants.{Taken}
+use Rattle.campaign_state.specs.declared.CampaignAnswer.{CampaignAnswer}
+use Rattle.campaign_state.specs.declared.CampaignAnswer.the-variants.{Taken}
 use Rattle.campaign_state.specs.declared.Campaign.{Campaign}
 use Rattle.campaign_state.specs.Answers.{opened}
 use Rattle.campaign_state.specs.Records.{campaignOf}
@@ -30,7 +30,7 @@ use Rattle.sheet_text.specs.Sheet.{meaning}
 use Rattle.text.specs.declared.Writing.{Writing}
 use Rattle.text.specs.Write.{laidBy}
 use Rattle.text.specs.declared.Writing.the-variants.{Bytes, Refused as Declined}
-use Rattle.sheet_records.specs.Answers.{afterJudging, judged, judgedAs, judgedFrom, onward, writing}
+use Rattle.sheet_records.specs.Answers.{afterJudging, judged, judgedAs, judgedFrom, onward, writingSheet}
 use Rattle.sheet_records.specs.Ledger.{exposureIn, failedIn, outcomeIn, sheetText}
 use Rattle.sheet_records.proofs.Enough.{enough}
 use Rattle.sheet_records.proofs.Entered.{judged-campaign, judged-records}
@@ -43,7 +43,7 @@ use Rattle.sheet_records.proofs.Clean.{written-again}
 use Rattle.demands.proofs.Demand1.{Decides, Test, _gives_, decide, decided}
 
 -- ---- the statement
--- a record after so many records and failures: 4, 3, 5, 6; then the records behind it, and what is tested behind them
+-- a record after so many records and failures: 4, 3, 5, 6; then the records after it, and what is tested after them
 unfoldable pub recordTests : ℕ → ℕ → List ℤ → List Test → List Test
 recordTests m n [] ts = ts
 recordTests m n (x ∷ xs) ts =
@@ -60,9 +60,9 @@ writeTests q xs room =
     ∷ recordTests 0 0 xs (ltb room (length (sheetText q xs)) gives Room (length (sheetText q xs)) ∷ [])
 
 pub record Request2 : Type 0 where
-  pub write : (q : ℕ) (xs : List ℤ) (out : List ℕ) → Decides Declined (writeTests q xs (length out)) (Bytes (length (sheetText q xs))) (writing q xs out)
+  pub write : (q : ℕ) (xs : List ℤ) (out : List ℕ) → Decides Declined (writeTests q xs (length out)) (Bytes (length (sheetText q xs))) (writingSheet q xs out)
   -- 22 bytes and 18 for each record are always room
-  pub enough : (q : ℕ) (xs : List ℤ) (out : List ℕ) (n : ℕ) → writing q xs out ≡ Bytes n → n ≤ 22 + 18 * length xs
+  pub enough : (q : ℕ) (xs : List ℤ) (out : List ℕ) (n : ℕ) → writingSheet q xs out ≡ Bytes n → n ≤ 22 + 18 * length xs
   -- the least number of 32 bits is a failed record, and too long
   pub least : (failedIn (negsuc 2147483647) ≡ true) × (ltb longestTime (exposureIn (negsuc 2147483647)) ≡ true)
   -- the sheet's own refusals with their line and column; then 7 with the places needed, on no line; else the standard
@@ -75,13 +75,13 @@ pub record Request2 : Type 0 where
   pub bytes-kept : (r : Refusal) (text out : List ℕ) → laidBy (Declined r) text out ≡ out
   pub records-kept : (line column : ℕ) (r : Refusal) (xs slice : List ℤ) → filledBy (Bad line column r) xs slice ≡ slice
   -- reading what was written gives the campaign of those records
-  pub back : (q : ℕ) (xs : List ℤ) (out : List ℕ) (n : ℕ) → writing q xs out ≡ Bytes n
+  pub back : (q : ℕ) (xs : List ℤ) (out : List ℕ) (n : ℕ) → writingSheet q xs out ≡ Bytes n
       → meaning (take n (laidBy (Bytes n) (sheetText q xs) out)) .end ≡ Read (campaignOf q (map outcomeIn xs))
   -- the records of a sheet that reads cleanly, with its standard, come out of the writer as that sheet
   pub again : (text : List ℕ) (c : Campaign) (out : List ℕ) → meaning text .end ≡ Read c → length text ≤ length out
-      → (writing (c .standard) (recordsOf text) out ≡ Bytes (length text)) × (sheetText (c .standard) (recordsOf text) ≡ text)
+      → (writingSheet (c .standard) (recordsOf text) out ≡ Bytes (length text)) × (sheetText (c .standard) (recordsOf text) ≡ text)
   -- the records of what was written are the records, with the standard
-  pub same : (q : ℕ) (xs : List ℤ) (out : List ℕ) (n places : ℕ) → writing q xs out ≡ Bytes n → length xs ≤ places
+  pub same : (q : ℕ) (xs : List ℤ) (out : List ℕ) (n places : ℕ) → writingSheet q xs out ≡ Bytes n → length xs ≤ places
       → (resuming (sheetText q xs) places ≡ Records q (length xs)) × (recordsOf (sheetText q xs) ≡ xs)
 
 -- ---- the proof
@@ -100,7 +100,7 @@ module _ (needed room : ℕ) where
   abbrev last : List Test
   last = ltb room needed gives Room needed ∷ []
 
-  abbrev then : List ℤ → Answer → Writing
+  abbrev then : List ℤ → CampaignAnswer → Writing
   then xs a = afterJudging (onward a (λ d. judgedFrom d xs)) needed room
 
   records-decide : (xs : List ℤ) (c : Campaign) → sound c ≡ true
@@ -127,8 +127,8 @@ module _ (needed room : ℕ) where
       let (taken, good) = told-taken c f t g low high (eqb-false (c .records) mostRecords m) (eqb-false (c .failures) 64 n) in
       ap (then xs) taken ∙ records-decide xs (entered c f t) good ∙ rw (e, h, m, n)))))
 
-written-decides : (q : ℕ) (xs : List ℤ) (out : List ℕ) → writing q xs out ≡ decide Declined (writeTests q xs (length out)) (Bytes (length (sheetText q xs)))
-unfolding decide writing judged
+written-decides : (q : ℕ) (xs : List ℤ) (out : List ℕ) → writingSheet q xs out ≡ decide Declined (writeTests q xs (length out)) (Bytes (length (sheetText q xs)))
+unfolding decide writingSheet judged
 written-decides q xs out =
     by-test (standardInRange q)
     (λ e.
@@ -152,7 +152,7 @@ pub request-2 : Request2
 unfolding laidBy filledBy resuming campaignOf
 request-2 =
     record {
-      write = λ q xs out. decided Declined (Bytes (length (sheetText q xs))) own (λ r e. no (cc)) (writeTests q xs (length out)) (writing q xs out) (written-decides q xs out);
+      write = λ q xs out. decided Declined (Bytes (length (sheetText q xs))) own (λ r e. no (cc)) (writeTests q xs (length out)) (writingSheet q xs out) (written-decides q xs out);
       enough = λ q xs out n e. let w = wrote q xs out n e in omega (arith, w .bytes, enough q xs (w .end) (w .clean));
       least = (refl, refl);
       refused-sheet = λ text places line column r e. rw e;
@@ -168,12 +168,12 @@ request-2 =
     }
   where
     written : (text : List ℕ) (c : Campaign) (out : List ℕ) → meaning text .end ≡ Read c → length text ≤ length out
-        → (writing (c .standard) (recordsOf text) out ≡ Bytes (length text)) × (sheetText (c .standard) (recordsOf text) ≡ text)
+        → (writingSheet (c .standard) (recordsOf text) out ≡ Bytes (length text)) × (sheetText (c .standard) (recordsOf text) ≡ text)
     written text c out e room =
         let (judges, is) = written-again text c e in
         (sym (all-written (c .standard) (recordsOf text) out (ap judgedAs (sym judges)) (rw is room)) ∙ ap (λ (l : List ℕ). Bytes (length l)) is, is)
 
-    same-records : (q : ℕ) (xs : List ℤ) (out : List ℕ) (n places : ℕ) → writing q xs out ≡ Bytes n → length xs ≤ places
+    same-records : (q : ℕ) (xs : List ℤ) (out : List ℕ) (n places : ℕ) → writingSheet q xs out ≡ Bytes n → length xs ≤ places
         → (resuming (sheetText q xs) places ≡ Records q (length xs)) × (recordsOf (sheetText q xs) ≡ xs)
     same-records q xs out n places e room =
         let w = wrote q xs out n e in

@@ -18,7 +18,7 @@ use Rattle.sample_items.specs.declared.Items.{Items}
 use Rattle.sample_channels.specs.declared.Moment.{Moment}
 use Rattle.crossing_places.specs.Reading.{crossesAt, firstOf, groups, largestSet, passing}
 use Rattle.record_state.specs.Answers.{opened}
-use Rattle.record_state.specs.declared.Answer.the-variants.{Taken}
+use Rattle.record_state.specs.declared.RecordAnswer.the-variants.{Taken}
 use Rattle.record_feed.specs.Pieces.{AllTaken, Piece, joined, samplesOf}
 use Rattle.record_feed.proofs.Theorems.{pieces-whole}
 use Rattle.record_state.specs.State.{failed, stateOf, tooShort}
@@ -32,14 +32,14 @@ use Rattle.record_end.specs.declared.Result.{Result}
 use Rattle.record_end.proofs.Given.{exposure-bounds, given, given-bounds}
 use Rattle.campaign_state.specs.Answers.{entering, outcomeKept, taken}
 use Rattle.campaign_state.specs.State.{sound}
-use Rattle.campaign_state.specs.declared.Answer.{Answer}
-use Rattle.campaign_state.specs.declared.Answer.the-variants.{Refused}
+use Rattle.campaign_state.specs.declared.CampaignAnswer.{CampaignAnswer}
+use Rattle.campaign_state.specs.declared.CampaignAnswer.the-variants.{Refused}
 use Rattle.campaign_state.specs.declared.Campaign.{Campaign}
 use Rattle.demands.proofs.Demand2.{crossingsOf}
 
 -- ---- the statement
 -- the old closing: 8 (either state), 4, 5, 6
-abbrev closing : Record → Campaign → Answer
+abbrev closing : Record → Campaign → CampaignAnswer
 closing r c =
     cond (not (reading.sound r)) (Refused BrokenState)
     (cond (not (sound c)) (Refused BrokenState)
@@ -47,7 +47,7 @@ closing r c =
     (taken c (failed r) (exposureOf r))))
 
 -- the second step after the first
-abbrev onward : Campaign → Ended → Answer
+abbrev onward : Campaign → Ended → CampaignAnswer
 onward c (Given x) = entering c (outcomeOf x)
 onward c (ended.Refused f) = Refused f
 

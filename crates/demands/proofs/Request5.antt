@@ -16,7 +16,7 @@ use Rattle.record_state.specs.Answers.{opened}
 use Rattle.sample_items.specs.declared.Items.{Items}
 use Rattle.record_feed.specs.Answers.{fed}
 use Rattle.record_state.specs.State.{countsKept, failed, failureKept, groupsKept, itemsKept, lastKept, lengthKept, noGroups, noneKept, sound}
-use Rattle.record_state.specs.declared.Answer.the-variants.{Refused, Taken}
+use Rattle.record_state.specs.declared.RecordAnswer.the-variants.{Refused, Taken}
 use Rattle.record_state.specs.declared.Record.{Record}
 use Rattle.record_feed.proofs.Fed.{fed-broken}
 use Rattle.record_state.proofs.Relations.{Failure, None, kept-from}
@@ -31,8 +31,8 @@ before r = itemsKept r && (lastKept r && (lengthKept r && (countsKept r && cond 
 
 -- what the request adds, with any crossing
 pub record Grouped (r : Record) : Type 0 where
-  pub not-before : r .latest ≤ r .recent
-  pub below : r .recent < r .n
+  pub not-before : r .«last_chosen» ≤ r .«last_crossing»
+  pub below : r .«last_crossing» < r .n
   pub some : 1 ≤ r .groups
   pub within : r .groups ≤ r .largest
 
@@ -47,7 +47,7 @@ pub record Request5 : Type 0 where
   -- definition speaks
   pub same : (r : Record) → before r ≡ true → anyCrossing r ≡ failed r
   pub crossed : (r : Record) → sound r ≡ true → ¬ (r .crossings ≡ 0) → Grouped r
-  pub none : (r : Record) → sound r ≡ true → r .crossings ≡ 0 → (r .recent ≡ 0) × (r .groups ≡ 0)
+  pub none : (r : Record) → sound r ≡ true → r .crossings ≡ 0 → (r .«last_crossing» ≡ 0) × (r .groups ≡ 0)
   -- a state without them is refused by 8, whatever piece comes with it
   pub refused : (r : Record) (xs ys : List ℤ) → sound r ≡ false → fed r xs ys ≡ Refused BrokenState
   -- what is handed out keeps them
@@ -92,13 +92,13 @@ relations r = by-failure r ∙ alike (before r) (anyCrossing r) (failed r) (grou
 grouped : (r : Record) → sound r ≡ true → ¬ (r .crossings ≡ 0) → Grouped r
 grouped r s h =
     let f = failure (kept-from r s) h in
-    record { not-before = f .recent; below = f .recent-below; some = f .groups; within = f .within }
+    record { not-before = f .last-crossing; below = f .last-crossing-below; some = f .groups; within = f .within }
 
-empty : (r : Record) → sound r ≡ true → r .crossings ≡ 0 → (r .recent ≡ 0) × (r .groups ≡ 0)
+empty : (r : Record) → sound r ≡ true → r .crossings ≡ 0 → (r .«last_crossing» ≡ 0) × (r .groups ≡ 0)
 empty r s e = let k = kept-from r s in go (k .figures) (k .counts)
   where
-    go : None r ⊎ Failure r → r .largest ≤ r .crossings → (r .recent ≡ 0) × (r .groups ≡ 0)
-    go (inl n) l = (n .recent, n .groups)
+    go : None r ⊎ Failure r → r .largest ≤ r .crossings → (r .«last_crossing» ≡ 0) × (r .groups ≡ 0)
+    go (inl n) l = (n .last-crossing, n .groups)
     go (inr f) l = absurd (omega (arith, f .largest))
 
 pub request-5 : Request5

@@ -2,7 +2,7 @@
 -- 02's order (demand 1); a sum goes in by value and a refusal hands none out, so nothing is added. N is the counted
 -- groups and P the timed samples of the records that were added, in whatever order, and a record in pieces, cut
 -- anywhere, adds what the whole one does: the groups of its joined samples, and how many of them stand at the ramp's
--- end or behind it. The half-width is the least whole number whose square times P is at least 1,960² · N · (P - N), and
+-- end or after it. The half-width is the least whole number whose square times P is at least 1,960² · N · (P - N), and
 -- there is one. "No record" is answered exactly while nothing was added.  D is the step, R the ramp, a the levels and τ
 -- the decorrelation time. Assumes nothing.
 use mathlib.Core.Path.{_≡_, ap, refl}
@@ -23,14 +23,14 @@ use Rattle.crossing_places.specs.Reading.{groups}
 use Rattle.record_state.specs.Answers as records
 use Rattle.record_state.specs.State as recording
 use Rattle.record_state.specs.State.{stateOf, tooShort}
-use Rattle.record_state.specs.declared.Answer.the-variants as read
+use Rattle.record_state.specs.declared.RecordAnswer.the-variants as read
 use Rattle.record_state.specs.declared.Record.{Record}
 use Rattle.record_feed.specs.Pieces.{AllTaken, Piece, joined, samplesOf}
 use Rattle.record_feed.proofs.Theorems.{pieces-whole}
 use Rattle.binomial_sum.specs.Answers.{adding, opened}
 use Rattle.binomial_sum.specs.Records.{AllAdded, sumOf}
 use Rattle.binomial_sum.specs.State.{empty, grown, sound, timed, wouldPass}
-use Rattle.binomial_sum.specs.declared.Answer.the-variants.{Refused, Taken}
+use Rattle.binomial_sum.specs.declared.SumAnswer.the-variants.{Refused, Taken}
 use Rattle.binomial_sum.specs.declared.Sum.{Sum}
 use Rattle.binomial_sum.proofs.Answered as answered
 use Rattle.binomial_sum.proofs.Records.{any-order, grown-by-adding, none-timed}
@@ -69,7 +69,7 @@ pub record Request7 : Type 0 where
   -- N and P over the list of the records; neighbours may change places, and by such changes any order comes from any
   -- other
   pub totals : (D : ℕ) (s t : Sum) (rs : List Record) → opened D ≡ Taken s → AllAdded s rs t → t ≡ sumOf D rs
-  pub in-any-order : (before : List Record) (a b : Record) (behind : List Record) (s t : Sum) → AllAdded s (before ++ (a ∷ (b ∷ behind))) t → AllAdded s (before ++ (b ∷ (a ∷ behind))) t
+  pub in-any-order : (before : List Record) (a b : Record) (after : List Record) (s t : Sum) → AllAdded s (before ++ (a ∷ (b ∷ after))) t → AllAdded s (before ++ (b ∷ (a ∷ after))) t
   -- the pieces rule: what is answered for a record in pieces is answered for the whole one, refusals too; and what that
   -- adds
   pub pieces : (items : Items) (s t : Record) (ps : List Piece) (x : Sum)
@@ -133,7 +133,7 @@ request-7 =
       opened-sound = λ D s e. is-true (sound s) (answered.opened-sound D s e);
       added-sound = λ s r t e. is-true (sound t) (answered.adding-sound s r t e);
       totals = grown-by-adding;
-      in-any-order = λ before a b behind s t. any-order before a b behind;
+      in-any-order = λ before a b after s t. any-order before a b after;
       pieces = λ items s t ps x e f. ap (adding x) (pieces-whole items s e f);
       adds = joined-adds;
       least = half-width;

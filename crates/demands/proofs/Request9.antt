@@ -17,15 +17,15 @@ use Rattle.refusal.specs.declared.Refusal.the-variants.{BrokenState, BureauFull
 use Rattle.poisson.specs.Rows.{rows}
 use Rattle.truth.proofs.Cases.{by-test}
 use Rattle.record_end.specs.declared.Outcome.{Outcome}
-use Rattle.campaign_state.specs.declared.Answer.the-variants as campaigned
+use Rattle.campaign_state.specs.declared.CampaignAnswer.the-variants as campaigned
 use Rattle.campaign_state.specs.declared.Campaign.{Campaign}
 use Rattle.campaign_state.specs.Answers.{entering, outcomeKept}
 use Rattle.campaign_state.specs.Records.{campaignOf, censoredIn}
 use Rattle.campaign_state.specs.State.{censored, mostRecords, sound, standardInRange}
 use Rattle.campaign_verdict.specs.Answers.{judging, rating}
 use Rattle.campaign_verdict.specs.Figures.{ratesOf, verdictOf}
-use Rattle.bureau_table.specs.declared.Answer.{Answer}
-use Rattle.bureau_table.specs.declared.Answer.the-variants.{Entered, Freed, Judged, Placed, Rated, Refused}
+use Rattle.bureau_table.specs.declared.TableAnswer.{TableAnswer}
+use Rattle.bureau_table.specs.declared.TableAnswer.the-variants.{Entered, Freed, Judged, Placed, Rated, Refused}
 use Rattle.bureau_table.specs.declared.Ask.{Ask}
 use Rattle.bureau_table.specs.declared.Ask.the-variants.{On, Take}
 use Rattle.bureau_table.specs.declared.Call.{Call}
@@ -159,7 +159,7 @@ module _ (t : List Place) (b : ℕ) where
       (λ k. rw k)
 
   -- the tests before document 01's
-  work-is : (i : ℕ) (w : Work) (ts : List Test) (proper : Answer) → (sound (at t i .campaign) ≡ true → worked b (at t i .campaign) w .answer ≡ decide Refused ts proper)
+  work-is : (i : ℕ) (w : Work) (ts : List Test) (proper : TableAnswer) → (sound (at t i .campaign) ≡ true → worked b (at t i .campaign) w .answer ≡ decide Refused ts proper)
       → called t b (On i w) .answer ≡ decide Refused (placeTests t b i ts) proper
   unfolding called decide
   work-is i w ts proper rest =

@@ -15,11 +15,11 @@ use Rattle.sheet_line.specs.Column.{howMany, recordColumn, recordFields, standa
 use Rattle.sheet_line.specs.Form.{begins, standardStart}
 use Rattle.sheet_line.specs.Line.{endedBy, fieldThen, recordLine, standardLine, startsWith, stepping, telling}
 use Rattle.sheet_reply.specs.Written.{figures, letterFor, reasonText, recordText, refusedText}
-use Rattle.sheet_text.specs.Sheet.{meaning, reading}
+use Rattle.sheet_text.specs.Sheet.{meaning, readingSheet}
 
 -- what the program writes for a sheet; where it unfolds, all that a sheet's meaning is defined by does
 pub says : List ℕ → List ℕ
-unfolding meaning reading linesOf stepping standardLine recordLine standardColumn recordColumn standardFields
+unfolding meaning readingSheet linesOf stepping standardLine recordLine standardColumn recordColumn standardFields
     recordFields howMany fieldThen endedBy startsWith begins fieldAt readAs faultIn leading fieldOf isNumber
     allDigits valueOf telling entering sound censored recordText figures letterFor fieldText digitsOf digitsWithin
     refusedText reasonText l u lowerRows upperRows
@@ -59,7 +59,7 @@ pub rejected : says rejectedText ≡ rejectedReply
 unfolding says
 rejected = refl
 
--- at the first refusal refused, line number, refusal number, and nothing more: 1 0 10000001 and a good line behind it
+-- at the first refusal refused, line number, refusal number, and nothing more: 1 0 10000001 and a good line after it
 -- give refused 2 3
 abbrev stoppedText : List ℕ
 stoppedText =

@@ -16,7 +16,7 @@ use Rattle.poisson.specs.Rows.{million}
 use Rattle.poisson.specs.Tables.{l, u}
 use Rattle.truth.proofs.Laws.{holds, is-true, true≢false}
 use Rattle.record_end.specs.declared.Outcome.{Outcome}
-use Rattle.campaign_state.specs.declared.Answer.the-variants.{Taken}
+use Rattle.campaign_state.specs.declared.CampaignAnswer.the-variants.{Taken}
 use Rattle.campaign_state.specs.declared.Campaign.{Campaign}
 use Rattle.campaign_state.specs.Answers.{entering}
 use Rattle.campaign_state.specs.State.{censored, entered, sound, standardInRange}

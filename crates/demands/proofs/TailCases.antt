@@ -17,8 +17,8 @@ use Rattle.crossing_sets.specs.Groups.{attach, groups}
 use Rattle.peak_groups.specs.Groups.{larger, largest, those, tops}
 use Rattle.peak_groups.specs.Runs.{peaks, points, started}
 use Rattle.peak_groups.specs.Peaks.{handed, sum}
-use Rattle.peak_envelope.specs.declared.Found.{Found}
-use Rattle.peak_envelope.specs.declared.Found.the-variants as envelope
+use Rattle.peak_envelope.specs.declared.PeaksFound.{PeaksFound}
+use Rattle.peak_envelope.specs.declared.PeaksFound.the-variants as envelope
 use Rattle.peak_envelope.specs.Answers.{found, placed}
 use Rattle.logarithm.specs.Ours.{doublings, ourFigure, squarings}
 use Rattle.sorting.specs.Sorting.{Downwards, SameValues, count}
@@ -63,7 +63,7 @@ zeros-in-runs :
 unfolding peaks points started attach groups those larger largest tops sum
 zeros-in-runs = refl
 
-abbrev ofFound : Found → List ℕ
+abbrev ofFound : PeaksFound → List ℕ
 ofFound (envelope.Peaks k) = k ∷ []
 ofFound (envelope.Refused r) = numberOf r ∷ valueOf r ∷ []
 

@@ -21,7 +21,7 @@ use Rattle.comma_line.specs.Line as comma
 use Rattle.comma_line.specs.Text.{firstWrong, textFrom, textOf}
 use Rattle.comma_read.specs.declared.Reading.{Reading}
 use Rattle.comma_read.specs.declared.Reading.the-variants as read
-use Rattle.comma_read.specs.Answers.{reading, readingLines}
+use Rattle.comma_read.specs.Answers.{readingComma, readingLines}
 use Rattle.comma_write.specs.Answers.{lastTime}
 use Rattle.comma_write.specs.Answers as scribe
 use Rattle.campaign_state.specs.Answers.{entering}
@@ -57,7 +57,7 @@ comma-written : textOf 500 five
     49 ∷ 48 ∷ 48 ∷ 48 ∷ 44 ∷ 48 ∷ 46 ∷ 48 ∷ 48 ∷ 55 ∷ 10 ∷
     49 ∷ 53 ∷ 48 ∷ 48 ∷ 44 ∷ 49 ∷ 48 ∷ 48 ∷ 48 ∷ 46 ∷ 48 ∷ 48 ∷ 48 ∷ 10 ∷
     50 ∷ 48 ∷ 48 ∷ 48 ∷ 44 ∷ 45 ∷ 48 ∷ 46 ∷ 48 ∷ 48 ∷ 49 ∷ 10 ∷ []
-unfolding textFrom comma.lineText degreesText digitsOf digitsWithin
+unfolding textFrom comma.sampleText degreesText digitsOf digitsWithin
 comma-written = refl
 
 -- the time of the last sample
@@ -66,14 +66,14 @@ comma-last-time = refl
 
 -- 1; 2 with the place; 7 with the bytes needed; and just enough of them
 comma-writer-refuses :
-    ofWriting (scribe.writing 0 five [])
-    ∷ ofWriting (scribe.writing 10001 five [])
-    ∷ ofWriting (scribe.writing 500 (pos 0 ∷ pos 0 ∷ negsuc 1000000 ∷ []) [])
-    ∷ ofWriting (scribe.writing 500 five (replicate 56 0))
-    ∷ ofWriting (scribe.writing 500 five (replicate 57 0))
+    ofWriting (scribe.writingComma 0 five [])
+    ∷ ofWriting (scribe.writingComma 10001 five [])
+    ∷ ofWriting (scribe.writingComma 500 (pos 0 ∷ pos 0 ∷ negsuc 1000000 ∷ []) [])
+    ∷ ofWriting (scribe.writingComma 500 five (replicate 56 0))
+    ∷ ofWriting (scribe.writingComma 500 five (replicate 57 0))
     ∷ []
     ≡ (1 ∷ 1 ∷ []) ∷ (1 ∷ 1 ∷ []) ∷ (2 ∷ 2 ∷ []) ∷ (7 ∷ 57 ∷ []) ∷ (57 ∷ []) ∷ []
-unfolding scribe.writing firstBad textFrom comma.lineText degreesText digitsOf digitsWithin
+unfolding scribe.writingComma firstBad textFrom comma.sampleText degreesText digitsOf digitsWithin
 comma-writer-refuses = refl
 
 -- 0,1.5 and 500,2
@@ -94,17 +94,17 @@ wrongSecond = 48 ∷ 44 ∷ 49 ∷ 48 ∷ 48 ∷ 48 ∷ 46 ∷ 48 ∷ 48 ∷ 49 
 
 -- 1; 10 with the line number, before 2 though the bad sample stands first; 2 with the place; 7 with the samples
 comma-reader-refuses :
-    ofReading (reading 0 wrongSecond 0) ∷ ofReading (reading 10001 good 2)
-    ∷ ofReading (reading 500 wrongSecond 0) ∷ ofReading (reading 1000 good 2)
-    ∷ ofReading (reading 500 outside 0) ∷ ofReading (reading 500 outsideSecond 0)
-    ∷ ofReading (reading 500 good 1) ∷ ofReading (reading 500 good 2)
+    ofReading (readingComma 0 wrongSecond 0) ∷ ofReading (readingComma 10001 good 2)
+    ∷ ofReading (readingComma 500 wrongSecond 0) ∷ ofReading (readingComma 1000 good 2)
+    ∷ ofReading (readingComma 500 outside 0) ∷ ofReading (readingComma 500 outsideSecond 0)
+    ∷ ofReading (readingComma 500 good 1) ∷ ofReading (readingComma 500 good 2)
     ∷ []
     ≡ (1 ∷ 1 ∷ []) ∷ (1 ∷ 1 ∷ [])
     ∷ (10 ∷ 2 ∷ []) ∷ (10 ∷ 2 ∷ [])
     ∷ (2 ∷ 0 ∷ []) ∷ (2 ∷ 1 ∷ [])
     ∷ (7 ∷ 2 ∷ []) ∷ (2 ∷ [])
     ∷ []
-unfolding readingLines firstWrong firstBad linesOf comma.isLine comma.right
+unfolding readingLines firstWrong firstBad linesOf comma.isCommaLine comma.right
     leading isNumber allDigits decimal.valueOf isSize size sizeLength filled
 comma-reader-refuses = refl
 
@@ -121,24 +121,24 @@ sheet-written = refl
 -- 1 with item 5 before all; the first record at fault decides: 4, 3, and after 64 failures 4, 3, 6; then 7 with the
 -- bytes needed, and just enough of them
 sheet-writer-refuses :
-    ofWriting (ledger.writing 0 (pos 0 ∷ []) [])
-    ∷ ofWriting (ledger.writing 7 (pos 0 ∷ pos 10000001 ∷ []) [])
-    ∷ ofWriting (ledger.writing 7 (negsuc 10000000 ∷ pos 0 ∷ []) [])
-    ∷ ofWriting (ledger.writing 7 (replicate 64 (negsuc 0) ++ (pos 0 ∷ [])) [])
-    ∷ ofWriting (ledger.writing 7 (replicate 64 (negsuc 0) ++ (pos 10000001 ∷ [])) [])
-    ∷ ofWriting (ledger.writing 7 (replicate 64 (negsuc 0) ++ (pos 1 ∷ [])) [])
-    ∷ ofWriting (ledger.writing 7 (pos 1 ∷ negsuc 9999999 ∷ []) (replicate 29 0))
-    ∷ ofWriting (ledger.writing 7 (pos 1 ∷ negsuc 9999999 ∷ []) (replicate 30 0))
+    ofWriting (ledger.writingSheet 0 (pos 0 ∷ []) [])
+    ∷ ofWriting (ledger.writingSheet 7 (pos 0 ∷ pos 10000001 ∷ []) [])
+    ∷ ofWriting (ledger.writingSheet 7 (negsuc 10000000 ∷ pos 0 ∷ []) [])
+    ∷ ofWriting (ledger.writingSheet 7 (replicate 64 (negsuc 0) ++ (pos 0 ∷ [])) [])
+    ∷ ofWriting (ledger.writingSheet 7 (replicate 64 (negsuc 0) ++ (pos 10000001 ∷ [])) [])
+    ∷ ofWriting (ledger.writingSheet 7 (replicate 64 (negsuc 0) ++ (pos 1 ∷ [])) [])
+    ∷ ofWriting (ledger.writingSheet 7 (pos 1 ∷ negsuc 9999999 ∷ []) (replicate 29 0))
+    ∷ ofWriting (ledger.writingSheet 7 (pos 1 ∷ negsuc 9999999 ∷ []) (replicate 30 0))
     ∷ []
     ≡ (1 ∷ 5 ∷ []) ∷ (4 ∷ 0 ∷ []) ∷ (3 ∷ 0 ∷ [])
     ∷ (4 ∷ 0 ∷ []) ∷ (3 ∷ 0 ∷ []) ∷ (6 ∷ 0 ∷ [])
     ∷ (7 ∷ 30 ∷ []) ∷ (30 ∷ [])
     ∷ []
-unfolding ledger.writing ledger.judged ledger.judgedFrom telling entering sound
+unfolding ledger.writingSheet ledger.judged ledger.judgedFrom telling entering sound
     sheetText linesFrom fieldText digitsOf digitsWithin
 sheet-writer-refuses = refl
 
--- ---- [3] the place of the first bad sample, behind both ends of the range
+-- ---- [3] the place of the first bad sample, past both ends of the range
 bad-sample-named : firstBad (pos 1000000 ∷ negsuc 999999 ∷ pos 0 ∷ negsuc 1000000 ∷ pos 1000001 ∷ []) ≡ 3
 unfolding firstBad
 bad-sample-named = refl

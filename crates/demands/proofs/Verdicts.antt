@@ -7,7 +7,7 @@ use Prim.Native.Nat.{ℕ, _*_}
 use lib.Ieee.{Float, binary64, div, ofBits, ofInt}
 use Rattle.poisson.specs.Tables.{l, lowerRows, u, upperRows}
 use Rattle.record_end.specs.declared.Outcome.{Outcome}
-use Rattle.campaign_state.specs.declared.Answer.the-variants.{Taken}
+use Rattle.campaign_state.specs.declared.CampaignAnswer.the-variants.{Taken}
 use Rattle.campaign_state.specs.declared.Campaign.{Campaign}
 use Rattle.campaign_state.specs.Answers.{entering}
 use Rattle.campaign_state.specs.Records.{butLast, campaignOf, censoredIn, exposureIn, failuresIn, lastFailed}

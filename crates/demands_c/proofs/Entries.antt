@@ -33,8 +33,8 @@ use Rattle.crossing_places.specs.Reading.{counted, countedTimes}
 use Rattle.record_list.specs.declared.Listed.{Listed}
 use Rattle.record_list.specs.declared.Listed.the-variants as listing
 use Rattle.record_list.specs.Answers as lists
-use Rattle.record_state.specs.declared.Answer.{Answer as Reading}
-use Rattle.record_state.specs.declared.Answer.the-variants as read
+use Rattle.record_state.specs.declared.RecordAnswer.{RecordAnswer}
+use Rattle.record_state.specs.declared.RecordAnswer.the-variants as read
 use Rattle.record_state.specs.declared.Record.{Record}
 use Rattle.record_state.specs.Answers.{opened}
 use Rattle.record_state.specs.State.{sound, stateOf, tooShort}
@@ -46,8 +46,8 @@ use Rattle.record_end.specs.declared.Outcome.{Outcome}
 use Rattle.record_end.specs.declared.Result.{Result}
 use Rattle.record_end.specs.Result.{ending, outcomeOf}
 use Rattle.record_end.specs.Result as results
-use Rattle.campaign_state.specs.declared.Answer.{Answer as Campaigned}
-use Rattle.campaign_state.specs.declared.Answer.the-variants as campaigned
+use Rattle.campaign_state.specs.declared.CampaignAnswer.{CampaignAnswer}
+use Rattle.campaign_state.specs.declared.CampaignAnswer.the-variants as campaigned
 use Rattle.campaign_state.specs.declared.Campaign.{Campaign}
 use Rattle.campaign_state.specs.Answers as campaigns
 use Rattle.campaign_state.specs.Answers.{entering, outcomeKept}
@@ -57,8 +57,8 @@ use Rattle.campaign_verdict.specs.declared.Rates.{Rates}
 use Rattle.campaign_verdict.specs.declared.Verdict.{Verdict}
 use Rattle.campaign_verdict.specs.declared.Verdict.the-variants.{Accept, Continue, NoRecord, Reject}
 use Rattle.campaign_verdict.specs.Figures.{ratesOf, verdictOf}
-use Rattle.binomial_sum.specs.declared.Answer.{Answer as Summing}
-use Rattle.binomial_sum.specs.declared.Answer.the-variants as summed
+use Rattle.binomial_sum.specs.declared.SumAnswer.{SumAnswer}
+use Rattle.binomial_sum.specs.declared.SumAnswer.the-variants as summed
 use Rattle.binomial_sum.specs.declared.Sum.{Sum}
 use Rattle.binomial_sum.specs.Answers as adding
 use Rattle.binomial_sum.specs.State as sums
@@ -66,8 +66,8 @@ use Rattle.binomial_bounds.specs.Answers.{bounding, recorded}
 use Rattle.binomial_bounds.specs.Bounds.{boundsOf}
 use Rattle.binomial_bounds.specs.Bounds as spread
 use Rattle.poisson.specs.Rows as quantiles
-use Rattle.bureau_table.specs.declared.Answer.{Answer as Answered}
-use Rattle.bureau_table.specs.declared.Answer.the-variants as answered
+use Rattle.bureau_table.specs.declared.TableAnswer.{TableAnswer}
+use Rattle.bureau_table.specs.declared.TableAnswer.the-variants as answered
 use Rattle.bureau_table.specs.declared.Ask.{Ask}
 use Rattle.bureau_table.specs.declared.Ask.the-variants.{On, Take}
 use Rattle.bureau_table.specs.declared.Work.the-variants.{Enter, GiveBack, Judge, Rate}
@@ -82,7 +82,7 @@ use Rattle.sheet_line.specs.declared.Step.the-variants.{Next, Stop}
 use Rattle.sheet_line.specs.Line.{stepping}
 use Rattle.sheet_text.specs.declared.Reading.{Reading as Ending}
 use Rattle.sheet_text.specs.declared.Reading.the-variants as sheet
-use Rattle.sheet_text.specs.Sheet.{afterStep, meaning, reading}
+use Rattle.sheet_text.specs.Sheet.{afterStep, meaning, readingSheet}
 use Rattle.sheet_records.specs.Ledger.{sheetText}
 use Rattle.sheet_records.specs.declared.Resumed.the-variants as resumed
 use Rattle.sheet_records.specs.Records.{filledBy, recordsOf, resuming}
@@ -91,7 +91,7 @@ use Rattle.decimal.specs.Lines.{linesOf}
 use Rattle.comma_line.specs.Text.{samplesOf, textOf}
 use Rattle.comma_read.specs.Answers as intake
 use Rattle.peak_groups.specs.Peaks.{handed}
-use Rattle.peak_envelope.specs.declared.Found.{Found}
+use Rattle.peak_envelope.specs.declared.PeaksFound.{PeaksFound}
 use Rattle.peak_envelope.specs.Answers.{momentOf, sizeOf}
 use Rattle.peak_envelope.specs.Answers as envelope
 use Rattle.peak_tail.specs.declared.Fitted.{Fitted}
@@ -160,11 +160,11 @@ feedTests r xs ys =
     ∷ [])))
 
 -- what a call leaves of a record, of a campaign
-abbrev pub recordLeft : Reading → Record → Record
+abbrev pub recordLeft : RecordAnswer → Record → Record
 recordLeft (read.Taken t) r = t
 recordLeft (read.Refused f) r = r
 
-abbrev pub campaignLeft : Campaigned → Campaign → Campaign
+abbrev pub campaignLeft : CampaignAnswer → Campaign → Campaign
 campaignLeft (campaigned.Taken d) c = d
 campaignLeft (campaigned.Refused f) c = c
 
@@ -282,7 +282,7 @@ pub record Verdicts : Type 0 where
       (rated (campaignRated s y))
 
 -- ---- a sum: 8 covers an array of another length, which holds no sum
-abbrev pub sumLeft : Summing → Sum → Sum
+abbrev pub sumLeft : SumAnswer → Sum → Sum
 sumLeft (summed.Taken t) s = t
 sumLeft (summed.Refused f) s = s
 
@@ -315,7 +315,7 @@ pub record Conditions : Type 0 where
       (rows : List (List ℕ))
       → Tells (request13.tests (length rows) (campaignsOf rows) []) nothing
       (standingCode (standing (campaignsOf rows))) nothing (array (conditionJudged rows))
-  -- chim_condition_report: 18, 8 with the situation, 7; the bytes behind the report stay
+  -- chim_condition_report: 18, 8 with the situation, 7; the bytes after the report stay
   pub report :
       (rows : List (List ℕ)) (out : List ℕ)
       → let text = reportText (campaignsOf rows) in
@@ -350,7 +350,7 @@ pub record Sheets : Type 0 where
       → (array (sheetRead text s) ≡ refusal s r) × (sheetLine text s ≡ line) × (sheetColumn text s ≡ column)
   pub read-stands : (text s : List ℕ) (c : Campaign) → length s ≡ campaignNumbers → meaning text .end ≡ sheet.Read c
       → campaignOf (sheetRead text s .lent) ≡ c
-  -- chim_sheet_write: 1, record by record 4, 3, 5, 6, then 7; the bytes behind the sheet stay
+  -- chim_sheet_write: 1, record by record 4, 3, 5, 6, then 7; the bytes after the sheet stay
   pub write :
       (q : ℕ) (xs : List ℤ) (out : List ℕ)
       → Tells (request2.writeTests q xs (length out)) out
@@ -367,7 +367,7 @@ pub record Sheets : Type 0 where
       (text : List ℕ) (slice : List ℤ) (c : Campaign) → meaning text .end ≡ sheet.Read c → c .records ≤ length slice
       → SheetRecords text slice (taken (c .records) (recordsOf text ++ drop (c .records) slice)) (c .standard) 0 0
 
--- ---- a comma file; what stands behind the samples or the text stays
+-- ---- a comma file; what stands after the samples or the text stays
 pub record Commas : Type 0 where
   -- chim_comma_read: 1, 10, 2, 7
   pub read :
@@ -392,7 +392,7 @@ abbrev pub slices : List ℕ → List ℕ → Slices
 slices s t = record { sizes = s; times = t }
 
 pub record Peaks : Type 0 where
-  -- chim_envelope_find: 1, 2, 3, 4, 7; what stands behind the peaks stays
+  -- chim_envelope_find: 1, 2, 3, 4, 7; what stands after the peaks stays
   pub find :
       (D R τ : ℕ) (xs : List ℤ) (sizes times : List ℕ)
       → let peaks = handed D R τ xs in
@@ -504,10 +504,10 @@ module _ {A : Type 0} (s : List ℕ) (n : ℕ) (tell : A → Told) (a : A) where
 
 -- two answers that differ only in what stands beside them
 module _ (s : List ℕ) where
-  tell-record : Reading → Left (List ℕ)
+  tell-record : RecordAnswer → Left (List ℕ)
   tell-record a = array (recordTold a s)
 
-  tell-campaign : Campaigned → Left (List ℕ)
+  tell-campaign : CampaignAnswer → Left (List ℕ)
   tell-campaign a = array (campaignTold a s)
 
   tell-result : Ended → Left (List ℕ)
@@ -561,25 +561,25 @@ unfolding entering
 entered-other s o e = rw (other-campaign s (no-campaign s e))
 
 -- what arrays stand for afterwards
-left-record : (a : Reading) (s : List ℕ) → ((t : Record) → a ≡ read.Taken t → sound t ≡ true)
+left-record : (a : RecordAnswer) (s : List ℕ) → ((t : Record) → a ≡ read.Taken t → sound t ≡ true)
     → recordOf (recordTold a s .lent) ≡ recordLeft a (recordOf s)
 unfolding recordTold
 left-record (read.Taken t) s good = record-back t (good t refl)
 left-record (read.Refused f) s good = refl
 
-left-campaign : (a : Campaigned) (s : List ℕ) → campaignOf (campaignTold a s .lent) ≡ campaignLeft a (campaignOf s)
+left-campaign : (a : CampaignAnswer) (s : List ℕ) → campaignOf (campaignTold a s .lent) ≡ campaignLeft a (campaignOf s)
 unfolding campaignTold
 left-campaign (campaigned.Taken d) s = campaign-back d
 left-campaign (campaigned.Refused f) s = refl
 
-stands-record : (a : Reading) (s : List ℕ) → ((t : Record) → a ≡ read.Taken t → sound t ≡ true)
+stands-record : (a : RecordAnswer) (s : List ℕ) → ((t : Record) → a ≡ read.Taken t → sound t ≡ true)
     → (eqb (length s) recordNumbers ≡ false → a ≡ read.Refused BrokenState)
     → recordOf (recordKept a s .lent) ≡ recordLeft a (recordOf s)
 unfolding recordKept
 stands-record a s good other = by-test (eqb (length s) recordNumbers) (λ e. rw e (left-record a s good))
     (λ e. rw (e, other e))
 
-stands-campaign : (a : Campaigned) (s : List ℕ)
+stands-campaign : (a : CampaignAnswer) (s : List ℕ)
     → (eqb (length s) campaignNumbers ≡ false → a ≡ campaigned.Refused BrokenState)
     → campaignOf (campaignKept a s .lent) ≡ campaignLeft a (campaignOf s)
 unfolding campaignKept
@@ -656,7 +656,7 @@ module _ (s : List ℕ) (o : Outcome) where
   enters-stands = stands-campaign (entering (campaignOf s) o) s (entered-other s o)
 
 -- an answer that is refused by 8 is told so, whatever the array
-kept-broken : (a : Campaigned) (s : List ℕ) → a ≡ campaigned.Refused BrokenState → array (campaignKept a s)
+kept-broken : (a : CampaignAnswer) (s : List ℕ) → a ≡ campaigned.Refused BrokenState → array (campaignKept a s)
     ≡ refusal s BrokenState
 unfolding campaignKept campaignTold
 kept-broken a s e = by-test (eqb (length s) campaignNumbers) (λ h. rw (h, e)) (λ h. rw h)
@@ -722,12 +722,12 @@ sum-back : (t : Sum) → sumOf (ofSum t) ≡ t
 unfolding sumOf
 sum-back t = refl
 
-left-sum : (a : Summing) (s : List ℕ) → sumOf (sumTold a s .lent) ≡ sumLeft a (sumOf s)
+left-sum : (a : SumAnswer) (s : List ℕ) → sumOf (sumTold a s .lent) ≡ sumLeft a (sumOf s)
 unfolding sumTold
 left-sum (summed.Taken t) s = sum-back t
 left-sum (summed.Refused f) s = refl
 
-stands-sum : (a : Summing) (s : List ℕ) → (eqb (length s) sumNumbers ≡ false → a ≡ summed.Refused BrokenState)
+stands-sum : (a : SumAnswer) (s : List ℕ) → (eqb (length s) sumNumbers ≡ false → a ≡ summed.Refused BrokenState)
     → sumOf (sumKept a s .lent) ≡ sumLeft a (sumOf s)
 unfolding sumKept
 stands-sum a s other = by-test (eqb (length s) sumNumbers) (λ e. rw e (left-sum a s)) (λ e. rw (e, other e))
@@ -778,14 +778,14 @@ conditions-told =
     }
 
 -- ---- a job sheet
-ends-lines : (lines : List (List ℕ)) (s : Standing) → Ends (reading false lines s .end)
-unfolding reading
+ends-lines : (lines : List (List ℕ)) (s : Standing) → Ends (readingSheet false lines s .end)
+unfolding readingSheet
 ends-lines [] Fresh = stopped 1 0 (Line 1)
 ends-lines [] (Open c) = cleanly c
 ends-lines (line ∷ lines) s = go (stepping s line) (ends-lines lines)
   where
-    go : (x : Step) → ((t : Standing) → Ends (reading false lines t .end))
-        → Ends (afterStep x (reading false lines) .end)
+    go : (x : Step) → ((t : Standing) → Ends (readingSheet false lines t .end))
+        → Ends (afterStep x (readingSheet false lines) .end)
     go (Next t) rest = rest t
     go (Stop at column r) rest = stopped at column r
 
@@ -850,7 +850,7 @@ commas-told =
 
 -- ---- peaks
 module _ (sizes times figures moments : List ℕ) where
-  tell-found : Found → Left Slices
+  tell-found : PeaksFound → Left Slices
   tell-found a =
       let x = foundTold a (envelope.written a figures sizes) in
       left (x .number) (x .carried) (slices (x .lent) (envelope.written a moments times))
@@ -897,9 +897,9 @@ peaks-told =
 
 -- ---- the table of two bureaus
 -- an answer told with the rows that the call left, beside what else was lent
-module _ {L : Type 0} (rows : List (List ℕ)) (b : ℕ) (a : Ask) (say : Answered → List (List ℕ) → Left L)
+module _ {L : Type 0} (rows : List (List ℕ)) (b : ℕ) (a : Ask) (say : TableAnswer → List (List ℕ) → Left L)
     (before : L) where
-  bench-tells : {ts : List Test} {proper : Answered} → Decides answered.Refused ts proper (made rows b a .answer)
+  bench-tells : {ts : List Test} {proper : TableAnswer} → Decides answered.Refused ts proper (made rows b a .answer)
       → ((r : Refusal) → say (answered.Refused r) rows ≡ refusal before r)
       → (answer : ℕ) (after : L) → say proper (made rows b a .rows) ≡ taken answer after
       → Tells ts before answer after (say (made rows b a .answer) (made rows b a .rows))
@@ -907,19 +907,19 @@ module _ {L : Type 0} (rows : List (List ℕ)) (b : ℕ) (a : Ask) (say : Answer
       both-ways ts before answer after (say (made rows b a .answer) (made rows b a .rows))
       (λ r f.
       let e = d .refuses r f in
-      ap (λ (x : Answered). say x (made rows b a .rows)) e
+      ap (λ (x : TableAnswer). say x (made rows b a .rows)) e
       ∙ ap (say (answered.Refused r)) (rows-9 .call rows b .refusal-leaves a r e)
       ∙ on-refused r)
-      (λ n. ap (λ (x : Answered). say x (made rows b a .rows)) (d .answers n) ∙ on-proper)
+      (λ n. ap (λ (x : TableAnswer). say x (made rows b a .rows)) (d .answers n) ∙ on-proper)
 
-say-plain : Answered → List (List ℕ) → Left (List (List ℕ))
+say-plain : TableAnswer → List (List ℕ) → Left (List (List ℕ))
 say-plain x after = left (plain x .number) (plain x .carried) after
 
-say-verdict : Float → Float → Answered → List (List ℕ) → Left (Beside Two)
+say-verdict : Float → Float → TableAnswer → List (List ℕ) → Left (Beside Two)
 say-verdict x y a after = let j = bench-told.judged a x y in left (j .number) (j .carried)
     (beside (two (j .lower) (j .upper)) after)
 
-say-rates : Rates → Answered → List (List ℕ) → Left (Beside Rates)
+say-rates : Rates → TableAnswer → List (List ℕ) → Left (Beside Rates)
 say-rates y a after = let r = bench-told.rated a y in left (r .number) (r .carried) (beside (r .rates) after)
 
 verdict-beside : (v : Verdict) (rows : List (List ℕ)) (x y : Float)

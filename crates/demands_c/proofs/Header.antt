@@ -65,8 +65,8 @@ pub record RecordPlaces (r : Record) : Type 0 where
   pub crossings : numberAt (ofRecord r) 6 ≡ r .crossings
   pub largest-set : numberAt (ofRecord r) 7 ≡ r .largest
   pub first : numberAt (ofRecord r) 8 ≡ r .first
-  pub last-of-the-set : numberAt (ofRecord r) 9 ≡ r .latest
-  pub last : numberAt (ofRecord r) 10 ≡ r .recent
+  pub last-of-the-set : numberAt (ofRecord r) 9 ≡ r .«last_chosen»
+  pub last : numberAt (ofRecord r) 10 ≡ r .«last_crossing»
   pub counted : numberAt (ofRecord r) 11 ≡ r .groups
   pub acceleration-level : numberAt (ofRecord r) 12 ≡ r .items .levels .acceleration
   pub acceleration : numberAt (ofRecord r) 13 ≡ codeOf (r .last .acceleration)

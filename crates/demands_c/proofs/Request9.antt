@@ -10,8 +10,8 @@ use Prim.Native.Nat.{ℕ, _<_}
 use lib.ListN.{getD, length, length-set}
 use Rattle.refusal.specs.declared.Refusal.{Refusal}
 use Rattle.record_end.specs.declared.Outcome.{Outcome}
-use Rattle.bureau_table.specs.declared.Answer.{Answer}
-use Rattle.bureau_table.specs.declared.Answer.the-variants.{Placed, Refused}
+use Rattle.bureau_table.specs.declared.TableAnswer.{TableAnswer}
+use Rattle.bureau_table.specs.declared.TableAnswer.the-variants.{Placed, Refused}
 use Rattle.bureau_table.specs.declared.Ask.{Ask}
 use Rattle.bureau_table.specs.declared.Ask.the-variants.{On, Take}
 use Rattle.bureau_table.specs.declared.Call.{Call}
@@ -112,7 +112,7 @@ unfolding answers places.answers
 over-places b rows book [] = refl
 over-places b rows book (mine a ∷ ms) =
     let d = called (placesOf rows) b (sent book a) in
-    ap (λ (l : List Answer). aside (d .answer) ∷ l)
+    ap (λ (l : List TableAnswer). aside (d .answer) ∷ l)
     (over-places b (rowsLeft rows (d .table)) (noted book a (d .answer)) ms
     ∙ ap (λ (t : List Place). places.answers b t (noted book a (d .answer)) ms) (left-stands rows b (sent book a)))
 over-places b rows book (other c n a ∷ ms) =

@@ -6,7 +6,7 @@ use mathlib.Core.List.{List, [], _∷_, _++_}
 use Prim.Native.Nat.{ℕ}
 use lib.ListN.{replicate}
 use Rattle.record_end.specs.declared.Outcome.{Outcome}
-use Rattle.bureau_table.specs.declared.Answer.{Answer}
+use Rattle.bureau_table.specs.declared.TableAnswer.{TableAnswer}
 use Rattle.bureau_table.specs.declared.Ask.{Ask}
 use Rattle.bureau_table.specs.declared.Call.{Call}
 use Rattle.bureau_table.specs.Table.{places}
@@ -21,7 +21,7 @@ emptyRows = replicate places (replicate 6 0)
 
 -- ---- a call: its answer, and the rows that it leaves
 pub record Done : Type 0 where
-  pub answer : Answer
+  pub answer : TableAnswer
   pub rows : List (List ℕ)
 
 abbrev pub made : List (List ℕ) → ℕ → Ask → Done
@@ -31,7 +31,7 @@ made rows b a =
 
 -- ---- bureau b's script among the other's calls
 -- what it is answered, place numbers aside, from these rows and a book on
-unfoldable pub answers : (b : ℕ) → List (List ℕ) → List ℕ → List (Move b) → List Answer
+unfoldable pub answers : (b : ℕ) → List (List ℕ) → List ℕ → List (Move b) → List TableAnswer
 answers b rows book [] = []
 answers b rows book (mine a ∷ ms) =
     let d : Done = made rows b (sent book a) in
@@ -39,7 +39,7 @@ answers b rows book (mine a ∷ ms) =
 answers b rows book (other c n a ∷ ms) = answers b (made rows c a .rows) book ms
 
 -- from rows on
-abbrev pub answersFrom : (b : ℕ) → List (List ℕ) → List (Move b) → List Answer
+abbrev pub answersFrom : (b : ℕ) → List (List ℕ) → List (Move b) → List TableAnswer
 answersFrom b rows ms = answers b rows (ownPlaces b 0 (placesOf rows)) ms
 
 -- ---- any calls, and what they do to row i

@@ -7,8 +7,8 @@ use lib.ListN.{length}
 use lib.Dec.{eqb}
 use lib.IntN.{ℤ, pos, negsuc}
 use Rattle.poisson.specs.Tables.{l, u}
-use Rattle.campaign_state.specs.declared.Answer.{Answer}
-use Rattle.campaign_state.specs.declared.Answer.the-variants.{Refused, Taken}
+use Rattle.campaign_state.specs.declared.CampaignAnswer.{CampaignAnswer}
+use Rattle.campaign_state.specs.declared.CampaignAnswer.the-variants.{Refused, Taken}
 use Rattle.campaign_state.specs.declared.Campaign.{Campaign}
 use Rattle.campaign_state.specs.Answers.{entering}
 use Rattle.campaign_verdict.specs.Figures.{verdictOf}
@@ -40,7 +40,7 @@ same (x ∷ xs) [] = false
 same (x ∷ xs) (y ∷ ys) = eqb x y && same xs ys
 
 -- 0 where the record was refused
-abbrev pub letterAfter : Answer → ℕ
+abbrev pub letterAfter : CampaignAnswer → ℕ
 letterAfter (Taken c) = letterOf letterE (verdictOf c)
 letterAfter (Refused r) = 0
 

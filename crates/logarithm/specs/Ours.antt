@@ -6,7 +6,7 @@ use mathlib.Core.Bool.{cond}
 use Prim.Native.Nat.{ℕ, zero, suc, _+_, _*_, _/_, _^_}
 use lib.Dec.{eqb, leb}
 
--- one, in numbers with 31 bits behind the point
+-- one, in numbers with 31 bits after the point
 abbrev pub one : ℕ
 one = 2147483648
 
@@ -27,7 +27,7 @@ part a b = a * one / (2 ^ whole a b * b)
 abbrev pub topBit : ℕ → ℕ
 topBit s = s / 2 ^ 63
 
--- the square cut to 31 bits behind the point, halved where it reaches two
+-- the square cut to 31 bits after the point, halved where it reaches two
 abbrev pub halved : ℕ → ℕ → ℕ
 halved s d = cond (eqb d 1) (s / 2 ^ 32) (s / 2 ^ 31)
 

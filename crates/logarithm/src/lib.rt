@@ -1,6 +1,6 @@
 // The logarithm to base 2 of a ratio a/b, in units of 1/65,536, in whole numbers alone. Numerator and denominator are
 // shifted by their leading zeros, so that the difference of the shifts is the whole part and the quotient, with 31
-// bits behind the point, lies from 1 up to 2. Squaring it doubles the logarithm: each of 16 squarings yields one bit
+// bits after the point, lies from 1 up to 2. Squaring it doubles the logarithm: each of 16 squarings yields one bit
 // of the figure.
 ghost use Prim.Native.Nat.{_+_, _*_, _^_, _≤_, _<_};
 ghost use Rattle.logarithm.specs.Logarithm.{Logarithm};

@@ -22,8 +22,8 @@ use Rattle.peak_groups.specs.declared.Peak.{Peak}
 use Rattle.peak_groups.specs.Groups.{tops}
 use Rattle.peak_groups.specs.Runs.{peaks}
 use Rattle.peak_groups.specs.Peaks.{sum, kept, close, handed, short}
-use Rattle.peak_envelope.specs.declared.Found.{Found}
-use Rattle.peak_envelope.specs.declared.Found.the-variants.{Peaks, Refused}
+use Rattle.peak_envelope.specs.declared.PeaksFound.{PeaksFound}
+use Rattle.peak_envelope.specs.declared.PeaksFound.the-variants.{Peaks, Refused}
 use Rattle.peak_envelope.specs.Step.{chosen}
 use Rattle.peak_envelope.specs.Answers.{sizeOf, momentOf, unlevelled, itemAsked, placed, found, written, HandsOut, FindsTo}
 
@@ -80,6 +80,6 @@ module _ (D R τ : ℕ) (xs : List ℤ) (sizes times : List ℕ) where
     finds-bad b = record { answers = rw (eq-eqb _ _ (f .ranged), lt-ltb _ _ b); sizes-left = refl; times-left = refl }
 
     -- what the timed samples hand out is the record's
-    pub finds-good : length xs ≤ firstBad xs → {answer : Found} {sizesAfter timesAfter : List ℕ} → HandsOut (handed D R τ xs) sizes times answer sizesAfter timesAfter → FindsTo D R τ xs sizes times answer sizesAfter timesAfter
+    pub finds-good : length xs ≤ firstBad xs → {answer : PeaksFound} {sizesAfter timesAfter : List ℕ} → HandsOut (handed D R τ xs) sizes times answer sizesAfter timesAfter → FindsTo D R τ xs sizes times answer sizesAfter timesAfter
     unfolding found
     finds-good g h = record { answers = rw (eq-eqb _ _ (f .ranged), le-ltb _ _ g, le-ltb _ _ (f .most), le-ltb _ _ (f .few)) (h .answers); sizes-left = h .sizes-left; times-left = h .times-left }

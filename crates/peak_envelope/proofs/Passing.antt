@@ -1,5 +1,5 @@
 -- A pass from run to run: where it stands (`Passing`), that it stands so at the second run, that it does after a run's
--- peak was taken, and what it comes to behind the last. What was handed out and what is to come make what is handed out
+-- peak was taken, and what it comes to after the last. What was handed out and what is to come make what is handed out
 -- in all; and what is to come, put into the places from the open chain's on, leaves the slices as the whole would.
 -- Assumes nothing.
 use Prim.Native.Nat.{ℕ, _+_, _-_, _*_, _≤_, _<_}
@@ -82,7 +82,7 @@ module _ (D n s τ : ℕ) (timed : List ℤ) (sizes₀ times₀ : List ℕ) wher
           times-put = sets-next g (next .chains) m l momentOf times ∙ ap (λ (q : List Peak). sets times (g .opened - 1) (map momentOf q)) (sym w) ∙ v .times-put;
         }
 
-    -- behind the last run the open chain is closed
+    -- after the last run the open chain is closed
     module _ (h : length timed ≤ i + r .length) where
       rest : ahead e i ≡ cond (ltb 0 (e .chains .opened)) (e .chains .best ∷ []) []
       rest = ap (toCome n s τ e) (walk-ends timed i r (v .here) h D) ∙ come-last n s τ e

@@ -14,8 +14,8 @@ use Rattle.sample_range.specs.Range.{firstBad}
 use Rattle.record_whole.specs.Tests.{itemThen, lengthThen}
 use Rattle.peak_groups.specs.declared.Peak.{Peak}
 use Rattle.peak_groups.specs.Peaks.{handed, short}
-use Rattle.peak_envelope.specs.declared.Found.{Found}
-use Rattle.peak_envelope.specs.declared.Found.the-variants.{Peaks, Refused}
+use Rattle.peak_envelope.specs.declared.PeaksFound.{PeaksFound}
+use Rattle.peak_envelope.specs.declared.PeaksFound.the-variants.{Peaks, Refused}
 
 -- a peak's magnitude, and its time
 abbrev pub sizeOf : Peak → ℕ
@@ -33,11 +33,11 @@ abbrev pub itemAsked : ℕ → ℕ → ℕ → ℕ
 itemAsked D R τ = itemOutside (unlevelled D R τ)
 
 -- k peaks into slices of so many places: 7 if either is too short, with the number needed
-unfoldable pub placed : ℕ → ℕ → ℕ → Found
+unfoldable pub placed : ℕ → ℕ → ℕ → PeaksFound
 placed sizes times k = cond (short sizes times k) (Refused (Room k)) (Peaks k)
 
 -- 1, 2, 3, 4 as in listing, then 7
-unfoldable pub found : ℕ → ℕ → ℕ → List ℤ → ℕ → ℕ → Found
+unfoldable pub found : ℕ → ℕ → ℕ → List ℤ → ℕ → ℕ → PeaksFound
 found D R τ xs sizes times =
     itemThen Refused (itemAsked D R τ)
     (cond (ltb (firstBad xs) (length xs)) (Refused (Sample (firstBad xs)))
@@ -45,18 +45,18 @@ found D R τ xs sizes times =
     (placed sizes times (length (handed D R τ xs)))))
 
 -- a slice afterwards: the figures in order from its start and the rest as it stood; on a refusal all as it stood
-unfoldable pub written : Found → List ℕ → List ℕ → List ℕ
+unfoldable pub written : PeaksFound → List ℕ → List ℕ → List ℕ
 written (Peaks k) figures slice = figures ++ drop k slice
 written (Refused f) figures slice = slice
 
 -- the peaks l, handed out: what is answered, and what both slices hold then
-pub record HandsOut (l : List Peak) (sizes times : List ℕ) (answer : Found) (sizesAfter timesAfter : List ℕ) : Type 0 where
+pub record HandsOut (l : List Peak) (sizes times : List ℕ) (answer : PeaksFound) (sizesAfter timesAfter : List ℕ) : Type 0 where
   pub answers : answer ≡ placed (length sizes) (length times) (length l)
   pub sizes-left : sizesAfter ≡ written answer (map sizeOf l) sizes
   pub times-left : timesAfter ≡ written answer (map momentOf l) times
 
 -- the whole call: what is answered, and what both slices hold then
-pub record FindsTo (D R τ : ℕ) (xs : List ℤ) (sizes times : List ℕ) (answer : Found) (sizesAfter timesAfter : List ℕ) : Type 0 where
+pub record FindsTo (D R τ : ℕ) (xs : List ℤ) (sizes times : List ℕ) (answer : PeaksFound) (sizesAfter timesAfter : List ℕ) : Type 0 where
   pub answers : answer ≡ found D R τ xs (length sizes) (length times)
   pub sizes-left : sizesAfter ≡ written answer (map sizeOf (handed D R τ xs)) sizes
   pub times-left : timesAfter ≡ written answer (map momentOf (handed D R τ xs)) times

@@ -22,7 +22,7 @@ use refusal::Refusal;
 use sample_channels::Levels;
 use sample_items::Items;
 
-pub enum Found {
+pub enum PeaksFound {
     Peaks(u64),
     Refused(Refusal),
 }
@@ -252,7 +252,7 @@ fn hand_out(
     timed: &[i32],
     sizes: &mut [u32],
     times: &mut [u32],
-) -> Found
+) -> PeaksFound
     requires { ⌜ (length (now timed) ≤ 1 + 10000000 / step) × (decorrelation ≤ 10000000) ⌝ }
     ensures { λ r. ⌜ HandsOut (tops (close decorrelation) (kept (peaks step (now (timed .entry)))))
         (now (sizes .entry)) (now (times .entry)) r (now (sizes .exit)) (now (times .exit)) ⌝ }
@@ -265,10 +265,10 @@ fn hand_out(
     let mut spare = [0; 1];
     let needed = pass(step, number, sum, gap, timed, &mut scrap, &mut spare);
     if peak_groups::short(sizes.len(), times.len(), needed) {
-        return Found::Refused(Refusal::Room(needed));
+        return PeaksFound::Refused(Refusal::Room(needed));
     }
     pass(step, number, sum, gap, timed, sizes, times);
-    Found::Peaks(needed)
+    PeaksFound::Peaks(needed)
 }
 
 // The envelope peaks of a whole record: their magnitudes and times, in order, from the start of the two slices, whose
@@ -281,7 +281,7 @@ pub fn find(
     samples: &[i32],
     sizes: &mut [u32],
     times: &mut [u32],
-) -> Found
+) -> PeaksFound
     ensures { λ r. ⌜ FindsTo step ramp decorrelation (now (samples .entry)) (now (sizes .entry)) (now (times .entry))
         r (now (sizes .exit)) (now (times .exit)) ⌝ }
 {
@@ -296,11 +296,11 @@ pub fn find(
     };
     let size = record_whole::judge(items, samples, samples);
     if let Size::Refused(f) = size {
-        return Found::Refused(f);
+        return PeaksFound::Refused(f);
     }
     let bad = sample_range::first_bad(samples);
     if bad < samples.len() {
-        return Found::Refused(Refusal::Sample(bad as u64));
+        return PeaksFound::Refused(Refusal::Sample(bad as u64));
     }
     let from = ramp as usize;
     hand_out(step, decorrelation, &samples[from..], sizes, times)

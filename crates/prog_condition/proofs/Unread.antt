@@ -12,13 +12,13 @@ use Rattle.truth.proofs.Cases.{by-test}
 use Rattle.truth.proofs.Laws.{and-true}
 use Rattle.decimal.specs.Field.{lineFeed}
 use Rattle.decimal.specs.Lines.{linesOf, startLine}
-use Rattle.sheet_line.specs.Form.{endsLine, longestLine}
+use Rattle.sheet_line.specs.Form.{endsLine, longestSheetLine}
 use Rattle.sheet_line.specs.declared.Sheet.{Sheet}
 use Rattle.sheet_line.specs.declared.Step.{Step}
 use Rattle.sheet_line.specs.declared.Step.the-variants.{Next, Stop}
 use Rattle.sheet_line.specs.Line.{soundSheet, stepping}
 use Rattle.sheet_text.specs.declared.Reading.{Reading}
-use Rattle.sheet_text.specs.Sheet.{Account, afterStep, leftIn, reading, readingEnd, waits}
+use Rattle.sheet_text.specs.Sheet.{Account, afterStep, leftIn, readingSheet, readingEnd, waits}
 use Rattle.sheet_text.proofs.Running.{last-left}
 
 -- the bytes of lines, and that a text has those of its lines
@@ -41,26 +41,26 @@ lines-bytes (b ∷ text) =
 
 -- of n bytes, less than a line
 abbrev Few : Reading → ℕ → Type 0
-Few r n = (leftIn r ≤ n) × (leftIn r < longestLine)
+Few r n = (leftIn r ≤ n) × (leftIn r < longestSheetLine)
 
-waits-short : (more : Bool) (line : List ℕ) → waits more line ≡ true → length line < longestLine
+waits-short : (more : Bool) (line : List ℕ) → waits more line ≡ true → length line < longestSheetLine
 waits-short more line w =
-    let rest = and-true more (not (endsLine line) && ltb (length line) longestLine) w .1 in
-    ltb-true (length line) longestLine (and-true (not (endsLine line)) (ltb (length line) longestLine) rest .1)
+    let rest = and-true more (not (endsLine line) && ltb (length line) longestSheetLine) w .1 in
+    ltb-true (length line) longestSheetLine (and-true (not (endsLine line)) (ltb (length line) longestSheetLine) rest .1)
 
 step-few : (n k : ℕ) (step : Step) (go : Sheet → Account) → ((t : Sheet) → Few (go t .end) n) → Few (afterStep step go .end) (k + n)
 step-few n k (Next t) go few = (omega (arith, few t .0), few t .1)
 step-few n k (Stop l c r) go few = (omega arith, omega arith)
 
-lines-few : (more : Bool) (lines : List (List ℕ)) (s : Sheet) → Few (reading more lines s .end) (bytes lines)
-unfolding reading bytes
+lines-few : (more : Bool) (lines : List (List ℕ)) (s : Sheet) → Few (readingSheet more lines s .end) (bytes lines)
+unfolding readingSheet bytes
 lines-few more [] s = rw (last-left more s) (omega arith, omega arith)
 lines-few more (line ∷ lines) s =
     by-test (waits more line)
     (λ w. rw w (omega arith, waits-short more line w))
-    (λ w. rw w (step-few (bytes lines) (length line) (stepping s line) (reading more lines) (lines-few more lines)))
+    (λ w. rw w (step-few (bytes lines) (length line) (stepping s line) (readingSheet more lines) (lines-few more lines)))
 
-pub unread : (more : Bool) (text : List ℕ) (s : Sheet) → (leftIn (readingEnd more text s) ≤ length text) × (leftIn (readingEnd more text s) < longestLine)
+pub unread : (more : Bool) (text : List ℕ) (s : Sheet) → (leftIn (readingEnd more text s) ≤ length text) × (leftIn (readingEnd more text s) < longestSheetLine)
 unfolding readingEnd
 unread more text s =
     by-test (soundSheet s)

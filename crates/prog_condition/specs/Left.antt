@@ -1,5 +1,5 @@
 -- What the program's loop counts with: the bytes of a line begun that a turn keeps, and those of the sheet that are
--- still to come behind it. Assumes nothing.
+-- still to come after it. Assumes nothing.
 use Prim.Native.Nat.{ℕ}
 use Rattle.prog_condition.specs.declared.After.{After}
 use Rattle.prog_condition.specs.declared.After.the-variants.{On, Over}

@@ -1,4 +1,4 @@
-// The clerk's program for a loading condition: job sheets from standard input, one behind the other, one for each
+// The clerk's program for a loading condition: job sheets from standard input, one after the other, one for each
 // design situation, and to standard output the report on all of them; or refused, the situation at fault, its line,
 // the refusal's number and, for 9, the column, and nothing of the report. The arguments are the sheets' lengths in
 // bytes, so their number is the number of situations. A sheet may have any length: it is read through a fixed buffer,
@@ -8,7 +8,7 @@
 ghost use mathlib.Core.Path.{_≡_};
 ghost use Prim.Native.Nat.{_≤_, _<_};
 ghost use lib.ListN.{length};
-ghost use Rattle.sheet_line.specs.Form.{longestLine};
+ghost use Rattle.sheet_line.specs.Form.{longestSheetLine};
 ghost use Rattle.prog_condition.specs.Left.{comingBy, keptBy};
 use campaign_state::Campaign;
 use libc::STDERR_FILENO;
@@ -45,7 +45,7 @@ enum After {
 // Works through the lines of the first `end` bytes of `text`; a line begun goes to the start of `text`.
 fn work(s: Sheet, text: &mut [u8], end: usize, coming: u64) -> After
     requires { ⌜ end ≤ length (now text) ⌝ }
-    ensures { λ r. ⌜ (keptBy r < longestLine) × (comingBy r ≤ coming) ⌝ }
+    ensures { λ r. ⌜ (keptBy r < longestSheetLine) × (comingBy r ≤ coming) ⌝ }
 {
     let reading = sheet_text::read(s, &text[..end], true);
     let Reading::Waiting(t, left) = reading else {
@@ -76,10 +76,10 @@ fn ended_early(s: Sheet) -> After
     After::Over(Reading::Waiting(s, 0))
 }
 
-// Reads once, behind the `kept` bytes of a line begun.
+// Reads once, after the `kept` bytes of a line begun.
 fn turn(s: Sheet, text: &mut [u8], kept: usize, coming: u64) -> After
     requires { ⌜ (kept ≤ length (now text)) × (0 < coming) ⌝ }
-    ensures { λ r. ⌜ (keptBy r < longestLine) × (comingBy r < coming) ⌝ }
+    ensures { λ r. ⌜ (keptBy r < longestSheetLine) × (comingBy r < coming) ⌝ }
 {
     let end = kept + least(coming, text.len() - kept);
     let got = libc::read(STDIN_FILENO, &mut text[kept..end]);
@@ -97,7 +97,7 @@ fn turn(s: Sheet, text: &mut [u8], kept: usize, coming: u64) -> After
 // Reads a sheet of `size` bytes; where they cannot be read, the answer is that it waits. Each turn reads some of
 // them, so the loop ends.
 fn one(size: u64, text: &mut [u8]) -> Reading
-    requires { ⌜ longestLine ≤ length (now text) ⌝ }
+    requires { ⌜ longestSheetLine ≤ length (now text) ⌝ }
 {
     let mut sheet = Sheet::Fresh;
     let mut kept = 0;
@@ -118,7 +118,7 @@ fn one(size: u64, text: &mut [u8]) -> Reading
 }
 
 // Writes the first `n` bytes of `out`; answers whether it could.
-fn say(to: i32, out: &[u8], n: usize) -> bool {
+fn write_to(to: i32, out: &[u8], n: usize) -> bool {
     if out.len() < n {
         return false;
     }
@@ -127,40 +127,40 @@ fn say(to: i32, out: &[u8], n: usize) -> bool {
 
 // Writes them to standard output, and answers how the program ends.
 fn answered(out: &[u8], n: usize, end: u8) -> u8 {
-    if !say(STDOUT_FILENO, out, n) {
+    if !write_to(STDOUT_FILENO, out, n) {
         os::fail(b"standard output");
         return FAILED;
     }
     end
 }
 
-// Writes the refused line to standard output. Whoever waits at the other descriptor learns it too, behind what the
+// Writes the refused line to standard output. Whoever waits at the other descriptor learns it too, after what the
 // refusal carries, so that a command can say it in words.
 fn declined(out: &[u8], n: usize, r: Refusal) -> u8 {
     let mut carried = [0u8; 32];
     let m = decimal::write_field(refusal::carried(r), LF, &mut carried, 0);
-    say(END_FILENO, &carried, m);
-    say(END_FILENO, out, n);
+    write_to(END_FILENO, &carried, m);
+    write_to(END_FILENO, out, n);
     answered(out, n, REFUSED)
 }
 
 fn refused(situation: u64, line: u64, column: u64, r: Refusal) -> u8 {
     let mut out = [0u8; 128];
     let number = refusal::number(r);
-    let first = text::write_bytes(b"refused\t", &mut out, 0);
-    let second = decimal::write_field(situation, TAB, &mut out, first);
-    let third = decimal::write_field(line, TAB, &mut out, second);
+    let after_word = text::write_bytes(b"refused\t", &mut out, 0);
+    let after_situation = decimal::write_field(situation, TAB, &mut out, after_word);
+    let after_line = decimal::write_field(line, TAB, &mut out, after_situation);
     if number == MALFORMED {
-        let fourth = decimal::write_field(number, TAB, &mut out, third);
-        let n = decimal::write_field(column, LF, &mut out, fourth);
+        let after_number = decimal::write_field(number, TAB, &mut out, after_line);
+        let n = decimal::write_field(column, LF, &mut out, after_number);
         return declined(&out, n, r);
     }
-    let n = decimal::write_field(number, LF, &mut out, third);
+    let n = decimal::write_field(number, LF, &mut out, after_line);
     declined(&out, n, r)
 }
 
 // The report. `out` has room for the longest: 40 bytes and 28 for each situation, as `campaign_report` shows.
-fn told(campaigns: [Campaign; 64], number: usize) -> u8 {
+fn write_report(campaigns: [Campaign; 64], number: usize) -> u8 {
     let mut out = [0u8; 1832];
     match campaign_report::write(campaigns, number, &mut out) {
         Writing::Bytes(n) => answered(&out, n as usize, READ),
@@ -175,9 +175,9 @@ fn size(i: usize) -> u64 {
     decimal::number_or(&buffer[..n], u64::MAX)
 }
 
-// Sheet after sheet, up to the first that is refused; behind the last the report.
+// Sheet after sheet, up to the first that is refused; after the last the report.
 fn all(number: usize, text: &mut [u8]) -> u8
-    requires { ⌜ (number ≤ 64) × (longestLine ≤ length (now text)) ⌝ }
+    requires { ⌜ (number ≤ 64) × (longestSheetLine ≤ length (now text)) ⌝ }
 {
     let mut campaigns = [Campaign {
         standard: 0,
@@ -201,7 +201,7 @@ fn all(number: usize, text: &mut [u8]) -> u8
         }
         i += 1;
     }
-    told(campaigns, number)
+    write_report(campaigns, number)
 }
 
 // The first argument is the program's own name.

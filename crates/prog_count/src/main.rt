@@ -3,8 +3,8 @@
 // and the refusal's number. The four items of the record come as arguments. The file may have any length: it is read
 // through a fixed buffer, its right lines are fed as they come, and what the file as a whole would be refused for is
 // kept until its end, a malformed line alone ending the reading. What the lines say is `comma_stream`'s promise, what
-// feeding and ending make of them is `record_feed`'s and `record_end`'s; here bytes are only carried. Behind the
-// items may stand the lengths in bytes of several files, which then come one behind the other: each is counted and
+// feeding and ending make of them is `record_feed`'s and `record_end`'s; here bytes are only carried. After the
+// items may stand the lengths in bytes of several files, which then come one after the other: each is counted and
 // added to a sum (document 02, [7]), and the line has N, P, the estimate and its bounds in thousandths of a failure,
 // and P·D; or refused, the file's number, and the rest as for one file. How it ended goes as a digit to a descriptor
 // of its own, where bin/program waits for it.
@@ -45,11 +45,11 @@ const BYTES: usize = 65_536;
 
 const LINES: usize = 16_384;
 
-// The program's own name and the four items; arguments behind them are the lengths of files.
+// The program's own name and the four items; arguments after them are the lengths of files.
 const ITEMS: usize = 5;
 
-// How many lines make a sign of life.
-const LIVELY: u64 = 1_000_000;
+// How many lines lie between two signs of progress.
+const LINES_BETWEEN: u64 = 1_000_000;
 
 // Where the counting of a file stands.
 struct Count {
@@ -75,7 +75,7 @@ struct Reached {
     at: usize,
 }
 
-// The samples of the lines up to `f`; behind one out of range nothing is fed any more. A file has one channel: as many
+// The samples of the lines up to `f`; after one out of range nothing is fed any more. A file has one channel: as many
 // zeros are lent for the other.
 fn fed(c: Count, f: Follow, samples: &[i32], zeros: &[i32]) -> Count
     requires { ⌜ now zeros ≡ replicate (length (now samples)) (pos 0) ⌝ }
@@ -90,13 +90,13 @@ fn fed(c: Count, f: Follow, samples: &[i32], zeros: &[i32]) -> Count
         };
     }
     match record_feed::feed(r, samples, zeros) {
-        record_state::Answer::Taken(s) => Count {
+        record_state::RecordAnswer::Taken(s) => Count {
             record: s,
             follow: f,
             long: c.long,
             coming: c.coming,
         },
-        record_state::Answer::Refused(_) => Count {
+        record_state::RecordAnswer::Refused(_) => Count {
             record: r,
             follow: f,
             long: true,
@@ -158,7 +158,7 @@ fn nearer(c: Count, more: u64) -> Count {
     }
 }
 
-// Reads once, behind the `kept` bytes of a line begun.
+// Reads once, after the `kept` bytes of a line begun.
 fn turn(c: Count, text: &mut [u8], kept: usize) -> After
     requires { ⌜ kept ≤ length (now text) ⌝ }
     ensures { λ r. ⌜ keptBy r < 31 ⌝ }
@@ -175,7 +175,7 @@ fn turn(c: Count, text: &mut [u8], kept: usize) -> After
 }
 
 // Writes the first `n` bytes of `out`; answers whether it could.
-fn say(to: i32, out: &[u8], n: usize) -> bool {
+fn write_to(to: i32, out: &[u8], n: usize) -> bool {
     if out.len() < n {
         return false;
     }
@@ -184,50 +184,50 @@ fn say(to: i32, out: &[u8], n: usize) -> bool {
 
 // Writes them to standard output, and answers how the program ends.
 fn answered(out: &[u8], n: usize, end: u8) -> u8 {
-    if !say(STDOUT_FILENO, out, n) {
+    if !write_to(STDOUT_FILENO, out, n) {
         os::fail(b"standard output");
         return FAILED;
     }
     end
 }
 
-// Writes the refused line to standard output. Whoever waits at the other descriptor learns it too, behind what the
+// Writes the refused line to standard output. Whoever waits at the other descriptor learns it too, after what the
 // refusal carries, so that a command can say it in words.
 fn declined(out: &[u8], n: usize, r: Refusal) -> u8 {
     let mut carried = [0u8; 32];
     let m = decimal::write_field(refusal::carried(r), LF, &mut carried, 0);
-    say(END_FILENO, &carried, m);
-    say(END_FILENO, out, n);
+    write_to(END_FILENO, &carried, m);
+    write_to(END_FILENO, out, n);
     answered(out, n, REFUSED)
 }
 
 fn refused(line: u64, r: Refusal) -> u8 {
     let mut out = [0u8; 64];
-    let word = text::write_bytes(b"refused\t", &mut out, 0);
-    let number = decimal::write_field(line, TAB, &mut out, word);
-    let n = decimal::write_field(refusal::number(r), LF, &mut out, number);
+    let after_word = text::write_bytes(b"refused\t", &mut out, 0);
+    let after_line = decimal::write_field(line, TAB, &mut out, after_word);
+    let n = decimal::write_field(refusal::number(r), LF, &mut out, after_line);
     declined(&out, n, r)
 }
 
 // Samples, crossings, groups, largest set, time of the first failure or a dash, exposure. A failed record's exposure
 // is the time of its first failure.
-fn told(samples: u64, r: Result) -> u8 {
+fn write_result(samples: u64, r: Result) -> u8 {
     let mut out = [0u8; 128];
-    let crossings = decimal::write_field(samples, TAB, &mut out, 0);
-    let groups = decimal::write_field(r.crossings, TAB, &mut out, crossings);
-    let largest = decimal::write_field(r.counted, TAB, &mut out, groups);
-    let first = decimal::write_field(r.largest, TAB, &mut out, largest);
+    let after_samples = decimal::write_field(samples, TAB, &mut out, 0);
+    let after_crossings = decimal::write_field(r.crossings, TAB, &mut out, after_samples);
+    let after_groups = decimal::write_field(r.counted, TAB, &mut out, after_crossings);
+    let after_largest = decimal::write_field(r.largest, TAB, &mut out, after_groups);
     if r.first == 0 {
-        let exposure = text::write_bytes(b"-\t", &mut out, first);
-        let n = decimal::write_field(r.exposure, LF, &mut out, exposure);
+        let after_first = text::write_bytes(b"-\t", &mut out, after_largest);
+        let n = decimal::write_field(r.exposure, LF, &mut out, after_first);
         return answered(&out, n, READ);
     }
-    let exposure = decimal::write_field(r.exposure, TAB, &mut out, first);
-    let n = decimal::write_field(r.exposure, LF, &mut out, exposure);
+    let after_first = decimal::write_field(r.exposure, TAB, &mut out, after_largest);
+    let n = decimal::write_field(r.exposure, LF, &mut out, after_first);
     answered(&out, n, READ)
 }
 
-// Behind the last line: 2 with the line, 3, 4, or the result.
+// After the last line: 2 with the line, 3, 4, or the result.
 fn finish(c: Count) -> u8 {
     let outside = c.follow.outside;
     if outside != 0 {
@@ -238,23 +238,23 @@ fn finish(c: Count) -> u8 {
     }
     let r = c.record;
     match record_end::end(r) {
-        Ended::Given(found) => told(r.n, found),
+        Ended::Given(found) => write_result(r.n, found),
         Ended::Refused(f) => refused(0, f),
     }
 }
 
-// A sign of life for a terminal, once in a million lines: their number.
-fn live(before: u64, lines: u64, shown: bool) {
+// Progress for a terminal, once in a million lines: their number.
+fn show_progress(before: u64, lines: u64, shown: bool) {
     if !shown {
         return;
     }
-    if before / LIVELY == lines / LIVELY {
+    if before / LINES_BETWEEN == lines / LINES_BETWEEN {
         return;
     }
     let mut out = [0u8; 64];
-    let word = decimal::write_field(lines, b' ', &mut out, 0);
-    let n = text::write_bytes(b"lines\r", &mut out, word);
-    say(STDERR_FILENO, &out, n);
+    let after_lines = decimal::write_field(lines, b' ', &mut out, 0);
+    let n = text::write_bytes(b"lines\r", &mut out, after_lines);
+    write_to(STDERR_FILENO, &out, n);
 }
 
 // A file from its first byte to its end, or to its first wrong line. A proved loop has to end, and nothing says that
@@ -270,7 +270,7 @@ fn serve(start: Count, text: &mut [u8], shown: bool) -> After
         let After::On(c, left) = after else {
             return after;
         };
-        live(count.follow.lines, c.follow.lines, shown);
+        show_progress(count.follow.lines, c.follow.lines, shown);
         count = c;
         kept = left;
         turns -= 1;
@@ -317,22 +317,22 @@ enum Next {
 
 fn refused_in(file: u64, line: u64, r: Refusal) -> u8 {
     let mut out = [0u8; 128];
-    let word = text::write_bytes(b"refused\t", &mut out, 0);
-    let first = decimal::write_field(file, TAB, &mut out, word);
-    let second = decimal::write_field(line, TAB, &mut out, first);
-    let n = decimal::write_field(refusal::number(r), LF, &mut out, second);
+    let after_word = text::write_bytes(b"refused\t", &mut out, 0);
+    let after_file = decimal::write_field(file, TAB, &mut out, after_word);
+    let after_line = decimal::write_field(line, TAB, &mut out, after_file);
+    let n = decimal::write_field(refusal::number(r), LF, &mut out, after_line);
     declined(&out, n, r)
 }
 
 // The file's record added to the sum; or 4, 11.
 fn added(file: u64, r: Record, s: Sum) -> Next {
     match s.add(r) {
-        binomial_sum::Answer::Taken(t) => Next::Added(t),
-        binomial_sum::Answer::Refused(f) => Next::Ended(refused_in(file, 0, f)),
+        binomial_sum::SumAnswer::Taken(t) => Next::Added(t),
+        binomial_sum::SumAnswer::Refused(f) => Next::Ended(refused_in(file, 0, f)),
     }
 }
 
-// Behind the last line of a file: 2 with the line, 3, 4, 11, or the sum with its record.
+// After the last line of a file: 2 with the line, 3, 4, 11, or the sum with its record.
 fn closed(file: u64, c: Count, s: Sum) -> Next {
     if c.coming != 0 {
         io::write_all(
@@ -364,21 +364,21 @@ fn among(file: u64, a: After, s: Sum) -> Next {
 // N, P, the estimate, its lower and its upper bound in thousandths of a failure, and P·D in ms.
 fn summed(s: Sum) -> u8 {
     let mut out = [0u8; 128];
-    let second = decimal::write_field(s.failures, TAB, &mut out, 0);
-    let third = decimal::write_field(s.samples, TAB, &mut out, second);
+    let after_failures = decimal::write_field(s.failures, TAB, &mut out, 0);
+    let after_samples = decimal::write_field(s.samples, TAB, &mut out, after_failures);
     match binomial_bounds::bound(s) {
         Bounded::Given(_, b) => {
-            let fourth = decimal::write_field(b.estimate, TAB, &mut out, third);
-            let fifth = decimal::write_field(b.lower, TAB, &mut out, fourth);
-            let sixth = decimal::write_field(b.upper, TAB, &mut out, fifth);
-            let n = decimal::write_field(b.time, LF, &mut out, sixth);
+            let after_estimate = decimal::write_field(b.estimate, TAB, &mut out, after_samples);
+            let after_lower = decimal::write_field(b.lower, TAB, &mut out, after_estimate);
+            let after_upper = decimal::write_field(b.upper, TAB, &mut out, after_lower);
+            let n = decimal::write_field(b.time, LF, &mut out, after_upper);
             answered(&out, n, READ)
         }
         Bounded::Refused(f) => refused_in(0, 0, f),
     }
 }
 
-// File after file, up to the first that is refused; behind the last the sum.
+// File after file, up to the first that is refused; after the last the sum.
 fn several(r: Record, start: Sum, words: usize, text: &mut [u8], shown: bool) -> u8
     requires { ⌜ 31 ≤ length (now text) ⌝ }
 {
@@ -401,7 +401,7 @@ fn several(r: Record, start: Sum, words: usize, text: &mut [u8], shown: bool) ->
 }
 
 // A record of the four items; or refusal 1. A file has one channel, so that any level in range will do for the other.
-fn opened() -> record_state::Answer {
+fn opened() -> record_state::RecordAnswer {
     let items = Items {
         step: item(1),
         ramp: item(2),
@@ -418,8 +418,8 @@ fn one(text: &mut [u8], shown: bool) -> u8
     requires { ⌜ 31 ≤ length (now text) ⌝ }
 {
     match opened() {
-        record_state::Answer::Taken(r) => alone(serve(fresh(r, u64::MAX), text, shown)),
-        record_state::Answer::Refused(f) => refused(0, f),
+        record_state::RecordAnswer::Taken(r) => alone(serve(fresh(r, u64::MAX), text, shown)),
+        record_state::RecordAnswer::Refused(f) => refused(0, f),
     }
 }
 
@@ -428,8 +428,8 @@ fn started(r: Record, words: usize, text: &mut [u8], shown: bool) -> u8
     requires { ⌜ 31 ≤ length (now text) ⌝ }
 {
     match binomial_sum::open(r.items.step) {
-        binomial_sum::Answer::Taken(s) => several(r, s, words, text, shown),
-        binomial_sum::Answer::Refused(f) => refused_in(0, 0, f),
+        binomial_sum::SumAnswer::Taken(s) => several(r, s, words, text, shown),
+        binomial_sum::SumAnswer::Refused(f) => refused_in(0, 0, f),
     }
 }
 
@@ -437,8 +437,8 @@ fn many(words: usize, text: &mut [u8], shown: bool) -> u8
     requires { ⌜ 31 ≤ length (now text) ⌝ }
 {
     match opened() {
-        record_state::Answer::Taken(r) => started(r, words, text, shown),
-        record_state::Answer::Refused(f) => refused_in(0, 0, f),
+        record_state::RecordAnswer::Taken(r) => started(r, words, text, shown),
+        record_state::RecordAnswer::Refused(f) => refused_in(0, 0, f),
     }
 }
 

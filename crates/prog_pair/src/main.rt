@@ -38,8 +38,8 @@ const TAB: u8 = 9;
 
 const LF: u8 = 10;
 
-// How many lines make a sign of life.
-const LIVELY: u64 = 1_000_000;
+// How many lines lie between two signs of progress.
+const LINES_BETWEEN: u64 = 1_000_000;
 
 // Where the counting stands.
 struct Watch {
@@ -63,7 +63,7 @@ struct Part {
     over: bool,
 }
 
-// What stands next in a file: a right line, its sample and the place behind it; what may become one; nothing any
+// What stands next in a file: a right line, its sample and the place after it; what may become one; nothing any
 // more; or a wrong line.
 enum Seen {
     Right(i32, usize),
@@ -141,7 +141,7 @@ fn unread(from: i32) -> Filled {
     Filled::Broken
 }
 
-// Reads once, behind the bytes of a line begun, which go to the front.
+// Reads once, after the bytes of a line begun, which go to the front.
 fn refill(p: Part, text: &mut [u8], from: i32) -> Filled {
     let end = least(p.end, text.len());
     let kept = end - least(p.at, end);
@@ -187,7 +187,7 @@ fn noted(w: Watch, f: Refusal) -> Watch {
     }
 }
 
-// The last line's samples fed; behind one out of range nothing is fed any more.
+// The last line's samples fed; after one out of range nothing is fed any more.
 fn fed(w: Watch, roll: i32, acceleration: i32) -> Watch {
     if w.outside != 0 {
         return w;
@@ -196,7 +196,7 @@ fn fed(w: Watch, roll: i32, acceleration: i32) -> Watch {
     let rolls = [roll; 1];
     let accelerations = [acceleration; 1];
     match record_feed::feed(r, &rolls, &accelerations) {
-        record_state::Answer::Taken(s) => Watch {
+        record_state::RecordAnswer::Taken(s) => Watch {
             record: s,
             lines: w.lines,
             time: w.time,
@@ -205,7 +205,7 @@ fn fed(w: Watch, roll: i32, acceleration: i32) -> Watch {
             long: w.long,
             unequal: w.unequal,
         },
-        record_state::Answer::Refused(f) => noted(w, f),
+        record_state::RecordAnswer::Refused(f) => noted(w, f),
     }
 }
 
@@ -286,7 +286,7 @@ fn turn(w: Watch, p: Part, q: Part, roll: &mut [u8], acceleration: &mut [u8]) ->
 }
 
 // Writes the first `n` bytes of `out`; answers whether it could.
-fn say(to: i32, out: &[u8], n: usize) -> bool {
+fn write_to(to: i32, out: &[u8], n: usize) -> bool {
     if out.len() < n {
         return false;
     }
@@ -295,59 +295,59 @@ fn say(to: i32, out: &[u8], n: usize) -> bool {
 
 // Writes them to standard output, and answers how the program ends.
 fn answered(out: &[u8], n: usize, end: u8) -> u8 {
-    if !say(STDOUT_FILENO, out, n) {
+    if !write_to(STDOUT_FILENO, out, n) {
         os::fail(b"standard output");
         return FAILED;
     }
     end
 }
 
-// Writes the refused line to standard output. Whoever waits at the other descriptor learns it too, behind what the
+// Writes the refused line to standard output. Whoever waits at the other descriptor learns it too, after what the
 // refusal carries, so that a command can say it in words.
 fn declined(out: &[u8], n: usize, r: Refusal) -> u8 {
     let mut carried = [0u8; 32];
     let m = decimal::write_field(refusal::carried(r), LF, &mut carried, 0);
-    say(END_FILENO, &carried, m);
-    say(END_FILENO, out, n);
+    write_to(END_FILENO, &carried, m);
+    write_to(END_FILENO, out, n);
     answered(out, n, REFUSED)
 }
 
 fn refused(line: u64, r: Refusal) -> u8 {
     let mut out = [0u8; 64];
-    let word = text::write_bytes(b"refused\t", &mut out, 0);
-    let number = decimal::write_field(line, TAB, &mut out, word);
-    let n = decimal::write_field(refusal::number(r), LF, &mut out, number);
+    let after_word = text::write_bytes(b"refused\t", &mut out, 0);
+    let after_line = decimal::write_field(line, TAB, &mut out, after_word);
+    let n = decimal::write_field(refusal::number(r), LF, &mut out, after_line);
     declined(&out, n, r)
 }
 
 fn refused_in(line: u64, r: Refusal, channel: u64) -> u8 {
     let mut out = [0u8; 64];
-    let word = text::write_bytes(b"refused\t", &mut out, 0);
-    let number = decimal::write_field(line, TAB, &mut out, word);
-    let fourth = decimal::write_field(refusal::number(r), TAB, &mut out, number);
-    let n = decimal::write_field(channel, LF, &mut out, fourth);
+    let after_word = text::write_bytes(b"refused\t", &mut out, 0);
+    let after_line = decimal::write_field(line, TAB, &mut out, after_word);
+    let after_number = decimal::write_field(refusal::number(r), TAB, &mut out, after_line);
+    let n = decimal::write_field(channel, LF, &mut out, after_number);
     declined(&out, n, r)
 }
 
 // Samples, crossings, groups, largest set, time of the first failure or a dash, exposure. A failed record's exposure
 // is the time of its first failure.
-fn told(samples: u64, r: Result) -> u8 {
+fn write_result(samples: u64, r: Result) -> u8 {
     let mut out = [0u8; 128];
-    let crossings = decimal::write_field(samples, TAB, &mut out, 0);
-    let groups = decimal::write_field(r.crossings, TAB, &mut out, crossings);
-    let largest = decimal::write_field(r.counted, TAB, &mut out, groups);
-    let first = decimal::write_field(r.largest, TAB, &mut out, largest);
+    let after_samples = decimal::write_field(samples, TAB, &mut out, 0);
+    let after_crossings = decimal::write_field(r.crossings, TAB, &mut out, after_samples);
+    let after_groups = decimal::write_field(r.counted, TAB, &mut out, after_crossings);
+    let after_largest = decimal::write_field(r.largest, TAB, &mut out, after_groups);
     if r.first == 0 {
-        let exposure = text::write_bytes(b"-\t", &mut out, first);
-        let n = decimal::write_field(r.exposure, LF, &mut out, exposure);
+        let after_first = text::write_bytes(b"-\t", &mut out, after_largest);
+        let n = decimal::write_field(r.exposure, LF, &mut out, after_first);
         return answered(&out, n, READ);
     }
-    let exposure = decimal::write_field(r.exposure, TAB, &mut out, first);
-    let n = decimal::write_field(r.exposure, LF, &mut out, exposure);
+    let after_first = decimal::write_field(r.exposure, TAB, &mut out, after_largest);
+    let n = decimal::write_field(r.exposure, LF, &mut out, after_first);
     answered(&out, n, READ)
 }
 
-// Behind the last lines: 12, 2 with the line and the channel, 3, 4, or the result.
+// After the last lines: 12, 2 with the line and the channel, 3, 4, or the result.
 fn finish(w: Watch) -> u8 {
     if w.unequal {
         return refused(0, Refusal::Unequal);
@@ -360,7 +360,7 @@ fn finish(w: Watch) -> u8 {
     }
     let r = w.record;
     match record_end::end(r) {
-        Ended::Given(found) => told(r.n, found),
+        Ended::Given(found) => write_result(r.n, found),
         Ended::Refused(f) => refused(0, f),
     }
 }
@@ -376,18 +376,18 @@ fn concluded(a: After) -> u8 {
     }
 }
 
-// A sign of life for a terminal, once in a million lines: their number.
-fn live(before: u64, lines: u64, shown: bool) {
+// Progress for a terminal, once in a million lines: their number.
+fn show_progress(before: u64, lines: u64, shown: bool) {
     if !shown {
         return;
     }
-    if before / LIVELY == lines / LIVELY {
+    if before / LINES_BETWEEN == lines / LINES_BETWEEN {
         return;
     }
     let mut out = [0u8; 64];
-    let word = decimal::write_field(lines, b' ', &mut out, 0);
-    let n = text::write_bytes(b"lines\r", &mut out, word);
-    say(STDERR_FILENO, &out, n);
+    let after_lines = decimal::write_field(lines, b' ', &mut out, 0);
+    let n = text::write_bytes(b"lines\r", &mut out, after_lines);
+    write_to(STDERR_FILENO, &out, n);
 }
 
 // Both files from their first bytes to their ends, or to the first wrong line. A proved loop has to end, and nothing
@@ -406,7 +406,7 @@ fn serve(start: Watch, roll: &mut [u8], acceleration: &mut [u8], shown: bool) ->
         let After::On(w, left, right) = after else {
             return after;
         };
-        live(watch.lines, w.lines, shown);
+        show_progress(watch.lines, w.lines, shown);
         watch = w;
         p = left;
         q = right;
@@ -449,8 +449,8 @@ fn run() -> u8 {
         decorrelation: item(4),
     };
     match record_state::open(items) {
-        record_state::Answer::Taken(r) => watched(r),
-        record_state::Answer::Refused(f) => refused(0, f),
+        record_state::RecordAnswer::Taken(r) => watched(r),
+        record_state::RecordAnswer::Refused(f) => refused(0, f),
     }
 }
 

@@ -14,7 +14,7 @@ use comma_stream::Rest;
 use libc::STDERR_FILENO;
 use libc::STDIN_FILENO;
 use libc::STDOUT_FILENO;
-use peak_envelope::Found;
+use peak_envelope::PeaksFound;
 use refusal::Refusal;
 use sample_channels::Levels;
 use sample_items::Items;
@@ -36,8 +36,8 @@ const BYTES: usize = 65_536;
 
 const LINES: usize = 16_384;
 
-// How many lines make a sign of life.
-const LIVELY: u64 = 1_000_000;
+// How many lines lie between two signs of progress.
+const LINES_BETWEEN: u64 = 1_000_000;
 
 // The most samples that are held, and the most peaks handed out of them: 6.9 MB.
 const HELD: usize = 1_500_000;
@@ -64,7 +64,7 @@ struct Reached {
     at: usize,
 }
 
-// How many samples are held in `len` places: behind them there is room for one piece.
+// How many samples are held in `len` places: after them there is room for one piece.
 fn held(len: usize) -> usize
     ensures { λ r. ⌜ r ≤ len ⌝ }
 {
@@ -74,7 +74,7 @@ fn held(len: usize) -> usize
     len - LINES
 }
 
-// Where the samples of the next lines go: behind those that are held, or, where no more are, one piece over the other.
+// Where the samples of the next lines go: after those that are held, or, where no more are, one piece over the other.
 fn place(lines: u64, len: usize) -> usize
     ensures { λ r. ⌜ r ≤ len ⌝ }
 {
@@ -119,7 +119,7 @@ fn work(c: Count, text: &mut [u8], end: usize, more: bool, samples: &mut [i32]) 
     }
 }
 
-// Reads once, behind the `kept` bytes of a line begun.
+// Reads once, after the `kept` bytes of a line begun.
 fn turn(c: Count, text: &mut [u8], kept: usize, samples: &mut [i32]) -> After
     requires { ⌜ kept ≤ length (now text) ⌝ }
     ensures { λ r. ⌜ keptBy r < 31 ⌝ }
@@ -134,7 +134,7 @@ fn turn(c: Count, text: &mut [u8], kept: usize, samples: &mut [i32]) -> After
 }
 
 // Writes the first `n` bytes of `out`; answers whether it could.
-fn say(to: i32, out: &[u8], n: usize) -> bool {
+fn write_to(to: i32, out: &[u8], n: usize) -> bool {
     if out.len() < n {
         return false;
     }
@@ -143,37 +143,37 @@ fn say(to: i32, out: &[u8], n: usize) -> bool {
 
 // Writes them to standard output, and answers how the program ends.
 fn answered(out: &[u8], n: usize, end: u8) -> u8 {
-    if !say(STDOUT_FILENO, out, n) {
+    if !write_to(STDOUT_FILENO, out, n) {
         os::fail(b"standard output");
         return FAILED;
     }
     end
 }
 
-// Writes the refused line to standard output. Whoever waits at the other descriptor learns it too, behind what the
+// Writes the refused line to standard output. Whoever waits at the other descriptor learns it too, after what the
 // refusal carries, so that a command can say it in words.
 fn turned_down(out: &[u8], n: usize, r: Refusal) -> u8 {
     let mut carried = [0u8; 32];
     let m = decimal::write_field(refusal::carried(r), LF, &mut carried, 0);
-    say(END_FILENO, &carried, m);
-    say(END_FILENO, out, n);
+    write_to(END_FILENO, &carried, m);
+    write_to(END_FILENO, out, n);
     answered(out, n, REFUSED)
 }
 
 fn refused(line: u64, r: Refusal) -> u8 {
     let mut out = [0u8; 64];
-    let word = text::write_bytes(b"refused\t", &mut out, 0);
-    let number = decimal::write_field(line, TAB, &mut out, word);
-    let n = decimal::write_field(refusal::number(r), LF, &mut out, number);
+    let after_word = text::write_bytes(b"refused\t", &mut out, 0);
+    let after_line = decimal::write_field(line, TAB, &mut out, after_word);
+    let n = decimal::write_field(refusal::number(r), LF, &mut out, after_line);
     turned_down(&out, n, r)
 }
 
 // One peak's line.
-fn told(size: u32, time: u32) -> u8 {
+fn write_peak(size: u32, time: u32) -> u8 {
     let mut out = [0u8; 64];
-    let degrees = degrees::write_degrees(degrees::sample(false, size as u64), &mut out, 0);
-    let tab = text::write_byte(TAB, &mut out, degrees);
-    let n = decimal::write_field(time as u64, LF, &mut out, tab);
+    let after_degrees = degrees::write_degrees(degrees::sample(false, size as u64), &mut out, 0);
+    let after_tab = text::write_byte(TAB, &mut out, after_degrees);
+    let n = decimal::write_field(time as u64, LF, &mut out, after_tab);
     answered(&out, n, READ)
 }
 
@@ -187,7 +187,7 @@ fn tell(sizes: &[u32], times: &[u32], k: u64) -> u8 {
         if times.len() <= i {
             return FAILED;
         }
-        if told(sizes[i], times[i]) != READ {
+        if write_peak(sizes[i], times[i]) != READ {
             return FAILED;
         }
         i += 1;
@@ -225,12 +225,12 @@ fn found(items: Items, samples: &[i32]) -> u8 {
         &mut sizes,
         &mut times,
     ) {
-        Found::Peaks(k) => tell(&sizes, &times, k),
-        Found::Refused(f) => declined(f),
+        PeaksFound::Peaks(k) => tell(&sizes, &times, k),
+        PeaksFound::Refused(f) => declined(f),
     }
 }
 
-// Behind the last line: 2 with the line, 3, or what `find` says of the samples.
+// After the last line: 2 with the line, 3, or what `find` says of the samples.
 fn finish(c: Count, samples: &[i32]) -> u8 {
     let items = c.items;
     let outside = c.follow.outside;
@@ -248,18 +248,18 @@ fn finish(c: Count, samples: &[i32]) -> u8 {
     found(items, &samples[..n])
 }
 
-// A sign of life for a terminal, once in a million lines: their number.
-fn live(before: u64, lines: u64, shown: bool) {
+// Progress for a terminal, once in a million lines: their number.
+fn show_progress(before: u64, lines: u64, shown: bool) {
     if !shown {
         return;
     }
-    if before / LIVELY == lines / LIVELY {
+    if before / LINES_BETWEEN == lines / LINES_BETWEEN {
         return;
     }
     let mut out = [0u8; 64];
-    let word = decimal::write_field(lines, b' ', &mut out, 0);
-    let n = text::write_bytes(b"lines\r", &mut out, word);
-    say(STDERR_FILENO, &out, n);
+    let after_lines = decimal::write_field(lines, b' ', &mut out, 0);
+    let n = text::write_bytes(b"lines\r", &mut out, after_lines);
+    write_to(STDERR_FILENO, &out, n);
 }
 
 // A proved loop has to end, and nothing says that the input does; so it counts its turns down, from a number that no
@@ -273,7 +273,7 @@ fn serve(start: Count, text: &mut [u8], samples: &mut [i32], shown: bool) -> u8
     while turns > 0 {
         match turn(count, text, kept, samples) {
             After::On(c, left) => {
-                live(count.follow.lines, c.follow.lines, shown);
+                show_progress(count.follow.lines, c.follow.lines, shown);
                 count = c;
                 kept = left;
             }

@@ -5,7 +5,7 @@
 // status, so how it ended goes as a digit to a descriptor of its own, where bin/program waits for it.
 ghost use Prim.Native.Nat.{_≤_, _<_};
 ghost use lib.ListN.{length};
-ghost use Rattle.sheet_line.specs.Form.{longestLine};
+ghost use Rattle.sheet_line.specs.Form.{longestSheetLine};
 ghost use Rattle.prog_tally.specs.Kept.{keptBy};
 use libc::STDIN_FILENO;
 use libc::STDOUT_FILENO;
@@ -37,7 +37,7 @@ enum After {
     Over(u8),
 }
 
-// Where the line of `text` behind so many others starts.
+// Where the line of `text` after so many others starts.
 fn start_of(text: &[u8], lines: u64) -> usize
     ensures { λ r. ⌜ r ≤ length (now (text .entry)) ⌝ }
 {
@@ -63,7 +63,7 @@ fn taken(s: Sheet) -> u64 {
     }
 }
 
-// Whether the line of that number, in `text` behind the lines taken before, is one by which a command refused.
+// Whether the line of that number, in `text` after the lines taken before, is one by which a command refused.
 fn is_refused(s: Sheet, text: &[u8], line: u64) -> bool {
     let before = std::num::wrapping_add_u64(taken(s), 1);
     let at = start_of(text, std::num::wrapping_sub_u64(line, before));
@@ -83,7 +83,7 @@ fn beside(handed: bool, r: Refusal) -> u64 {
 }
 
 // Writes the first `n` bytes of `out`; answers whether it could.
-fn say(to: i32, out: &[u8], n: usize) -> bool {
+fn write_to(to: i32, out: &[u8], n: usize) -> bool {
     if out.len() < n {
         return false;
     }
@@ -91,14 +91,14 @@ fn say(to: i32, out: &[u8], n: usize) -> bool {
 }
 
 // Tells it to whoever waits for how the program ends, and the refused line's fields with it.
-fn told(line: u64, column: u64, r: Refusal, handed: bool) -> u8 {
+fn write_refusal(line: u64, column: u64, r: Refusal, handed: bool) -> u8 {
     let mut out = [0u8; 128];
-    let first = decimal::write_field(beside(handed, r), LF, &mut out, 0);
-    let second = text::write_bytes(b"refused\t", &mut out, first);
-    let third = decimal::write_field(line, TAB, &mut out, second);
-    let fourth = decimal::write_field(refusal::number(r), TAB, &mut out, third);
-    let n = decimal::write_field(column, LF, &mut out, fourth);
-    say(END_FILENO, &out, n);
+    let after_beside = decimal::write_field(beside(handed, r), LF, &mut out, 0);
+    let after_word = text::write_bytes(b"refused\t", &mut out, after_beside);
+    let after_line = decimal::write_field(line, TAB, &mut out, after_word);
+    let after_number = decimal::write_field(refusal::number(r), TAB, &mut out, after_line);
+    let n = decimal::write_field(column, LF, &mut out, after_number);
+    write_to(END_FILENO, &out, n);
     REFUSED
 }
 
@@ -106,7 +106,12 @@ fn told(line: u64, column: u64, r: Refusal, handed: bool) -> u8 {
 fn ended(s: Sheet, text: &[u8], reading: Reading) -> u8 {
     match reading {
         Reading::Read(_) => READ,
-        Reading::Stopped(line, column, r) => told(line, column, r, is_refused(s, text, line)),
+        Reading::Stopped(line, column, r) => write_refusal(
+            line,
+            column,
+            r,
+            is_refused(s, text, line),
+        ),
         Reading::Waiting(_, _) => FAILED,
     }
 }
@@ -115,7 +120,7 @@ fn ended(s: Sheet, text: &[u8], reading: Reading) -> u8 {
 // start of `text`.
 fn work(s: Sheet, text: &mut [u8], end: usize, more: bool, out: &mut [u8]) -> After
     requires { ⌜ end ≤ length (now text) ⌝ }
-    ensures { λ r. ⌜ keptBy r < longestLine ⌝ }
+    ensures { λ r. ⌜ keptBy r < longestSheetLine ⌝ }
 {
     let Ran::Came(reading, put) = sheet_text::run(s, &text[..end], more, out) else {
         return After::Over(FAILED);
@@ -131,10 +136,10 @@ fn work(s: Sheet, text: &mut [u8], end: usize, more: bool, out: &mut [u8]) -> Af
     After::On(t, left)
 }
 
-// Reads once, behind the `kept` bytes of a line begun.
+// Reads once, after the `kept` bytes of a line begun.
 fn turn(s: Sheet, text: &mut [u8], kept: usize, out: &mut [u8]) -> After
     requires { ⌜ kept ≤ length (now text) ⌝ }
-    ensures { λ r. ⌜ keptBy r < longestLine ⌝ }
+    ensures { λ r. ⌜ keptBy r < longestSheetLine ⌝ }
 {
     let got = libc::read(STDIN_FILENO, &mut text[kept..]);
     if got < 0 {
@@ -148,7 +153,7 @@ fn turn(s: Sheet, text: &mut [u8], kept: usize, out: &mut [u8]) -> After
 // Answers how it ended. A proved loop has to end, and nothing says that the input does; so it counts its turns down,
 // from a number that no run uses up.
 fn serve(text: &mut [u8], out: &mut [u8]) -> u8
-    requires { ⌜ longestLine ≤ length (now text) ⌝ }
+    requires { ⌜ longestSheetLine ≤ length (now text) ⌝ }
 {
     let mut sheet = Sheet::Fresh;
     let mut kept = 0;

@@ -14,7 +14,7 @@ use Rattle.sample_channels.specs.Channels.{moments, AllInRange}
 use Rattle.sample_channels.proofs.Moments.{moments-length, moments-append}
 use Rattle.sample_channels.proofs.Range.{all-in}
 use Rattle.record_state.specs.declared.Record.{Record}
-use Rattle.record_state.specs.declared.Answer.the-variants.{Taken}
+use Rattle.record_state.specs.declared.RecordAnswer.the-variants.{Taken}
 use Rattle.sample_items.specs.Limits.{mostSamples}
 use Rattle.record_state.specs.State.{sound}
 use Rattle.record_step.specs.Step.{stepped}

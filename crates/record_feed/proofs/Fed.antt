@@ -13,7 +13,7 @@ use Rattle.refusal.specs.declared.Refusal.the-variants.{Sample, TooLong, Broken
 use Rattle.sample_channels.specs.Channels.{moments, anyBad, badSample}
 use Rattle.sample_channels.proofs.Range.{none-bad, all-good}
 use Rattle.record_state.specs.declared.Record.{Record}
-use Rattle.record_state.specs.declared.Answer.the-variants.{Taken, Refused}
+use Rattle.record_state.specs.declared.RecordAnswer.the-variants.{Taken, Refused}
 use Rattle.sample_items.specs.Limits.{mostSamples}
 use Rattle.record_state.specs.State.{sound}
 use Rattle.record_step.specs.Step.{stepped}

@@ -18,7 +18,7 @@ use Rattle.sample_channels.specs.declared.Moment.{Moment}
 use Rattle.sample_items.specs.declared.Items.{Items}
 use Rattle.sample_channels.specs.Channels.{moments}
 use Rattle.record_state.specs.declared.Record.{Record}
-use Rattle.record_state.specs.declared.Answer.the-variants.{Taken, Refused}
+use Rattle.record_state.specs.declared.RecordAnswer.the-variants.{Taken, Refused}
 use Rattle.crossing_places.specs.Reading.{timeAt, crossesAt, crossings, firstCrossing, groups, counted, countedTimes, largestSet}
 use Rattle.record_state.specs.State.{stateOf, sound, failed}
 use Rattle.record_step.specs.Step.{stepped}

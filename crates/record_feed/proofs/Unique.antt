@@ -4,8 +4,8 @@ use mathlib.Core.Path.{_≡_, sym, _∙_}
 use mathlib.Core.List.{List}
 use lib.IntN.{ℤ}
 use Rattle.record_state.specs.declared.Record.{Record}
-use Rattle.record_state.specs.declared.Answer.{Answer}
+use Rattle.record_state.specs.declared.RecordAnswer.{RecordAnswer}
 use Rattle.record_feed.specs.Answers.{fed}
 
-pub feed-unique : (r : Record) (xs ys : List ℤ) (x y : Answer) → x ≡ fed r xs ys → y ≡ fed r xs ys → x ≡ y
+pub feed-unique : (r : Record) (xs ys : List ℤ) (x y : RecordAnswer) → x ≡ fed r xs ys → y ≡ fed r xs ys → x ≡ y
 feed-unique r xs ys x y e f = e ∙ sym f

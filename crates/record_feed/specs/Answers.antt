@@ -11,13 +11,13 @@ use Rattle.sample_channels.specs.Channels.{moments, anyBad, badSample}
 use Rattle.sample_items.specs.Limits.{mostSamples}
 use Rattle.sample_range.specs.Range.{firstBad}
 use Rattle.record_state.specs.declared.Record.{Record}
-use Rattle.record_state.specs.declared.Answer.{Answer}
-use Rattle.record_state.specs.declared.Answer.the-variants.{Taken, Refused}
+use Rattle.record_state.specs.declared.RecordAnswer.{RecordAnswer}
+use Rattle.record_state.specs.declared.RecordAnswer.the-variants.{Taken, Refused}
 use Rattle.record_state.specs.State.{sound}
 use Rattle.record_step.specs.Step.{stepped}
 
 -- A piece 8, 12, 2, 3: the state after its samples one by one, xs of the roll and ys of the acceleration
-unfoldable pub fed : Record → List ℤ → List ℤ → Answer
+unfoldable pub fed : Record → List ℤ → List ℤ → RecordAnswer
 fed r xs ys =
     cond (not (sound r)) (Refused BrokenState)
     (cond (not (eqb (length xs) (length ys))) (Refused Unequal)

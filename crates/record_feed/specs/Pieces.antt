@@ -7,7 +7,7 @@ use lib.ListN.{length}
 use Rattle.sample_channels.specs.declared.Moment.{Moment}
 use Rattle.sample_channels.specs.Channels.{moments}
 use Rattle.record_state.specs.declared.Record.{Record}
-use Rattle.record_state.specs.declared.Answer.the-variants.{Taken}
+use Rattle.record_state.specs.declared.RecordAnswer.the-variants.{Taken}
 use Rattle.record_feed.specs.Answers.{fed}
 
 -- a slice of each channel

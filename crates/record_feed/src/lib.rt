@@ -9,14 +9,14 @@ ghost use Rattle.refusal.specs.declared.Refusal.the-variants.{TooLong};
 ghost use Rattle.sample_channels.specs.Channels.{above, moments, anyAbove, anyBad, badSample};
 ghost use Rattle.sample_items.specs.Limits.{mostSamples};
 ghost use Rattle.sample_range.specs.Range.{firstBad};
-ghost use Rattle.record_state.specs.declared.Answer.the-variants.{Refused};
+ghost use Rattle.record_state.specs.declared.RecordAnswer.the-variants.{Refused};
 ghost use Rattle.record_state.specs.State.{sound};
 ghost use Rattle.record_feed.specs.Gap.{Gap};
 ghost use Rattle.record_feed.specs.Fits.{Fits};
 ghost use Rattle.record_step.specs.Step.{moved, far, counts, crossed, below, crosses, stepped};
 ghost use Rattle.record_feed.specs.Answers.{fed};
-use record_state::Answer;
 use record_state::Record;
+use record_state::RecordAnswer;
 use refusal::Refusal;
 use sample_channels::Look;
 use sample_channels::Moment;
@@ -56,8 +56,8 @@ fn joining(r: Record, x: Moment) -> Record
         crossings: r.crossings + 1,
         largest: r.largest,
         first: r.first,
-        latest: r.latest,
-        recent: r.n,
+        last_chosen: r.last_chosen,
+        last_crossing: r.n,
         groups: r.groups,
     }
 }
@@ -70,7 +70,7 @@ fn counted(r: Record, gap: u64, x: Moment) -> Record
     ensures { λ s. ⌜ s ≡ crossed r x ⌝ }
 {
     let items = r.items;
-    let g = far(r, gap, r.recent);
+    let g = far(r, gap, r.last_crossing);
     Record {
         items,
         n: r.n + 1,
@@ -78,8 +78,8 @@ fn counted(r: Record, gap: u64, x: Moment) -> Record
         crossings: r.crossings + 1,
         largest: r.largest + 1,
         first: truth::pick(r.crossings == 0, r.n, r.first),
-        latest: r.n,
-        recent: r.n,
+        last_chosen: r.n,
+        last_crossing: r.n,
         groups: truth::pick(g, r.groups + 1, r.groups),
     }
 }
@@ -89,7 +89,7 @@ fn crossed(r: Record, gap: u64, x: Moment) -> Record
     requires { ⌜ (sound r ≡ true) × (r .items .ramp < r .n) × Gap (r .items .step) (r .items .decorrelation) gap ⌝ }
     ensures { λ s. ⌜ s ≡ crossed r x ⌝ }
 {
-    if far(r, gap, r.latest) {
+    if far(r, gap, r.last_chosen) {
         counted(r, gap, x)
     } else {
         joining(r, x)
@@ -109,8 +109,8 @@ fn moved(r: Record, k: u64, last: Moment) -> Record
         crossings: r.crossings,
         largest: r.largest,
         first: r.first,
-        latest: r.latest,
-        recent: r.recent,
+        last_chosen: r.last_chosen,
+        last_crossing: r.last_crossing,
         groups: r.groups,
     }
 }
@@ -220,7 +220,7 @@ fn advance(r: Record, loud: bool, roll: &[i32], acceleration: &[i32]) -> Record
 }
 
 // The answer to a piece that is not taken: a bad sample of it goes before its length.
-fn fault(roll: &[i32], acceleration: &[i32]) -> Answer
+fn fault(roll: &[i32], acceleration: &[i32]) -> RecordAnswer
     requires { ⌜ length (now roll) ≡ length (now acceleration) ⌝ }
     ensures { λ a. ⌜ a ≡ cond (anyBad (now (roll .entry)) (now (acceleration .entry)))
         (Refused (badSample (firstBad (now (roll .entry))) (firstBad (now (acceleration .entry))))) (Refused TooLong)
@@ -228,14 +228,14 @@ fn fault(roll: &[i32], acceleration: &[i32]) -> Answer
 {
     let look = sample_channels::look_over(roll, acceleration);
     if let Look::Bad(f) = look {
-        return Answer::Refused(f);
+        return RecordAnswer::Refused(f);
     }
-    Answer::Refused(Refusal::TooLong)
+    RecordAnswer::Refused(Refusal::TooLong)
 }
 
 // The answer to a piece that there is room for, block by block. The ends of a block say whether a sample of it is out
 // of range, and whether one is above its level: a quiet block is passed over at the speed of `ends_of`.
-fn pass(r: Record, roll: &[i32], acceleration: &[i32]) -> Answer
+fn pass(r: Record, roll: &[i32], acceleration: &[i32]) -> RecordAnswer
     requires { ⌜ (sound r ≡ true) × (length (now roll) ≡ length (now acceleration))
         × (r .n + length (now roll) ≤ mostSamples (r .items .step) (r .items .ramp)) ⌝ }
     ensures { λ a. ⌜ a ≡ fed r (now (roll .entry)) (now (acceleration .entry)) ⌝ }
@@ -259,19 +259,19 @@ fn pass(r: Record, roll: &[i32], acceleration: &[i32]) -> Answer
         );
         i = end;
     }
-    Answer::Taken(s)
+    RecordAnswer::Taken(s)
 }
 
 // The record after the piece; or refusal 8, then 12, then 2 with the lower bad place in the piece and its channel,
 // then 3.
-pub fn feed(r: Record, roll: &[i32], acceleration: &[i32]) -> Answer
+pub fn feed(r: Record, roll: &[i32], acceleration: &[i32]) -> RecordAnswer
     ensures { λ a. ⌜ a ≡ fed r (now (roll .entry)) (now (acceleration .entry)) ⌝ }
 {
     if !record_state::sound(r) {
-        return Answer::Refused(Refusal::BrokenState);
+        return RecordAnswer::Refused(Refusal::BrokenState);
     }
     if roll.len() != acceleration.len() {
-        return Answer::Refused(Refusal::Unequal);
+        return RecordAnswer::Refused(Refusal::Unequal);
     }
     let room = sample_items::most_samples(r.items.step, r.items.ramp) - r.n;
     if roll.len() as u64 <= room {

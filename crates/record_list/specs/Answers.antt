@@ -16,7 +16,7 @@ use Rattle.record_whole.specs.Tests.{testsThen}
 use Rattle.record_list.specs.declared.Listed.{Listed}
 use Rattle.record_list.specs.declared.Listed.the-variants.{Times, Refused}
 use Rattle.record_list.specs.declared.Settled.{Settled}
-use Rattle.record_list.specs.declared.Settled.the-variants.{Done, Spoilt}
+use Rattle.record_list.specs.declared.Settled.the-variants.{Done, OutOfRange}
 
 -- Listing takes a whole record at once, xs of the roll and ys of the acceleration, 1, 12, 2, 3, 4, 7: the number of
 -- counted times, into a slice of so many places
@@ -40,7 +40,7 @@ pub record WritesTo (times before : List ℕ) (answer : Listed) (after : List �
 abbrev pub SettlesTo : ℕ → Levels → ℕ → List ℤ → List ℤ → List ℕ → Settled → List ℕ → Type 0
 SettlesTo D a τ xs ys before (Done l) after =
     (anyBad xs ys ≡ false) × WritesTo (countedTimes (unramped D a τ) (moments xs ys)) before l after
-SettlesTo D a τ xs ys before Spoilt after = (anyBad xs ys ≡ true) × (after ≡ before)
+SettlesTo D a τ xs ys before OutOfRange after = (anyBad xs ys ≡ true) × (after ≡ before)
 
 -- what listing leaves: its answer, and the slice's whole later contents
 pub record ListsTo (items : Items) (xs ys : List ℤ) (before : List ℕ) (answer : Listed) (after : List ℕ) : Type 0 where

@@ -54,7 +54,7 @@ const LOOK: usize = 1_024;
 const CROWD: u64 = 256;
 
 // How many groups are counted; or that a sample is bad.
-enum Found {
+enum GroupCount {
     Count(u64),
     Bad,
 }
@@ -62,7 +62,7 @@ enum Found {
 // What the timed samples come to; or that one is bad, and nothing is written.
 enum Settled {
     Done(Listed),
-    Spoilt,
+    OutOfRange,
 }
 
 fn start() -> Walk
@@ -208,7 +208,7 @@ fn pass(
     roll: &[i32],
     acceleration: &[i32],
     times: &mut [u32],
-) -> Found
+) -> GroupCount
     requires { ⌜ Ready step decorrelation start (length (now roll))
         × (length (now roll) ≡ length (now acceleration)) ⌝ }
     ensures { λ r. ⌜ Passes step levels decorrelation (now (roll .entry)) (now (acceleration .entry))
@@ -223,7 +223,7 @@ fn pass(
         let e = sample_block::ends_of(rolls);
         let f = sample_block::ends_of(accelerations);
         if sample_channels::outside(e, f) {
-            return Found::Bad;
+            return GroupCount::Bad;
         }
         let loud = sample_channels::past(levels, e, f);
         w = advance(
@@ -238,7 +238,7 @@ fn pass(
         );
         i = end;
     }
-    Found::Count(w.count)
+    GroupCount::Count(w.count)
 }
 
 // Copies the first k times.
@@ -287,7 +287,7 @@ fn write(
 
 // Whether the times are written straight into a slice of so many places. Room for half as many as samples it must
 // have; the rest is a guess, on which only the time that it takes depends.
-fn straightway(
+fn writes_at_once(
     step: u64,
     levels: Levels,
     decorrelation: u64,
@@ -315,7 +315,7 @@ fn straightway(
         &acceleration[half..half + LOOK],
         &mut first,
     );
-    if let Found::Count(n) = found {
+    if let GroupCount::Count(n) = found {
         return CROWD <= n;
     }
     false
@@ -328,7 +328,7 @@ fn settle(
     decorrelation: u64,
     roll: &[i32],
     acceleration: &[i32],
-    found: Found,
+    found: GroupCount,
     kept: &[u32],
     times: &mut [u32],
 ) -> Settled
@@ -338,8 +338,8 @@ fn settle(
         (now (times .entry)) r (now (times .exit)) ⌝ }
 {
     match found {
-        Found::Bad => Settled::Spoilt,
-        Found::Count(n) => Settled::Done(write(
+        GroupCount::Bad => Settled::OutOfRange,
+        GroupCount::Count(n) => Settled::Done(write(
             step,
             levels,
             decorrelation,
@@ -386,7 +386,7 @@ fn walk_all(
 }
 
 // The timed samples, listed into a slice with room for all times there can be.
-fn straight(
+fn list_at_once(
     step: u64,
     levels: Levels,
     decorrelation: u64,
@@ -401,7 +401,7 @@ fn straight(
 {
     let look = sample_channels::look_over(roll, acceleration);
     if let Look::Bad(_) = look {
-        return Settled::Spoilt;
+        return Settled::OutOfRange;
     }
     let w = walk_all(step, levels, decorrelation, roll, acceleration, times);
     Settled::Done(Listed::Times(w.count))
@@ -421,8 +421,8 @@ fn list_timed(
     ensures { λ r. ⌜ SettlesTo step levels decorrelation (now (roll .entry)) (now (acceleration .entry))
         (now (times .entry)) r (now (times .exit)) ⌝ }
 {
-    if straightway(step, levels, decorrelation, roll, acceleration, times.len()) {
-        return straight(step, levels, decorrelation, roll, acceleration, times);
+    if writes_at_once(step, levels, decorrelation, roll, acceleration, times.len()) {
+        return list_at_once(step, levels, decorrelation, roll, acceleration, times);
     }
     let mut kept = [0u32; KEPT];
     let found = pass(step, levels, decorrelation, roll, acceleration, &mut kept);
@@ -476,6 +476,6 @@ pub fn list(items: Items, roll: &[i32], acceleration: &[i32], times: &mut [u32])
     );
     match settled {
         Settled::Done(l) => l,
-        Settled::Spoilt => fault(roll, acceleration),
+        Settled::OutOfRange => fault(roll, acceleration),
     }
 }

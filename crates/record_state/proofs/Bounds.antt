@@ -36,12 +36,12 @@ crossings-below {r} k = go (k .figures)
 
 -- the last crossing's place is not before the largest set's last, and groups are within the largest set, whether there
 -- is a crossing or not
-pub recent-after : {r : Record} → Kept r → r .latest ≤ r .recent
-recent-after {r} k = go (k .figures)
+pub last-crossing-after : {r : Record} → Kept r → r .«last_chosen» ≤ r .«last_crossing»
+last-crossing-after {r} k = go (k .figures)
   where
-    go : None r ⊎ Failure r → r .latest ≤ r .recent
-    go (inl n) = omega (arith, n .latest)
-    go (inr f) = f .recent
+    go : None r ⊎ Failure r → r .«last_chosen» ≤ r .«last_crossing»
+    go (inl n) = omega (arith, n .last-chosen)
+    go (inr f) = f .last-crossing
 
 pub groups-within : {r : Record} → Kept r → r .groups ≤ r .largest
 groups-within {r} k = go (k .figures)
@@ -55,16 +55,16 @@ pub record Earlier (r : Record) (p : ℕ) : Type 0 where
   pub within : p ≤ r .n
   pub timed : ¬ (r .crossings ≡ 0) → r .items .ramp ≤ p
 
-pub latest-earlier : {r : Record} → Kept r → Earlier r (r .latest)
-latest-earlier {r} k = record { within = go (k .figures); timed = λ h. let f = failure k h in omega (arith, f .above, f .ordered) }
+pub last-chosen-earlier : {r : Record} → Kept r → Earlier r (r .«last_chosen»)
+last-chosen-earlier {r} k = record { within = go (k .figures); timed = λ h. let f = failure k h in omega (arith, f .above, f .ordered) }
   where
-    go : None r ⊎ Failure r → r .latest ≤ r .n
-    go (inl n) = omega (arith, n .latest)
+    go : None r ⊎ Failure r → r .«last_chosen» ≤ r .n
+    go (inl n) = omega (arith, n .last-chosen)
     go (inr f) = omega (arith, f .below)
 
-pub recent-earlier : {r : Record} → Kept r → Earlier r (r .recent)
-recent-earlier {r} k = record { within = go (k .figures); timed = λ h. let f = failure k h in omega (arith, f .above, f .ordered, f .recent) }
+pub last-crossing-earlier : {r : Record} → Kept r → Earlier r (r .«last_crossing»)
+last-crossing-earlier {r} k = record { within = go (k .figures); timed = λ h. let f = failure k h in omega (arith, f .above, f .ordered, f .last-crossing) }
   where
-    go : None r ⊎ Failure r → r .recent ≤ r .n
-    go (inl n) = omega (arith, n .recent)
-    go (inr f) = omega (arith, f .recent-below)
+    go : None r ⊎ Failure r → r .«last_crossing» ≤ r .n
+    go (inl n) = omega (arith, n .last-crossing)
+    go (inr f) = omega (arith, f .last-crossing-below)

@@ -12,7 +12,7 @@ use Rattle.crossing_sets.specs.Walk.{walk}
 use Rattle.crossing_sets.specs.Groups.{groups}
 use Rattle.sample_items.specs.declared.Items.{Items}
 use Rattle.record_state.specs.declared.Record.{Record}
-use Rattle.record_state.specs.declared.Answer.the-variants.{Taken, Refused}
+use Rattle.record_state.specs.declared.RecordAnswer.the-variants.{Taken, Refused}
 use Rattle.sample_items.specs.Limits.{itemOutside}
 use Rattle.crossing_places.specs.Reading.{passing, firstOf, lastOf}
 use Rattle.record_state.specs.State.{stateOf, sound}
@@ -39,7 +39,7 @@ fresh-sound items e =
       fresh = λ z. refl;
       length = omega arith;
       counts = omega arith;
-      figures = inl (record { first = refl; crossings = refl; largest = refl; latest = refl; recent = refl; groups = refl });
+      figures = inl (record { first = refl; crossings = refl; largest = refl; last-chosen = refl; last-crossing = refl; groups = refl });
     })
 
 pub opened-sound : (items : Items) (s : Record) → opened items ≡ Taken s → sound s ≡ true

@@ -16,18 +16,18 @@ pub record None (r : Record) : Type 0 where
   pub first : r .first ≡ 0
   pub crossings : r .crossings ≡ 0
   pub largest : r .largest ≡ 0
-  pub latest : r .latest ≡ 0
-  pub recent : r .recent ≡ 0
+  pub last-chosen : r .«last_chosen» ≡ 0
+  pub last-crossing : r .«last_crossing» ≡ 0
   pub groups : r .groups ≡ 0
 
 pub record Failure (r : Record) : Type 0 where
   pub largest : 1 ≤ r .largest
   pub crossings : r .crossings ≤ r .n - 1 - r .items .ramp
   pub above : r .items .ramp < r .first
-  pub ordered : r .first ≤ r .latest
-  pub below : r .latest < r .n
-  pub recent : r .latest ≤ r .recent
-  pub recent-below : r .recent < r .n
+  pub ordered : r .first ≤ r .«last_chosen»
+  pub below : r .«last_chosen» < r .n
+  pub last-crossing : r .«last_chosen» ≤ r .«last_crossing»
+  pub last-crossing-below : r .«last_crossing» < r .n
   pub groups : 1 ≤ r .groups
   pub within : r .groups ≤ r .largest
 
@@ -50,22 +50,22 @@ imply n s false e f = refl
 module _ (r : Record) where
   none-from : eqb (r .first) 0 ≡ true → noneKept r ≡ true → noGroups r ≡ true → None r
   none-from z e f =
-      let c = and-true (eqb (r .crossings) 0) (eqb (r .largest) 0 && eqb (r .latest) 0) e in
-      let d = and-true (eqb (r .largest) 0) (eqb (r .latest) 0) (c .1) in
-      let g = and-true (eqb (r .recent) 0) (eqb (r .groups) 0) f in
+      let c = and-true (eqb (r .crossings) 0) (eqb (r .largest) 0 && eqb (r .«last_chosen») 0) e in
+      let d = and-true (eqb (r .largest) 0) (eqb (r .«last_chosen») 0) (c .1) in
+      let g = and-true (eqb (r .«last_crossing») 0) (eqb (r .groups) 0) f in
       record {
         first = eqb-true (r .first) 0 z;
         crossings = eqb-true (r .crossings) 0 (c .0);
         largest = eqb-true (r .largest) 0 (d .0);
-        latest = eqb-true (r .latest) 0 (d .1);
-        recent = eqb-true (r .recent) 0 (g .0);
+        last-chosen = eqb-true (r .«last_chosen») 0 (d .1);
+        last-crossing = eqb-true (r .«last_crossing») 0 (g .0);
         groups = eqb-true (r .groups) 0 (g .1);
       }
 
   failure-from : failureKept r ≡ true → groupsKept r ≡ true → Failure r
   failure-from e f =
-      let p = ltb (r .latest) (r .n) in
-      let q = leb (r .first) (r .latest) in
+      let p = ltb (r .«last_chosen») (r .n) in
+      let q = leb (r .first) (r .«last_chosen») in
       let s = ltb (r .items .ramp) (r .first) in
       let t = leb (r .crossings) (r .n - 1 - r .items .ramp) in
       let e₁ = and-true (leb 1 (r .largest)) (t && (s && (q && p))) e in
@@ -73,18 +73,18 @@ module _ (r : Record) where
       let e₃ = and-true s (q && p) (e₂ .1) in
       let e₄ = and-true q p (e₃ .1) in
       let v = leb (r .groups) (r .largest) in
-      let w = ltb (r .recent) (r .n) in
-      let f₁ = and-true (leb (r .latest) (r .recent)) (w && (leb 1 (r .groups) && v)) f in
+      let w = ltb (r .«last_crossing») (r .n) in
+      let f₁ = and-true (leb (r .«last_chosen») (r .«last_crossing»)) (w && (leb 1 (r .groups) && v)) f in
       let f₂ = and-true w (leb 1 (r .groups) && v) (f₁ .1) in
       let f₃ = and-true (leb 1 (r .groups)) v (f₂ .1) in
       record {
         largest = leb-true 1 (r .largest) (e₁ .0);
         crossings = leb-true (r .crossings) (r .n - 1 - r .items .ramp) (e₂ .0);
         above = ltb-true (r .items .ramp) (r .first) (e₃ .0);
-        ordered = leb-true (r .first) (r .latest) (e₄ .0);
-        below = ltb-true (r .latest) (r .n) (e₄ .1);
-        recent = leb-true (r .latest) (r .recent) (f₁ .0);
-        recent-below = ltb-true (r .recent) (r .n) (f₂ .0);
+        ordered = leb-true (r .first) (r .«last_chosen») (e₄ .0);
+        below = ltb-true (r .«last_chosen») (r .n) (e₄ .1);
+        last-crossing = leb-true (r .«last_chosen») (r .«last_crossing») (f₁ .0);
+        last-crossing-below = ltb-true (r .«last_crossing») (r .n) (f₂ .0);
         groups = leb-true 1 (r .groups) (f₃ .0);
         within = leb-true (r .groups) (r .largest) (f₃ .1);
       }
@@ -114,16 +114,16 @@ module _ (r : Record) where
   figures-kept (inl n) =
       rw (eq-eqb (r .first) 0 (n .first))
       (both-true
-      (both-true (eq-eqb (r .crossings) 0 (n .crossings)) (both-true (eq-eqb (r .largest) 0 (n .largest)) (eq-eqb (r .latest) 0 (n .latest))))
-      (both-true (eq-eqb (r .recent) 0 (n .recent)) (eq-eqb (r .groups) 0 (n .groups))))
+      (both-true (eq-eqb (r .crossings) 0 (n .crossings)) (both-true (eq-eqb (r .largest) 0 (n .largest)) (eq-eqb (r .«last_chosen») 0 (n .last-chosen))))
+      (both-true (eq-eqb (r .«last_crossing») 0 (n .last-crossing)) (eq-eqb (r .groups) 0 (n .groups))))
   figures-kept (inr f) =
       rw (ne-eqb (r .first) 0 (λ z. omega (arith, f .above)))
       (both-true
       (both-true (le-leb 1 (r .largest) (f .largest))
       (both-true (le-leb (r .crossings) (r .n - 1 - r .items .ramp) (f .crossings))
-      (both-true (lt-ltb (r .items .ramp) (r .first) (f .above)) (both-true (le-leb (r .first) (r .latest) (f .ordered)) (lt-ltb (r .latest) (r .n) (f .below))))))
-      (both-true (le-leb (r .latest) (r .recent) (f .recent))
-      (both-true (lt-ltb (r .recent) (r .n) (f .recent-below))
+      (both-true (lt-ltb (r .items .ramp) (r .first) (f .above)) (both-true (le-leb (r .first) (r .«last_chosen») (f .ordered)) (lt-ltb (r .«last_chosen») (r .n) (f .below))))))
+      (both-true (le-leb (r .«last_chosen») (r .«last_crossing») (f .last-crossing))
+      (both-true (lt-ltb (r .«last_crossing») (r .n) (f .last-crossing-below))
       (both-true (le-leb 1 (r .groups) (f .groups)) (le-leb (r .groups) (r .largest) (f .within))))))
 
   pub kept-sound : Kept r → sound r ≡ true

@@ -23,8 +23,8 @@ stateOf items xs =
       crossings = length (crossings (items .ramp) (items .levels) xs);
       largest = length (largestSet items xs);
       first = firstCrossing 0 (items .ramp) (items .levels) xs;
-      latest = lastOf 0 (largestSet items xs);
-      recent = lastOf 0 (crossings (items .ramp) (items .levels) xs);
+      «last_chosen» = lastOf 0 (largestSet items xs);
+      «last_crossing» = lastOf 0 (crossings (items .ramp) (items .levels) xs);
       groups = length (groups items xs);
     }
 
@@ -55,11 +55,11 @@ countsKept r = leb (r .largest) (r .crossings)
 
 -- without a first failure both are 0, and the largest set's last place, which has no meaning yet, holds 0
 abbrev pub noneKept : Record → Bool
-noneKept r = eqb (r .crossings) 0 && (eqb (r .largest) 0 && eqb (r .latest) 0)
+noneKept r = eqb (r .crossings) 0 && (eqb (r .largest) 0 && eqb (r .«last_chosen») 0)
 
 -- and so are the last crossing's place and the groups
 abbrev pub noGroups : Record → Bool
-noGroups r = eqb (r .recent) 0 && eqb (r .groups) 0
+noGroups r = eqb (r .«last_crossing») 0 && eqb (r .groups) 0
 
 -- with one neither is 0; crossings at most n - 1 - R, its place above R and at most the largest set's last place, which
 -- is below n
@@ -67,12 +67,12 @@ abbrev pub failureKept : Record → Bool
 failureKept r =
     leb 1 (r .largest)
     && (leb (r .crossings) (r .n - 1 - r .items .ramp)
-    && (ltb (r .items .ramp) (r .first) && (leb (r .first) (r .latest) && ltb (r .latest) (r .n))))
+    && (ltb (r .items .ramp) (r .first) && (leb (r .first) (r .«last_chosen») && ltb (r .«last_chosen») (r .n))))
 
 -- the last crossing's place is not before the largest set's last and below n; groups from 1 to the largest set
 abbrev pub groupsKept : Record → Bool
 groupsKept r =
-    leb (r .latest) (r .recent) && (ltb (r .recent) (r .n) && (leb 1 (r .groups) && leb (r .groups) (r .largest)))
+    leb (r .«last_chosen») (r .«last_crossing») && (ltb (r .«last_crossing») (r .n) && (leb 1 (r .groups) && leb (r .groups) (r .largest)))
 
 abbrev pub figuresKept : Record → Bool
 figuresKept r = cond (failed r) (failureKept r && groupsKept r) (noneKept r && noGroups r)

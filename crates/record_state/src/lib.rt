@@ -13,7 +13,7 @@ use sample_channels::Moment;
 use sample_items::Items;
 
 // The items, how many samples came and the last of both channels, and the figures so far: the crossings, the largest
-// set of them, the groups. `first`, `latest` and `recent` are places of samples, those of the first crossing, of the
+// set of them, the groups. `first`, `last_chosen` and `last_crossing` are places of samples, those of the first crossing, of the
 // largest set's last and of the last crossing; places without a meaning yet hold 0.
 pub struct Record {
     pub items: Items,
@@ -22,12 +22,12 @@ pub struct Record {
     pub crossings: u64,
     pub largest: u64,
     pub first: u64,
-    pub latest: u64,
-    pub recent: u64,
+    pub last_chosen: u64,
+    pub last_crossing: u64,
     pub groups: u64,
 }
 
-pub enum Answer {
+pub enum RecordAnswer {
     Taken(Record),
     Refused(Refusal),
 }
@@ -46,21 +46,21 @@ fn fresh(items: Items) -> Record
         crossings: 0,
         largest: 0,
         first: 0,
-        latest: 0,
-        recent: 0,
+        last_chosen: 0,
+        last_crossing: 0,
         groups: 0,
     }
 }
 
 // The fresh record, or refusal 1 with the lowest item outside its range.
-pub fn open(items: Items) -> Answer
+pub fn open(items: Items) -> RecordAnswer
     ensures { λ r. ⌜ r ≡ opened items ⌝ }
 {
     let item = sample_items::item_outside(items);
     if item == 0 {
-        Answer::Taken(fresh(items))
+        RecordAnswer::Taken(fresh(items))
     } else {
-        Answer::Refused(Refusal::Item(item))
+        RecordAnswer::Refused(Refusal::Item(item))
     }
 }
 
@@ -109,7 +109,7 @@ fn failure_kept(r: Record) -> bool
             r.crossings <= spans(r.items.ramp, r.n),
             truth::both(
                 r.items.ramp < r.first,
-                truth::both(r.first <= r.latest, r.latest < r.n),
+                truth::both(r.first <= r.last_chosen, r.last_chosen < r.n),
             ),
         ),
     )
@@ -118,16 +118,19 @@ fn failure_kept(r: Record) -> bool
 fn none_kept(r: Record) -> bool
     ensures { λ k. ⌜ k ≡ noneKept r ⌝ }
 {
-    truth::both(r.crossings == 0, truth::both(r.largest == 0, r.latest == 0))
+    truth::both(
+        r.crossings == 0,
+        truth::both(r.largest == 0, r.last_chosen == 0),
+    )
 }
 
 fn groups_kept(r: Record) -> bool
     ensures { λ k. ⌜ k ≡ groupsKept r ⌝ }
 {
     truth::both(
-        r.latest <= r.recent,
+        r.last_chosen <= r.last_crossing,
         truth::both(
-            r.recent < r.n,
+            r.last_crossing < r.n,
             truth::both(1 <= r.groups, r.groups <= r.largest),
         ),
     )
@@ -136,7 +139,7 @@ fn groups_kept(r: Record) -> bool
 fn no_groups(r: Record) -> bool
     ensures { λ k. ⌜ k ≡ noGroups r ⌝ }
 {
-    truth::both(r.recent == 0, r.groups == 0)
+    truth::both(r.last_crossing == 0, r.groups == 0)
 }
 
 fn figures_kept(r: Record) -> bool

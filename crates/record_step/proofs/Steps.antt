@@ -17,12 +17,12 @@ use Rattle.record_state.specs.State.{sound}
 use Rattle.record_step.specs.Step.{moved, counts, crossed, below, crosses, stepped}
 use Rattle.truth.proofs.Laws.{and-true, true≢false}
 use Rattle.record_state.proofs.Relations.{None, Failure, Kept, kept-from, kept-sound}
-use Rattle.record_state.proofs.Bounds.{failure, recent-after, groups-within}
+use Rattle.record_state.proofs.Bounds.{failure, last-crossing-after, groups-within}
 
 -- states are equal figure by figure
-pub ext : (s t : Record) → s .items ≡ t .items → s .n ≡ t .n → s .last ≡ t .last → s .crossings ≡ t .crossings → s .largest ≡ t .largest → s .first ≡ t .first → s .latest ≡ t .latest → s .recent ≡ t .recent → s .groups ≡ t .groups → s ≡ t
+pub ext : (s t : Record) → s .items ≡ t .items → s .n ≡ t .n → s .last ≡ t .last → s .crossings ≡ t .crossings → s .largest ≡ t .largest → s .first ≡ t .first → s .«last_chosen» ≡ t .«last_chosen» → s .«last_crossing» ≡ t .«last_crossing» → s .groups ≡ t .groups → s ≡ t
 ext s t a e f g h j k l m =
-    λ i. record { items = a i; n = e i; last = f i; crossings = g i; largest = h i; first = j i; latest = k i; recent = l i; groups = m i }
+    λ i. record { items = a i; n = e i; last = f i; crossings = g i; largest = h i; first = j i; «last_chosen» = k i; «last_crossing» = l i; groups = m i }
 
 pub moved-kept : (r : Record) (k : ℕ) (x : Moment) → Kept r → inRange x ≡ true → 1 ≤ k → r .n + k ≤ mostSamples (r .items .step) (r .items .ramp) → Kept (moved r k x)
 moved-kept r k x s i h l =
@@ -37,7 +37,7 @@ moved-kept r k x s i h l =
   where
     go : None r ⊎ Failure r → None (moved r k x) ⊎ Failure (moved r k x)
     go (inl n) =
-        inl (record { first = n .first; crossings = n .crossings; largest = n .largest; latest = n .latest; recent = n .recent; groups = n .groups })
+        inl (record { first = n .first; crossings = n .crossings; largest = n .largest; last-chosen = n .last-chosen; last-crossing = n .last-crossing; groups = n .groups })
     go (inr f) =
         inr
         (record {
@@ -46,8 +46,8 @@ moved-kept r k x s i h l =
           above = f .above;
           ordered = f .ordered;
           below = omega (arith, f .below);
-          recent = f .recent;
-          recent-below = omega (arith, f .recent-below);
+          last-crossing = f .last-crossing;
+          last-crossing-below = omega (arith, f .last-crossing-below);
           groups = f .groups;
           within = f .within;
         })
@@ -62,22 +62,22 @@ marked r x first counts starts =
       crossings = r .crossings + 1;
       largest = cond counts (r .largest + 1) (r .largest);
       first = cond first (r .n) (r .first);
-      latest = cond counts (r .n) (r .latest);
-      recent = r .n;
+      «last_chosen» = cond counts (r .n) (r .«last_chosen»);
+      «last_crossing» = r .n;
       groups = cond starts (r .groups + 1) (r .groups);
     }
 
 module _ (r : Record) (x : Moment) (s : Kept r) (h : r .items .ramp < r .n) where
   -- a crossing far from the last one is far from the largest set's last, which is not after it
-  wider : since (timeAt (r .items .step) (r .items .ramp)) (r .items .decorrelation) (r .recent) (r .n) ≡ true → since (timeAt (r .items .step) (r .items .ramp)) (r .items .decorrelation) (r .latest) (r .n) ≡ true
+  wider : since (timeAt (r .items .step) (r .items .ramp)) (r .items .decorrelation) (r .«last_crossing») (r .n) ≡ true → since (timeAt (r .items .step) (r .items .ramp)) (r .items .decorrelation) (r .«last_chosen») (r .n) ≡ true
   wider e =
-      let t = mul-le-mul-right {m = r .latest - r .items .ramp} {n = r .recent - r .items .ramp} (r .items .step) (omega (arith, recent-after s)) in
-      le-leb (timeAt (r .items .step) (r .items .ramp) (r .latest) + r .items .decorrelation) (timeAt (r .items .step) (r .items .ramp) (r .n)) (omega (arith, t, leb-true (timeAt (r .items .step) (r .items .ramp) (r .recent) + r .items .decorrelation) (timeAt (r .items .step) (r .items .ramp) (r .n)) e))
+      let t = mul-le-mul-right {m = r .«last_chosen» - r .items .ramp} {n = r .«last_crossing» - r .items .ramp} (r .items .step) (omega (arith, last-crossing-after s)) in
+      le-leb (timeAt (r .items .step) (r .items .ramp) (r .«last_chosen») + r .items .decorrelation) (timeAt (r .items .step) (r .items .ramp) (r .n)) (omega (arith, t, leb-true (timeAt (r .items .step) (r .items .ramp) (r .«last_crossing») + r .items .decorrelation) (timeAt (r .items .step) (r .items .ramp) (r .n)) e))
 
   -- so one near the largest set's last is near the last one, and not the first
   pub near-both : counts r ≡ false
-      → (eqb (r .crossings) 0 ≡ false) × (since (timeAt (r .items .step) (r .items .ramp)) (r .items .decorrelation) (r .latest) (r .n) ≡ false) × (since (timeAt (r .items .step) (r .items .ramp)) (r .items .decorrelation) (r .recent) (r .n) ≡ false)
-  near-both e = go (eqb (r .crossings) 0) (since (timeAt (r .items .step) (r .items .ramp)) (r .items .decorrelation) (r .latest) (r .n)) (since (timeAt (r .items .step) (r .items .ramp)) (r .items .decorrelation) (r .recent) (r .n)) e wider
+      → (eqb (r .crossings) 0 ≡ false) × (since (timeAt (r .items .step) (r .items .ramp)) (r .items .decorrelation) (r .«last_chosen») (r .n) ≡ false) × (since (timeAt (r .items .step) (r .items .ramp)) (r .items .decorrelation) (r .«last_crossing») (r .n) ≡ false)
+  near-both e = go (eqb (r .crossings) 0) (since (timeAt (r .items .step) (r .items .ramp)) (r .items .decorrelation) (r .«last_chosen») (r .n)) (since (timeAt (r .items .step) (r .items .ramp)) (r .items .decorrelation) (r .«last_crossing») (r .n)) e wider
     where
       go : (z b g : Bool) → (z || b) ≡ false → (g ≡ true → b ≡ true) → (z ≡ false) × (b ≡ false) × (g ≡ false)
       go true b g e i = absurd (true≢false e)
@@ -94,8 +94,8 @@ module _ (r : Record) (x : Moment) (s : Kept r) (h : r .items .ramp < r .n) wher
         above = h;
         ordered = omega arith;
         below = omega arith;
-        recent = omega arith;
-        recent-below = omega arith;
+        last-crossing = omega arith;
+        last-crossing-below = omega arith;
         groups = omega arith;
         within = omega (arith, groups-within s);
       }
@@ -107,8 +107,8 @@ module _ (r : Record) (x : Moment) (s : Kept r) (h : r .items .ramp < r .n) wher
         above = f .above;
         ordered = omega (arith, f .ordered, f .below);
         below = omega arith;
-        recent = omega arith;
-        recent-below = omega arith;
+        last-crossing = omega arith;
+        last-crossing-below = omega arith;
         groups = more g (f .groups);
         within = most g (f .within);
       }
@@ -129,8 +129,8 @@ module _ (r : Record) (x : Moment) (s : Kept r) (h : r .items .ramp < r .n) wher
         above = f .above;
         ordered = f .ordered;
         below = omega (arith, f .below);
-        recent = omega (arith, f .below);
-        recent-below = omega arith;
+        last-crossing = omega (arith, f .below);
+        last-crossing-below = omega arith;
         groups = f .groups;
         within = f .within;
       }
@@ -151,8 +151,8 @@ module _ (r : Record) (x : Moment) (s : Kept r) (h : r .items .ramp < r .n) wher
             inr
             (marked-figures
             (eqb (r .crossings) 0)
-            (since (timeAt (r .items .step) (r .items .ramp)) (r .items .decorrelation) (r .latest) (r .n))
-            (since (timeAt (r .items .step) (r .items .ramp)) (r .items .decorrelation) (r .recent) (r .n))
+            (since (timeAt (r .items .step) (r .items .ramp)) (r .items .decorrelation) (r .«last_chosen») (r .n))
+            (since (timeAt (r .items .step) (r .items .ramp)) (r .items .decorrelation) (r .«last_crossing») (r .n))
             refl
             wider);
       }

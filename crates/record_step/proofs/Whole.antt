@@ -28,14 +28,14 @@ unfoldable rest : Record → List ℕ → List ℕ
 rest r cs =
     cond (eqb (r .crossings) 0)
     (walk (timeAt (r .items .step) (r .items .ramp)) (r .items .decorrelation) cs)
-    (later (timeAt (r .items .step) (r .items .ramp)) (r .items .decorrelation) (r .latest) cs)
+    (later (timeAt (r .items .step) (r .items .ramp)) (r .items .decorrelation) (r .«last_chosen») cs)
 
 -- those of them that start a group after it
 unfoldable begun : Record → List ℕ → List ℕ
 begun r cs =
     cond (eqb (r .crossings) 0)
     (start.begin (timeAt (r .items .step) (r .items .ramp)) (r .items .decorrelation) cs)
-    (start.starts (timeAt (r .items .step) (r .items .ramp)) (r .items .decorrelation) (r .recent) cs)
+    (start.starts (timeAt (r .items .step) (r .items .ramp)) (r .items .decorrelation) (r .«last_crossing») cs)
 
 -- the state r and then the samples ys with the crossings cs among them
 finish : Record → List Moment → List ℕ → Record
@@ -47,8 +47,8 @@ finish r ys cs =
       crossings = r .crossings + length cs;
       largest = r .largest + length (rest r cs);
       first = cond (eqb (r .crossings) 0) (firstOf (r .first) cs) (r .first);
-      latest = lastOf (r .latest) (rest r cs);
-      recent = lastOf (r .recent) cs;
+      «last_chosen» = lastOf (r .«last_chosen») (rest r cs);
+      «last_crossing» = lastOf (r .«last_crossing») cs;
       groups = r .groups + length (begun r cs);
     }
 
@@ -71,7 +71,7 @@ finish-nil r =
     ext r (finish r [] []) refl (sym (add-zero (r .n))) refl (sym (add-zero (r .crossings)))
     (sym (ap (λ (l : List ℕ). r .largest + length l) e ∙ add-zero (r .largest)))
     (sym (same (eqb (r .crossings) 0) (r .first)))
-    (sym (ap (lastOf (r .latest)) e))
+    (sym (ap (lastOf (r .«last_chosen»)) e))
     refl
     (sym (ap (λ (l : List ℕ). r .groups + length l) (begun-nil r) ∙ add-zero (r .groups)))
 
@@ -107,17 +107,17 @@ module _ (r : Record) (y : Moment) (cs : List ℕ) where
   rest-turn : (b g : Bool) → counts r ≡ b → cond b (r .n ∷ rest (next b g) cs) (rest (next b g) cs) ≡ rest r (r .n ∷ cs)
   unfolding rest walk later
   rest-turn true g e =
-      rw not-zero (sym (far (eqb (r .crossings) 0) (since (timeAt (r .items .step) (r .items .ramp)) (r .items .decorrelation) (r .latest) (r .n)) _ _ e))
+      rw not-zero (sym (far (eqb (r .crossings) 0) (since (timeAt (r .items .step) (r .items .ramp)) (r .items .decorrelation) (r .«last_chosen») (r .n)) _ _ e))
   rest-turn false g e =
-      rw not-zero (sym (near (eqb (r .crossings) 0) (since (timeAt (r .items .step) (r .items .ramp)) (r .items .decorrelation) (r .latest) (r .n)) _ _ _ e ∙ same (eqb (r .crossings) 0) _))
+      rw not-zero (sym (near (eqb (r .crossings) 0) (since (timeAt (r .items .step) (r .items .ramp)) (r .items .decorrelation) (r .«last_chosen») (r .n)) _ _ _ e ∙ same (eqb (r .crossings) 0) _))
 
   -- where groups start goes on from the crossing in any case
   begun-turn : (b g : Bool) → starts r ≡ g → cond g (r .n ∷ begun (next b g) cs) (begun (next b g) cs) ≡ begun r (r .n ∷ cs)
   unfolding begun start.begin start.starts
   begun-turn b true e =
-      rw not-zero (sym (far (eqb (r .crossings) 0) (since (timeAt (r .items .step) (r .items .ramp)) (r .items .decorrelation) (r .recent) (r .n)) _ _ e))
+      rw not-zero (sym (far (eqb (r .crossings) 0) (since (timeAt (r .items .step) (r .items .ramp)) (r .items .decorrelation) (r .«last_crossing») (r .n)) _ _ e))
   begun-turn b false e =
-      rw not-zero (sym (near (eqb (r .crossings) 0) (since (timeAt (r .items .step) (r .items .ramp)) (r .items .decorrelation) (r .recent) (r .n)) _ _ _ e ∙ same (eqb (r .crossings) 0) _))
+      rw not-zero (sym (near (eqb (r .crossings) 0) (since (timeAt (r .items .step) (r .items .ramp)) (r .items .decorrelation) (r .«last_crossing») (r .n)) _ _ _ e ∙ same (eqb (r .crossings) 0) _))
 
   turn-marked : (ys : List Moment) (b g : Bool) → counts r ≡ b → starts r ≡ g → finish (next b g) ys cs ≡ finish r (y ∷ ys) (r .n ∷ cs)
   unfolding finish lastOf firstOf
@@ -125,7 +125,7 @@ module _ (r : Record) (y : Moment) (cs : List ℕ) where
       ext (finish (next b g) ys cs) (finish r (y ∷ ys) (r .n ∷ cs)) refl (omega arith) refl (omega arith)
       (number b (r .largest) (r .n) (rest (next b g) cs) ∙ ap (λ (l : List ℕ). r .largest + length l) (rest-turn b g e))
       (rw not-zero)
-      (newest b (r .n) (r .latest) (rest (next b g) cs) ∙ ap (lastOf (r .latest)) (rest-turn b g e))
+      (newest b (r .n) (r .«last_chosen») (rest (next b g) cs) ∙ ap (lastOf (r .«last_chosen»)) (rest-turn b g e))
       refl
       (number g (r .groups) (r .n) (begun (next b g) cs) ∙ ap (λ (l : List ℕ). r .groups + length l) (begun-turn b g f))
 

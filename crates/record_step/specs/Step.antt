@@ -18,8 +18,8 @@ moved r k x =
       crossings = r .crossings;
       largest = r .largest;
       first = r .first;
-      latest = r .latest;
-      recent = r .recent;
+      «last_chosen» = r .«last_chosen»;
+      «last_crossing» = r .«last_crossing»;
       groups = r .groups;
     }
 
@@ -29,11 +29,11 @@ far r p = eqb (r .crossings) 0 || since (timeAt (r .items .step) (r .items .ramp
 
 -- it joins the largest set, whose last place tells
 abbrev pub counts : Record → Bool
-counts r = far r (r .latest)
+counts r = far r (r .«last_chosen»)
 
 -- it starts a group: it is not less than τ after the crossing just before it
 abbrev pub starts : Record → Bool
-starts r = far r (r .recent)
+starts r = far r (r .«last_crossing»)
 
 -- a crossing at sample n
 abbrev pub crossed : Record → Moment → Record
@@ -45,8 +45,8 @@ crossed r x =
       crossings = r .crossings + 1;
       largest = cond (counts r) (r .largest + 1) (r .largest);
       first = cond (eqb (r .crossings) 0) (r .n) (r .first);
-      latest = cond (counts r) (r .n) (r .latest);
-      recent = r .n;
+      «last_chosen» = cond (counts r) (r .n) (r .«last_chosen»);
+      «last_crossing» = r .n;
       groups = cond (starts r) (r .groups + 1) (r .groups);
     }
 

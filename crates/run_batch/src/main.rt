@@ -1,7 +1,7 @@
 // Many sheets in one run, for the comparison with the second implementation (tests/sheets): starting a process for
 // each would take longer than reading it. Before each sheet stand six bytes: its length, the place at which it is cut
 // in two, and the bytes lent for what its second part gives, low byte first. Each is read as `prog_tally` reads it,
-// the second part from the bytes that the first left unread on; behind what it gives stands a line with a full stop.
+// the second part from the bytes that the first left unread on; after what it gives stands a line with a full stop.
 ghost use Prim.Native.Nat.{_≤_};
 ghost use lib.ListN.{length};
 ghost use Rattle.sheet_text.specs.Sheet.{leftIn};

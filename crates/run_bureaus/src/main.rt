@@ -3,10 +3,10 @@
 // bureau is told of its own campaign after it; before and after stand the calls that one bureau must not disturb the
 // other with. bin/tally has bureau 1's column from examples/issw2022.sheet.
 ghost use Prim.Native.Nat.{_<_};
-use bureau_table::Answer;
 use bureau_table::Ask;
 use bureau_table::Call;
 use bureau_table::Place;
+use bureau_table::TableAnswer;
 use bureau_table::Work;
 use campaign_state::Campaign;
 use campaign_verdict::Verdict;
@@ -74,14 +74,14 @@ fn refused(f: Refusal) {
 }
 
 // What a bureau is told; of a record that is entered, nothing.
-fn say(a: Answer) {
+fn write_answer(a: TableAnswer) {
     match a {
-        Answer::Placed(i) => number(b"\tplace ", i),
-        Answer::Entered => text(b""),
-        Answer::Judged(v) => letter(v),
-        Answer::Rated(_, _) => text(b"\trates"),
-        Answer::Freed => text(b"\tfree"),
-        Answer::Refused(f) => refused(f),
+        TableAnswer::Placed(i) => number(b"\tplace ", i),
+        TableAnswer::Entered => text(b""),
+        TableAnswer::Judged(v) => letter(v),
+        TableAnswer::Rated(_, _) => text(b"\trates"),
+        TableAnswer::Freed => text(b"\tfree"),
+        TableAnswer::Refused(f) => refused(f),
     }
 }
 
@@ -95,7 +95,7 @@ fn asks(t: [Place; 32], bureau: u64, ask: Ask) -> [Place; 32] {
         },
     );
     let a = s.answer;
-    say(a);
+    write_answer(a);
     let left = s.places;
     left
 }

@@ -1,8 +1,8 @@
 // Document 01's cases of a campaign, run through the code: a row of the table for each, and a line for each row. J
 // and K are weighed on both sides of their edge; the others end records, show their results and enter them, until a
 // refusal. D = 500, a = 40,000. demands_slate has J and K of the definitions.
-use campaign_state::Answer;
 use campaign_state::Campaign;
+use campaign_state::CampaignAnswer;
 use campaign_verdict::Counted;
 use campaign_verdict::Judged;
 use campaign_verdict::Rated;
@@ -110,10 +110,10 @@ fn figures(c: Campaign) {
     known(c);
 }
 
-fn answer(a: Answer) {
+fn answer(a: CampaignAnswer) {
     match a {
-        Answer::Taken(c) => figures(c),
-        Answer::Refused(f) => refused(f),
+        CampaignAnswer::Taken(c) => figures(c),
+        CampaignAnswer::Refused(f) => refused(f),
     }
 }
 
@@ -136,8 +136,8 @@ fn broken() -> Record {
         crossings: 0,
         largest: 0,
         first: 0,
-        latest: 0,
-        recent: 0,
+        last_chosen: 0,
+        last_crossing: 0,
         groups: 0,
     }
 }
@@ -153,10 +153,10 @@ fn fed(roll: &[i32], acceleration: &[i32]) -> Record {
         },
         decorrelation: 2000,
     };
-    let record_state::Answer::Taken(r) = record_state::open(items) else {
+    let record_state::RecordAnswer::Taken(r) = record_state::open(items) else {
         return broken();
     };
-    let record_state::Answer::Taken(s) = record_feed::feed(r, roll, acceleration) else {
+    let record_state::RecordAnswer::Taken(s) = record_feed::feed(r, roll, acceleration) else {
         return broken();
     };
     s
@@ -185,23 +185,23 @@ fn seen(a: Ended) {
 }
 
 // What entering an outcome gives after an answer; a refusal stays.
-fn told(a: Answer, o: Outcome) -> Answer {
+fn told(a: CampaignAnswer, o: Outcome) -> CampaignAnswer {
     match a {
-        Answer::Taken(c) => c.enter(o),
-        Answer::Refused(f) => Answer::Refused(f),
+        CampaignAnswer::Taken(c) => c.enter(o),
+        CampaignAnswer::Refused(f) => CampaignAnswer::Refused(f),
     }
 }
 
 // What entering a result gives after an answer; a refusal stays.
-fn then(a: Answer, e: Ended) -> Answer {
+fn then(a: CampaignAnswer, e: Ended) -> CampaignAnswer {
     match e {
         Ended::Given(x) => told(a, x.outcome()),
-        Ended::Refused(f) => Answer::Refused(f),
+        Ended::Refused(f) => CampaignAnswer::Refused(f),
     }
 }
 
 // The same result so many times over.
-fn again(a: Answer, e: Ended, times: u64) -> Answer {
+fn again(a: CampaignAnswer, e: Ended, times: u64) -> CampaignAnswer {
     let mut b = a;
     for _ in 0..times {
         b = then(b, e);
@@ -210,11 +210,11 @@ fn again(a: Answer, e: Ended, times: u64) -> Answer {
 }
 
 // The campaign that a row starts from.
-fn start(row: [u64; 9]) -> Answer {
+fn start(row: [u64; 9]) -> CampaignAnswer {
     if row[1] == 0 {
         return campaign_state::open(row[0]);
     }
-    Answer::Taken(Campaign {
+    CampaignAnswer::Taken(Campaign {
         standard: row[0],
         records: row[1],
         failures: row[2],
@@ -224,7 +224,7 @@ fn start(row: [u64; 9]) -> Answer {
 }
 
 // One more, after an answer.
-fn more(row: [u64; 9], a: Answer) -> Answer {
+fn more(row: [u64; 9], a: CampaignAnswer) -> CampaignAnswer {
     if row[7] == 9 {
         return a;
     }

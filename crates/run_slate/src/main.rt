@@ -2,8 +2,8 @@
 // through the code: a row of the table for each, and a line for each row. demands_slate has A to H of the
 // definitions.
 use record_list::Listed;
-use record_state::Answer;
 use record_state::Record;
+use record_state::RecordAnswer;
 use refusal::Refusal;
 use sample_channels::Levels;
 use sample_channels::Moment;
@@ -107,27 +107,27 @@ fn figures(r: Record) {
     number(b" groups ", r.groups);
     number(b" largest set ", r.largest);
     number(b" first ", r.first);
-    number(b" latest ", r.latest);
-    number(b" last ", r.recent);
+    number(b" last chosen ", r.last_chosen);
+    number(b" last crossing ", r.last_crossing);
 }
 
-fn answer(a: Answer) {
+fn answer(a: RecordAnswer) {
     match a {
-        Answer::Taken(r) => figures(r),
-        Answer::Refused(f) => refused(f),
+        RecordAnswer::Taken(r) => figures(r),
+        RecordAnswer::Refused(f) => refused(f),
     }
 }
 
 // What a piece gives after an answer; a refusal stays.
-fn then(a: Answer, roll: &[i32], acceleration: &[i32]) -> Answer {
+fn then(a: RecordAnswer, roll: &[i32], acceleration: &[i32]) -> RecordAnswer {
     match a {
-        Answer::Taken(r) => record_feed::feed(r, roll, acceleration),
-        Answer::Refused(f) => Answer::Refused(f),
+        RecordAnswer::Taken(r) => record_feed::feed(r, roll, acceleration),
+        RecordAnswer::Refused(f) => RecordAnswer::Refused(f),
     }
 }
 
 // The same piece so many times over.
-fn again(a: Answer, roll: &[i32], acceleration: &[i32], times: u64) -> Answer {
+fn again(a: RecordAnswer, roll: &[i32], acceleration: &[i32], times: u64) -> RecordAnswer {
     let mut b = a;
     let mut i = 0;
     while i < times {
@@ -280,8 +280,8 @@ fn broken() {
         crossings: 0,
         largest: 0,
         first: 2,
-        latest: 2,
-        recent: 2,
+        last_chosen: 2,
+        last_crossing: 2,
         groups: 0,
     };
     io::write_all(1, b"broken");

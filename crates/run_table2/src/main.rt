@@ -2,8 +2,8 @@
 // 1,800 s, entered one by one. After each record a line as in Table 2: M, N, N*, T in ms, the estimate, the upper and
 // the lower rate in 1/s. The rates are the f64s that `rates` answers, printed to four digits by `four_digits`, which
 // would print any rate of any campaign.
-use campaign_state::Answer;
 use campaign_state::Campaign;
+use campaign_state::CampaignAnswer;
 use campaign_verdict::Counted;
 use campaign_verdict::Rated;
 use campaign_verdict::Rates;
@@ -204,7 +204,7 @@ fn enter(c: Campaign, failed: bool, exposure: u64) -> Campaign {
         failed: failed,
         exposure: exposure,
     };
-    let Answer::Taken(next) = c.enter(o) else {
+    let CampaignAnswer::Taken(next) = c.enter(o) else {
         return c;
     };
     write_line(next);
@@ -223,7 +223,7 @@ fn enter_interval(c: Campaign, interval: u64) -> Campaign {
 }
 
 fn main() {
-    let Answer::Taken(empty) = campaign_state::open(STANDARD) else {
+    let CampaignAnswer::Taken(empty) = campaign_state::open(STANDARD) else {
         return;
     };
     let mut c = empty;

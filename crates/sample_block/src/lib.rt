@@ -1,6 +1,6 @@
 // A block of samples that are looked at together: where it stops, and its two ends, the lowest sample and the
 // highest, which say whether one of its samples is above a level or out of range. Where none is above the level,
-// nothing of the block crosses it, and a pass over samples goes on behind it.
+// nothing of the block crosses it, and a pass over samples goes on after it.
 ghost use mathlib.Core.Path.{_≡_};
 ghost use mathlib.Core.Bool.{cond, _||_};
 ghost use Rattle.sample_size.specs.Above.{above};

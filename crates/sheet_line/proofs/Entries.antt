@@ -6,8 +6,8 @@ use mathlib.Core.List.{List}
 use native.Mathlib.Omega.{arith}
 use lib.Dec.{eqb}
 use Rattle.refusal.specs.declared.Refusal.{Refusal}
-use Rattle.campaign_state.specs.declared.Answer.{Answer}
-use Rattle.campaign_state.specs.declared.Answer.the-variants.{Taken, Refused}
+use Rattle.campaign_state.specs.declared.CampaignAnswer.{CampaignAnswer}
+use Rattle.campaign_state.specs.declared.CampaignAnswer.the-variants.{Taken, Refused}
 use Rattle.campaign_state.specs.declared.Campaign.{Campaign}
 use Rattle.campaign_state.specs.Answers.{opened}
 use Rattle.sheet_line.specs.declared.Sheet.{Sheet}
@@ -24,7 +24,7 @@ pub data Says (P : Sheet → Type 0) (line : ℕ) : Step → Type 0 where
   stops : {column : ℕ} {r : Refusal} → column < 1000 → Says P line (Stop line column r)
 
 module _ {P : Sheet → Type 0} {line : ℕ} where
-  says-outcome : (a : Answer) → ((d : Campaign) → a ≡ Taken d → P (Open d)) → Says P line (outcome line a)
+  says-outcome : (a : CampaignAnswer) → ((d : Campaign) → a ≡ Taken d → P (Open d)) → Says P line (outcome line a)
   says-outcome (Taken d) f = goes (f d refl)
   says-outcome (Refused r) f = stops {column = 0} (omega arith)
 

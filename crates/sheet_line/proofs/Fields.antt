@@ -1,5 +1,5 @@
 -- What a line that was taken is, byte for byte: a field that reads as a number is that number's digits and the byte
--- behind them. Assumes nothing.
+-- after them. Assumes nothing.
 use Prim.Native.Nat.{ℕ, _+_, _^_, _<_}
 use mathlib.Core.Path.{_≡_, refl, sym, ap, _∙_}
 use mathlib.Core.Bool.{true, false≢true}
@@ -61,12 +61,12 @@ module _ (end : ℕ) (line : List ℕ) (at v next : ℕ) where
       let o = read-only line at w place f in
       let value : w ≡ v = cc (n) in
       let place′ : place + 1 ≡ next = cc (n) in
-      let behind : drop place line ≡ end ∷ drop next line = starts-with end (drop place line) e ∙ rw (drop-drop, place′) in
+      let after : drop place line ≡ end ∷ drop next line = starts-with end (drop place line) e ∙ rw (drop-drop, place′) in
       let digits : drop at line ≡ digitsOf w ++ drop place line =
       sym (take-append-drop (length (digitsOf w)) (drop at line)) ∙ rw (o .bytes, drop-drop, ← o .after)
       in
       rw (← value)
-      (record { small = o .small; bytes = digits ∙ rw behind (sym (append-assoc (digitsOf w) (end ∷ []) (drop next line))) })
+      (record { small = o .small; bytes = digits ∙ rw after (sym (append-assoc (digitsOf w) (end ∷ []) (drop next line))) })
 
   pub field-of : fieldThen end line at ≡ Number v next → FieldOf end line at v next
   unfolding fieldThen endedBy

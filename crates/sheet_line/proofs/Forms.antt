@@ -14,7 +14,7 @@ use Rattle.sheet_line.specs.declared.Field.{Field}
 use Rattle.sheet_line.specs.declared.Field.the-variants.{Number, Empty, Strange, LeadingZero, TooLong}
 use Rattle.campaign_state.specs.declared.Campaign.{Campaign}
 use Rattle.campaign_state.specs.Answers.{opened}
-use Rattle.sheet_line.specs.Form.{begins, isLine, standardStart}
+use Rattle.sheet_line.specs.Form.{begins, isSheetLine, standardStart}
 use Rattle.sheet_line.specs.Texts.{RecordText, StandardText}
 use Rattle.sheet_line.specs.declared.Step.{Step}
 use Rattle.sheet_line.specs.Line.{fieldThen, isRecord, lineAfter, malformed, outcome, recordLine, standardLine, telling, withNumber}
@@ -47,7 +47,7 @@ pub record-reads : (column : ℕ) (c : Campaign) (line : List ℕ)
     → Reads (Told c line) (malformed (lineAfter c) column) (recordLine column c line)
 unfolding recordLine
 record-reads column c line =
-    reads-if (isLine line)
+    reads-if (isSheetLine line)
     (λ h.
     reads-number (fieldThen tab line 0)
     (λ n second e₁.
@@ -89,7 +89,7 @@ pub standard-reads : (column : ℕ) (line : List ℕ)
     → Reads (ToldStandard line) (malformed 1 column) (standardLine column line)
 unfolding standardLine
 standard-reads column line =
-    reads-if (isLine line)
+    reads-if (isSheetLine line)
     (λ h.
     reads-if (begins standardStart line)
     (λ w.

@@ -14,7 +14,7 @@ use Rattle.truth.proofs.Cases.{by-test}
 use Rattle.truth.proofs.Laws.{and-true, true≢false}
 use Rattle.decimal.specs.Field.{tab, lineFeed}
 use Rattle.sheet_line.specs.Field.{fieldAt, fieldOf, isEnd, readAs}
-use Rattle.sheet_line.specs.Form.{endsLine, isLine, longestLine}
+use Rattle.sheet_line.specs.Form.{endsLine, isSheetLine, longestSheetLine}
 use Rattle.sheet_line.specs.Column.{howMany, isParted, isWhole}
 use Rattle.sheet_line.specs.Parts.{OfThree, OfTwo, Plain, Three, Two}
 
@@ -68,7 +68,7 @@ last-byte text =
     let place : length (text ++ (lineFeed ∷ [])) - 1 ≡ length text = rw length-append (omega arith) in
     rw (place, getD-append-seam text lineFeed [] 0)
 
--- ---- a field stands up to the byte behind it
+-- ---- a field stands up to the byte after it
 pub field-plain : (field : List ℕ) (end : ℕ) (rest : List ℕ) → Plain field → isEnd end ≡ true
     → fieldOf (field ++ (end ∷ rest)) ≡ field
 unfolding fieldOf howMany
@@ -96,8 +96,8 @@ module _ (line : List ℕ) (tabs : ℕ) (whole : isWhole tabs line ≡ true) whe
 
   body : Body
   body =
-      let (is, parted) = and-true (isLine line) (isParted tabs line) whole in
-      let (few, ends) = and-true (leb (length line) longestLine) (endsLine line) is in
+      let (is, parted) = and-true (isSheetLine line) (isParted tabs line) whole in
+      let (few, ends) = and-true (leb (length line) longestSheetLine) (endsLine line) is in
       let (feeds, between) = and-true (eqb (howMany lineFeed line) 1) (eqb (howMany tab line) tabs) parted in
       let (init, p) = ends-init line ends in
       let one = eqb-true (howMany lineFeed line) 1 feeds in
@@ -109,7 +109,7 @@ module _ (line : List ℕ) (tabs : ℕ) (whole : isWhole tabs line ≡ true) whe
         bytes = p;
         no-feed = omega (arith, f, one, many-this lineFeed lineFeed [] refl, none lineFeed);
         tabs-in = omega (arith, t, many, many-other tab lineFeed [] (λ e. omega arith), none tab);
-        short = leb-true (length line) longestLine few;
+        short = leb-true (length line) longestSheetLine few;
       }
 
 pub whole-two : (line : List ℕ) → isWhole 1 line ≡ true → OfTwo line
@@ -170,7 +170,7 @@ is-whole line init tabs p f t short =
     let feeds : howMany lineFeed line ≡ 1 = ap (howMany lineFeed) p ∙ omega (arith, f, f₂, many-this lineFeed lineFeed [] refl, none lineFeed) in
     let between : howMany tab line ≡ tabs = ap (howMany tab) p ∙ omega (arith, t, t₂, many-other tab lineFeed [] (λ e. omega arith), none tab) in
     let ends : endsLine line ≡ true = rw p (last-byte init) in
-    rw (le-leb (length line) longestLine short, ends, eq-eqb _ _ feeds, eq-eqb _ _ between)
+    rw (le-leb (length line) longestSheetLine short, ends, eq-eqb _ _ feeds, eq-eqb _ _ between)
 
 pub two-whole : (line a b : List ℕ) → Two line a b → isWhole 1 line ≡ true
 two-whole line a b w =

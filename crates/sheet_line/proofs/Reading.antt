@@ -20,7 +20,7 @@ use Rattle.sheet_line.specs.declared.Field.the-variants.{Number}
 pub digit-no-end : (b : ℕ) → isDigit b ≡ true → isEnd b ≡ false
 digit-no-end b d = let range = digit-range b d in rw (ne-eqb b 9 (λ e. omega arith), ne-eqb b 10 (λ e. omega arith))
 
--- where a field ends behind them, they are the field
+-- where a field ends after them, they are the field
 pub field-ends : (n : ℕ) (text : List ℕ) → endsHere (drop (length (leadingDigits n text)) text) ≡ true → fieldOf text ≡ leadingDigits n text
 unfolding leadingDigits endsHere fieldOf
 field-ends zero [] e = refl
@@ -48,7 +48,7 @@ without false s l z e = refl
 without true s false z e = and-false s
 without true s true z e = absurd (true≢false e)
 
--- what a field reads as, by the digits that stand at its place and the byte behind them
+-- what a field reads as, by the digits that stand at its place and the byte after them
 module _ (s : List ℕ) (at : ℕ) where
   abbrev pub isOne : Bool
   isOne = isNumber (fieldOf (drop at s))

@@ -27,8 +27,8 @@ use Rattle.sheet_line.specs.Field.{isEnd, endsHere}
 use Rattle.sheet_line.specs.declared.Field.the-variants.{Number}
 use Rattle.sheet_line.proofs.Back.{read-back}
 use Rattle.decimal.proofs.Text.{field-few}
-use Rattle.campaign_state.specs.declared.Answer.{Answer}
-use Rattle.campaign_state.specs.declared.Answer.the-variants.{Refused, Taken}
+use Rattle.campaign_state.specs.declared.CampaignAnswer.{CampaignAnswer}
+use Rattle.campaign_state.specs.declared.CampaignAnswer.the-variants.{Refused, Taken}
 use Rattle.campaign_state.specs.declared.Campaign.{Campaign}
 use Rattle.campaign_state.specs.Answers.{entering, opened}
 use Rattle.campaign_state.specs.State.{sound}
@@ -36,10 +36,10 @@ use Rattle.campaign_state.proofs.Relations.{kept-from}
 use Rattle.sheet_line.specs.declared.Sheet.{Sheet}
 use Rattle.sheet_line.specs.declared.Sheet.the-variants.{Fresh, Open}
 use Rattle.sheet_line.specs.declared.Step.the-variants.{Next}
-use Rattle.sheet_line.specs.Form.{begins, longestLine, endsLine, isLine, standardStart}
+use Rattle.sheet_line.specs.Form.{begins, longestSheetLine, endsLine, isSheetLine, standardStart}
 use Rattle.sheet_line.specs.Texts.{entryText, headText}
 use Rattle.sheet_line.proofs.Columns.{record-few}
-use Rattle.sheet_line.specs.Line.{endedBy, fieldThen, lineAfter, outcome, recordLine, standardLine, startsWith, stepping, telling, told}
+use Rattle.sheet_line.specs.Line.{endedBy, fieldThen, lineAfter, outcome, recordLine, standardLine, startsWith, stepping, telling, lineOutcome}
 use Rattle.sheet_line.proofs.Entries.{Entry, record-says, says-next}
 
 -- what a line that is taken says
@@ -49,20 +49,20 @@ line-enters c line s g e = says-next (record-says _ c line (record-few (c .recor
 
 -- a record that a line tells of is entered by its outcome
 module _ (c : Campaign) (f : Bool) (t : ℕ) where
-  pub telling-enters : 1 ≤ t → t ≤ longestTime → telling c f t ≡ entering c (told f t)
+  pub telling-enters : 1 ≤ t → t ≤ longestTime → telling c f t ≡ entering c (lineOutcome f t)
   unfolding telling
   telling-enters low high = rw (ne-eqb t 0 (λ e. omega arith), le-ltb longestTime t high)
 
-  pub told-entered : (d : Campaign) → telling c f t ≡ Taken d → entering c (told f t) ≡ Taken d
+  pub told-entered : (d : Campaign) → telling c f t ≡ Taken d → entering c (lineOutcome f t) ≡ Taken d
   unfolding telling
   told-entered d e = past (ltb longestTime t) TooLong _ (past (eqb t 0) TooShort _ e)
     where
-      past : (b : Bool) (r : Refusal) (a : Answer) → cond b (Refused r) a ≡ Taken d → a ≡ Taken d
+      past : (b : Bool) (r : Refusal) (a : CampaignAnswer) → cond b (Refused r) a ≡ Taken d → a ≡ Taken d
       past true r a e = let z : _≡_ {A = ℕ} 0 1 = cc in absurd (omega arith)
       past false r a e = e
 
 -- and so is any result with that failure and that exposure
-pub line-results : (c : Campaign) (line : List ℕ) (s : Sheet) (e : Entry c line s) (x : Result) → outcomeOf x ≡ told (eqb (e .flag) 1) (e .exposure) → entering c (outcomeOf x) ≡ Taken (e .after)
+pub line-results : (c : Campaign) (line : List ℕ) (s : Sheet) (e : Entry c line s) (x : Result) → outcomeOf x ≡ lineOutcome (eqb (e .flag) 1) (e .exposure) → entering c (outcomeOf x) ≡ Taken (e .after)
 line-results c line s e x o = rw o (told-entered c (eqb (e .flag) 1) (e .exposure) (e .after) (e .taken))
 
 -- ---- a field that was written reads back
@@ -71,10 +71,10 @@ field-back : (before : List ℕ) (v end : ℕ) (after : List ℕ) → v < 10 ^ l
 unfolding fieldThen endedBy startsWith fieldText endsHere
 field-back before v end after h e =
     let text = before ++ (digitsOf v ++ (end ∷ after)) in
-    let behind : drop (length before + length (digitsOf v)) text ≡ end ∷ after =
+    let after-it : drop (length before + length (digitsOf v)) text ≡ end ∷ after =
     drop-append-add before (digitsOf v ++ (end ∷ after)) (length (digitsOf v)) ∙ drop-append-seam (digitsOf v) (end ∷ after)
     in
-    rw (append-assoc (digitsOf v) (end ∷ []) after, read-back before (end ∷ after) v h e, behind, eq-eqb end end refl, length-append)
+    rw (append-assoc (digitsOf v) (end ∷ []) after, read-back before (end ∷ after) v h e, after-it, eq-eqb end end refl, length-append)
     (ap (Number v) (add-assoc (length before) (length (digitsOf v)) 1))
 
 -- a line's last byte
@@ -121,12 +121,12 @@ module _ (n f t : ℕ) (hn : n < 10 ^ longest) (hf : f < 10 ^ longest) (ht : t <
       rw (← append-assoc (fieldText f tab) (digitsOf t) (lineFeed ∷ []), ← append-assoc (fieldText n tab) (fieldText f tab ++ digitsOf t) (lineFeed ∷ []))
       (last-byte (fieldText n tab ++ (fieldText f tab ++ digitsOf t)))
 
-  short : length bytes ≤ longestLine
+  short : length bytes ≤ longestSheetLine
   unfolding a b
   short = omega (arith, size, field-few n tab 11 hn, field-few f tab 11 hf, field-few t lineFeed 11 ht)
 
-  line-is : isLine bytes ≡ true
-  line-is = rw (le-leb (length bytes) longestLine short) ends
+  line-is : isSheetLine bytes ≡ true
+  line-is = rw (le-leb (length bytes) longestSheetLine short) ends
 
 pub line-back : (c : Campaign) (flag exposure : ℕ) → sound c ≡ true → flag ≤ 1 → exposure < 10 ^ longest
     → stepping (Open c) (entryText (c .records + 1) flag exposure)
@@ -159,9 +159,9 @@ standard-back q h =
     let text = headText q in
     let size : length text ≡ length standardStart + length (fieldText q lineFeed) = length-append standardStart (fieldText q lineFeed) in
     let field : fieldThen lineFeed text (length standardStart) ≡ Number q (length text) = rw (append-nil (fieldText q lineFeed), ← size) at (field-back standardStart q lineFeed [] h refl) in
-    let short : length text ≤ longestLine = omega (arith, size, field-few q lineFeed 11 h) in
+    let short : length text ≤ longestSheetLine = omega (arith, size, field-few q lineFeed 11 h) in
     let ended : endsLine text ≡ true = rw (← append-assoc standardStart (digitsOf q) (lineFeed ∷ [])) (last-byte (standardStart ++ digitsOf q)) in
-    rw (le-leb (length text) longestLine short, ended, begins-itself standardStart (fieldText q lineFeed), field, eq-eqb (length text) (length text) refl)
+    rw (le-leb (length text) longestSheetLine short, ended, begins-itself standardStart (fieldText q lineFeed), field, eq-eqb (length text) (length text) refl)
 
 -- a flag is 1 for failed, else 0
 pub flag-of : (b : Bool) → (eqb (cond b 1 0) 1 ≡ b) × (cond b 1 0 ≤ 1)

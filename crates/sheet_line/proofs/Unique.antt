@@ -7,7 +7,7 @@ use Rattle.sheet_line.specs.Field.{fieldAt}
 use Rattle.sheet_line.specs.declared.Field.{Field}
 use mathlib.Core.Bool.{Bool}
 use Rattle.truth.proofs.Unique.{settled}
-use Rattle.sheet_line.specs.Form.{isLine, begins}
+use Rattle.sheet_line.specs.Form.{isSheetLine, begins}
 use Rattle.sheet_line.specs.Column.{standardColumn, recordColumn}
 use Rattle.sheet_line.specs.declared.Sheet.{Sheet}
 use Rattle.sheet_line.specs.declared.Step.{Step}
@@ -16,7 +16,7 @@ use Rattle.sheet_line.specs.Line.{stepping}
 pub number-at-unique : (s : List ℕ) (at : ℕ) (r q : Field) → r ≡ fieldAt s at → q ≡ fieldAt s at → r ≡ q
 number-at-unique s at r q e f = cc
 
-pub is-line-unique : (text : List ℕ) (r q : Bool) → r ≡ isLine text → q ≡ isLine text → r ≡ q
+pub is-line-unique : (text : List ℕ) (r q : Bool) → r ≡ isSheetLine text → q ≡ isSheetLine text → r ≡ q
 is-line-unique text r q = settled
 
 pub begins-unique : (text word : List ℕ) (r q : Bool) → r ≡ begins word text → q ≡ begins word text → r ≡ q

@@ -11,7 +11,7 @@ use Rattle.sheet_line.specs.declared.Field.the-variants.{Number, Empty, 
 use Rattle.decimal.specs.Decimal.{longest}
 use Rattle.decimal.specs.Field.{tab, lineFeed}
 use Rattle.sheet_line.specs.Field.{fieldAt}
-use Rattle.sheet_line.specs.Form.{isLine, begins, standardStart}
+use Rattle.sheet_line.specs.Form.{isSheetLine, begins, standardStart}
 
 -- ---- the line as a whole
 -- how often a byte stands in a text
@@ -24,7 +24,7 @@ abbrev pub isParted : ℕ → List ℕ → Bool
 isParted tabs line = eqb (howMany lineFeed line) 1 && eqb (howMany tab line) tabs
 
 abbrev pub isWhole : ℕ → List ℕ → Bool
-isWhole tabs line = isLine line && isParted tabs line
+isWhole tabs line = isSheetLine line && isParted tabs line
 
 -- ---- a field at a place
 -- 0 for a number from `low` to `high`. Else that of the first strange byte, else that of the field's first byte, or of
@@ -36,13 +36,13 @@ columnIn low high at Empty = at + 1
 columnIn low high at LeadingZero = at + 1
 columnIn low high at TooLong = at + 1
 
--- where the field behind a number starts
-abbrev pub behind : Field → ℕ
-behind (Number v next) = next + 1
-behind Empty = 0
-behind (Strange place) = 0
-behind LeadingZero = 0
-behind TooLong = 0
+-- where the field after a number starts
+abbrev pub nextField : Field → ℕ
+nextField (Number v next) = next + 1
+nextField Empty = 0
+nextField (Strange place) = 0
+nextField LeadingZero = 0
+nextField TooLong = 0
 
 -- the largest number of 12 digits
 abbrev pub mostNumber : ℕ
@@ -59,8 +59,8 @@ standardFields line = cond (begins standardStart line) (columnIn 0 mostNumber (l
 -- later lines: the record number that is due, 1 or 0, a number
 unfoldable pub recordFields : ℕ → List ℕ → ℕ
 recordFields due line =
-    let second = behind (fieldAt line 0) in
-    let third = behind (fieldAt line second) in
+    let second = nextField (fieldAt line 0) in
+    let third = nextField (fieldAt line second) in
     firstOf (columnIn due due 0 (fieldAt line 0))
     (firstOf (columnIn 0 1 second (fieldAt line second))
     (columnIn 0 mostNumber third (fieldAt line third)))

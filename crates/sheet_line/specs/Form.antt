@@ -7,15 +7,15 @@ use lib.Dec.{eqb, leb}
 use Rattle.decimal.specs.Field.{tab, lineFeed}
 
 -- the most bytes of a line, with its LF
-abbrev pub longestLine : ℕ
-longestLine = 64
+abbrev pub longestSheetLine : ℕ
+longestSheetLine = 64
 
 -- a line is ended by LF and has at most 64 bytes with it; what it says is up to its fields
 abbrev pub endsLine : List ℕ → Bool
 endsLine line = eqb (getD line (length line - 1) 0) lineFeed
 
-abbrev pub isLine : List ℕ → Bool
-isLine line = leb (length line) longestLine && endsLine line
+abbrev pub isSheetLine : List ℕ → Bool
+isSheetLine line = leb (length line) longestSheetLine && endsLine line
 
 -- the text starts with the word
 unfoldable pub begins : List ℕ → List ℕ → Bool

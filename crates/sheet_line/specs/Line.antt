@@ -11,10 +11,10 @@ use Rattle.sheet_line.specs.declared.Field.{Field}
 use Rattle.sheet_line.specs.declared.Field.the-variants.{Number, Empty, Strange, LeadingZero, TooLong}
 use Rattle.decimal.specs.Field.{tab, lineFeed}
 use Rattle.sheet_line.specs.Field.{fieldAt}
-use Rattle.sheet_line.specs.Form.{isLine, begins, standardStart}
+use Rattle.sheet_line.specs.Form.{isSheetLine, begins, standardStart}
 use Rattle.sheet_line.specs.Column.{standardColumn, recordColumn}
-use Rattle.campaign_state.specs.declared.Answer.{Answer}
-use Rattle.campaign_state.specs.declared.Answer.the-variants.{Taken, Refused}
+use Rattle.campaign_state.specs.declared.CampaignAnswer.{CampaignAnswer}
+use Rattle.campaign_state.specs.declared.CampaignAnswer.the-variants.{Taken, Refused}
 use Rattle.campaign_state.specs.declared.Campaign.{Campaign}
 use Rattle.campaign_state.specs.State.{sound}
 use Rattle.campaign_state.specs.Answers.{opened, entering}
@@ -54,12 +54,12 @@ abbrev pub malformed : ℕ → ℕ → Step
 malformed line column = Stop line column (Line line)
 
 -- the campaign that the line leads to, or its refusal on that line, which has no column
-abbrev pub outcome : ℕ → Answer → Step
+abbrev pub outcome : ℕ → CampaignAnswer → Step
 outcome line (Taken c) = Next (Open c)
 outcome line (Refused r) = Stop line 0 r
 
 abbrev pub ofLine : Step → List ℕ → Step → Step
-ofLine bad line step = cond (isLine line) step bad
+ofLine bad line step = cond (isSheetLine line) step bad
 
 -- ---- line 1: the word standard, then q; then refusal 1. A malformed one is given the column
 unfoldable pub standardLine : ℕ → List ℕ → Step
@@ -75,21 +75,21 @@ standardLine column line =
 abbrev pub lineAfter : Campaign → ℕ
 lineAfter c = c .records + 2
 
--- the three numbers are a record's: the next record number, 1 or 0, and the line ends behind them
+-- the three numbers are a record's: the next record number, 1 or 0, and the line ends after them
 abbrev pub isRecord : Campaign → List ℕ → ℕ → ℕ → ℕ → Bool
 isRecord c line number flag end = (eqb number (c .records + 1) && leb flag 1) && eqb end (length line)
 
 -- what a line tells of a record is its outcome, and nothing else
-abbrev pub told : Bool → ℕ → Outcome
-told f t = record { failed = f; exposure = t }
+abbrev pub lineOutcome : Bool → ℕ → Outcome
+lineOutcome f t = record { failed = f; exposure = t }
 
 -- exposure 0 gives 4, above 10,000,000 gives 3; else what follows
-abbrev pub exposureThen : ℕ → Answer → Answer
+abbrev pub exposureThen : ℕ → CampaignAnswer → CampaignAnswer
 exposureThen t rest = cond (eqb t 0) (Refused TooShort) (cond (ltb longestTime t) (Refused TooLong) rest)
 
 -- 4, 3; else the outcome enters: 5, 6
-unfoldable pub telling : Campaign → Bool → ℕ → Answer
-telling c f t = exposureThen t (entering c (told f t))
+unfoldable pub telling : Campaign → Bool → ℕ → CampaignAnswer
+telling c f t = exposureThen t (entering c (lineOutcome f t))
 
 unfoldable pub recordLine : ℕ → Campaign → List ℕ → Step
 recordLine column c line =

@@ -6,7 +6,7 @@ use Prim.Native.Nat.{ℕ, _≤_}
 use lib.ListN.{length}
 use Rattle.decimal.specs.Field.{tab, lineFeed}
 use Rattle.sheet_line.specs.Column.{howMany}
-use Rattle.sheet_line.specs.Form.{longestLine}
+use Rattle.sheet_line.specs.Form.{longestSheetLine}
 
 -- neither a tab nor an LF stands in the field
 pub record Plain (field : List ℕ) : Type 0 where
@@ -18,14 +18,14 @@ pub record Two (line a b : List ℕ) : Type 0 where
   pub bytes : line ≡ a ++ (tab ∷ (b ++ (lineFeed ∷ [])))
   pub first : Plain a
   pub second : Plain b
-  pub short : length line ≤ longestLine
+  pub short : length line ≤ longestSheetLine
 
 pub record Three (line a b d : List ℕ) : Type 0 where
   pub bytes : line ≡ a ++ (tab ∷ (b ++ (tab ∷ (d ++ (lineFeed ∷ [])))))
   pub first : Plain a
   pub second : Plain b
   pub third : Plain d
-  pub short : length line ≤ longestLine
+  pub short : length line ≤ longestSheetLine
 
 pub record OfTwo (line : List ℕ) : Type 0 where
   pub a : List ℕ

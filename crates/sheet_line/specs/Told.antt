@@ -9,7 +9,7 @@ use Rattle.decimal.specs.Decimal.{allDigits, isDigit, isNumber, longest, valueO
 use Rattle.sheet_line.specs.declared.Field.{Field}
 use Rattle.sheet_line.specs.declared.Field.the-variants.{Number, Empty, Strange, LeadingZero, TooLong}
 
--- the field has this as its first byte that is no digit, behind so many digits
+-- the field has this as its first byte that is no digit, after so many digits
 pub record FirstStrange (field before : List ℕ) : Type 0 where
   pub byte : ℕ
   pub after : List ℕ

@@ -8,14 +8,14 @@ ghost use Prim.Native.Nat.{_+_, _≤_};
 ghost use lib.ListN.{drop, length};
 ghost use Rattle.decimal.specs.Decimal.{isNumber};
 ghost use Rattle.sheet_line.specs.Field.{endsHere, fieldAt, fieldOf};
-ghost use Rattle.sheet_line.specs.Form.{longestLine, isLine, begins};
-ghost use Rattle.sheet_line.specs.Column.{howMany, isParted, columnIn, behind, standardFields, recordFields};
+ghost use Rattle.sheet_line.specs.Form.{longestSheetLine, isSheetLine, begins};
+ghost use Rattle.sheet_line.specs.Column.{howMany, isParted, columnIn, nextField, standardFields, recordFields};
 ghost use Rattle.sheet_line.specs.Column.{standardColumn, recordColumn};
 ghost use Rattle.campaign_state.specs.State.{sound};
 ghost use Rattle.sheet_line.specs.Line.{fieldThen, lineAfter, malformed, outcome, standardLine, recordLine};
 ghost use Rattle.sheet_line.specs.Line.{stepping, telling};
-use campaign_state::Answer;
 use campaign_state::Campaign;
+use campaign_state::CampaignAnswer;
 use record_end::Outcome;
 use refusal::Refusal;
 
@@ -104,7 +104,7 @@ const MOST_NUMBER: u64 = 999_999_999_999;
 
 // Whether `text` is ended by LF and no longer than a line may be.
 pub fn is_line(text: &[u8]) -> bool
-    ensures { λ r. ⌜ r ≡ isLine (now (text .entry)) ⌝ }
+    ensures { λ r. ⌜ r ≡ isSheetLine (now (text .entry)) ⌝ }
 {
     let n = text.len();
     if n == 0 {
@@ -163,9 +163,9 @@ struct Look {
 
 // A look at the field of `text` at `at`, which has to be a number from `low` to `high`.
 fn look_at(text: &[u8], at: usize, low: u64, high: u64) -> Look
-    requires { ⌜ (length (now text) ≤ longestLine) × (at ≤ 100) ⌝ }
+    requires { ⌜ (length (now text) ≤ longestSheetLine) × (at ≤ 100) ⌝ }
     ensures { λ r. ⌜ r .column ≡ columnIn low high at (fieldAt (now (text .entry)) at) ⌝ }
-    ensures { λ r. ⌜ r .next ≡ behind (fieldAt (now (text .entry)) at) ⌝ }
+    ensures { λ r. ⌜ r .next ≡ nextField (fieldAt (now (text .entry)) at) ⌝ }
     ensures { λ r. ⌜ r .next ≤ 100 ⌝ }
 {
     let f = number_at(text, at);
@@ -196,7 +196,7 @@ fn look_at(text: &[u8], at: usize, low: u64, high: u64) -> Look
 
 // The column of the first bad field of line 1, or 0.
 fn standard_fields(text: &[u8]) -> u64
-    requires { ⌜ length (now text) ≤ longestLine ⌝ }
+    requires { ⌜ length (now text) ≤ longestSheetLine ⌝ }
     ensures { λ r. ⌜ r ≡ standardFields (now (text .entry)) ⌝ }
 {
     if !begins(text, b"standard\t") {
@@ -208,7 +208,7 @@ fn standard_fields(text: &[u8]) -> u64
 
 // The column of the first bad field of a record's line, or 0.
 fn record_fields(due: u64, text: &[u8]) -> u64
-    requires { ⌜ length (now text) ≤ longestLine ⌝ }
+    requires { ⌜ length (now text) ≤ longestSheetLine ⌝ }
     ensures { λ r. ⌜ r ≡ recordFields due (now (text .entry)) ⌝ }
 {
     let number = look_at(text, 0, due, due);
@@ -309,14 +309,14 @@ fn standard_line(text: &[u8]) -> Step
 }
 
 // The record that a line tells of, entered by its outcome; or refusal 4 for no exposure, 3 for too long a one, 5, 6.
-fn tell(c: Campaign, failed: bool, exposure: u64) -> Answer
+fn tell(c: Campaign, failed: bool, exposure: u64) -> CampaignAnswer
     ensures { λ r. ⌜ r ≡ telling c failed exposure ⌝ }
 {
     if exposure == 0 {
-        return Answer::Refused(Refusal::TooShort);
+        return CampaignAnswer::Refused(Refusal::TooShort);
     }
     if exposure > sample_items::LONGEST_TIME {
-        return Answer::Refused(Refusal::TooLong);
+        return CampaignAnswer::Refused(Refusal::TooLong);
     }
     c.enter(Outcome {
         failed: failed,
@@ -364,12 +364,12 @@ fn record_line(c: Campaign, text: &[u8]) -> Step
 }
 
 // What an answer about a line comes to.
-fn outcome(line: u64, a: Answer) -> Step
+fn outcome(line: u64, a: CampaignAnswer) -> Step
     ensures { λ r. ⌜ r ≡ outcome line a ⌝ }
 {
     match a {
-        Answer::Taken(c) => Step::Next(Sheet::Open(c)),
-        Answer::Refused(r) => Step::Stop(line, 0, r),
+        CampaignAnswer::Taken(c) => Step::Next(Sheet::Open(c)),
+        CampaignAnswer::Refused(r) => Step::Stop(line, 0, r),
     }
 }
 

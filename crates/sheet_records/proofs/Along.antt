@@ -15,8 +15,8 @@ use Rattle.poisson.specs.Rows.{rows}
 use Rattle.refusal.specs.declared.Refusal.{Refusal}
 use Rattle.refusal.specs.declared.Refusal.the-variants.{Item}
 use Rattle.sample_items.specs.Limits.{within}
-use Rattle.campaign_state.specs.declared.Answer.{Answer}
-use Rattle.campaign_state.specs.declared.Answer.the-variants.{Refused, Taken}
+use Rattle.campaign_state.specs.declared.CampaignAnswer.{CampaignAnswer}
+use Rattle.campaign_state.specs.declared.CampaignAnswer.the-variants.{Refused, Taken}
 use Rattle.campaign_state.specs.declared.Campaign.{Campaign}
 use Rattle.campaign_state.specs.Answers.{opened}
 use Rattle.campaign_state.specs.State.{empty, entered, mostRecords, sound, standardInRange}
@@ -26,11 +26,11 @@ use Rattle.campaign_state.proofs.Relations.{kept-from}
 use Rattle.decimal.specs.Lines.{linesOf}
 use Rattle.sheet_line.specs.declared.Sheet.{Sheet}
 use Rattle.sheet_line.specs.declared.Sheet.the-variants.{Fresh, Open}
-use Rattle.sheet_line.specs.Line.{outcome, telling, told}
+use Rattle.sheet_line.specs.Line.{outcome, telling, lineOutcome}
 use Rattle.sheet_line.proofs.Theorems.{told-entered}
 use Rattle.sheet_text.specs.declared.Reading.the-variants.{Read}
 use Rattle.text.specs.Pieces.{joined}
-use Rattle.sheet_text.specs.Sheet.{Account, afterStep, meaning, reading}
+use Rattle.sheet_text.specs.Sheet.{Account, afterStep, meaning, readingSheet}
 use Rattle.sheet_line.specs.Texts.{entryText, headText}
 use Rattle.sheet_records.proofs.Enough.{in-range}
 use Rattle.sheet_records.proofs.Judging.{told-taken}
@@ -53,9 +53,9 @@ pub record Along (text : List ℕ) (q begin at count failures : ℕ) : Type 0 wh
   pub records : so-far .records ≡ count
   pub fails : so-far .failures ≡ failures
   pub range : standardInRange q ≡ true
-  pub begun : meaning text .end ≡ reading false (Left text begin) (Open (empty q)) .end
+  pub begun : meaning text .end ≡ readingSheet false (Left text begin) (Open (empty q)) .end
   pub says : recordsOf text ≡ map recordIn (Left text begin)
-  pub reads : meaning text .end ≡ reading false (Left text at) (Open so-far) .end
+  pub reads : meaning text .end ≡ readingSheet false (Left text at) (Open so-far) .end
   pub number : count + length (map recordIn (Left text at)) ≡ length (recordsOf text)
   pub inside : at ≤ length text
 
@@ -75,14 +75,14 @@ no-head text none d e =
     none (b .standard) (joined (a .lines)) (in-range (b .standard) (opened-from (b .standard) (b .start) (b .opens) .0)) (a .parts ∙ ap (λ (l : List ℕ). l ++ joined (a .lines)) (b .bytes))
 
 module _ (text : List ℕ) (q next : ℕ) (h : HeadOf text (Standard q next)) where
-  head-ends : meaning text .end ≡ afterStep (outcome 1 (opened q)) (reading false (Left text next)) .end
+  head-ends : meaning text .end ≡ afterStep (outcome 1 (opened q)) (readingSheet false (Left text next)) .end
   unfolding HeadOf meaning
-  head-ends = ap (λ (l : List ℕ). reading false (linesOf l) Fresh .end) (h .0 .bytes) ∙ ap (λ (a : Account). a .end) (head-reads q (h .1) (drop next text))
+  head-ends = ap (λ (l : List ℕ). readingSheet false (linesOf l) Fresh .end) (h .0 .bytes) ∙ ap (λ (a : Account). a .end) (head-reads q (h .1) (drop next text))
 
   pub bad-standard : standardInRange q ≡ false → NotClean text
   bad-standard out d e =
       let refused : opened q ≡ Refused (Item 5) = rw out in
-      never 1 (Item 5) (reading false (Left text next)) d (ap (λ (a : Answer). afterStep (outcome 1 a) (reading false (Left text next)) .end) (sym refused) ∙ sym head-ends ∙ e)
+      never 1 (Item 5) (readingSheet false (Left text next)) d (ap (λ (a : CampaignAnswer). afterStep (outcome 1 a) (readingSheet false (Left text next)) .end) (sym refused) ∙ sym head-ends ∙ e)
 
   pub start : standardInRange q ≡ true → Along text q next next 0 0
   unfolding HeadOf recordsOf
@@ -90,7 +90,7 @@ module _ (text : List ℕ) (q next : ℕ) (h : HeadOf text (Standard q next)) wh
       let opens : opened q ≡ Taken (empty q) = rw range in
       let lines : linesOf text ≡ headText q ∷ Left text next = ap linesOf (h .0 .bytes) ∙ head-lines q (drop next text) in
       let says : map recordIn (drop 1 (linesOf text)) ≡ map recordIn (Left text next) = ap (λ (l : List (List ℕ)). map recordIn (drop 1 l)) lines in
-      let ends = head-ends ∙ ap (λ (a : Answer). afterStep (outcome 1 a) (reading false (Left text next)) .end) opens in
+      let ends = head-ends ∙ ap (λ (a : CampaignAnswer). afterStep (outcome 1 a) (readingSheet false (Left text next)) .end) opens in
       record {
         so-far = empty q;
         good = is-true _ (opened-sound q (empty q) opens);
@@ -132,7 +132,7 @@ module _ {text : List ℕ} {q begin at count failures : ℕ} (a : Along text q b
   unfolding EntryAt joined
   other-line more none d e = go (Left text at) (sym (lines-joined (drop at text))) (sym (a .reads) ∙ e)
     where
-      go : (lines : List (List ℕ)) → drop at text ≡ joined lines → reading false lines (Open c) .end ≡ Read d → ⊥
+      go : (lines : List (List ℕ)) → drop at text ≡ joined lines → readingSheet false lines (Open c) .end ≡ Read d → ⊥
       go [] parts e = omega (arith, ap length parts, length-drop at text)
       go (line ∷ lines) parts e =
           let o = first-line c line lines d (a .good) e in
@@ -145,20 +145,20 @@ module _ {text : List ℕ} {q begin at count failures : ℕ} (a : Along text q b
     abbrev entry : List ℕ
     entry = entryText (count + 1) (cond f 1 0) t
 
-    ends : meaning text .end ≡ afterStep (outcome (c .records + 2) (telling c f t)) (reading false (Left text next)) .end
+    ends : meaning text .end ≡ afterStep (outcome (c .records + 2) (telling c f t)) (readingSheet false (Left text next)) .end
     ends =
         a .reads
-        ∙ ap (λ (l : List ℕ). reading false (linesOf l) (Open c) .end) (h .starts .bytes ∙ ap (λ (n : ℕ). entryText (n + 1) (cond f 1 0) t ++ drop next text) (sym (a .records)))
+        ∙ ap (λ (l : List ℕ). readingSheet false (linesOf l) (Open c) .end) (h .starts .bytes ∙ ap (λ (n : ℕ). entryText (n + 1) (cond f 1 0) t ++ drop next text) (sym (a .records)))
         ∙ ap (λ (x : Account). x .end) (entry-reads c f t (a .good) (omega (arith, h .high)) (drop next text))
 
     -- its record is not taken
     pub not-taken : takenAfter count failures ≡ false → NotClean text
     not-taken no-room d e = go (telling c f t) refl (sym ends ∙ e)
       where
-        go : (x : Answer) → telling c f t ≡ x → afterStep (outcome (c .records + 2) x) (reading false (Left text next)) .end ≡ Read d → ⊥
-        go (Refused r) is e = never (c .records + 2) r (reading false (Left text next)) d e
+        go : (x : CampaignAnswer) → telling c f t ≡ x → afterStep (outcome (c .records + 2) x) (readingSheet false (Left text next)) .end ≡ Read d → ⊥
+        go (Refused r) is e = never (c .records + 2) r (readingSheet false (Left text next)) d e
         go (Taken b) is e =
-            let o = entered-from c (told f t) b (told-entered c f t b is) in
+            let o = entered-from c (lineOutcome f t) b (told-entered c f t b is) in
             true≢false (sym (taken-after count failures (λ k. o .room .records (a .records ∙ k)) (λ k. o .room .failures (a .fails ∙ k))) ∙ no-room)
 
     -- it is taken
@@ -176,17 +176,17 @@ module _ {text : List ℕ} {q begin at count failures : ℕ} (a : Along text q b
           range = a .range;
           begun = a .begun;
           says = a .says;
-          reads = ends ∙ ap (λ (x : Answer). afterStep (outcome (c .records + 2) x) (reading false (Left text next)) .end) taken;
+          reads = ends ∙ ap (λ (x : CampaignAnswer). afterStep (outcome (c .records + 2) x) (readingSheet false (Left text next)) .end) taken;
           number = omega (arith, ap (λ (l : List (List ℕ)). length (map recordIn l)) lines, a .number);
           inside = h .starts .within;
         }
 
   -- the end
   pub ended : length text ≤ at → CleanPass text q count begin
-  unfolding reading linesOf
+  unfolding readingSheet linesOf
   ended past =
       let none : Left text at ≡ [] = ap linesOf (drop-of-length-le text past) in
-      let reads = a .reads ∙ ap (λ (l : List (List ℕ)). reading false l (Open c) .end) none in
+      let reads = a .reads ∙ ap (λ (l : List (List ℕ)). readingSheet false l (Open c) .end) none in
       let opens : opened q ≡ Taken (empty q) = rw (a .range) in
       record {
         end = c;

@@ -17,7 +17,7 @@ use Rattle.sample_items.specs.Limits.{longestTime}
 use Rattle.decimal.specs.declared.Lead.the-variants.{Number, Nothing}
 use Rattle.decimal.specs.Decimal.{digitsOf, isDigit, longest, zeroByte}
 use Rattle.decimal.specs.Field.{fieldText, lineFeed, tab}
-use Rattle.decimal.specs.Leading.{behind, leading, leadingAt, standsAt}
+use Rattle.decimal.specs.Leading.{afterLeading, leading, leadingAt, standsAt}
 use Rattle.decimal.proofs.Leading.{leading-is, leads-number, led}
 use Rattle.decimal.proofs.Text.{all-digits, digits-value, number-digits, value-digits}
 use Rattle.sheet_line.specs.Form.{begins, standardStart}
@@ -94,7 +94,7 @@ module _ (s : List ℕ) (at due : ℕ) where
       let (second, digits) = stand-back s (end + 2) tab _ (end + 3) (omega arith) tabs in
       let is : leading (drop (end + 3) s) ≡ digitsOf t = ap leading digits ∙ leading-is (digitsOf t) (lineFeed ∷ rest) (all-digits t) refl in
       let feeds : drop (end + 3 + length (digitsOf t)) s ≡ lineFeed ∷ rest = sym (drop-drop (length (digitsOf t)) (end + 3) s) ∙ ap (drop (length (digitsOf t))) digits ∙ drop-append-seam (digitsOf t) (lineFeed ∷ rest) in
-      let (last, behind) = stand-back s (end + 3 + length (digitsOf t)) lineFeed rest _ refl feeds in
+      let (last, after-it) = stand-back s (end + 3 + length (digitsOf t)) lineFeed rest _ refl feeds in
       record { end = end; feed = end + 3 + length (digitsOf t); number = number; first = first; flag = flag; second = second; rest = rest; exposure = digits; place = ap (λ (l : List ℕ). end + 3 + length l) (sym is); last = last }
 
   abbrev NoEntry : Type 0
@@ -171,8 +171,8 @@ module _ (s : List ℕ) where
   unfolding fieldText
   opens q rest small e =
       let parts : s ≡ standardStart ++ (digitsOf q ++ (lineFeed ∷ rest)) = e ∙ simp append-assoc in
-      let behind : drop 9 s ≡ digitsOf q ++ (lineFeed ∷ rest) = ap (drop 9) parts in
-      let (number, feeds) = lead-back s 9 q lineFeed rest small refl behind in
+      let after-it : drop 9 s ≡ digitsOf q ++ (lineFeed ∷ rest) = ap (drop 9) parts in
+      let (number, feeds) = lead-back s 9 q lineFeed rest small refl after-it in
       let (last, _) = stand-back s (9 + length (digitsOf q)) lineFeed rest _ refl feeds in
       record { feed = 9 + length (digitsOf q); word = rw parts (begins-itself standardStart (digitsOf q ++ (lineFeed ∷ rest))); number = number; last = last }
 

@@ -10,7 +10,7 @@ use lib.Dec.{eqb}
 use lib.ListN.{drop}
 use Rattle.truth.proofs.Laws.{is-true}
 use Rattle.sample_items.specs.Limits.{longestTime}
-use Rattle.campaign_state.specs.declared.Answer.the-variants.{Taken}
+use Rattle.campaign_state.specs.declared.CampaignAnswer.the-variants.{Taken}
 use Rattle.campaign_state.specs.declared.Campaign.{Campaign}
 use Rattle.campaign_state.specs.Answers.{opened}
 use Rattle.campaign_state.specs.State.{sound}
@@ -22,12 +22,12 @@ use Rattle.sheet_line.specs.declared.Sheet.{Sheet}
 use Rattle.sheet_line.specs.declared.Sheet.the-variants.{Fresh, Open}
 use Rattle.sheet_line.specs.declared.Step.{Step}
 use Rattle.sheet_line.specs.declared.Step.the-variants.{Next, Stop}
-use Rattle.sheet_line.specs.Line.{stepping, telling, told}
+use Rattle.sheet_line.specs.Line.{stepping, telling, lineOutcome}
 use Rattle.sheet_line.proofs.Entries.{says-next, standard-says}
 use Rattle.sheet_line.proofs.Theorems.{flag-of, line-enters, told-entered}
 use Rattle.sheet_text.specs.declared.Reading.the-variants.{Read}
 use Rattle.text.specs.Pieces.{joined}
-use Rattle.sheet_text.specs.Sheet.{Account, afterStep, meaning, reading}
+use Rattle.sheet_text.specs.Sheet.{Account, afterStep, meaning, readingSheet}
 use Rattle.sheet_records.specs.Answers.{judged, judgedFrom}
 use Rattle.sheet_records.proofs.Entered.{judged-standard}
 use Rattle.degrees.specs.Degrees.{signed}
@@ -52,20 +52,20 @@ pub record First (c : Campaign) (line : List ℕ) (lines : List (List ℕ)) (d :
   pub taken : telling c failed exposure ≡ Taken after
   pub good : sound after ≡ true
   pub one-more : after .records ≡ c .records + 1
-  pub rest : reading false lines (Open after) .end ≡ Read d
+  pub rest : readingSheet false lines (Open after) .end ≡ Read d
 
 flag-is : (flag : ℕ) → flag ≤ 1 → flag ≡ cond (eqb flag 1) 1 0
 flag-is zero h = refl
 flag-is (suc zero) h = refl
 flag-is (suc (suc n)) h = absurd (omega arith)
 
-pub first-line : (c : Campaign) (line : List ℕ) (lines : List (List ℕ)) (d : Campaign) → sound c ≡ true → reading false (line ∷ lines) (Open c) .end ≡ Read d → First c line lines d
-unfolding reading
+pub first-line : (c : Campaign) (line : List ℕ) (lines : List (List ℕ)) (d : Campaign) → sound c ≡ true → readingSheet false (line ∷ lines) (Open c) .end ≡ Read d → First c line lines d
+unfolding readingSheet
 first-line c line lines d g e =
-    let (s, step, rest) = took (stepping (Open c) line) (reading false lines) d e in
+    let (s, step, rest) = took (stepping (Open c) line) (readingSheet false lines) d e in
     let o = line-enters c line s g step in
     let enters = told-entered c (eqb (o .flag) 1) (o .exposure) (o .after) (o .taken) in
-    let says = told (eqb (o .flag) 1) (o .exposure) in
+    let says = lineOutcome (eqb (o .flag) 1) (o .exposure) in
     let t = entered-from c says (o .after) enters in
     record {
       failed = eqb (o .flag) 1;
@@ -87,9 +87,9 @@ number-parts true (suc t) h = (refl, refl)
 number-parts false t h = (refl, refl)
 
 -- ---- all lines
-pub lines-again : (lines : List (List ℕ)) (c d : Campaign) → sound c ≡ true → reading false lines (Open c) .end ≡ Read d
+pub lines-again : (lines : List (List ℕ)) (c d : Campaign) → sound c ≡ true → readingSheet false lines (Open c) .end ≡ Read d
     → (joined lines ≡ linesFrom (c .records + 1) (map recordIn lines)) × (judgedFrom c (map recordIn lines) ≡ Taken d)
-unfolding joined linesFrom judgedFrom reading
+unfolding joined linesFrom judgedFrom readingSheet
 lines-again [] c d g e = (refl, same e)
   where
     same : {c d : Campaign} → Read c ≡ Read d → Taken c ≡ Taken d
@@ -113,12 +113,12 @@ pub record Begun (line : List ℕ) (lines : List (List ℕ)) (d : Campaign) : Ty
   pub good : sound start ≡ true
   pub none : start .records ≡ 0
   pub kept : start .standard ≡ standard
-  pub rest : reading false lines (Open start) .end ≡ Read d
+  pub rest : readingSheet false lines (Open start) .end ≡ Read d
 
-pub begun : (line : List ℕ) (lines : List (List ℕ)) (d : Campaign) → reading false (line ∷ lines) Fresh .end ≡ Read d → Begun line lines d
-unfolding reading stepping
+pub begun : (line : List ℕ) (lines : List (List ℕ)) (d : Campaign) → readingSheet false (line ∷ lines) Fresh .end ≡ Read d → Begun line lines d
+unfolding readingSheet stepping
 begun line lines d e =
-    let (s, step, rest) = took (stepping Fresh line) (reading false lines) d e in
+    let (s, step, rest) = took (stepping Fresh line) (readingSheet false lines) d e in
     let o = says-next (standard-says _ line (standard-few line)) step in
     let is = opened-from (o .standard) (o .after) (o .taken) .1 in
     record {
@@ -141,10 +141,10 @@ pub record Apart (text : List ℕ) (d : Campaign) : Type 0 where
   pub first : Begun line lines d
 
 pub apart : (text : List ℕ) (d : Campaign) → meaning text .end ≡ Read d → Apart text d
-unfolding meaning reading joined
+unfolding meaning readingSheet joined
 apart text d e = go (linesOf text) refl e
   where
-    go : (lines : List (List ℕ)) → linesOf text ≡ lines → reading false lines Fresh .end ≡ Read d → Apart text d
+    go : (lines : List (List ℕ)) → linesOf text ≡ lines → readingSheet false lines Fresh .end ≡ Read d → Apart text d
     go [] are e = let z : _≡_ {A = ℕ} 0 1 = cc in absurd (omega arith)
     go (line ∷ lines) are e =
         record { line = line; lines = lines; are = are; parts = sym (lines-joined text) ∙ ap joined are; first = begun line lines d e }

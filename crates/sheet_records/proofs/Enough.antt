@@ -8,7 +8,7 @@ use lib.Dec.{T, leb→le}
 use lib.Ieee.Fits.{and-r}
 use lib.IntN.{ℤ}
 use lib.ListN.{length}
-use Rattle.campaign_state.specs.declared.Answer.the-variants.{Taken}
+use Rattle.campaign_state.specs.declared.CampaignAnswer.the-variants.{Taken}
 use Rattle.campaign_state.specs.declared.Campaign.{Campaign}
 use Rattle.campaign_state.specs.Answers.{opened}
 use Rattle.campaign_state.specs.State.{standardInRange}
@@ -17,7 +17,7 @@ use Rattle.campaign_state.proofs.Keeping.{entering-sound}
 use Rattle.campaign_state.proofs.Relations.{kept-from}
 use Rattle.decimal.specs.Decimal.{longest}
 use Rattle.decimal.proofs.Text.{digits-below}
-use Rattle.sheet_line.specs.Line.{telling, told}
+use Rattle.sheet_line.specs.Line.{telling, lineOutcome}
 use Rattle.sheet_line.proofs.Theorems.{told-entered}
 use Rattle.sheet_records.specs.Answers.{judged, judgedFrom}
 use Rattle.sheet_records.specs.Ledger.{exposureIn, failedIn, linesFrom, sheetText}
@@ -33,11 +33,11 @@ lines-few c (x ∷ xs) d e =
     let n = c .records + 1 in
     let (b, taken, rest) = went-on (telling c f t) (λ b. judgedFrom b xs) d e in
     let enters = told-entered c f t b taken in
-    let o = entered-from c (told f t) b enters in
+    let o = entered-from c (lineOutcome f t) b enters in
     let one-more : b .records ≡ n = ap (λ (y : Campaign). y .records) (o .room .after) in
-    let few = kept-from b (entering-sound c (told f t) b enters) .records in
-    let behind : length (linesFrom (n + 1) xs) ≤ 18 * length xs = rw one-more at (lines-few b xs d rest) in
-    omega (arith, behind, next-bytes n x xs, line-bytes n x, digits-below 5 n (omega (arith, one-more, few)), digits-below 7 t (omega (arith, o .high)))
+    let few = kept-from b (entering-sound c (lineOutcome f t) b enters) .records in
+    let after : length (linesFrom (n + 1) xs) ≤ 18 * length xs = rw one-more at (lines-few b xs d rest) in
+    omega (arith, after, next-bytes n x xs, line-bytes n x, digits-below 5 n (omega (arith, one-more, few)), digits-below 7 t (omega (arith, o .high)))
 
 -- a standard in range has at most 12 digits
 pub in-range : (q : ℕ) → T (standardInRange q) → q < 10 ^ longest

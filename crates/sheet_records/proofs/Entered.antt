@@ -8,8 +8,8 @@ use lib.Dec.{T}
 use lib.IntN.{ℤ}
 use lib.ListN.{length}
 use Rattle.record_end.specs.declared.Outcome.{Outcome}
-use Rattle.campaign_state.specs.declared.Answer.{Answer}
-use Rattle.campaign_state.specs.declared.Answer.the-variants.{Taken, Refused}
+use Rattle.campaign_state.specs.declared.CampaignAnswer.{CampaignAnswer}
+use Rattle.campaign_state.specs.declared.CampaignAnswer.the-variants.{Taken, Refused}
 use Rattle.campaign_state.specs.declared.Campaign.{Campaign}
 use Rattle.campaign_state.specs.Answers.{opened}
 use Rattle.campaign_state.specs.Records.{AllEntered, campaignOf, none, one}
@@ -24,7 +24,7 @@ use Rattle.sheet_records.specs.Ledger.{exposureIn, failedIn, outcomeIn}
 use Rattle.sheet_records.specs.Answers.{judged, judgedFrom, onward}
 
 -- an answer that goes on was a campaign
-pub went-on : (a : Answer) (go : Campaign → Answer) (d : Campaign) → onward a go ≡ Taken d → (c : Campaign) × (a ≡ Taken c) × (go c ≡ Taken d)
+pub went-on : (a : CampaignAnswer) (go : Campaign → CampaignAnswer) (d : Campaign) → onward a go ≡ Taken d → (c : Campaign) × (a ≡ Taken c) × (go c ≡ Taken d)
 went-on (Taken c) go d e = (c, refl, e)
 went-on (Refused r) go d e = let z : _≡_ {A = ℕ} 0 1 = cc in absurd (omega arith)
 

@@ -17,15 +17,15 @@ use Rattle.refusal.specs.declared.Refusal.the-variants.{CampaignFull, Item, Row
 use Rattle.poisson.specs.Rows.{rows}
 use Rattle.sample_items.specs.Limits.{longestTime}
 use Rattle.sample_size.proofs.Turn.{turn}
-use Rattle.campaign_state.specs.declared.Answer.{Answer}
-use Rattle.campaign_state.specs.declared.Answer.the-variants.{Taken, Refused}
+use Rattle.campaign_state.specs.declared.CampaignAnswer.{CampaignAnswer}
+use Rattle.campaign_state.specs.declared.CampaignAnswer.the-variants.{Taken, Refused}
 use Rattle.campaign_state.specs.declared.Campaign.{Campaign}
 use Rattle.campaign_state.specs.Answers.{entering, opened}
 use Rattle.campaign_state.specs.State.{empty, entered, mostRecords, sound, standardInRange}
 use Rattle.campaign_state.proofs.Answered.{entered-from}
 use Rattle.campaign_state.proofs.Keeping.{opened-sound, entering-sound}
 use Rattle.campaign_state.proofs.Relations.{kept-from}
-use Rattle.sheet_line.specs.Line.{telling, told}
+use Rattle.sheet_line.specs.Line.{telling, lineOutcome}
 use Rattle.sheet_line.proofs.Theorems.{telling-enters, told-entered}
 use Rattle.sheet_records.specs.declared.Judged.the-variants.{Clean, Fault}
 use Rattle.sheet_records.specs.Ledger.{exposureIn, failedIn}
@@ -62,8 +62,8 @@ module _ (c : Campaign) (f : Bool) (t : ℕ) (g : sound c ≡ true) (low : 1 ≤
   pub told-taken : ¬ (c .records ≡ mostRecords) → ¬ (c .failures ≡ 64) → (telling c f t ≡ Taken (entered c f t)) × (sound (entered c f t) ≡ true)
   unfolding entering
   told-taken n m =
-      let e : entering c (told f t) ≡ Taken (entered c f t) = rw (g, le-leb 1 t low, le-leb t longestTime high, ne-eqb (c .records) mostRecords n, ne-eqb (c .failures) 64 m) in
-      (telling-enters c f t low high ∙ e, is-true _ (entering-sound c (told f t) (entered c f t) e))
+      let e : entering c (lineOutcome f t) ≡ Taken (entered c f t) = rw (g, le-leb 1 t low, le-leb t longestTime high, ne-eqb (c .records) mostRecords n, ne-eqb (c .failures) 64 m) in
+      (telling-enters c f t low high ∙ e, is-true _ (entering-sound c (lineOutcome f t) (entered c f t) e))
 
 -- what is judged of one record is what the sheet says of it
 module _ (c : Campaign) (f : Bool) (t : ℕ) (g : sound c ≡ true) where
@@ -94,11 +94,11 @@ module _ (c : Campaign) (f : Bool) (t : ℕ) (g : sound c ≡ true) where
       (λ n. rw (e, h, m, n, told-taken c f t g low high (eqb-false (c .records) mostRecords m) (eqb-false (c .failures) 64 n) .0)))))
 
 -- what was judged is an answer
-pub judged-clean : (a : Answer) → Clean ≡ judgedAs a → (c : Campaign) × (a ≡ Taken c)
+pub judged-clean : (a : CampaignAnswer) → Clean ≡ judgedAs a → (c : Campaign) × (a ≡ Taken c)
 judged-clean (Taken c) e = (c, refl)
 judged-clean (Refused r) e = let z : _≡_ {A = ℕ} 0 1 = cc in absurd (omega arith)
 
-pub judged-fault : (a : Answer) (r : Refusal) → Fault r ≡ judgedAs a → a ≡ Refused r
+pub judged-fault : (a : CampaignAnswer) (r : Refusal) → Fault r ≡ judgedAs a → a ≡ Refused r
 judged-fault (Taken c) r e = let z : _≡_ {A = ℕ} 0 1 = cc in absurd (omega arith)
 judged-fault (Refused s) r e = let f : s ≡ r = cc in ap Refused f
 
@@ -130,7 +130,7 @@ module _ {q : ℕ} {xs : List ℤ} {i failures : ℕ} (a : Along q xs i failures
     pub on : judgedOne i failures (exposureIn x) ≡ Clean → Along q xs (i + 1) (cond (failedIn x) (failures + 1) failures)
     on e =
         let (d, taken) = judged-clean (telling (a .so-far) (failedIn x) (exposureIn x)) (sym e ∙ told-here) in
-        let says = told (failedIn x) (exposureIn x) in
+        let says = lineOutcome (failedIn x) (exposureIn x) in
         let enters = told-entered (a .so-far) (failedIn x) (exposureIn x) d taken in
         let after = entered-from (a .so-far) says d enters .room .after in
         record {
@@ -138,5 +138,5 @@ module _ {q : ℕ} {xs : List ℤ} {i failures : ℕ} (a : Along q xs i failures
           good = is-true _ (entering-sound (a .so-far) says d enters);
           records = ap (λ (c : Campaign). c .records) after ∙ ap (λ (n : ℕ). n + 1) (a .records);
           fails = ap (λ (c : Campaign). c .failures) after ∙ ap (λ (n : ℕ). cond (failedIn x) (n + 1) n) (a .fails);
-          left = next ∙ ap (λ (y : Answer). onward y (λ b. judgedFrom b (drop (i + 1) xs))) taken;
+          left = next ∙ ap (λ (y : CampaignAnswer). onward y (λ b. judgedFrom b (drop (i + 1) xs))) taken;
         }

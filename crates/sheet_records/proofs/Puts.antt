@@ -16,14 +16,14 @@ use Rattle.text.specs.declared.Writing.the-variants.{Bytes, Refused as Declined
 use Rattle.decimal.specs.Decimal.{zeroByte, digitsOf}
 use Rattle.decimal.specs.Field.{tab, lineFeed, fieldText}
 use Rattle.decimal.proofs.Text.{digits-one}
-use Rattle.campaign_state.specs.declared.Answer.{Answer}
-use Rattle.campaign_state.specs.declared.Answer.the-variants.{Taken, Refused}
+use Rattle.campaign_state.specs.declared.CampaignAnswer.{CampaignAnswer}
+use Rattle.campaign_state.specs.declared.CampaignAnswer.the-variants.{Taken, Refused}
 use Rattle.campaign_state.specs.declared.Campaign.{Campaign}
 use Rattle.sheet_records.proofs.Judging.{judged-clean, judged-fault}
 use Rattle.sheet_records.specs.declared.Judged.the-variants.{Clean, Fault}
 use Rattle.sheet_line.specs.Texts.{entryText, headText}
-use Rattle.sheet_records.specs.Ledger.{exposureIn, failedIn, lineText, linesFrom, sheetText}
-use Rattle.sheet_records.specs.Answers.{afterJudging, judged, judgedAs, writing}
+use Rattle.sheet_records.specs.Ledger.{exposureIn, failedIn, signedRecordText, linesFrom, sheetText}
+use Rattle.sheet_records.specs.Answers.{afterJudging, judged, judgedAs, writingSheet}
 
 -- a record failed if its number is below zero
 pub failed-below : (x : ℤ) → ltZ x (pos 0) ≡ failedIn x
@@ -41,14 +41,14 @@ pub line-parts : (number : ℕ) (f : Bool) (t : ℕ)
 unfolding fieldText
 line-parts number f t = rw flag-digit (simp append-assoc)
 
-pub line-bytes : (number : ℕ) (x : ℤ) → length (lineText number x) ≡ length (digitsOf number) + length (digitsOf (exposureIn x)) + 4
+pub line-bytes : (number : ℕ) (x : ℤ) → length (signedRecordText number x) ≡ length (digitsOf number) + length (digitsOf (exposureIn x)) + 4
 line-bytes number x = ap length (line-parts number (failedIn x) (exposureIn x)) ∙ simp length-append (omega arith)
 
 pub head-bytes : (q : ℕ) → length (headText q) ≡ length (digitsOf q) + 10
 unfolding fieldText
 head-bytes q = simp length-append (omega arith)
 
-pub lines-next : (number : ℕ) (x : ℤ) (xs : List ℤ) → linesFrom number (x ∷ xs) ≡ lineText number x ++ linesFrom (number + 1) xs
+pub lines-next : (number : ℕ) (x : ℤ) (xs : List ℤ) → linesFrom number (x ∷ xs) ≡ signedRecordText number x ++ linesFrom (number + 1) xs
 unfolding linesFrom
 lines-next number x xs = refl
 
@@ -56,8 +56,8 @@ pub lines-none : (number : ℕ) → linesFrom number [] ≡ []
 unfolding linesFrom
 lines-none number = refl
 
-pub next-bytes : (number : ℕ) (x : ℤ) (xs : List ℤ) → length (linesFrom number (x ∷ xs)) ≡ length (lineText number x) + length (linesFrom (number + 1) xs)
-next-bytes number x xs = ap length (lines-next number x xs) ∙ length-append (lineText number x) (linesFrom (number + 1) xs)
+pub next-bytes : (number : ℕ) (x : ℤ) (xs : List ℤ) → length (linesFrom number (x ∷ xs)) ≡ length (signedRecordText number x) + length (linesFrom (number + 1) xs)
+next-bytes number x xs = ap length (lines-next number x xs) ∙ length-append (signedRecordText number x) (linesFrom (number + 1) xs)
 
 pub sheet-bytes : (q : ℕ) (xs : List ℤ) → length (sheetText q xs) ≡ length (headText q) + length (linesFrom 1 xs)
 unfolding sheetText
@@ -65,17 +65,17 @@ sheet-bytes q xs = length-append (headText q) (linesFrom 1 xs)
 
 -- ---- what writing answers
 module _ (q : ℕ) (xs : List ℤ) (out : List ℕ) where
-  pub at-fault : (r : Refusal) → Fault r ≡ judgedAs (judged q xs) → Declined r ≡ writing q xs out
-  unfolding writing
+  pub at-fault : (r : Refusal) → Fault r ≡ judgedAs (judged q xs) → Declined r ≡ writingSheet q xs out
+  unfolding writingSheet
   at-fault r e = rw (judged-fault (judged q xs) r e)
 
   module _ (clean : Clean ≡ judgedAs (judged q xs)) where
-    pub no-room : length out < length (sheetText q xs) → Declined (Room (length (sheetText q xs))) ≡ writing q xs out
-    unfolding writing
+    pub no-room : length out < length (sheetText q xs) → Declined (Room (length (sheetText q xs))) ≡ writingSheet q xs out
+    unfolding writingSheet
     no-room h = rw (judged-clean (judged q xs) clean .1, lt-ltb _ _ h)
 
-    pub all-written : length (sheetText q xs) ≤ length out → Bytes (length (sheetText q xs)) ≡ writing q xs out
-    unfolding writing
+    pub all-written : length (sheetText q xs) ≤ length out → Bytes (length (sheetText q xs)) ≡ writingSheet q xs out
+    unfolding writingSheet
     all-written h = rw (judged-clean (judged q xs) clean .1, le-ltb _ _ h)
 
 -- what was written was judged clean, and there was room for it
@@ -85,14 +85,14 @@ pub record Wrote (q : ℕ) (xs : List ℤ) (out : List ℕ) (n : ℕ) : Type 0 w
   pub bytes : n ≡ length (sheetText q xs)
   pub room : n ≤ length out
 
-pub wrote : (q : ℕ) (xs : List ℤ) (out : List ℕ) (n : ℕ) → writing q xs out ≡ Bytes n → Wrote q xs out n
-unfolding writing
+pub wrote : (q : ℕ) (xs : List ℤ) (out : List ℕ) (n : ℕ) → writingSheet q xs out ≡ Bytes n → Wrote q xs out n
+unfolding writingSheet
 wrote q xs out n e = go (judged q xs) refl e
   where
     never : {r : Refusal} → ¬ (Declined r ≡ Bytes n)
     never f = let z : _≡_ {A = ℕ} 0 1 = cc in absurd (omega arith)
 
-    go : (a : Answer) → judged q xs ≡ a → afterJudging a (length (sheetText q xs)) (length out) ≡ Bytes n → Wrote q xs out n
+    go : (a : CampaignAnswer) → judged q xs ≡ a → afterJudging a (length (sheetText q xs)) (length out) ≡ Bytes n → Wrote q xs out n
     go (Refused r) is e = absurd (never e)
     go (Taken d) is e =
         by-test (ltb (length out) (length (sheetText q xs)))

@@ -30,7 +30,7 @@ use Rattle.sheet_line.specs.declared.Sheet.the-variants.{Open}
 use Rattle.sheet_line.proofs.Theorems.{flag-of}
 use Rattle.sheet_text.specs.declared.Reading.the-variants.{Read}
 use Rattle.text.specs.Pieces.{joined}
-use Rattle.sheet_text.specs.Sheet.{reading}
+use Rattle.sheet_text.specs.Sheet.{readingSheet}
 use Rattle.sheet_line.specs.Texts.{entryText}
 use Rattle.sheet_records.proofs.Puts.{line-parts}
 use Rattle.sheet_records.specs.Pass.{CleanFrom, flagAt, runEnd, runValue}
@@ -62,7 +62,7 @@ wide-on {v} {width} {limit} w =
     (λ e. let full = eqb-true (v + 1) limit e in rw e (record { below = suc (w .below); is = omega (arith, w .is); top = omega (arith, w .top); low = omega (arith, w .top); high = omega arith; few = omega (arith, w .few) }))
     (λ e. let more = eqb-false (v + 1) limit e in rw e (record { below = w .below; is = w .is; top = w .top; low = omega (arith, w .low); high = omega (arith, more, w .high); few = omega (arith, w .few) }))
 
--- ---- a record's line at a place: its flag, its exposure, and the place behind it
+-- ---- a record's line at a place: its flag, its exposure, and the place after it
 pub record Stands (s : List ℕ) (at width : ℕ) (f : Bool) (t : ℕ) (rest : List ℕ) : Type 0 where
   pub inside : at + width + 3 ≤ length s
   pub flag : flagAt s (at + width + 1) ≡ f
@@ -79,12 +79,12 @@ pub stands : (s : List ℕ) (at due : ℕ) (f : Bool) (t : ℕ) (rest : List ℕ
     → drop at s ≡ entryText due (cond f 1 0) t ++ rest → Stands s at width f t rest
 stands s at due f t rest width w short e =
     let F = zeroByte + cond f 1 0 in
-    let behind = digitsOf t ++ (lineFeed ∷ rest) in
-    let parts : drop at s ≡ digitsOf due ++ (tab ∷ (F ∷ (tab ∷ behind))) = e ∙ ap (λ (l : List ℕ). l ++ rest) (line-parts due f t) ∙ simp append-assoc in
-    let tabs = on s at (digitsOf due) (tab ∷ (F ∷ (tab ∷ behind))) (at + width) parts (omega (arith, w)) in
-    let flags = on s (at + width) (tab ∷ []) (F ∷ (tab ∷ behind)) (at + width + 1) tabs refl in
+    let after-it = digitsOf t ++ (lineFeed ∷ rest) in
+    let parts : drop at s ≡ digitsOf due ++ (tab ∷ (F ∷ (tab ∷ after-it))) = e ∙ ap (λ (l : List ℕ). l ++ rest) (line-parts due f t) ∙ simp append-assoc in
+    let tabs = on s at (digitsOf due) (tab ∷ (F ∷ (tab ∷ after-it))) (at + width) parts (omega (arith, w)) in
+    let flags = on s (at + width) (tab ∷ []) (F ∷ (tab ∷ after-it)) (at + width + 1) tabs refl in
     let byte : getD s (at + width + 1) 0 ≡ F = rw (← add-zero (at + width + 1), ← getD-drop) (ap (λ (l : List ℕ). getD l 0 0) flags) in
-    let digits = on s (at + width) (tab ∷ F ∷ tab ∷ []) behind (at + width + 3) tabs refl in
+    let digits = on s (at + width) (tab ∷ F ∷ tab ∷ []) after-it (at + width + 3) tabs refl in
     let is : leadingDigits longest (drop (at + width + 3) s) ≡ digitsOf t =
     leading-front longest (drop (at + width + 3) s) ∙ ap (λ (l : List ℕ). take longest (leading l)) digits ∙ ap (take longest) (leading-is (digitsOf t) (lineFeed ∷ rest) (all-digits t) refl) ∙ take-all longest (digitsOf t) (digits-below 11 t short)
     in
@@ -111,7 +111,7 @@ pub record Putting (text : List ℕ) (before places : List ℤ) (at count width 
   pub end : Campaign
   pub good : sound so-far ≡ true
   pub records : so-far .records ≡ count
-  pub reads : reading false (linesOf (drop at text)) (Open so-far) .end ≡ Read end
+  pub reads : readingSheet false (linesOf (drop at text)) (Open so-far) .end ≡ Read end
   pub puts : sets places count (map recordIn (linesOf (drop at text))) ≡ sets before 0 (recordsOf text)
   pub size : length places ≡ length before
   pub wide : Wide (count + 1) width limit
@@ -138,21 +138,21 @@ module _ {text : List ℕ} {before places : List ℤ} {at count width limit : �
     pub stands : Stands text at width failed exposure rest
     pub good : sound after ≡ true
     pub records : after .records ≡ count + 1
-    pub reads : reading false (linesOf rest) (Open after) .end ≡ Read (p .end)
+    pub reads : readingSheet false (linesOf rest) (Open after) .end ≡ Read (p .end)
     pub puts : map recordIn (linesOf (drop at text)) ≡ signed failed exposure ∷ map recordIn (linesOf rest)
 
   pub due : at < length text → Due
   unfolding joined
   due more = go (linesOf (drop at text)) refl (p .reads)
     where
-      go : (lines : List (List ℕ)) → linesOf (drop at text) ≡ lines → reading false lines (Open (p .so-far)) .end ≡ Read (p .end) → Due
+      go : (lines : List (List ℕ)) → linesOf (drop at text) ≡ lines → readingSheet false lines (Open (p .so-far)) .end ≡ Read (p .end) → Due
       go [] are e = absurd (omega (arith, ap length (sym (lines-joined (drop at text)) ∙ ap joined are), length-drop at text))
       go (line ∷ lines) are e =
           let o = first-line (p .so-far) line lines (p .end) (p .good) e in
           let bytes = o .bytes ∙ ap (λ (n : ℕ). entryText (n + 1) (cond (o .failed) 1 0) (o .exposure)) (p .records) in
           let parts : drop at text ≡ entryText (count + 1) (cond (o .failed) 1 0) (o .exposure) ++ joined lines = sym (lines-joined (drop at text)) ∙ ap joined are ∙ ap (λ (l : List ℕ). l ++ joined lines) bytes in
           let again : line ∷ lines ≡ entryText (count + 1) (cond (o .failed) 1 0) (o .exposure) ∷ linesOf (joined lines) = sym are ∙ ap linesOf parts ∙ entry-lines (count + 1) (cond (o .failed) 1 0) (o .exposure) (joined lines) in
-          let behind : lines ≡ linesOf (joined lines) = cc (again) in
+          let after-it : lines ≡ linesOf (joined lines) = cc (again) in
           let says : recordIn line ≡ signed (o .failed) (o .exposure) = ap recordIn bytes ∙ entry-says (count + 1) (cond (o .failed) 1 0) (o .exposure) ∙ ap (λ (f : Bool). signed f (o .exposure)) (flag-of (o .failed) .0) in
           record {
             failed = o .failed;
@@ -163,8 +163,8 @@ module _ {text : List ℕ} {before places : List ℤ} {at count width limit : �
             stands = stands text at (count + 1) (o .failed) (o .exposure) (joined lines) width (wide-digits (p .wide)) (omega (arith, o .high)) parts;
             good = o .good;
             records = o .one-more ∙ ap (λ (n : ℕ). n + 1) (p .records);
-            reads = ap (λ (l : List (List ℕ)). reading false l (Open (o .after)) .end) (sym behind) ∙ o .rest;
-            puts = ap (map recordIn) are ∙ ap (λ (x : ℤ). x ∷ map recordIn lines) says ∙ ap (λ (l : List (List ℕ)). signed (o .failed) (o .exposure) ∷ map recordIn l) behind;
+            reads = ap (λ (l : List (List ℕ)). readingSheet false l (Open (o .after)) .end) (sym after-it) ∙ o .rest;
+            puts = ap (map recordIn) are ∙ ap (λ (x : ℤ). x ∷ map recordIn lines) says ∙ ap (λ (l : List (List ℕ)). signed (o .failed) (o .exposure) ∷ map recordIn l) after-it;
           }
 
   pub put-on : (d : Due) {later : List ℤ} {next : ℕ} → later ≡ set places count (signed (d .failed) (d .exposure)) → drop next text ≡ d .rest
@@ -175,7 +175,7 @@ module _ {text : List ℕ} {before places : List ℤ} {at count width limit : �
         end = p .end;
         good = d .good;
         records = d .records;
-        reads = ap (λ (l : List ℕ). reading false (linesOf l) (Open (d .after)) .end) rest ∙ d .reads;
+        reads = ap (λ (l : List ℕ). readingSheet false (linesOf l) (Open (d .after)) .end) rest ∙ d .reads;
         puts = rw (stored, add-one) (ap (λ (l : List ℕ). sets (set places count (signed (d .failed) (d .exposure))) (suc count) (map recordIn (linesOf l))) rest ∙ ap (sets places count) (sym (d .puts)) ∙ p .puts);
         size = rw stored (length-set places count (signed (d .failed) (d .exposure)) ∙ p .size);
         wide = wide-on (p .wide);

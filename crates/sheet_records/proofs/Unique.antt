@@ -7,13 +7,13 @@ use lib.IntN.{ℤ}
 use Rattle.text.specs.declared.Writing.{Writing}
 use Rattle.text.specs.Write.{laidBy}
 use Rattle.sheet_records.specs.Ledger.{sheetText}
-use Rattle.sheet_records.specs.Answers.{writing}
+use Rattle.sheet_records.specs.Answers.{writingSheet}
 use lib.ListN.{length}
 use Rattle.sheet_records.specs.declared.Resumed.{Resumed}
 use Rattle.sheet_records.specs.Records.{filledBy, recordsOf, resuming}
 
 pub write-unique : (q : ℕ) (xs : List ℤ) (out later other : List ℕ) (r s : Writing)
-    → r ≡ writing q xs out → later ≡ laidBy r (sheetText q xs) out → s ≡ writing q xs out → other ≡ laidBy s (sheetText q xs) out → (r ≡ s) × (later ≡ other)
+    → r ≡ writingSheet q xs out → later ≡ laidBy r (sheetText q xs) out → s ≡ writingSheet q xs out → other ≡ laidBy s (sheetText q xs) out → (r ≡ s) × (later ≡ other)
 write-unique q xs out later other r s e f g h = (cc, cc)
 
 pub records-unique : (text : List ℕ) (slice later other : List ℤ) (r s : Resumed)

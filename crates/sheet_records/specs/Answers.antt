@@ -4,8 +4,8 @@ use mathlib.Core.Bool.{false}
 use mathlib.Core.List.{List, [], _∷_}
 use lib.ListN.{length}
 use lib.IntN.{ℤ}
-use Rattle.campaign_state.specs.declared.Answer.{Answer}
-use Rattle.campaign_state.specs.declared.Answer.the-variants.{Taken, Refused}
+use Rattle.campaign_state.specs.declared.CampaignAnswer.{CampaignAnswer}
+use Rattle.campaign_state.specs.declared.CampaignAnswer.the-variants.{Taken, Refused}
 use Rattle.campaign_state.specs.declared.Campaign.{Campaign}
 use Rattle.campaign_state.specs.Answers.{opened, taken}
 use Rattle.text.specs.Write.{withinRoom}
@@ -17,21 +17,21 @@ use Rattle.sheet_records.specs.declared.Judged.the-variants.{Clean, Faul
 use Rattle.sheet_records.specs.Ledger.{exposureIn, failedIn, sheetText}
 
 -- a campaign that was answered goes on, a refusal stays
-abbrev pub onward : Answer → (Campaign → Answer) → Answer
+abbrev pub onward : CampaignAnswer → (Campaign → CampaignAnswer) → CampaignAnswer
 onward (Taken c) go = go c
 onward (Refused r) go = Refused r
 
 -- record by record 4, 3, 5, 6, as the sheet judges them; the first record at fault decides
-unfoldable pub judgedFrom : Campaign → List ℤ → Answer
+unfoldable pub judgedFrom : Campaign → List ℤ → CampaignAnswer
 judgedFrom c [] = Taken c
 judgedFrom c (x ∷ xs) = onward (telling c (failedIn x) (exposureIn x)) (λ d. judgedFrom d xs)
 
 -- before them 1 for the standard
-unfoldable pub judged : ℕ → List ℤ → Answer
+unfoldable pub judged : ℕ → List ℤ → CampaignAnswer
 judged q xs = onward (opened q) (λ c. judgedFrom c xs)
 
 -- all records are taken, or the first refusal
-abbrev pub judgedAs : Answer → Judged
+abbrev pub judgedAs : CampaignAnswer → Judged
 judgedAs (Taken c) = Clean
 judgedAs (Refused r) = Fault r
 
@@ -44,9 +44,9 @@ unfoldable pub judgedOne : ℕ → ℕ → ℕ → Judged
 judgedOne m n t = judgedAs (exposureThen t (taken (havingEntered m n) false t))
 
 -- ---- writing: what is judged, then 7 with the bytes needed
-abbrev pub afterJudging : Answer → ℕ → ℕ → Writing
+abbrev pub afterJudging : CampaignAnswer → ℕ → ℕ → Writing
 afterJudging (Refused r) needed room = Declined r
 afterJudging (Taken c) needed room = withinRoom needed room
 
-unfoldable pub writing : ℕ → List ℤ → List ℕ → Writing
-writing q xs out = afterJudging (judged q xs) (length (sheetText q xs)) (length out)
+unfoldable pub writingSheet : ℕ → List ℤ → List ℕ → Writing
+writingSheet q xs out = afterJudging (judged q xs) (length (sheetText q xs)) (length out)

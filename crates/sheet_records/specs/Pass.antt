@@ -17,7 +17,7 @@ use Rattle.sheet_line.specs.declared.Sheet.the-variants.{Open}
 use Rattle.campaign_state.specs.declared.Campaign.{Campaign}
 use Rattle.sheet_text.specs.declared.Reading.{Reading}
 use Rattle.sheet_text.specs.declared.Reading.the-variants.{Read, Stopped, Waiting}
-use Rattle.sheet_text.specs.Sheet.{meaning, reading}
+use Rattle.sheet_text.specs.Sheet.{meaning, readingSheet}
 use Rattle.sheet_line.specs.Texts.{entryText, headText}
 use Rattle.sheet_records.specs.declared.Entry.{Entry}
 use Rattle.sheet_records.specs.declared.Entry.the-variants.{Says, Other}
@@ -41,7 +41,7 @@ stoppedFrom (Waiting s left) = Bad 0 0 BrokenState
 unfoldable pub takenAfter : ℕ → ℕ → Bool
 takenAfter m n = not (eqb m mostRecords) && not (eqb n rows)
 
--- the text at a place is a part and what stands behind it
+-- the text at a place is a part and what stands after it
 pub record StartsWith (text : List ℕ) (at : ℕ) (part : List ℕ) (next : ℕ) : Type 0 where
   pub bytes : drop at text ≡ part ++ drop next text
   pub further : at < next
@@ -77,13 +77,13 @@ unfoldable pub HeadOf : List ℕ → Head → Type 0
 HeadOf text (Standard q next) = StartsWith text 0 (headText q) next × (q < 10 ^ longest)
 HeadOf text None = (q : ℕ) (rest : List ℕ) → q < 10 ^ longest → ¬ (text ≡ headText q ++ rest)
 
--- from a place on, behind line 1, the sheet reads cleanly: the lines there are its records'
+-- from a place on, after line 1, the sheet reads cleanly: the lines there are its records'
 pub record CleanFrom (text : List ℕ) (begin : ℕ) : Type 0 where
   pub start : Campaign
   pub end : Campaign
   pub good : sound start ≡ true
   pub none : start .records ≡ 0
-  pub reads : reading false (linesOf (drop begin text)) (Open start) .end ≡ Read end
+  pub reads : readingSheet false (linesOf (drop begin text)) (Open start) .end ≡ Read end
   pub says : recordsOf text ≡ map recordIn (linesOf (drop begin text))
 
 -- the sheet reads cleanly; or it does not
@@ -103,7 +103,7 @@ Passes text Unclean = (c : Campaign) → ¬ (meaning text .end ≡ Read c)
 abbrev pub flagAt : List ℕ → ℕ → Bool
 flagAt text at = eqb (getD text at 0) (zeroByte + 1)
 
--- what the digits at a place are worth, and the place behind them
+-- what the digits at a place are worth, and the place after them
 abbrev pub runValue : List ℕ → ℕ → ℕ
 runValue text at = valueOf (leadingDigits longest (drop at text))
 

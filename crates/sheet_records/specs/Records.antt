@@ -8,7 +8,7 @@ use lib.ListN.{drop}
 use lib.Dec.{eqb, ltb}
 use Rattle.refusal.specs.declared.Refusal.the-variants.{BrokenState, Room}
 use Rattle.decimal.specs.Decimal.{valueOf}
-use Rattle.decimal.specs.Leading.{leading, behind}
+use Rattle.decimal.specs.Leading.{leading, afterLeading}
 use Rattle.decimal.specs.Lines.{linesOf}
 use Rattle.degrees.specs.Degrees.{signed}
 use Rattle.sheet_text.specs.declared.Reading.{Reading}
@@ -17,9 +17,9 @@ use Rattle.sheet_text.specs.Sheet.{meaning}
 use Rattle.sheet_records.specs.declared.Resumed.{Resumed}
 use Rattle.sheet_records.specs.declared.Resumed.the-variants.{Records, Stopped as Bad}
 
--- what stands behind a line's first field
+-- what stands after a line's first field
 abbrev pub afterField : List ℕ → List ℕ
-afterField line = drop 1 (behind line)
+afterField line = drop 1 (afterLeading line)
 
 -- what a record's line says, as one number: the exposure in its third field, with a minus if the second is 1 for failed
 unfoldable pub recordIn : List ℕ → ℤ

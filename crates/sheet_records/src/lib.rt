@@ -9,8 +9,8 @@ ghost use lib.ListN.{length, set};
 ghost use Rattle.decimal.specs.Decimal.{zeroByte};
 ghost use Rattle.text.specs.Write.{laidBy, placeAfter, written};
 ghost use Rattle.sheet_line.specs.Texts.{headText};
-ghost use Rattle.sheet_records.specs.Ledger.{lineText, linesFrom, outcomeIn, sheetText};
-ghost use Rattle.sheet_records.specs.Answers.{judged, judgedAs, judgedOne, writing};
+ghost use Rattle.sheet_records.specs.Ledger.{signedRecordText, linesFrom, outcomeIn, sheetText};
+ghost use Rattle.sheet_records.specs.Answers.{judged, judgedAs, judgedOne, writingSheet};
 use record_end::Outcome;
 use refusal::Refusal;
 ghost use lib.Seq.{sets};
@@ -100,7 +100,7 @@ fn judge(q: u64, records: &[i32]) -> Judged
 
 // The bytes of a record's line.
 fn line_length(number: u64, x: i32) -> usize
-    ensures { λ r. ⌜ (r ≡ length (lineText number x)) × (r ≤ 44) ⌝ }
+    ensures { λ r. ⌜ (r ≡ length (signedRecordText number x)) × (r ≤ 44) ⌝ }
 {
     let o = outcome(x);
     decimal::digits(number) + decimal::digits(o.exposure) + 4
@@ -133,9 +133,9 @@ fn put_head(q: u64, out: &mut [u8]) -> usize
 
 // Puts a record's line into `out` from `at` on.
 fn put_line(number: u64, x: i32, out: &mut [u8], at: usize) -> usize
-    requires { ⌜ at + length (lineText number x) ≤ length (now out) ⌝ }
-    ensures { λ r. ⌜ r ≡ placeAfter (now (out .entry)) at (lineText number x) ⌝ }
-    ensures { λ _. ⌜ now (out .exit) ≡ written (now (out .entry)) at (lineText number x) ⌝ }
+    requires { ⌜ at + length (signedRecordText number x) ≤ length (now out) ⌝ }
+    ensures { λ r. ⌜ r ≡ placeAfter (now (out .entry)) at (signedRecordText number x) ⌝ }
+    ensures { λ _. ⌜ now (out .exit) ≡ written (now (out .entry)) at (signedRecordText number x) ⌝ }
 {
     let o = outcome(x);
     let tab = decimal::write_number(number, out, at);
@@ -173,7 +173,7 @@ fn put_sheet(q: u64, records: &[i32], out: &mut [u8])
 // Writes the sheet of a standard and its records into `out`, whose rest stays, and answers its bytes; or refusal 1
 // with item 5, record by record 4, 3, 5, 6, then 7 with the bytes needed, and `out` as it stood.
 pub fn write(q: u64, records: &[i32], out: &mut [u8]) -> Writing
-    ensures { λ r. ⌜ r ≡ writing q (now (records .entry)) (now (out .entry)) ⌝ }
+    ensures { λ r. ⌜ r ≡ writingSheet q (now (records .entry)) (now (out .entry)) ⌝ }
     ensures { λ r. ⌜ now (out .exit) ≡ laidBy r (sheetText q (now (records .entry))) (now (out .entry)) ⌝ }
 {
     match judge(q, records) {
@@ -203,7 +203,7 @@ pub enum Resumed {
 
 // What stands at a record's line.
 enum Entry {
-    // Whether the record failed, and the place behind the line.
+    // Whether the record failed, and the place after the line.
     Says(bool, usize),
     // No line of that record, or one whose exposure is not taken.
     Other,
@@ -218,14 +218,14 @@ enum Exposure {
 
 // What stands at line 1.
 enum Head {
-    // The standard, and the place behind the line.
+    // The standard, and the place after the line.
     Standard(u64, usize),
     None,
 }
 
 // What a pass over a sheet comes to.
 enum Passed {
-    // The standard, the number of records and the place behind line 1 of a sheet that reads cleanly.
+    // The standard, the number of records and the place after line 1 of a sheet that reads cleanly.
     Clean(u64, u64, usize),
     Unclean,
 }
@@ -353,7 +353,7 @@ fn pass(text: &[u8]) -> Passed
     Passed::Clean(q, count, begin)
 }
 
-// A record of a clean sheet: whether it failed, its exposure, and the place behind its line.
+// A record of a clean sheet: whether it failed, its exposure, and the place after its line.
 struct Record {
     failed: bool,
     exposure: u64,

@@ -12,7 +12,7 @@ use Rattle.truth.proofs.Laws.{said-no, said-yes}
 use Rattle.text.specs.Write.{written}
 use Rattle.text.proofs.Laws.{Wrote, wrote-short, after-fits}
 use Rattle.sheet_reply.specs.declared.Written.the-variants.{Upto, Refused}
-use Rattle.sheet_reply.specs.Written.{writing}
+use Rattle.sheet_reply.specs.Written.{writingReply}
 
 module _ (out : List ℕ) (at : ℕ) (text : List ℕ) {n : ℕ} {r : Bool} (asked : r ≡ leb (at + n) (length out)) (needed : n ≡ length text) where
   fitting : r ≡ leb (at + length text) (length out)
@@ -21,11 +21,11 @@ module _ (out : List ℕ) (at : ℕ) (text : List ℕ) {n : ℕ} {r : Bool} (ask
   pub has-room : not r ≡ false → at + length text ≤ length out
   has-room h = leb-true _ _ (said-yes fitting h)
 
-  pub no-room : not r ≡ true → (Refused (Room n) ≡ writing out at text) × (out ≡ written out at text)
-  unfolding writing
+  pub no-room : not r ≡ true → (Refused (Room n) ≡ writingReply out at text) × (out ≡ written out at text)
+  unfolding writingReply
   no-room h = (rw (said-no fitting h, needed), wrote-short out at text (leb-false _ _ (said-no fitting h)) .1)
 
 module _ (out : List ℕ) (at : ℕ) (text : List ℕ) where
-  pub upto : {later : List ℕ} {next : ℕ} → at + length text ≤ length out → Wrote out at text later next → (Upto next ≡ writing out at text) × (later ≡ written out at text)
-  unfolding writing
+  pub upto : {later : List ℕ} {next : ℕ} → at + length text ≤ length out → Wrote out at text later next → (Upto next ≡ writingReply out at text) × (later ≡ written out at text)
+  unfolding writingReply
   upto h (e, f) = (rw (le-leb _ _ h, e) (ap Upto (after-fits out at text h)), f)

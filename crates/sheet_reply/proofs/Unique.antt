@@ -8,7 +8,7 @@ use Rattle.truth.proofs.Unique.{settled}
 use Rattle.text.specs.Write.{written}
 use Rattle.campaign_state.specs.declared.Campaign.{Campaign}
 use Rattle.sheet_reply.specs.declared.Written.{Written}
-use Rattle.sheet_reply.specs.Written.{recordWriting, recordLeft, refusedText, writing}
+use Rattle.sheet_reply.specs.Written.{recordWriting, recordLeft, refusedText, writingReply}
 
 module _ (c : Campaign) (out : List ℕ) (at : ℕ) where
   pub write-record-unique : (r q : Written) → r ≡ recordWriting c out at → q ≡ recordWriting c out at → r ≡ q
@@ -18,7 +18,7 @@ module _ (c : Campaign) (out : List ℕ) (at : ℕ) where
   write-record-left-unique later other = settled
 
 module _ (line column : ℕ) (why : Refusal) (out : List ℕ) (at : ℕ) where
-  pub write-refused-unique : (r q : Written) → r ≡ writing out at (refusedText line column why) → q ≡ writing out at (refusedText line column why) → r ≡ q
+  pub write-refused-unique : (r q : Written) → r ≡ writingReply out at (refusedText line column why) → q ≡ writingReply out at (refusedText line column why) → r ≡ q
   write-refused-unique r q = settled
 
   pub write-refused-left-unique : (later other : List ℕ) → later ≡ written out at (refusedText line column why) → other ≡ written out at (refusedText line column why) → later ≡ other

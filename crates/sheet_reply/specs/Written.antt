@@ -49,12 +49,12 @@ unfoldable pub refusedText : ℕ → ℕ → Refusal → List ℕ
 refusedText line column r = refusedWord ++ (fieldText line tab ++ reasonText (numberOf r) column)
 
 -- the answer of a writer: the place after the text; where it has no room 7, with the bytes needed
-unfoldable pub writing : List ℕ → ℕ → List ℕ → Written
-writing out at text = cond (fits out at text) (Upto (at + length text)) (Refused (Room (length text)))
+unfoldable pub writingReply : List ℕ → ℕ → List ℕ → Written
+writingReply out at text = cond (fits out at text) (Upto (at + length text)) (Refused (Room (length text)))
 
 -- a record's line: 8, 7; a refusal leaves the lent bytes as they were
 unfoldable pub recordWriting : Campaign → List ℕ → ℕ → Written
-recordWriting c out at = cond (sound c) (writing out at (recordText c)) (Refused BrokenState)
+recordWriting c out at = cond (sound c) (writingReply out at (recordText c)) (Refused BrokenState)
 
 unfoldable pub recordLeft : Campaign → List ℕ → ℕ → List ℕ
 recordLeft c out at = cond (sound c) (written out at (recordText c)) out

@@ -7,7 +7,7 @@ ghost use lib.ListN.{length};
 ghost use Rattle.text.specs.Write.{written, placeAfter};
 ghost use Rattle.campaign_state.specs.State.{censored, sound};
 ghost use Rattle.sheet_reply.specs.Written.{letterFor, reasonText, recordText, recordLeft, recordWriting};
-ghost use Rattle.sheet_reply.specs.Written.{refusedText, writing};
+ghost use Rattle.sheet_reply.specs.Written.{refusedText, writingReply};
 use campaign_state::Campaign;
 use campaign_verdict::Counted;
 use campaign_verdict::Judged;
@@ -154,7 +154,7 @@ fn put_refused(line: u64, column: u64, r: Refusal, out: &mut [u8], at: usize) ->
 // Writes the refused line into `out` from `at` on: refused, the line's number, the refusal's, and the column where
 // that is 9. Or refusal 7 with the bytes needed.
 pub fn write_refused(line: u64, column: u64, r: Refusal, out: &mut [u8], at: usize) -> Written
-    ensures { λ w. ⌜ w ≡ writing (now (out .entry)) at (refusedText line column r) ⌝ }
+    ensures { λ w. ⌜ w ≡ writingReply (now (out .entry)) at (refusedText line column r) ⌝ }
     ensures { λ _. ⌜ now (out .exit) ≡ written (now (out .entry)) at (refusedText line column r) ⌝ }
 {
     let needed = refused_length(line, column, r);

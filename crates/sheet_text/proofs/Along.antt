@@ -7,11 +7,11 @@ use mathlib.Core.Bool.{Bool, true}
 use mathlib.Core.List.{List, [], _++_, append-assoc}
 use native.Mathlib.Omega.{arith}
 use lib.ListN.{length, length-append, drop-of-length-le}
-use Rattle.sheet_text.specs.declared.Found.the-variants.{Taken}
+use Rattle.sheet_text.specs.declared.LineFound.the-variants.{Taken}
 use Rattle.sheet_text.specs.declared.Reading.{Reading}
 use Rattle.sheet_line.specs.declared.Sheet.{Sheet}
 use Rattle.decimal.specs.Lines.{linesOf}
-use Rattle.sheet_text.specs.Sheet.{prefixed, endText, ended, lastOf, textOf, reading}
+use Rattle.sheet_text.specs.Sheet.{prefixed, endText, ended, lastOf, textOf, readingSheet}
 use Rattle.sheet_line.specs.Line.{soundSheet}
 use Rattle.sheet_text.specs.Cut.{found}
 use Rattle.sheet_text.proofs.Steps.{most}
@@ -19,7 +19,7 @@ use Rattle.sheet_text.proofs.Turns.{here, found-taken}
 
 -- `gave`: what the lines before `at` gave
 pub record Along (more : Bool) (text : List ℕ) (from s : Sheet) (at : ℕ) (gave : List ℕ) : Type 0 where
-  pub account : reading more (linesOf text) from ≡ prefixed gave (here more text at s)
+  pub account : readingSheet more (linesOf text) from ≡ prefixed gave (here more text at s)
   pub sound : soundSheet s ≡ true
   pub within : at ≤ length text
   pub few : length gave ≤ most s
@@ -40,11 +40,11 @@ module _ {more : Bool} {text : List ℕ} {from s : Sheet} {at : ℕ} {gave : Lis
 
   -- the lines have come to an end
   pub along-last : length text ≤ at → here more text at s ≡ ended (lastOf more s)
-  unfolding reading linesOf
+  unfolding readingSheet linesOf
   along-last h = rw (drop-of-length-le text h)
 
-  pub whole-end : {r : Reading} → here more text at s ≡ ended r → r ≡ reading more (linesOf text) from .end
+  pub whole-end : {r : Reading} → here more text at s ≡ ended r → r ≡ readingSheet more (linesOf text) from .end
   whole-end e = rw (a .account, e)
 
-  pub whole-text : {r : Reading} → here more text at s ≡ ended r → gave ++ endText r ≡ reading more (linesOf text) from .text
+  pub whole-text : {r : Reading} → here more text at s ≡ ended r → gave ++ endText r ≡ readingSheet more (linesOf text) from .text
   whole-text e = rw (a .account, e)

@@ -15,7 +15,7 @@ use Rattle.sheet_line.specs.declared.Step.the-variants.{Next, Stop}
 use Rattle.sheet_line.specs.Line.{soundSheet, stepping}
 use Rattle.sheet_reply.proofs.Few.{refused-few}
 use Rattle.decimal.specs.Lines.{linesOf, startLine}
-use Rattle.sheet_text.specs.Sheet.{afterStep, reading, waits}
+use Rattle.sheet_text.specs.Sheet.{afterStep, readingSheet, waits}
 use Rattle.sheet_text.proofs.Running.{last-few}
 use Rattle.sheet_text.proofs.Steps.{step-led, step-line}
 
@@ -36,13 +36,13 @@ total-lines (b ∷ text) =
     (λ e. rw e (omega (arith, total-lines text)))
     (λ e. rw e (omega (arith, total-start b (linesOf text), total-lines text)))
 
-lines-few : (more : Bool) (lines : List (List ℕ)) (s : Sheet) → soundSheet s ≡ true → length (reading more lines s .text) ≤ 5 * total lines + 35
-unfolding reading total
+lines-few : (more : Bool) (lines : List (List ℕ)) (s : Sheet) → soundSheet s ≡ true → length (readingSheet more lines s .text) ≤ 5 * total lines + 35
+unfolding readingSheet total
 lines-few more [] s g = omega (arith, last-few more s)
 lines-few more (line ∷ lines) s g = by-test (waits more line) (λ w. rw w (omega arith)) (λ w. rw w (by-step (lines-few more lines) (stepping s line) refl))
   where
-    by-step : ((t : Sheet) → soundSheet t ≡ true → length (reading more lines t .text) ≤ 5 * total lines + 35)
-        → (step : Step) → stepping s line ≡ step → length (afterStep step (reading more lines) .text) ≤ 5 * (length line + total lines) + 35
+    by-step : ((t : Sheet) → soundSheet t ≡ true → length (readingSheet more lines t .text) ≤ 5 * total lines + 35)
+        → (step : Step) → stepping s line ≡ step → length (afterStep step (readingSheet more lines) .text) ≤ 5 * (length line + total lines) + 35
     by-step rest (Next t) e =
         let led = step-led s line g e in
         rw length-append (omega (arith, led .few, rest t (led .sound)))
@@ -50,5 +50,5 @@ lines-few more (line ∷ lines) s g = by-test (waits more line) (λ w. rw w (ome
         let (small, few) = step-line s line g e in
         omega (arith, refused-few l k r small few)
 
-pub enough : (more : Bool) (text : List ℕ) (s : Sheet) → soundSheet s ≡ true → length (reading more (linesOf text) s .text) ≤ 5 * length text + 35
+pub enough : (more : Bool) (text : List ℕ) (s : Sheet) → soundSheet s ≡ true → length (readingSheet more (linesOf text) s .text) ≤ 5 * length text + 35
 enough more text s g = omega (arith, lines-few more (linesOf text) s g, total-lines text)

@@ -17,7 +17,7 @@ use Rattle.sheet_line.specs.Form.{begins}
 use Rattle.sheet_line.specs.Line.{startsWith, endedBy, fieldThen, recordLine, standardLine, stepping, telling}
 use Rattle.sheet_reply.specs.Written.{figures, letterFor, reasonText, recordText, refusedText}
 use Rattle.decimal.specs.Lines.{linesOf}
-use Rattle.sheet_text.specs.Sheet.{reading, meaning}
+use Rattle.sheet_text.specs.Sheet.{readingSheet, meaning}
 
 -- standard 7200000; 1 0 1800000; 2 1 933980; 3 1 0
 abbrev sheet : List ℕ
@@ -35,7 +35,7 @@ answer =
     ++ (114 ∷ 101 ∷ 102 ∷ 117 ∷ 115 ∷ 101 ∷ 100 ∷ 9 ∷ 52 ∷ 9 ∷ 52 ∷ 10 ∷ []))
 
 pub whole-case : meaning sheet ≡ record { text = answer; end = Stopped 4 0 TooShort }
-unfolding meaning reading linesOf stepping standardLine recordLine fieldThen endedBy startsWith begins fieldAt readAs fieldOf isNumber allDigits valueOf telling entering sound censored recordText figures letterFor fieldText digitsOf digitsWithin refusedText reasonText l u lowerRows upperRows
+unfolding meaning readingSheet linesOf stepping standardLine recordLine fieldThen endedBy startsWith begins fieldAt readAs fieldOf isNumber allDigits valueOf telling entering sound censored recordText figures letterFor fieldText digitsOf digitsWithin refusedText reasonText l u lowerRows upperRows
 whole-case = refl
 
 -- document 02, request 10: the column of a strange byte. standard 5; 1 0 4x7
@@ -44,5 +44,5 @@ typed = (115 ∷ 116 ∷ 97 ∷ 110 ∷ 100 ∷ 97 ∷ 114 ∷ 100 ∷ 9 ∷ 53 
 
 -- refused 2 9 6
 pub strange-case : meaning typed ≡ record { text = 114 ∷ 101 ∷ 102 ∷ 117 ∷ 115 ∷ 101 ∷ 100 ∷ 9 ∷ 50 ∷ 9 ∷ 57 ∷ 9 ∷ 54 ∷ 10 ∷ []; end = Stopped 2 6 (Line 2) }
-unfolding meaning reading linesOf stepping standardLine recordLine standardColumn recordColumn recordFields howMany fieldThen endedBy startsWith begins fieldAt readAs faultIn leading fieldOf isNumber allDigits valueOf entering sound censored recordText figures letterFor fieldText digitsOf digitsWithin refusedText reasonText
+unfolding meaning readingSheet linesOf stepping standardLine recordLine standardColumn recordColumn recordFields howMany fieldThen endedBy startsWith begins fieldAt readAs faultIn leading fieldOf isNumber allDigits valueOf entering sound censored recordText figures letterFor fieldText digitsOf digitsWithin refusedText reasonText
 strange-case = refl

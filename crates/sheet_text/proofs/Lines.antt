@@ -23,10 +23,10 @@ use Rattle.sheet_text.specs.declared.Reading.the-variants.{Waiting}
 use Rattle.sheet_line.specs.declared.Step.{Step}
 use Rattle.sheet_line.specs.declared.Step.the-variants.{Stop}
 use Rattle.sheet_line.specs.Column.{recordColumn, standardColumn}
-use Rattle.sheet_line.specs.Form.{longestLine, endsLine, isLine}
+use Rattle.sheet_line.specs.Form.{longestSheetLine, endsLine, isSheetLine}
 use Rattle.sheet_line.specs.Line.{lineAfter, malformed, recordLine, standardLine, stepping}
 use Rattle.decimal.specs.Lines.{linesOf}
-use Rattle.sheet_text.specs.Sheet.{Account, ended, afterStep, waits, reading}
+use Rattle.sheet_text.specs.Sheet.{Account, ended, afterStep, waits, readingSheet}
 use Rattle.sheet_text.specs.Cut.{cut, firstLine}
 
 -- a byte in front of a line keeps its end
@@ -40,7 +40,7 @@ module _ (n : ℕ) (text : List ℕ) where
   abbrev Whole : Type 0
   Whole = linesOf text ≡ take (cut n text) text ∷ linesOf (drop (cut n text) text)
 
-  -- it goes on behind them
+  -- it goes on after them
   record Long : Type 0 where
     line : List ℕ
     lines : List (List ℕ)
@@ -127,38 +127,38 @@ cut-whole (suc n) (b ∷ text) f l =
 -- the search for the LF of a line at `at`, come to i: what it finds there, and where it gives up
 module _ (text : List ℕ) (at i : ℕ) where
   abbrev pub reached : ℕ
-  reached = i + cut (at + longestLine - i) (drop i text)
+  reached = i + cut (at + longestSheetLine - i) (drop i text)
 
-  one-less : i < at + longestLine → at + longestLine - i ≡ suc (at + longestLine - (i + 1))
+  one-less : i < at + longestSheetLine → at + longestSheetLine - i ≡ suc (at + longestSheetLine - (i + 1))
   one-less h = omega arith
 
-  pub reached-found : i < length text → i < at + longestLine → eqb (getD text i 0) lineFeed ≡ true → reached ≡ i + 1
+  pub reached-found : i < length text → i < at + longestSheetLine → eqb (getD text i 0) lineFeed ≡ true → reached ≡ i + 1
   unfolding cut
   reached-found h k e = rw (one-less k, drop-cons text i 0 h, e)
 
-  pub reached-on : i < length text → i < at + longestLine → eqb (getD text i 0) lineFeed ≡ false
-      → reached ≡ i + 1 + cut (at + longestLine - (i + 1)) (drop (i + 1) text)
+  pub reached-on : i < length text → i < at + longestSheetLine → eqb (getD text i 0) lineFeed ≡ false
+      → reached ≡ i + 1 + cut (at + longestSheetLine - (i + 1)) (drop (i + 1) text)
   unfolding cut
   reached-on h k e = rw (one-less k, drop-cons text i 0 h, e, add-one) (omega arith)
 
-  pub reached-end : min (length text) (at + longestLine) ≤ i → reached ≡ i
+  pub reached-end : min (length text) (at + longestSheetLine) ≤ i → reached ≡ i
   unfolding cut
   reached-end h =
       by-order i (length text)
-      (λ l. let k : at + longestLine - i ≡ 0 = omega arith in rw k (add-zero i))
+      (λ l. let k : at + longestSheetLine - i ≡ 0 = omega arith in rw k (add-zero i))
       (λ l. rw (drop-of-length-le text l, cut-none) (add-zero i))
 
-pub reached-start : (text : List ℕ) (at : ℕ) → reached text at at ≡ at + cut longestLine (drop at text)
-reached-start text at = let k : at + longestLine - at ≡ longestLine = omega arith in rw k
+pub reached-start : (text : List ℕ) (at : ℕ) → reached text at at ≡ at + cut longestSheetLine (drop at text)
+reached-start text at = let k : at + longestSheetLine - at ≡ longestSheetLine = omega arith in rw k
 
-pub length-first : (text : List ℕ) → length (firstLine text) ≡ cut longestLine text
+pub length-first : (text : List ℕ) → length (firstLine text) ≡ cut longestSheetLine text
 unfolding firstLine
-length-first text = length-take-le (cut longestLine text) text (cut-within longestLine text)
+length-first text = length-take-le (cut longestSheetLine text) text (cut-within longestSheetLine text)
 
 -- the first line of what stands at a place, as a part of the text
-module _ (text : List ℕ) (at end : ℕ) (found : end ≡ at + cut longestLine (drop at text)) where
+module _ (text : List ℕ) (at end : ℕ) (found : end ≡ at + cut longestSheetLine (drop at text)) where
   pub end-within : at ≤ length text → end ≤ length text
-  end-within h = omega (arith, cut-within longestLine (drop at text), length-drop at text)
+  end-within h = omega (arith, cut-within longestSheetLine (drop at text), length-drop at text)
 
   pub part-length : end - at ≡ length (firstLine (drop at text))
   part-length = omega (arith, length-first (drop at text))
@@ -168,14 +168,14 @@ module _ (text : List ℕ) (at end : ℕ) (found : end ≡ at + cut longestLine 
 
   pub part-first : take (end - at) (drop at text) ≡ firstLine (drop at text)
   unfolding firstLine
-  part-first = let k : end - at ≡ cut longestLine (drop at text) = omega arith in rw k
+  part-first = let k : end - at ≡ cut longestSheetLine (drop at text) = omega arith in rw k
 
 -- a line that is none is bad whatever it says, and a bad line ends the reading
 abbrev bad : Sheet → Step
 bad Fresh = malformed 1 0
 bad (Open c) = cond (sound c) (malformed (lineAfter c) 0) (Stop 0 0 BrokenState)
 
-stepping-bad : (s : Sheet) (line : List ℕ) → isLine line ≡ false → stepping s line ≡ bad s
+stepping-bad : (s : Sheet) (line : List ℕ) → isSheetLine line ≡ false → stepping s line ≡ bad s
 unfolding stepping standardLine recordLine standardColumn recordColumn
 stepping-bad Fresh line e = rw e
 stepping-bad (Open c) line e = rw e
@@ -184,27 +184,27 @@ bad-ends : (s : Sheet) (go other : Sheet → Account) → afterStep (bad s) go �
 bad-ends Fresh go other = refl
 bad-ends (Open c) go other = by-test (sound c) (λ e. rw e) (λ e. rw e)
 
-long-no-wait : (more : Bool) (line : List ℕ) → longestLine ≤ length line → waits more line ≡ false
-long-no-wait more line h = rw (le-ltb (length line) longestLine h, and-false (not (endsLine line)), and-false)
+long-no-wait : (more : Bool) (line : List ℕ) → longestSheetLine ≤ length line → waits more line ≡ false
+long-no-wait more line h = rw (le-ltb (length line) longestSheetLine h, and-false (not (endsLine line)), and-false)
 
 -- one turn of a reader
 pub reading-turn : (more : Bool) (text : List ℕ) (s : Sheet) → 0 < length text
-    → reading more (linesOf text) s
-    ≡ cond (waits more (firstLine text)) (ended (Waiting s (length (firstLine text)))) (afterStep (stepping s (firstLine text)) (reading more (linesOf (drop (cut longestLine text) text))))
-unfolding reading firstLine
+    → readingSheet more (linesOf text) s
+    ≡ cond (waits more (firstLine text)) (ended (Waiting s (length (firstLine text)))) (afterStep (stepping s (firstLine text)) (readingSheet more (linesOf (drop (cut longestSheetLine text) text))))
+unfolding readingSheet firstLine
 reading-turn more [] s h = absurd (omega arith)
-reading-turn more (b ∷ text) s h = ⊎-elim (λ w. rw w) long (first-of longestLine b text)
+reading-turn more (b ∷ text) s h = ⊎-elim (λ w. rw w) long (first-of longestSheetLine b text)
   where
     whole : List ℕ
     whole = b ∷ text
 
     piece : List ℕ
-    piece = take (cut longestLine whole) whole
+    piece = take (cut longestSheetLine whole) whole
 
-    long : Long longestLine whole → reading more (linesOf whole) s ≡ cond (waits more piece) (ended (Waiting s (length piece))) (afterStep (stepping s piece) (reading more (linesOf (drop (cut longestLine whole) whole))))
+    long : Long longestSheetLine whole → readingSheet more (linesOf whole) s ≡ cond (waits more piece) (ended (Waiting s (length piece))) (afterStep (stepping s piece) (readingSheet more (linesOf (drop (cut longestSheetLine whole) whole))))
     long l =
-        let none : isLine piece ≡ false = rw (l .unended) (and-false (leb (length piece) longestLine)) in
-        let too-long : isLine (l .line) ≡ false = rw (lt-leb (length (l .line)) longestLine (l .longer)) in
+        let none : isSheetLine piece ≡ false = rw (l .unended) (and-false (leb (length piece) longestSheetLine)) in
+        let too-long : isSheetLine (l .line) ≡ false = rw (lt-leb (length (l .line)) longestSheetLine (l .longer)) in
         rw (
           l .first,
           long-no-wait more (l .line) (omega (arith, l .longer)),
@@ -212,4 +212,4 @@ reading-turn more (b ∷ text) s h = ⊎-elim (λ w. rw w) long (first-of longes
           stepping-bad s (l .line) too-long,
           stepping-bad s piece none,
         )
-        (bad-ends s (reading more (l .lines)) (reading more (linesOf (drop (cut longestLine whole) whole))))
+        (bad-ends s (readingSheet more (l .lines)) (readingSheet more (linesOf (drop (cut longestSheetLine whole) whole))))

@@ -20,10 +20,10 @@ use Rattle.sheet_line.specs.declared.Sheet.{Sheet}
 use Rattle.sheet_line.specs.declared.Sheet.the-variants.{Fresh}
 use Rattle.sheet_line.specs.declared.Step.{Step}
 use Rattle.sheet_line.specs.declared.Step.the-variants.{Next, Stop}
-use Rattle.sheet_line.specs.Form.{longestLine, endsLine}
+use Rattle.sheet_line.specs.Form.{longestSheetLine, endsLine}
 use Rattle.sheet_line.specs.Line.{stepping}
 use Rattle.decimal.specs.Lines.{linesOf}
-use Rattle.sheet_text.specs.Sheet.{Account, prefixed, ended, afterStep, textOf, waits, reading, leftIn, meaning}
+use Rattle.sheet_text.specs.Sheet.{Account, prefixed, ended, afterStep, textOf, waits, readingSheet, leftIn, meaning}
 use Rattle.sheet_text.specs.Cut.{cut, firstLine}
 use Rattle.text.specs.Pieces.{joined}
 use Rattle.sheet_text.specs.Pieces.{lastBytes, onward, feeding}
@@ -34,26 +34,26 @@ module _ (text : List ℕ) where
   waits-whole : waits true (firstLine text) ≡ true → length (firstLine text) ≡ length text
   unfolding firstLine
   waits-whole w =
-      let (unended, short) = and-true (not (endsLine (firstLine text))) (ltb (length (firstLine text)) longestLine) w in
-      length-first text ∙ cut-whole longestLine text (not-true (endsLine (firstLine text)) unended) (omega (arith, length-first text, ltb-true (length (firstLine text)) longestLine short))
+      let (unended, short) = and-true (not (endsLine (firstLine text))) (ltb (length (firstLine text)) longestSheetLine) w in
+      length-first text ∙ cut-whole longestSheetLine text (not-true (endsLine (firstLine text)) unended) (omega (arith, length-first text, ltb-true (length (firstLine text)) longestSheetLine short))
 
-  complete : waits true (firstLine text) ≡ false → (endsLine (firstLine text) ≡ true) ⊎ (longestLine ≤ cut longestLine text)
+  complete : waits true (firstLine text) ≡ false → (endsLine (firstLine text) ≡ true) ⊎ (longestSheetLine ≤ cut longestSheetLine text)
   complete w =
       by-test (endsLine (firstLine text))
       (λ e. inl e)
-      (λ e. inr (omega (arith, length-first text, ltb-false (length (firstLine text)) longestLine (rw e at w))))
+      (λ e. inr (omega (arith, length-first text, ltb-false (length (firstLine text)) longestSheetLine (rw e at w))))
 
   module _ (more : List ℕ) (w : waits true (firstLine text) ≡ false) where
-    same-cut : cut longestLine (text ++ more) ≡ cut longestLine text
+    same-cut : cut longestSheetLine (text ++ more) ≡ cut longestSheetLine text
     unfolding firstLine
-    same-cut = cut-append longestLine text more (complete w)
+    same-cut = cut-append longestSheetLine text more (complete w)
 
     same-line : firstLine (text ++ more) ≡ firstLine text
     unfolding firstLine
-    same-line = rw same-cut (take-append-le (cut longestLine text) text more (cut-within longestLine text))
+    same-line = rw same-cut (take-append-le (cut longestSheetLine text) text more (cut-within longestSheetLine text))
 
-    same-rest : drop (cut longestLine (text ++ more)) (text ++ more) ≡ drop (cut longestLine text) text ++ more
-    same-rest = rw same-cut (drop-append-le (cut longestLine text) text more (cut-within longestLine text))
+    same-rest : drop (cut longestSheetLine (text ++ more)) (text ++ more) ≡ drop (cut longestSheetLine text) text ++ more
+    same-rest = rw same-cut (drop-append-le (cut longestSheetLine text) text more (cut-within longestSheetLine text))
 
 no-wait : (more : Bool) (line : List ℕ) → waits true line ≡ false → waits more line ≡ false
 no-wait true line w = w
@@ -61,20 +61,20 @@ no-wait false line w = refl
 
 -- one cut: what is read before it goes on with what follows, and leaves no more unread than there is
 record Cut (more : Bool) (text after : List ℕ) (s : Sheet) : Type 0 where
-  goes : onward (reading true (linesOf text) s) (reading true (linesOf text) s .end) text (λ t kept. reading more (linesOf (kept ++ after)) t) ≡ reading more (linesOf (text ++ after)) s
-  left : leftIn (reading true (linesOf text) s .end) ≤ length text
+  goes : onward (readingSheet true (linesOf text) s) (readingSheet true (linesOf text) s .end) text (λ t kept. readingSheet more (linesOf (kept ++ after)) t) ≡ readingSheet more (linesOf (text ++ after)) s
+  left : leftIn (readingSheet true (linesOf text) s .end) ≤ length text
 
 module _ (more : Bool) (text after : List ℕ) (s : Sheet) (some : 0 < length text) where
   abbrev line : List ℕ
   line = firstLine text
 
   abbrev rest : List ℕ
-  rest = drop (cut longestLine text) text
+  rest = drop (cut longestSheetLine text) text
 
-  abbrev turn : waits true line ≡ false → reading true (linesOf text) s ≡ afterStep (stepping s line) (reading true (linesOf rest))
+  abbrev turn : waits true line ≡ false → readingSheet true (linesOf text) s ≡ afterStep (stepping s line) (readingSheet true (linesOf rest))
   turn w = reading-turn true text s some ∙ rw w
 
-  turn-after : waits true line ≡ false → reading more (linesOf (text ++ after)) s ≡ afterStep (stepping s line) (reading more (linesOf (rest ++ after)))
+  turn-after : waits true line ≡ false → readingSheet more (linesOf (text ++ after)) s ≡ afterStep (stepping s line) (readingSheet more (linesOf (rest ++ after)))
   turn-after w =
       let some′ : 0 < length (text ++ after) = rw length-append (omega arith) in
       reading-turn more (text ++ after) s some′ ∙ rw (same-line text after w, no-wait more line w, same-rest text after w)
@@ -82,7 +82,7 @@ module _ (more : Bool) (text after : List ℕ) (s : Sheet) (some : 0 < length te
   -- the line waits: it is all there is
   cut-waits : waits true line ≡ true → Cut more text after s
   cut-waits w =
-      let e : reading true (linesOf text) s ≡ ended (Waiting s (length line)) = reading-turn true text s some ∙ rw w in
+      let e : readingSheet true (linesOf text) s ≡ ended (Waiting s (length line)) = reading-turn true text s some ∙ rw w in
       let all : length text - length line ≡ 0 = omega (arith, waits-whole text w) in
       record { goes = rw (e, all); left = rw e (omega (arith, waits-whole text w)) }
 
@@ -90,19 +90,19 @@ module _ (more : Bool) (text after : List ℕ) (s : Sheet) (some : 0 < length te
   cut-stops w f = record { goes = rw (turn w, f) (sym (turn-after w ∙ rw f)); left = rw (turn w, f) (omega arith) }
 
   cut-next : {t : Sheet} → waits true line ≡ false → stepping s line ≡ Next t → Cut more rest after t → Cut more text after s
-  unfolding reading
-  cut-next {t} w f c = record { goes = rw (turn w, f) (by-end (reading true (linesOf rest) t .end) refl ∙ sym (turn-after w ∙ rw f)); left = rw (turn w, f) (omega (arith, c .left, length-drop (cut longestLine text) text)) }
+  unfolding readingSheet
+  cut-next {t} w f c = record { goes = rw (turn w, f) (by-end (readingSheet true (linesOf rest) t .end) refl ∙ sym (turn-after w ∙ rw f)); left = rw (turn w, f) (omega (arith, c .left, length-drop (cut longestSheetLine text) text)) }
     where
       A : Account
-      A = reading true (linesOf rest) t
+      A = readingSheet true (linesOf rest) t
 
       go : Sheet → List ℕ → Account
-      go u kept = reading more (linesOf (kept ++ after)) u
+      go u kept = readingSheet more (linesOf (kept ++ after)) u
 
-      by-end : (e : Reading) → A .end ≡ e → onward (prefixed (textOf t) A) e text go ≡ prefixed (textOf t) (reading more (linesOf (rest ++ after)) t)
+      by-end : (e : Reading) → A .end ≡ e → onward (prefixed (textOf t) A) e text go ≡ prefixed (textOf t) (readingSheet more (linesOf (rest ++ after)) t)
       by-end (Waiting u n) f =
           let few : n ≤ length rest = rw f at (c .left) in
-          let place : cut longestLine text + (length rest - n) ≡ length text - n = omega (arith, length-drop (cut longestLine text) text, cut-within longestLine text) in
+          let place : cut longestSheetLine text + (length rest - n) ≡ length text - n = omega (arith, length-drop (cut longestSheetLine text) text, cut-within longestSheetLine text) in
           let kept : lastBytes n rest ≡ lastBytes n text = rw (drop-drop, place) in
           sym (ap (prefixed (textOf t)) (sym (rw (f, kept) at (c .goes))) ∙ rw append-assoc)
       by-end (Stopped l k r) f = ap (prefixed (textOf t)) (rw f at (c .goes))
@@ -111,7 +111,7 @@ module _ (more : Bool) (text after : List ℕ) (s : Sheet) (some : 0 < length te
 -- a text of no bytes, or one with a line, from what holds of shorter texts
 module _ (more : Bool) (after : List ℕ) where
   cut-none : (s : Sheet) → Cut more [] after s
-  unfolding reading linesOf
+  unfolding readingSheet linesOf
   cut-none s = record { goes = refl; left = omega arith }
 
   cut-line : (n : ℕ) (text : List ℕ) (s : Sheet) → 0 < length text → length text ≤ suc n
@@ -119,7 +119,7 @@ module _ (more : Bool) (after : List ℕ) where
   cut-line n text s some h shorter =
       by-test (waits true (firstLine text)) (cut-waits more text after s some) (λ w. by-step w (stepping s (firstLine text)) refl)
     where
-      less : length (drop (cut longestLine text) text) ≤ n
+      less : length (drop (cut longestSheetLine text) text) ≤ n
       less = rw length-drop (omega (arith, cut-some 63 text some))
 
       by-step : waits true (firstLine text) ≡ false → (step : Step) → stepping s (firstLine text) ≡ step → Cut more text after s
@@ -139,7 +139,7 @@ module _ (more : Bool) (after : List ℕ) where
   cuts (suc n) text s h = cut-text n text s h (cuts n)
 
 pub one-cut : (more : Bool) (text after : List ℕ) (s : Sheet)
-    → onward (reading true (linesOf text) s) (reading true (linesOf text) s .end) text (λ t kept. reading more (linesOf (kept ++ after)) t) ≡ reading more (linesOf (text ++ after)) s
+    → onward (readingSheet true (linesOf text) s) (readingSheet true (linesOf text) s .end) text (λ t kept. readingSheet more (linesOf (kept ++ after)) t) ≡ readingSheet more (linesOf (text ++ after)) s
 one-cut more text after s = cuts more after (length text) text s (omega arith) .goes
 
 -- ---- the theorem, for any number of cuts
@@ -148,11 +148,11 @@ onward-same a (Waiting s n) text h = ap (prefixed (a .text)) (h s (lastBytes n t
 onward-same a (Stopped line column r) text h = refl
 onward-same a (Read c) text h = refl
 
-fed : (pieces : List (List ℕ)) (s : Sheet) (kept : List ℕ) → feeding pieces s kept ≡ reading false (linesOf (kept ++ joined pieces)) s
+fed : (pieces : List (List ℕ)) (s : Sheet) (kept : List ℕ) → feeding pieces s kept ≡ readingSheet false (linesOf (kept ++ joined pieces)) s
 unfolding feeding joined
 fed [] s kept = rw append-nil
 fed (piece ∷ pieces) s kept =
-    onward-same _ (reading true (linesOf (kept ++ piece)) s .end) (kept ++ piece) (fed pieces)
+    onward-same _ (readingSheet true (linesOf (kept ++ piece)) s .end) (kept ++ piece) (fed pieces)
     ∙ one-cut false (kept ++ piece) (joined pieces) s
     ∙ rw append-assoc
 

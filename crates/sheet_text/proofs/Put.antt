@@ -1,4 +1,4 @@
--- The place behind a text that a writer was to write is the same with room and without, and a text of no bytes changes
+-- The place after a text that a writer was to write is the same with room and without, and a text of no bytes changes
 -- nothing. Assumes nothing.
 use Prim.Native.Nat.{ℕ, _+_}
 use mathlib.Core.Path.{_≡_, sym, _∙_}
@@ -9,12 +9,12 @@ use Rattle.truth.proofs.Cases.{by-order, by-test}
 use Rattle.text.specs.Write.{fits, written}
 use Rattle.text.proofs.Laws.{laid-none, written-fits, wrote-short}
 use Rattle.sheet_reply.specs.declared.Written.{Written}
-use Rattle.sheet_reply.specs.Written.{writing}
-use Rattle.sheet_text.specs.Cut.{behindOf}
+use Rattle.sheet_reply.specs.Written.{writingReply}
+use Rattle.sheet_text.specs.Cut.{placeCounted}
 
-pub behind-writing : (out : List ℕ) (at : ℕ) (text : List ℕ) {w : Written} → w ≡ writing out at text → behindOf at w ≡ at + length text
-unfolding writing
-behind-writing out at text e = by-test (fits out at text) (λ f. rw (e, f)) (λ f. rw (e, f))
+pub counted-writing : (out : List ℕ) (at : ℕ) (text : List ℕ) {w : Written} → w ≡ writingReply out at text → placeCounted at w ≡ at + length text
+unfolding writingReply
+counted-writing out at text e = by-test (fits out at text) (λ f. rw (e, f)) (λ f. rw (e, f))
 
 pub none-written : (out : List ℕ) (at : ℕ) → (at ≡ at + length {A = ℕ} []) × (out ≡ written out at [])
 none-written out at =

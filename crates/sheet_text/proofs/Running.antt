@@ -12,10 +12,10 @@ use Rattle.text.specs.Write.{laid, written}
 use Rattle.text.proofs.Laws.{laid-none, laid-join, length-written, written-fits}
 use Rattle.sheet_line.specs.declared.Sheet.{Sheet}
 use Rattle.sheet_line.specs.declared.Sheet.the-variants.{Fresh, Open}
-use Rattle.sheet_line.specs.Form.{longestLine}
+use Rattle.sheet_line.specs.Form.{longestSheetLine}
 use Rattle.sheet_line.specs.Line.{soundSheet}
 use Rattle.sheet_reply.proofs.Few.{refused-few}
-use Rattle.sheet_text.specs.declared.Found.the-variants.{Taken}
+use Rattle.sheet_text.specs.declared.LineFound.the-variants.{Taken}
 use Rattle.sheet_text.specs.declared.Reading.{Reading}
 use Rattle.sheet_text.specs.Sheet.{endText, ended, lastOf, leftIn, textOf}
 use Rattle.sheet_text.specs.Cut.{Passed, found}
@@ -35,7 +35,7 @@ running-start more text s lent g =
     record { gave = []; along = along-start more text s g; place = refl; size = refl; bytes = λ h. sym (laid-none lent 0) }
 
 module _ {more : Bool} {text : List ℕ} {from : Sheet} {lent out : List ℕ} {s : Sheet} {at put : ℕ} (r : Running more text from lent out s at put) where
-  -- a part that goes behind what stands there
+  -- a part that goes after what stands there
   joined : (part : List ℕ) → length (r .gave ++ part) ≤ length lent → written out put part ≡ laid lent 0 (r .gave ++ part)
   joined part h =
       let few : length (r .gave) + length part ≤ length lent = rw length-append at h in
@@ -62,7 +62,7 @@ module _ {more : Bool} {text : List ℕ} {from : Sheet} {lent out : List ℕ} {s
         }
 
   -- the end of the rest is the end of the whole
-  pub running-end : {end : Reading} {later : List ℕ} {n : ℕ} → here more text at s ≡ ended end → length (endText end) ≤ 35 → (leftIn end ≤ length text) × (leftIn end < longestLine)
+  pub running-end : {end : Reading} {later : List ℕ} {n : ℕ} → here more text at s ≡ ended end → length (endText end) ≤ 35 → (leftIn end ≤ length text) × (leftIn end < longestSheetLine)
       → (n ≡ put + length (endText end)) × (later ≡ written out put (endText end)) → Passed more text from lent end n later
   running-end {end} e few left (p, b) =
       let text-is = whole-text (r .along) e in

@@ -18,7 +18,7 @@ use Rattle.campaign_state.proofs.Relations.{kept-from}
 use Rattle.sheet_line.specs.declared.Sheet.{Sheet}
 use Rattle.sheet_line.specs.declared.Sheet.the-variants.{Fresh, Open}
 use Rattle.sheet_line.specs.declared.Step.the-variants.{Next, Stop}
-use Rattle.sheet_line.specs.Line.{soundSheet, stepping, told}
+use Rattle.sheet_line.specs.Line.{soundSheet, stepping, lineOutcome}
 use Rattle.sheet_line.proofs.Columns.{standard-few}
 use Rattle.sheet_line.proofs.Columns.{record-few as column-few}
 use Rattle.sheet_line.proofs.Entries.{Entry, Opening, record-says, says-next, says-stop, standard-says}
@@ -45,7 +45,7 @@ pub record Led (s : Sheet) (line : List ℕ) (t : Sheet) : Type 0 where
 entry-kept : (c : Campaign) (line : List ℕ) (t : Sheet) → Entry c line t → Led (Open c) line t
 entry-kept c line t o =
     let e = told-entered c (eqb (o .flag) 1) (o .exposure) (o .after) (o .taken) in
-    let says = told (eqb (o .flag) 1) (o .exposure) in
+    let says = lineOutcome (eqb (o .flag) 1) (o .exposure) in
     let good : sound (o .after) ≡ true = is-true _ (entering-sound c says (o .after) e) in
     let one-more : o .after .records ≡ c .records + 1 = ap (λ d. d .records) (entered-from c says (o .after) e .room .after) in
     let long : 6 ≤ length line = rw (o .bytes) (simp length-append (omega (arith, field-some (c .records + 1) 9, field-some (o .flag) 9, field-some (o .exposure) 10))) in

@@ -1,4 +1,4 @@
--- A reader's turn, by what it finds: the reading of what stands at a place is that of what stands behind the line, or
+-- A reader's turn, by what it finds: the reading of what stands at a place is that of what stands after the line, or
 -- it ends. Assumes nothing.
 use Prim.Native.Nat.{ℕ, _+_, _-_, _^_, _≤_, _<_}
 use mathlib.Core.Path.{_≡_, refl, ap, _∙_}
@@ -11,15 +11,15 @@ use lib.Seq.{drop-drop}
 use borrow.Author.Tests.{ltb-true}
 use Rattle.truth.proofs.Laws.{and-true}
 use Rattle.refusal.specs.declared.Refusal.{Refusal}
-use Rattle.sheet_text.specs.declared.Found.the-variants.{Taken, Waits, Bad}
+use Rattle.sheet_text.specs.declared.LineFound.the-variants.{Taken, Waits, Bad}
 use Rattle.sheet_text.specs.declared.Reading.the-variants.{Stopped, Waiting}
 use Rattle.sheet_line.specs.declared.Sheet.{Sheet}
 use Rattle.sheet_line.specs.declared.Step.{Step}
 use Rattle.sheet_line.specs.declared.Step.the-variants.{Next, Stop}
-use Rattle.sheet_line.specs.Form.{endsLine, longestLine}
+use Rattle.sheet_line.specs.Form.{endsLine, longestSheetLine}
 use Rattle.sheet_line.specs.Line.{soundSheet, stepping}
 use Rattle.decimal.specs.Lines.{linesOf}
-use Rattle.sheet_text.specs.Sheet.{Account, prefixed, ended, afterStep, textOf, waits, reading}
+use Rattle.sheet_text.specs.Sheet.{Account, prefixed, ended, afterStep, textOf, waits, readingSheet}
 use Rattle.sheet_text.specs.Cut.{firstLine, foundAt, found}
 use Rattle.sheet_text.proofs.Lines.{cut-within, cut-some, length-first, reading-turn}
 use Rattle.sheet_text.proofs.Steps.{most, step-led, step-line}
@@ -46,11 +46,11 @@ not-bad′ e = let z : _≡_ {A = ℕ} 0 1 = cc in absurd (omega arith)
 module _ (more : Bool) (text : List ℕ) (at : ℕ) (s : Sheet) where
   -- the reading of what stands at the place
   abbrev pub here : Account
-  here = reading more (linesOf (drop at text)) s
+  here = readingSheet more (linesOf (drop at text)) s
 
   -- a line was taken
   pub record Took (t : Sheet) (next : ℕ) : Type 0 where
-    pub reads : here ≡ prefixed (textOf t) (reading more (linesOf (drop next text)) t)
+    pub reads : here ≡ prefixed (textOf t) (readingSheet more (linesOf (drop next text)) t)
     pub further : at < next
     pub within : next ≤ length text
     pub sound : soundSheet t ≡ true
@@ -60,13 +60,13 @@ module _ (more : Bool) (text : List ℕ) (at : ℕ) (s : Sheet) where
     abbrev part : List ℕ
     part = firstLine (drop at text)
 
-    turn : here ≡ cond (waits more part) (ended (Waiting s (length part))) (afterStep (stepping s part) (reading more (linesOf (drop (at + length part) text))))
+    turn : here ≡ cond (waits more part) (ended (Waiting s (length part))) (afterStep (stepping s part) (readingSheet more (linesOf (drop (at + length part) text))))
     turn =
         let some : 0 < length (drop at text) = omega (arith, length-drop at text) in
         reading-turn more (drop at text) s some ∙ rw (← length-first (drop at text), drop-drop)
 
     ends : at + length part ≤ length text
-    ends = omega (arith, length-first (drop at text), cut-within longestLine (drop at text), length-drop at text)
+    ends = omega (arith, length-first (drop at text), cut-within longestSheetLine (drop at text), length-drop at text)
 
     starts : at < at + length part
     starts = omega (arith, length-first (drop at text), cut-some 63 (drop at text) (omega (arith, length-drop at text)))
@@ -90,16 +90,16 @@ module _ (more : Bool) (text : List ℕ) (at : ℕ) (s : Sheet) where
               grows = led .grows;
             }
 
-    pub found-waits : {n : ℕ} → found more text at s ≡ Waits n → (here ≡ ended (Waiting s n)) × (n ≤ length text) × (n < longestLine)
+    pub found-waits : {n : ℕ} → found more text at s ≡ Waits n → (here ≡ ended (Waiting s n)) × (n ≤ length text) × (n < longestSheetLine)
     unfolding found
     found-waits {n} e = go (waits more part) (stepping s part) refl refl e
       where
         go : (w : Bool) (step : Step) → waits more part ≡ w → stepping s part ≡ step → cond w (Waits (length part)) (foundAt (at + length part) step) ≡ Waits n
-            → (here ≡ ended (Waiting s n)) × (n ≤ length text) × (n < longestLine)
+            → (here ≡ ended (Waiting s n)) × (n ≤ length text) × (n < longestSheetLine)
         go true step w f e =
             let bytes : length part ≡ n = cc (e) in
-            let open-line = and-true more (not (endsLine part) && ltb (length part) longestLine) w .1 in
-            let short = ltb-true (length part) longestLine (and-true (not (endsLine part)) (ltb (length part) longestLine) open-line .1) in
+            let open-line = and-true more (not (endsLine part) && ltb (length part) longestSheetLine) w .1 in
+            let short = ltb-true (length part) longestSheetLine (and-true (not (endsLine part)) (ltb (length part) longestSheetLine) open-line .1) in
             (turn ∙ rw (w, bytes), omega (arith, ends), omega arith)
         go false (Stop l k r) w f e = absurd (not-waits′ e)
         go false (Next u) w f e = absurd (not-waits e)

@@ -8,7 +8,7 @@ use Rattle.sheet_text.specs.declared.Reading.{Reading}
 use Rattle.sheet_text.specs.declared.Reading.the-variants.{Read, Stopped, Waiting}
 use Rattle.sheet_line.specs.declared.Sheet.{Sheet}
 use Rattle.decimal.specs.Lines.{linesOf}
-use Rattle.sheet_text.specs.Sheet.{Account, prefixed, reading}
+use Rattle.sheet_text.specs.Sheet.{Account, prefixed, readingSheet}
 
 -- the last n bytes of a text
 abbrev pub lastBytes : ℕ → List ℕ → List ℕ
@@ -20,8 +20,8 @@ onward a (Waiting s n) text go = prefixed (a .text) (go s (lastBytes n text))
 onward a (Stopped line column r) text go = a
 onward a (Read c) text go = a
 
--- piece after piece, `kept` being the bytes of a line begun; behind the last piece the sheet ends
+-- piece after piece, `kept` being the bytes of a line begun; after the last piece the sheet ends
 unfoldable pub feeding : List (List ℕ) → Sheet → List ℕ → Account
-feeding [] s kept = reading false (linesOf kept) s
+feeding [] s kept = readingSheet false (linesOf kept) s
 feeding (piece ∷ pieces) s kept =
-    onward (reading true (linesOf (kept ++ piece)) s) (reading true (linesOf (kept ++ piece)) s .end) (kept ++ piece) (feeding pieces)
+    onward (readingSheet true (linesOf (kept ++ piece)) s) (readingSheet true (linesOf (kept ++ piece)) s .end) (kept ++ piece) (feeding pieces)

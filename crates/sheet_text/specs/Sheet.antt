@@ -16,7 +16,7 @@ use Rattle.sheet_line.specs.declared.Sheet.{Sheet}
 use Rattle.sheet_line.specs.declared.Sheet.the-variants.{Fresh, Open}
 use Rattle.sheet_line.specs.declared.Step.{Step}
 use Rattle.sheet_line.specs.declared.Step.the-variants.{Next, Stop}
-use Rattle.sheet_line.specs.Form.{endsLine, longestLine}
+use Rattle.sheet_line.specs.Form.{endsLine, longestSheetLine}
 use Rattle.sheet_line.specs.Line.{soundSheet, stepping}
 use Rattle.sheet_reply.specs.Written.{recordText, refusedText}
 
@@ -48,7 +48,7 @@ abbrev pub afterStep : Step → (Sheet → Account) → Account
 afterStep (Next s) go = prefixed (textOf s) (go s)
 afterStep (Stop line column r) go = ended (Stopped line column r)
 
--- behind the last line: an absent line 1 is refusal 9; where more may follow the reading waits
+-- after the last line: an absent line 1 is refusal 9; where more may follow the reading waits
 abbrev pub lastOf : Bool → Sheet → Reading
 lastOf true s = Waiting s 0
 lastOf false Fresh = Stopped 1 0 (Line 1)
@@ -57,32 +57,32 @@ lastOf false (Open c) = Read c
 -- where more may follow, a line without its LF waits for it, its bytes unread; not one that is as long as a line may be
 -- without it
 abbrev pub waits : Bool → List ℕ → Bool
-waits more line = more && (not (endsLine line) && ltb (length line) longestLine)
+waits more line = more && (not (endsLine line) && ltb (length line) longestSheetLine)
 
 -- the lines one by one, from where the reading stands; `more`: more of the text may follow
-unfoldable pub reading : Bool → List (List ℕ) → Sheet → Account
-reading more [] s = ended (lastOf more s)
-reading more (line ∷ lines) s = cond (waits more line) (ended (Waiting s (length line))) (afterStep (stepping s line) (reading more lines))
+unfoldable pub readingSheet : Bool → List (List ℕ) → Sheet → Account
+readingSheet more [] s = ended (lastOf more s)
+readingSheet more (line ∷ lines) s = cond (waits more line) (ended (Waiting s (length line))) (afterStep (stepping s line) (readingSheet more lines))
 
 -- THE MEANING OF A TEXT
 unfoldable pub meaning : List ℕ → Account
-meaning text = reading false (linesOf text) Fresh
+meaning text = readingSheet false (linesOf text) Fresh
 
 -- ---- what the readers of a lent text answer; a campaign that was never handed out is refusal 8
 unfoldable pub readingEnd : Bool → List ℕ → Sheet → Reading
-readingEnd more text s = cond (soundSheet s) (reading more (linesOf text) s .end) (Stopped 0 0 BrokenState)
+readingEnd more text s = cond (soundSheet s) (readingSheet more (linesOf text) s .end) (Stopped 0 0 BrokenState)
 
 -- a run writes what its lines give: 8, 7 with the bytes needed; a refusal leaves the lent bytes as they were
 unfoldable pub running : Bool → List ℕ → Sheet → List ℕ → Ran
 running more text s out =
     cond (soundSheet s)
-    (cond (leb (length (reading more (linesOf text) s .text)) (length out))
-    (Came (reading more (linesOf text) s .end) (length (reading more (linesOf text) s .text)))
-    (Refused (Room (length (reading more (linesOf text) s .text)))))
+    (cond (leb (length (readingSheet more (linesOf text) s .text)) (length out))
+    (Came (readingSheet more (linesOf text) s .end) (length (readingSheet more (linesOf text) s .text)))
+    (Refused (Room (length (readingSheet more (linesOf text) s .text)))))
     (Refused BrokenState)
 
 unfoldable pub runLeft : Bool → List ℕ → Sheet → List ℕ → List ℕ
-runLeft more text s out = cond (soundSheet s) (written out 0 (reading more (linesOf text) s .text)) out
+runLeft more text s out = cond (soundSheet s) (written out 0 (readingSheet more (linesOf text) s .text)) out
 
 -- what a caller counts with: the bytes that a run wrote, and those that it left unread
 abbrev pub putBy : Ran → ℕ

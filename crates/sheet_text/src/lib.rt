@@ -6,12 +6,12 @@ ghost use mathlib.Core.Bool.{true};
 ghost use Prim.Native.Nat.{_+_, _*_, _^_, _≤_, _<_, min};
 ghost use lib.ListN.{length, drop};
 ghost use Rattle.text.specs.Write.{written};
-ghost use Rattle.sheet_line.specs.Form.{longestLine};
+ghost use Rattle.sheet_line.specs.Form.{longestSheetLine};
 ghost use Rattle.sheet_line.specs.Line.{soundSheet};
 ghost use Rattle.decimal.specs.Lines.{linesOf};
-ghost use Rattle.sheet_text.specs.Sheet.{endText, lastOf, leftBy, putBy, reading, readingEnd, runLeft, running};
+ghost use Rattle.sheet_text.specs.Sheet.{endText, lastOf, leftBy, putBy, readingSheet, readingEnd, runLeft, running};
 ghost use Rattle.sheet_text.specs.Sheet.{textOf, waits};
-ghost use Rattle.sheet_text.specs.Cut.{Passed, behindOf, cut, found};
+ghost use Rattle.sheet_text.specs.Cut.{Passed, placeCounted, cut, found};
 use campaign_state::Campaign;
 use refusal::Refusal;
 use sheet_line::Sheet;
@@ -40,8 +40,8 @@ pub enum Ran {
 }
 
 // What a reader finds at a place of a text.
-enum Found {
-    // A line that was taken, and the place behind it.
+enum LineFound {
+    // A line that was taken, and the place after it.
     Taken(Sheet, usize),
     // The bytes of a line that waits for its LF.
     Waits(usize),
@@ -52,7 +52,7 @@ enum Found {
 // The furthest that a line from `at` on can reach in `len` bytes.
 fn furthest(len: usize, at: usize) -> usize
     requires { ⌜ at ≤ len ⌝ }
-    ensures { λ r. ⌜ r ≡ min len (at + longestLine) ⌝ }
+    ensures { λ r. ⌜ r ≡ min len (at + longestSheetLine) ⌝ }
 {
     if len - at < LONGEST_LINE {
         return len;
@@ -63,7 +63,7 @@ fn furthest(len: usize, at: usize) -> usize
 // Where the line of `text` that starts at `at` ends, or has as many bytes as a line may have.
 fn line_end(text: &[u8], at: usize) -> usize
     requires { ⌜ at ≤ length (now text) ⌝ }
-    ensures { λ r. ⌜ r ≡ at + cut longestLine (drop at (now (text .entry))) ⌝ }
+    ensures { λ r. ⌜ r ≡ at + cut longestSheetLine (drop at (now (text .entry))) ⌝ }
 {
     let stop = furthest(text.len(), at);
     let mut i = at;
@@ -94,22 +94,22 @@ fn waits(more: bool, line: &[u8]) -> bool
 }
 
 // What stands at `at`, which is inside `text`.
-fn find(s: Sheet, text: &[u8], at: usize, more: bool) -> Found
+fn find(s: Sheet, text: &[u8], at: usize, more: bool) -> LineFound
     requires { ⌜ at < length (now text) ⌝ }
     ensures { λ r. ⌜ r ≡ found more (now (text .entry)) at s ⌝ }
 {
     let end = line_end(text, at);
     if waits(more, &text[at..end]) {
         let bytes = end - at;
-        return Found::Waits(bytes);
+        return LineFound::Waits(bytes);
     }
     match s.line(&text[at..end]) {
-        Step::Next(t) => Found::Taken(t, end),
-        Step::Stop(line, column, r) => Found::Bad(line, column, r),
+        Step::Next(t) => LineFound::Taken(t, end),
+        Step::Stop(line, column, r) => LineFound::Bad(line, column, r),
     }
 }
 
-// What a reading comes to behind the last line.
+// What a reading comes to after the last line.
 fn last(s: Sheet, more: bool) -> Reading
     ensures { λ r. ⌜ r ≡ lastOf more s ⌝ }
 {
@@ -144,14 +144,14 @@ pub fn read(s: Sheet, text: &[u8], more: bool) -> Reading
     let mut at = 0;
     while at < text.len() {
         match find(sheet, text, at, more) {
-            Found::Taken(t, next) => {
+            LineFound::Taken(t, next) => {
                 sheet = t;
                 at = next;
             }
-            Found::Waits(left) => {
+            LineFound::Waits(left) => {
                 return Reading::Waiting(sheet, left);
             }
-            Found::Bad(line, column, r) => {
+            LineFound::Bad(line, column, r) => {
                 return Reading::Stopped(line, column, r);
             }
         }
@@ -159,10 +159,10 @@ pub fn read(s: Sheet, text: &[u8], more: bool) -> Reading
     last(sheet, more)
 }
 
-// The place behind a text that was written from `at` on, also where it had no room.
-fn behind(at: usize, w: Written) -> usize
-    requires { ⌜ behindOf at w < 2 ^ 63 ⌝ }
-    ensures { λ r. ⌜ r ≡ behindOf at w ⌝ }
+// The place after a text that was written from `at` on, also where it had no room.
+fn place_counted(at: usize, w: Written) -> usize
+    requires { ⌜ placeCounted at w < 2 ^ 63 ⌝ }
+    ensures { λ r. ⌜ r ≡ placeCounted at w ⌝ }
 {
     match w {
         Written::Upto(next) => next,
@@ -170,7 +170,7 @@ fn behind(at: usize, w: Written) -> usize
     }
 }
 
-// Writes what a line that was taken gives, and answers the place behind it; without room it is only counted.
+// Writes what a line that was taken gives, and answers the place after it; without room it is only counted.
 fn put_sheet(s: Sheet, out: &mut [u8], at: usize) -> usize
     requires { ⌜ (soundSheet s ≡ true) × (at + length (textOf s) < 2 ^ 63) ⌝ }
     ensures { λ r. ⌜ r ≡ at + length (textOf s) ⌝ }
@@ -179,10 +179,10 @@ fn put_sheet(s: Sheet, out: &mut [u8], at: usize) -> usize
     let Sheet::Open(c) = s else {
         return at;
     };
-    behind(at, sheet_reply::write_record(c, out, at))
+    place_counted(at, sheet_reply::write_record(c, out, at))
 }
 
-// Writes what the end of a reading gives, and answers the place behind it; without room it is only counted.
+// Writes what the end of a reading gives, and answers the place after it; without room it is only counted.
 fn put_end(end: Reading, out: &mut [u8], at: usize) -> usize
     requires { ⌜ at + length (endText end) < 2 ^ 63 ⌝ }
     ensures { λ r. ⌜ r ≡ at + length (endText end) ⌝ }
@@ -190,7 +190,7 @@ fn put_end(end: Reading, out: &mut [u8], at: usize) -> usize
 {
     match end {
         Reading::Read(_) => at,
-        Reading::Stopped(line, column, r) => behind(
+        Reading::Stopped(line, column, r) => place_counted(
             at,
             sheet_reply::write_refused(line, column, r, out, at),
         ),
@@ -215,18 +215,18 @@ fn pass(s: Sheet, text: &[u8], more: bool, out: &mut [u8]) -> End
     let mut put = 0;
     while at < text.len() {
         match find(sheet, text, at, more) {
-            Found::Taken(t, next) => {
+            LineFound::Taken(t, next) => {
                 put = put_sheet(t, out, put);
                 sheet = t;
                 at = next;
             }
-            Found::Waits(left) => {
+            LineFound::Waits(left) => {
                 return End {
                     came: Reading::Waiting(sheet, left),
                     put: put,
                 };
             }
-            Found::Bad(line, column, r) => {
+            LineFound::Bad(line, column, r) => {
                 let end = put_end(Reading::Stopped(line, column, r), out, put);
                 return End {
                     came: Reading::Stopped(line, column, r),
@@ -256,7 +256,7 @@ fn has_any_room(len: usize, n: usize) -> bool
 // The bytes that are written for the lines of `text`.
 fn needed(s: Sheet, text: &[u8], more: bool) -> usize
     requires { ⌜ soundSheet s ≡ true ⌝ }
-    ensures { λ r. ⌜ r ≡ length (reading more (linesOf (now (text .entry))) s .text) ⌝ }
+    ensures { λ r. ⌜ r ≡ length (readingSheet more (linesOf (now (text .entry))) s .text) ⌝ }
 {
     let mut none = [0u8; 1];
     let counted = pass(s, text, more, &mut none);
@@ -270,7 +270,7 @@ pub fn run(s: Sheet, text: &[u8], more: bool, out: &mut [u8]) -> Ran
     ensures { λ r. ⌜ r ≡ running more (now (text .entry)) s (now (out .entry)) ⌝ }
     ensures { λ _. ⌜ now (out .exit) ≡ runLeft more (now (text .entry)) s (now (out .entry)) ⌝ }
     ensures { λ r. ⌜ putBy r ≤ length (now (out .entry)) ⌝ }
-    ensures { λ r. ⌜ (leftBy r ≤ length (now (text .entry))) × (leftBy r < longestLine) ⌝ }
+    ensures { λ r. ⌜ (leftBy r ≤ length (now (text .entry))) × (leftBy r < longestSheetLine) ⌝ }
 {
     if !sound(s) {
         return Ran::Refused(Refusal::BrokenState);

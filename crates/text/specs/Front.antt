@@ -5,7 +5,7 @@ use mathlib.Core.List.{List, _++_}
 use lib.Dec.{leb}
 use lib.ListN.{drop, length, take}
 
--- the `count` bytes from `from` on stand first, and behind them what stood there; all as it was where there are not so
+-- the `count` bytes from `from` on stand first, and after them what stood there; all as it was where there are not so
 -- many
 unfoldable pub kept : ℕ → ℕ → List ℕ → List ℕ
 kept from count bytes = cond (leb (from + count) (length bytes)) (take count (drop from bytes) ++ drop count bytes) bytes

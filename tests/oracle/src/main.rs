@@ -63,7 +63,7 @@ fn code(x: i32) -> u64 {
 fn record_numbers(r: &Record) -> Vec<u64> {
     let [step, ramp, level, decorrelation, acceleration_level] = r.items;
     let [roll, acceleration] = r.last.map(code);
-    let mut s = vec![step, ramp, level, decorrelation, r.n, roll, r.crossings, r.largest, r.first, r.latest, r.recent, r.groups];
+    let mut s = vec![step, ramp, level, decorrelation, r.n, roll, r.crossings, r.largest, r.first, r.last_chosen, r.last_crossing, r.groups];
     s.extend([acceleration_level, acceleration]);
     s
 }
@@ -77,7 +77,7 @@ fn record_in(s: &[u64]) -> Option<Record> {
         if code % 2 == 0 { half } else { -half - 1 }
     });
     let items = [s[0], s[1], s[2], s[3], s[12]];
-    Some(Record { items, n: s[4], last, crossings: s[6], largest: s[7], first: s[8], latest: s[9], recent: s[10], groups: s[11] })
+    Some(Record { items, n: s[4], last, crossings: s[6], largest: s[7], first: s[8], last_chosen: s[9], last_crossing: s[10], groups: s[11] })
 }
 
 fn campaign_numbers(c: &Campaign) -> Vec<u64> {
@@ -453,8 +453,8 @@ impl Bench {
                 r.largest = self.random.within(1, r.crossings);
                 r.groups = self.random.within(1, r.largest);
                 r.first = self.random.within(items[1] + 1, r.n - 1);
-                r.latest = self.random.within(r.first, r.n - 1);
-                r.recent = self.random.within(r.latest, r.n - 1);
+                r.last_chosen = self.random.within(r.first, r.n - 1);
+                r.last_crossing = self.random.within(r.last_chosen, r.n - 1);
             }
             if paper::record_ok(&r) {
                 return r;
@@ -550,10 +550,10 @@ impl Bench {
     fn grouped_states(&mut self, times: u64) {
         for _ in 0..times {
             let (r, record, campaign, piece) = self.sound_case(50);
-            for recent in [0, 1, r.first, r.latest.wrapping_sub(1), r.latest, r.latest + 1, r.n.wrapping_sub(1), r.n, r.n + 1] {
+            for last_crossing in [0, 1, r.first, r.last_chosen.wrapping_sub(1), r.last_chosen, r.last_chosen + 1, r.n.wrapping_sub(1), r.n, r.n + 1] {
                 for groups in [0, 1, 2, r.groups, r.largest.wrapping_sub(1), r.largest, r.largest + 1, r.crossings] {
                     let mut state = record.clone();
-                    state[10] = recent;
+                    state[10] = last_crossing;
                     state[11] = groups;
                     self.record_end(&state, RESULT_NUMBERS, &campaign);
                     self.record_feed(&mut state, lent(&piece));
@@ -738,10 +738,10 @@ impl Bench {
             let mut state = vec![0; RECORD_NUMBERS];
             self.record_open(items, &mut state);
             let expected = match single::fed(own, xs) {
-                Ok((last, [crossings, largest, first, latest, recent, groups])) => {
+                Ok((last, [crossings, largest, first, last_chosen, last_crossing, groups])) => {
                     let [roll, acceleration] = if channel == 1 { [code(last), 0] } else { [0, code(last)] };
                     let mut s = items[..4].to_vec();
-                    s.extend([length, roll, crossings, largest, first, latest, recent, groups, items[4], acceleration]);
+                    s.extend([length, roll, crossings, largest, first, last_chosen, last_crossing, groups, items[4], acceleration]);
                     ((0, 0, 0), s)
                 }
                 Err(refused) => (of_two(refused), state.clone()),

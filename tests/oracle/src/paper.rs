@@ -111,8 +111,8 @@ pub struct Record {
     pub crossings: u64,
     pub largest: u64,
     pub first: u64,
-    pub latest: u64,
-    pub recent: u64,
+    pub last_chosen: u64,
+    pub last_crossing: u64,
     pub groups: u64,
 }
 
@@ -122,7 +122,7 @@ pub fn open(items: Items) -> Result<Record, Refused> {
             return Err((1, item as u64));
         }
     }
-    Ok(Record { items, n: 0, last: [0, 0], crossings: 0, largest: 0, first: 0, latest: 0, recent: 0, groups: 0 })
+    Ok(Record { items, n: 0, last: [0, 0], crossings: 0, largest: 0, first: 0, last_chosen: 0, last_crossing: 0, groups: 0 })
 }
 
 /// The state of two whole lists of samples, figure by figure.
@@ -137,8 +137,8 @@ pub fn state_of(items: Items, samples: [&[i32]; 2]) -> Record {
         crossings: places.len() as u64,
         largest: kept.len() as u64,
         first: places.first().map_or(0, |&i| i as u64),
-        latest: kept.last().map_or(0, |&i| i as u64),
-        recent: places.last().map_or(0, |&i| i as u64),
+        last_chosen: kept.last().map_or(0, |&i| i as u64),
+        last_crossing: places.last().map_or(0, |&i| i as u64),
         groups: groups(&places, step, ramp, decorrelation).len() as u64,
     }
 }
@@ -153,15 +153,15 @@ pub fn record_ok(r: &Record) -> bool {
         return false;
     }
     if r.first == 0 {
-        return r.crossings == 0 && r.largest == 0 && r.latest == 0 && r.recent == 0 && r.groups == 0;
+        return r.crossings == 0 && r.largest == 0 && r.last_chosen == 0 && r.last_crossing == 0 && r.groups == 0;
     }
     if r.crossings == 0 || r.largest == 0 {
         return false;
     }
-    if r.recent >= r.n || r.recent < r.latest || r.groups < 1 || r.groups > r.largest {
+    if r.last_crossing >= r.n || r.last_crossing < r.last_chosen || r.groups < 1 || r.groups > r.largest {
         return false;
     }
-    r.n > ramp && r.crossings <= r.n - 1 - ramp && r.first > ramp && r.first <= r.latest && r.latest < r.n
+    r.n > ramp && r.crossings <= r.n - 1 - ramp && r.first > ramp && r.first <= r.last_chosen && r.last_chosen < r.n
 }
 
 fn one_more(r: &Record, now: [i32; 2]) -> Record {
@@ -173,13 +173,13 @@ fn one_more(r: &Record, now: [i32; 2]) -> Record {
         if r.crossings == 0 {
             s.first = r.n;
         }
-        if r.crossings == 0 || (r.n - r.latest) * step >= decorrelation {
+        if r.crossings == 0 || (r.n - r.last_chosen) * step >= decorrelation {
             s.largest += 1;
-            s.latest = r.n;
+            s.last_chosen = r.n;
         }
-        let joins = r.crossings > 0 && (r.n - r.recent) * step < decorrelation;
+        let joins = r.crossings > 0 && (r.n - r.last_crossing) * step < decorrelation;
         s.groups += u64::from(!joins);
-        s.recent = r.n;
+        s.last_crossing = r.n;
     }
     s.n += 1;
     s.last = now;

@@ -48,14 +48,14 @@ use denote.Triple.Spec.{Meets, tripleOf}
 use denote.Triple.Table.{entered, cited}
 use denote.Triple.Walked.{says, Stays, stay-dropped, walkOf, goes-dropped, Walks, ends-at, walked, walk-meets}
 use denote.Exit.{yes}
-use Rattle.bureau_table.specs.declared.Answer.{Answer}
+use Rattle.bureau_table.specs.declared.TableAnswer.{TableAnswer}
 use Rattle.bureau_table.specs.declared.Call.{Call}
 use Rattle.bureau_table.specs.declared.Place.{Place}
 use Rattle.bureau_table.specs.Calls.{called}
 use Rattle.bureau_entries.specs.declared.Served.{Served}
 use Rattle.bureau_entries.proofs.Steps.{R, RE, RP}
-use Rattle.bureau_table.proofs.Answer as E
-use Rattle.bureau_table.proofs.Answer.Laws as E′
+use Rattle.bureau_table.proofs.TableAnswer as E
+use Rattle.bureau_table.proofs.TableAnswer.Laws as E′
 use Rattle.bureau_table.proofs.Call as P
 use Rattle.bureau_table.proofs.Call.Laws as P′
 use Rattle.bureau_table.proofs.Place as T
@@ -80,7 +80,7 @@ stayed = (stay-dropped (ArrayOf (plain (λ _. R)) (λ _. tt) 32) yes, (stay-drop
 abbrev Serve : {M : Type 1} (𝓤 : URA M) (H : Heap 𝓤) (A : Atoms 𝓤) (mem : Memory → SProp 𝓤) (run : Routine → Fun 𝓤) → Contract 𝓤
 Serve 𝓤 H A mem run = tripleOf 𝓤 H A serve.signature (serve.spec 𝓤 H A mem run)
 
-abbrev Said : Call → List Place → Answer → List Place → Type 0
+abbrev Said : Call → List Place → TableAnswer → List Place → Type 0
 Said c ps r ys = (r ≡ called ps (c .bureau) (c .ask) .answer) × (ys ≡ called ps (c .bureau) (c .ask) .table)
 
 -- the machine value of an array
@@ -116,17 +116,17 @@ module _ {M : Type 1} (𝓤 : URA M) (H : Heap 𝓤) (A : Atoms 𝓤) (W : Given
   abbrev Post : Val → SProp 𝓤
   Post = walkOf 𝓤 H A lent.ended stayed (lent.clauses 𝓤 H A mem′ run) .post ((tt, tt, tt, a, vals), tt)
 
-  abbrev sv : List Place → Answer → Served
+  abbrev sv : List Place → TableAnswer → Served
   sv zs r = record { places = zs; answer = r }
 
-  abbrev mach : List Place → Answer → Val
+  abbrev mach : List Place → TableAnswer → Val
   mach zs r = vstruct (vcons (AV zs) (vcons (E′.lowered r) vnil))
 
   typed : (zs : List Place) → Is RA zs (AV zs ∷ []) → Holds (hasTy (tyArray T′.mir 32) (AV zs)) × WT (AV zs)
   typed zs g = array-typed R (λ p vs i. LL.lawful T.the-type T′.the-laws 𝓤 H A W .typed p vs i) 32 zs (AV zs ∷ []) g .0
 
   -- a struct's field that is an array of structs has the structs' tuples for its elements
-  made : (zs : List Place) (r : Answer) → Is RA zs (AV zs ∷ []) → Is RE r (E′.lowered r ∷ []) → Is K.the-row (sv zs r) (mach zs r ∷ [])
+  made : (zs : List Place) (r : TableAnswer) → Is RA zs (AV zs ∷ []) → Is RE r (E′.lowered r ∷ []) → Is K.the-row (sv zs r) (mach zs r ∷ [])
   made zs r gz gr =
       let field = made-array T.the-field T′.the-field-laws 32 zs gz (typed zs gz .1) in
       let told = LE.tells E.the-type E′.the-laws r (E′.lowered r ∷ []) gr in
@@ -134,7 +134,7 @@ module _ {M : Type 1} (𝓤 : URA M) (H : Heap 𝓤) (A : Atoms 𝓤) (W : Given
       (subst (λ (u : Val). Is K.the-row (sv zs r) (vstruct (vcons u (vcons (only (LE.vals E.the-type E′.the-laws r)) vnil)) ∷ [])) (sym (field .0))
       (LL.owes K.the-type K′.the-laws (sv zs r) (field .1, (subst (Is RE r) told gr, tt))))
 
-  exits : (zs : List Place) (r : Answer) → Said c₀ ys r zs → Is RA zs (AV zs ∷ []) → Is RE r (E′.lowered r ∷ []) → ent 𝓤 (emp 𝓤) (Post (mach zs r))
+  exits : (zs : List Place) (r : TableAnswer) → Said c₀ ys r zs → Is RA zs (AV zs ∷ []) → Is RE r (E′.lowered r ∷ []) → ent 𝓤 (emp 𝓤) (Post (mach zs r))
   exits zs r e gz gr =
       qed W [] ∵ suffices ! _ (ends-at 𝓤 H A lent.ended stayed (lent.clauses 𝓤 H A mem′ run) W ((tt, tt, tt, a, vals), tt) (mach zs r) (sv zs r) (tt, (tt, tt)) (tt, (tt, tt))) $ says ! e $
       owned ! K.the-row (Is K.the-row) ((LL.makes K.the-type K′.the-plain) 𝓤 H A) (sv zs r) _ (made zs r gz gr) $ nothing ! $ nothing ! $ fjoin ! $ nothing ! $ fjoin ! $ nothing ! $ done !
@@ -173,7 +173,7 @@ module _ {M : Type 1} (𝓤 : URA M) (H : Heap 𝓤) (A : Atoms 𝓤) (W : Given
         rewrite ! 6 (λ (m : ℕ). ‵ (fat fullShare (sliceTy (tyRef erased mut (pointee (R .written)))) l₆ 0 (sliceVal (l₃, 0) m))) (sym len) refl $
         nothing ! $ move ! (3 ∷ 0 ∷ []) $ join ! $ use2 W (raw (Serve 𝓤 H A mem′ run .pre (to-serve l₃ α γ))) (goes l₃ α γ) $
         calls-at ! fm (Serve 𝓤 H A mem′ run) known (to-serve l₃ α γ) (and-then ! (load ! (from ! (stop !)) (look ! 5 refl)) (and-then ! (load ! (from ! (stop !)) (look ! 12 refl)) (no-more !))) (λ w.
-        use1 W (later (some (λ (r : Answer). ((‵ (flft (α ∷ []) fullShare) ⊛ ‵ ftrue) ⊛ ‵ (RE .own r (w ∷ []))) ⊛ raw (ensured 𝓤 H A serve.ended (serve.clauses 𝓤 H A mem′ run) ((α ∷ []), tt) (x l₃ α γ, (c₀, tt)) tt r)))) (id⊢ 𝓤 _) $ await ! tt $ pick ! (λ r.
+        use1 W (later (some (λ (r : TableAnswer). ((‵ (flft (α ∷ []) fullShare) ⊛ ‵ ftrue) ⊛ ‵ (RE .own r (w ∷ []))) ⊛ raw (ensured 𝓤 H A serve.ended (serve.clauses 𝓤 H A mem′ run) ((α ∷ []), tt) (x l₃ α γ, (c₀, tt)) tt r)))) (id⊢ 𝓤 _) $ await ! tt $ pick ! (λ r.
         split ! $ move ! (1 ∷ []) $ use1 W (some (λ (zs : List Place × (Unit {0} × Unit {0})). ‵ (lasts serve.ended ((α ∷ []), tt) (x l₃ α γ, (c₀, tt)) zs) ⊛ raw (fact 𝓤 (Said c₀ ys r (zs .0))))) (id⊢ 𝓤 _) $ pick ! (λ zs.
         split ! $ move ! (1 ∷ []) $ heard ! (Said c₀ ys r (zs .0)) (λ e. fsplit ! $ fsplit ! $ move ! (1 ∷ []) $ feqL ! (λ same.
         move ! (2 ∷ []) $ split ! $ move ! (1 ∷ []) $ peeks ! RE (Is RE) (shows 𝓤 H A RE) r (w ∷ []) (λ is.

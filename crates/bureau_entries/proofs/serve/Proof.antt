@@ -53,7 +53,7 @@ use denote.Triple.Spec.{Meets, tripleOf}
 use denote.Triple.Table.{entered, cited}
 use denote.Triple.Walked.{says, Stays, stay-slice, stay-none, walkOf, Walks, ends-at, walked, goes-slice, goes-none, walk-meets}
 use denote.Exit.{yes}
-use Rattle.bureau_table.specs.declared.Answer.{Answer}
+use Rattle.bureau_table.specs.declared.TableAnswer.{TableAnswer}
 use Rattle.bureau_table.specs.declared.Call.{Call}
 use Rattle.bureau_table.specs.declared.Place.{Place}
 use Rattle.bureau_table.specs.declared.Worked.{Worked}
@@ -68,8 +68,8 @@ use Rattle.bureau_choice.proofs.Serves.{serves}
 use Rattle.bureau_entries.proofs.Steps.{R, RD, RE, RK, RP, RS, Act, Choose, Start, Survey, act-of, choose-of}
 use Rattle.bureau_entries.proofs.Steps.{goes-act, goes-choose, goes-start, goes-survey, offset-fits, start-of}
 use Rattle.bureau_entries.proofs.Steps.{survey-of, to-act, to-choose, to-start, to-survey}
-use Rattle.bureau_table.proofs.Answer as E
-use Rattle.bureau_table.proofs.Answer.Laws as E′
+use Rattle.bureau_table.proofs.TableAnswer as E
+use Rattle.bureau_table.proofs.TableAnswer.Laws as E′
 use Rattle.bureau_table.proofs.Call as P
 use Rattle.bureau_table.proofs.Call.Laws as P′
 use Rattle.bureau_table.proofs.Place as T
@@ -119,7 +119,7 @@ abbrev St : Type 0
 St = ℕ × Seen
 
 -- what the promise says of an answer and a table
-abbrev Says : List Place → Call → Answer → List Place → Type 0
+abbrev Says : List Place → Call → TableAnswer → List Place → Type 0
 Says xs c r ys = (r ≡ called xs (c .bureau) (c .ask) .answer) × (ys ≡ called xs (c .bureau) (c .ask) .table)
 
 -- the place that was chosen is in the table, and worked on
@@ -157,7 +157,7 @@ module _ {M : Type 1} (𝓤 : URA M) (H : Heap 𝓤) (A : Atoms 𝓤) (W : Given
   abbrev Rest : Fml
   Rest = fsep (RP .own c₀ (P′.lowered c₀ ∷ [])) ftrue
 
-  exits : (ys : List Place) (r : Answer) → length ys ≡ n → Says xs c₀ r ys → Is RE r (E′.lowered r ∷ []) → Room R n
+  exits : (ys : List Place) (r : TableAnswer) → length ys ≡ n → Says xs c₀ r ys → Is RE r (E′.lowered r ∷ []) → Room R n
       → ent 𝓤 (⋆ 𝓤 H A (‵ (fobs γ (codedHoleys R .code (heres R ys))) ∷ ‵ (fbor κ (Held R (length ys) b o γ)) ∷ ‵ (flft κ q) ∷ ‵ Rest ∷ [])) (Post (E′.lowered r))
   exits ys r e said gr gn =
       qed W (‵ (fobs γ (codedHoleys R .code (heres R ys))) ∷ ‵ (fbor κ (Held R (length ys) b o γ)) ∷ ‵ (flft κ q) ∷ ‵ Rest ∷ []) ∵
@@ -201,7 +201,7 @@ module _ {M : Type 1} (𝓤 : URA M) (H : Heap 𝓤) (A : Atoms 𝓤) (W : Given
     Left = afterBlock 𝓤 H (afterSeq 𝓤 H (Wp 𝓤 H C Λ En mir′.t-4 (atReturn 𝓤 H En Post)) (atReturn 𝓤 H En Post))
 
     -- every local is room again, and is freed
-    freed : (ys : List Place) (r : Answer) → length ys ≡ n → Says xs c₀ r ys → Is RE r (E′.lowered r ∷ [])
+    freed : (ys : List Place) (r : TableAnswer) → length ys ≡ n → Says xs c₀ r ys → Is RE r (E′.lowered r ∷ [])
         → Sq W (‵ (fobs γ (codedHoleys R .code (heres R ys))) ∷ ‵ (fbor κ (Held R (length ys) b o γ)) ∷ ‵ (flft κ q) ∷ ‵ (froom S′.mir l₃ 0) ∷ ‵ (froom word l₄ 0) ∷ ‵ (froom word l₈ 0) ∷ ‵ (froom tyBool l₉ 0) ∷ ‵ (froom tyPtr l₁₀ 0) ∷ ‵ (froom T′.mir l₁₁ 0) ∷ ‵ (froom slice l₁ 0) ∷ ‵ (froom P′.mir l₂ 0) ∷ ‵ (froom E′.mir l₀ 0) ∷ ‵ (froom D′.mir l₅ 0) ∷ ‵ (froom word l₆ 0) ∷ ‵ (froom K′.mir l₇ 0) ∷ ‵ (froom word l₁₂ 0) ∷ ‵ (froom tyBool l₁₃ 0) ∷ ‵ (froom word l₁₄ 0) ∷ ‵ (froom tyPtr l₁₅ 0) ∷ ‵ (froom T′.mir l₁₆ 0) ∷ ‵ (froom tyPtr l₁₇ 0) ∷ ‵ Rest ∷ Dies) (frees En (prop (Post (E′.lowered r))))
     freed ys r e said gr =
         move ! (11 ∷ 22 ∷ []) $ free1 ! $ move ! (9 ∷ 21 ∷ []) $ free1 ! $ move ! (9 ∷ 20 ∷ []) $ free1 ! $ move ! (3 ∷ 19 ∷ []) $ free1 ! $ move ! (3 ∷ 18 ∷ []) $ free1 ! $ move ! (7 ∷ 17 ∷ []) $ free1 ! $ move ! (7 ∷ 16 ∷ []) $ free1 ! $ move ! (7 ∷ 15 ∷ []) $ free1 ! $ move ! (3 ∷ 14 ∷ []) $ free1 ! $ move ! (3 ∷ 13 ∷ []) $ free1 ! $ move ! (3 ∷ 12 ∷ []) $ free1 ! $ move ! (3 ∷ 11 ∷ []) $ free1 ! $ move ! (3 ∷ 10 ∷ []) $ free1 ! $ move ! (3 ∷ 9 ∷ []) $ free1 ! $ move ! (3 ∷ 8 ∷ []) $ free1 ! $ move ! (3 ∷ 7 ∷ []) $ free1 ! $ move ! (3 ∷ 6 ∷ []) $ free1 ! $ move ! (3 ∷ 5 ∷ []) $ free1 ! $ free0 ! $

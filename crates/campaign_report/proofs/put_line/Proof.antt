@@ -8,7 +8,7 @@ use Rattle.truth.proofs.Laws.{holds}
 use Rattle.text.proofs.Parts.{Left, left-all, left-last, left-next, left-room}
 use Rattle.decimal.specs.Field.{fieldText, lineFeed, tab}
 use Rattle.campaign_state.proofs.Relations.{kept-from}
-use Rattle.campaign_report.specs.Report.{fourText, lineText}
+use Rattle.campaign_report.specs.Report.{fourText, situationText}
 use Rattle.campaign_report.proofs.Texts.{line-parts}
 use borrow.Author.Needs.{needs}
 use Rattle.campaign_report.proofs.put_line.Statement.{statement}
@@ -29,7 +29,7 @@ module _ (c : tie.After-blocks2) where
   abbrev Mark : ℕ
   Mark = c .before .letter .result
 
-  whole : lineText (start .args .number) (start .args .c) ≡ Four ++ (Mark ∷ tab ∷ Blocks)
+  whole : situationText (start .args .number) (start .args .c) ≡ Four ++ (Mark ∷ tab ∷ Blocks)
   whole = line-parts (start .args .number) (start .args .c) (c .before .before .censored .ensures) (c .before .letter .ensures) (c .blocks2 .ensures)
 
   abbrev Stands : List ℕ → List ℕ → ℕ → Type 0

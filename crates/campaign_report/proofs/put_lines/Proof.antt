@@ -13,7 +13,7 @@ use Rattle.text.proofs.Parts.{Left, left-all, left-length, left-next, left-room
 use Rattle.campaign_condition.specs.Answers.{brokenFrom}
 use Rattle.campaign_condition.proofs.Front.{front-end}
 use Rattle.campaign_condition.proofs.Whole.{Due, due}
-use Rattle.campaign_report.specs.Report.{lineText, linesFrom}
+use Rattle.campaign_report.specs.Report.{situationText, linesFrom}
 use Rattle.campaign_report.proofs.Texts.{lines-next, lines-none}
 use Rattle.campaign_report.proofs.put_lines.Statement.{statement}
 use Rattle.campaign_report.proofs.put_lines.Tie as tie
@@ -27,7 +27,7 @@ Inv-loop number out₀ campaigns place₀ i₀ out place i =
 abbrev μ-loop : tie.MeasureT-loop
 μ-loop number out₀ campaigns place₀ i₀ out place i = number - i
 
--- the line that is due, and the lines behind it
+-- the line that is due, and the lines after it
 module _ (c : tie.In-loop Inv-loop μ-loop) where
   abbrev loop : tie.At-loop Inv-loop μ-loop
   loop = c .before
@@ -49,7 +49,7 @@ module _ (c : tie.In-loop Inv-loop μ-loop) where
   abbrev Stands : List ℕ → Type 0
   Stands rest = Left (now (start .args .out)) 0 (linesFrom 1 Situations) rest (loop .loop .out) (loop .loop .place)
 
-  here : Stands (lineText (loop .loop .i + 1) X ++ linesFrom (loop .loop .i + 1 + 1) (drop (loop .loop .i + 1) Situations))
+  here : Stands (situationText (loop .loop .i + 1) X ++ linesFrom (loop .loop .i + 1 + 1) (drop (loop .loop .i + 1) Situations))
   here =
       subst Stands
       (ap (linesFrom (loop .loop .i + 1)) (due-at .next) ∙ lines-next (loop .loop .i + 1) X (drop (loop .loop .i + 1) Situations))
@@ -70,7 +70,7 @@ add-put-line c = omega arith
 put-line-requires : tie.Need-put-line-requires Inv-loop μ-loop
 put-line-requires c κs =
     let l = c .before .before in
-    (due-at l .good, left-room (lineText (loop l .loop .i + 1) (X l)) _ (here l))
+    (due-at l .good, left-room (situationText (loop l .loop .i + 1) (X l)) _ (here l))
 
 add-i : tie.Need-add-i Inv-loop μ-loop
 add-i c = omega arith
@@ -82,7 +82,7 @@ loop-again : tie.Need-loop-again Inv-loop μ-loop
 loop-again c =
     let p = c .before .before in
     let l = p .before .before .before in
-    (omega arith, due-at l .whole, left-next (lineText (loop l .loop .i + 1) (X l)) _ (here l) (p .put-line .ensures))
+    (omega arith, due-at l .whole, left-next (situationText (loop l .loop .i + 1) (X l)) _ (here l) (p .put-line .ensures))
 
 same-length : tie.Need-same-length Inv-loop μ-loop
 same-length c = left-length (c .before .loop .inv .2)

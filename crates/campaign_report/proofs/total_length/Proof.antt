@@ -1,4 +1,4 @@
--- `campaign_report::total_length` meets its contract: the word and its tab are six bytes, each sum has one behind it,
+-- `campaign_report::total_length` meets its contract: the word and its tab are six bytes, each sum has one after it,
 -- and the letter and the LF are two. Assumes nothing.
 use native.Mathlib.Omega.{arith}
 use Rattle.campaign_report.proofs.Texts.{total-bytes}

@@ -11,7 +11,7 @@ use Rattle.text.proofs.Laws.{laid-front, written-fits}
 use Rattle.text.proofs.Parts.{Left, left-all, left-fits, left-last, left-next}
 use Rattle.campaign_state.specs.declared.Campaign.{Campaign}
 use Rattle.campaign_condition.specs.Answers.{judging}
-use Rattle.campaign_condition.specs.declared.Answer.the-variants.{Given}
+use Rattle.campaign_condition.specs.declared.ConditionAnswer.the-variants.{Given}
 use Rattle.campaign_condition.specs.declared.Standing.{Standing}
 use Rattle.campaign_condition.proofs.Whole.{Stood, stood}
 use Rattle.campaign_report.specs.Report.{linesFrom, reportText, totalText}

@@ -7,7 +7,7 @@ use denote.Ref.{now}
 use borrow.Author.Needs.{needs}
 use Rattle.campaign_state.specs.declared.Campaign.{Campaign}
 use Rattle.text.specs.Write.{laidBy}
-use Rattle.campaign_report.specs.Answers.{writing}
+use Rattle.campaign_report.specs.Answers.{writingReport}
 use Rattle.campaign_report.specs.Report.{reportText}
 use Rattle.capi.specs.Told.{writeTold}
 use Rattle.capi.proofs.Written.{writing-told}
@@ -21,10 +21,10 @@ module _ (c : tie.After-write) where
   abbrev start : tie.Start
   start = c .before .before .before .before .before
 
-  answered : let rows = now (start .args .campaigns) in c .write .result ≡ writing (length rows) (campaignsOf rows) (now (start .args .out))
+  answered : let rows = now (start .args .campaigns) in c .write .result ≡ writingReport (length rows) (campaignsOf rows) (now (start .args .out))
   answered =
       let rows = now (start .args .campaigns) in
-      c .write .ensures .0 ∙ ap (λ (cs : List Campaign). writing (length rows) cs (now (start .args .out))) (c .before .before .campaigns-of .ensures)
+      c .write .ensures .0 ∙ ap (λ (cs : List Campaign). writingReport (length rows) cs (now (start .args .out))) (c .before .before .campaigns-of .ensures)
 
   left : c .write .last .1 .1 .0 ≡ laidBy (c .write .result) (reportText (campaignsOf (now (start .args .campaigns)))) (now (start .args .out))
   left = c .write .ensures .1 ∙ ap (λ (cs : List Campaign). laidBy (c .write .result) (reportText cs) (now (start .args .out))) (c .before .before .campaigns-of .ensures)

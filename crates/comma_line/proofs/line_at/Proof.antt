@@ -40,11 +40,11 @@ module _ (c : tie.After-known-told) where
   leads : LeadsTo S At Found End
   leads = leads-number S At Found End (sym (c .before .before .before .leading-at .ensures) ∙ c .before .t .given .1)
 
--- the byte behind it
+-- the byte after it
 mark : (c : tie.After-stands) → let d = c .before .before in c .stands .result ≡ eqb (getD (S d) (End d) 0) comma
 mark c = let d = c .before .before in c .stands .ensures ∙ stands-byte (S d) (End d) comma (omega arith)
 
--- the degrees behind the comma
+-- the degrees after the comma
 module _ (c : tie.After-known-told2) where
   abbrev told : tie.After-known-told
   told = c .before .before .before .before .before .before .before

@@ -1,4 +1,4 @@
--- `comma_line::roll_at` meets its contract: plain degrees behind the sign are what is read there. Assumes nothing.
+-- `comma_line::roll_at` meets its contract: plain degrees after the sign are what is read there. Assumes nothing.
 use native.Mathlib.Omega.{arith}
 use borrow.Author.Needs.{needs}
 use denote.Ref.{now}

@@ -1,4 +1,4 @@
--- `comma_read::eight` meets its contract: four bytes behind four. Assumes nothing.
+-- `comma_read::eight` meets its contract: four bytes after four. Assumes nothing.
 use denote.Ref.{now}
 use Rattle.comma_word.proofs.Row.{eight-beside, eight-small}
 use borrow.Author.Needs.{needs}

@@ -1,4 +1,4 @@
--- `comma_read::fill` meets its contract: what is put behind the front makes it whole. Assumes nothing.
+-- `comma_read::fill` meets its contract: what is put after the front makes it whole. Assumes nothing.
 use mathlib.Core.Path.{_∙_}
 use borrow.Author.Needs.{needs}
 use Rattle.comma_read.proofs.fill.Statement.{statement}

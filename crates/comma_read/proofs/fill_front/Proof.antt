@@ -49,7 +49,7 @@ module _ (c : tie.In-loop Inv-loop μ-loop) where
   ahead : First Text (begun .before .before .args .step) (begun .loop .at) Time (begun .before .before .args .front) (0 + begun .before .before .args .lines * begun .before .before .args .step)
   ahead = first (begun .loop .inv .3) (omega (arith, mul-le-mul-right {m = suc (begun .loop .count)} (begun .before .before .args .step) (c .loop-test .taken), begun .before .before .pre .3))
 
--- its time is this wide, and plain degrees stand behind it
+-- its time is this wide, and plain degrees stand after it
 module _ (c : tie.After-width-in Inv-loop μ-loop) where
   wide : c .width-in .result ≡ length (digitsOf (Time (c .before)))
   wide = c .width-in .ensures .1 (ahead (c .before) .this .line .is)

@@ -1,4 +1,4 @@
--- `comma_read::four` meets its contract: each byte is put behind those before it. Assumes nothing.
+-- `comma_read::four` meets its contract: each byte is put after those before it. Assumes nothing.
 use native.Mathlib.Omega.{arith}
 use Rattle.comma_word.specs.Word.{word}
 use borrow.Author.Needs.{needs}

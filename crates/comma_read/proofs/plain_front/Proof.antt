@@ -1,4 +1,4 @@
--- `comma_read::plain_front` meets its contract: a run stands behind the runs before it; what is left of the text falls.
+-- `comma_read::plain_front` meets its contract: a run stands after the runs before it; what is left of the text falls.
 -- Assumes nothing.
 use Prim.Native.Nat.{_-_, _*_}
 use native.Mathlib.Omega.{arith}
@@ -9,7 +9,7 @@ use Rattle.decimal.proofs.Text.{digits-some}
 use Rattle.comma_read.specs.Plain.{Narrow, PlainLines, none}
 use Rattle.comma_read.proofs.Times.{narrow-on}
 use Rattle.comma_read.proofs.Along.{Along, of-front, lines-ahead}
-use Rattle.comma_read.proofs.Front.{behind}
+use Rattle.comma_read.proofs.Front.{run-after-run}
 use Rattle.comma_read.proofs.plain_front.Statement.{statement}
 use Rattle.comma_read.proofs.plain_front.Tie as tie
 
@@ -41,7 +41,7 @@ returns : tie.Need-returns Inv-loop μ-loop
 returns c = c .before .before .before .before .before .loop .inv .0
 
 add-passed : tie.Need-add-passed Inv-loop μ-loop
-add-passed c = let l = c .before .before .before .before .before .before in let g = of-front (behind (l .loop .inv .0) (c .before .before .before .plain-lines .ensures)) (l .before .before .pre) in omega (arith, g .few, g .within)
+add-passed c = let l = c .before .before .before .before .before .before in let g = of-front (run-after-run (l .loop .inv .0) (c .before .before .before .plain-lines .ensures)) (l .before .before .pre) in omega (arith, g .few, g .within)
 
 loop-less : tie.Need-loop-less Inv-loop μ-loop
 loop-less c = omega (arith, lines-ahead (c .before .before .before .plain-lines .ensures), c .before .if1 .left, c .before .before .before .before .before .loop-test .taken)
@@ -51,7 +51,7 @@ loop-again c =
     let l = c .before .before .before .before .before .before in
     let q = c .before .before .before .plain-lines in
     let d = l .before .before .args .step in
-    (behind (l .loop .inv .0) (q .ensures), rw (add-mul (l .loop .passed) (q .result .lines) d) (narrow-on (q .result .lines * d) (c .before .before .before .before .width-at .ensures .0)))
+    (run-after-run (l .loop .inv .0) (q .ensures), rw (add-mul (l .loop .passed) (q .result .lines) d) (narrow-on (q .result .lines * d) (c .before .before .before .before .width-at .ensures .0)))
 
 returns-2 : tie.Need-returns-2 Inv-loop μ-loop
 returns-2 c = c .before .loop .inv .0

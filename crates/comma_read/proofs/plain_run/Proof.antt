@@ -27,7 +27,7 @@ abbrev μ-loop : tie.MeasureT-loop
 room : (c : tie.Else1 Inv-loop μ-loop) → c .before .before .loop .place + 17 ≤ length (now (c .before .before .before .before .before .before .args .text))
 room c = omega (arith, c .if1 .left, c .before .before .before .before .before .before .pre .0)
 
--- the lines before this one, and plain degrees behind its comma
+-- the lines before this one, and plain degrees after its comma
 module _ (c : tie.Else3 Inv-loop μ-loop) where
   abbrev lines : tie.At-loop Inv-loop μ-loop
   lines = c .before .before .before .before .before .before

@@ -25,7 +25,7 @@ Inv-loop text step front lines at₀ count₀ due₀ sound₀ width₀ at count 
 abbrev μ-loop : tie.MeasureT-loop
 μ-loop text step front lines at₀ count₀ due₀ sound₀ width₀ at count due sound width = length text - at
 
--- the plain lines are behind
+-- the plain lines are passed
 module _ (c : tie.After-plain-lines Inv-loop μ-loop) where
   abbrev begun : tie.At-loop Inv-loop μ-loop
   begun = c .before .before .before
@@ -33,7 +33,7 @@ module _ (c : tie.After-plain-lines Inv-loop μ-loop) where
   gone : Along (begun .before .before .args .step) (now (begun .before .before .args .text)) (c .plain-lines .result .at) (begun .loop .due + c .plain-lines .result .lines * begun .before .before .args .step) (begun .loop .count + c .plain-lines .result .lines) (cond (eqb (begun .loop .sound) (begun .loop .count)) (begun .loop .sound + c .plain-lines .result .lines) (begun .loop .sound))
   gone = all-on (begun .loop .inv .0) (c .plain-lines .ensures) (begun .before .before .pre .0)
 
--- what the line reader said of the line behind them
+-- what the line reader said of the line after them
 module _ (c : tie.After-known-told Inv-loop μ-loop) where
   abbrev lines : tie.After-plain-lines Inv-loop μ-loop
   lines = c .before .before .before .before .before .before .before .before

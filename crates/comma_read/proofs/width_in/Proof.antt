@@ -1,4 +1,4 @@
--- `comma_read::width_in` meets its contract: where the comma stands behind the last width, this is the time's width;
+-- `comma_read::width_in` meets its contract: where the comma stands after the last width, this is the time's width;
 -- else its digits are counted. Assumes nothing.
 use lib.ListN.{drop}
 use lib.Seq.{getD-drop}

@@ -10,7 +10,7 @@ use borrow.Author.Tests.{ne-eqb, lt-ltb, le-ltb, not-true, not-false}
 use denote.Ref.{now}
 use Rattle.truth.proofs.Laws.{said-no, said-yes}
 use Rattle.comma_stream.specs.declared.Rest.the-variants.{Waits, Wrong}
-use Rattle.comma_stream.specs.Follow.{longestLine, unended, mayBegin, resting, waitingFor}
+use Rattle.comma_stream.specs.Follow.{longestCommaLine, unended, mayBegin, resting, waitingFor}
 use Rattle.comma_stream.proofs.left.Statement.{statement}
 use Rattle.comma_stream.proofs.left.Tie as tie
 
@@ -29,13 +29,13 @@ module _ (text : List ℕ) (at : ℕ) (inside : at < length text) where
   over : resting Left false ≡ Wrong
   over = some false
 
-  long : longestLine ≤ length text - at → resting Left true ≡ Wrong
+  long : longestCommaLine ≤ length text - at → resting Left true ≡ Wrong
   unfolding mayBegin
-  long h = some true ∙ rw (le-ltb (length Left) longestLine (omega (arith, bytes)))
+  long h = some true ∙ rw (le-ltb (length Left) longestCommaLine (omega (arith, bytes)))
 
-  short : length text - at < longestLine → (b : Bool) → unended Left ≡ b → resting Left true ≡ cond b (Waits (length text - at)) Wrong
+  short : length text - at < longestCommaLine → (b : Bool) → unended Left ≡ b → resting Left true ≡ cond b (Waits (length text - at)) Wrong
   unfolding mayBegin
-  short h b e = some true ∙ rw (lt-ltb (length Left) longestLine (omega (arith, bytes)), e)
+  short h b e = some true ∙ rw (lt-ltb (length Left) longestCommaLine (omega (arith, bytes)), e)
 
 returns : tie.Need-returns
 unfolding resting waitingFor

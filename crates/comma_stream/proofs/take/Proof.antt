@@ -1,4 +1,4 @@
--- `comma_stream::take` meets its contract: a step out of range, lines behind which no time has 12 digits, or what
+-- `comma_stream::take` meets its contract: a step out of range, lines after which no time has 12 digits, or what
 -- stands along the text. Assumes nothing.
 use mathlib.Core.Path.{_≡_, refl}
 use mathlib.Core.Bool.{true}

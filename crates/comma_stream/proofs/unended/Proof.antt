@@ -22,7 +22,7 @@ Inv-loop text at i₀ i = (i ≤ length text) × (unended (drop i text) ≡ unen
 abbrev μ-loop : tie.MeasureT-loop
 μ-loop text at i₀ i = length text - i
 
--- a byte, and those behind it
+-- a byte, and those after it
 turn : (text : List ℕ) (i : ℕ) → i < length text → unended (drop i text) ≡ (not (eqb (getD text i 0) lineFeed) && unended (drop (i + 1) text))
 unfolding unended
 turn text i h = rw (drop-cons text i 0 h, add-one)

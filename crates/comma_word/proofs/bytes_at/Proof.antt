@@ -34,7 +34,7 @@ shared-slice-read-if2 c = omega (arith, room (c .before))
 is-long-requires : tie.Need-is-long-requires
 is-long-requires c κs = room (c .before .before)
 
--- with a point behind two bytes
+-- with a point after two bytes
 module _ (c : tie.After-is-long) where
   two : eqb (byteAt (now (c .before .before .before .before .before .before .args .s)) (c .before .before .before .before .before .before .args .at) 2) point ≡ true
   two = eq-eqb _ point (c .before .if2 .taken)
@@ -56,7 +56,7 @@ shared-slice-read-if4 c = omega (arith, room (c .before .before .before))
 is-short-requires : tie.Need-is-short-requires
 is-short-requires c κs = room (c .before .before .before .before)
 
--- with none there, and one behind the first byte
+-- with none there, and one after the first byte
 module _ (c : tie.After-is-short) where
   abbrev S : List ℕ
   S = now (c .before .before .before .before .before .before .before .before .args .s)

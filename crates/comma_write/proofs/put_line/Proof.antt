@@ -9,7 +9,7 @@ use Rattle.text.proofs.Parts.{Left, left-all, left-next, left-last}
 use Rattle.decimal.specs.Decimal.{digitsOf}
 use Rattle.decimal.specs.Field.{lineFeed}
 use Rattle.degrees.specs.Degrees.{degreesText}
-use Rattle.comma_line.specs.Line.{comma, lineText}
+use Rattle.comma_line.specs.Line.{comma, sampleText}
 use Rattle.comma_write.proofs.put_line.Statement.{statement}
 use Rattle.comma_write.proofs.put_line.Tie as tie
 
@@ -25,14 +25,14 @@ comma-of c = c .before .before .before .before
 
 -- of the line so much is left, and the lent bytes are these
 abbrev Stands : tie.After-write-number → List ℕ → List ℕ → ℕ → Type 0
-Stands c rest out at = Left (now (start c .args .out)) (start c .args .at) (lineText (start c .args .time) (start c .args .x)) rest out at
+Stands c rest out at = Left (now (start c .args .out)) (start c .args .at) (sampleText (start c .args .time) (start c .args .x)) rest out at
 
 abbrev Roll : tie.After-write-number → List ℕ
 Roll c = degreesText (start c .args .x) ++ (lineFeed ∷ [])
 
 left1 : (c : tie.After-write-number) → Stands c (comma ∷ Roll c) (c .write-number .last .1 .0) (c .write-number .result)
-unfolding lineText
-left1 c = left-next (digitsOf (start c .args .time)) (comma ∷ Roll c) (left-all _ _ (lineText (start c .args .time) (start c .args .x)) (start c .pre)) (c .write-number .ensures)
+unfolding sampleText
+left1 c = left-next (digitsOf (start c .args .time)) (comma ∷ Roll c) (left-all _ _ (sampleText (start c .args .time) (start c .args .x)) (start c .pre)) (c .write-number .ensures)
 
 left2 : (c : tie.After-write-byte) → Stands (number-of c) (Roll (number-of c)) (c .write-byte .last .1 .0) (c .write-byte .result)
 left2 c = left-next (comma ∷ []) (Roll (number-of c)) (left1 (number-of c)) (c .write-byte .ensures)

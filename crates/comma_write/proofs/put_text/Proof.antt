@@ -13,7 +13,7 @@ use denote.Ref.{now}
 use borrow.Author.Needs.{needs}
 use Rattle.sample_size.proofs.Turn.{turn}
 use Rattle.text.proofs.Parts.{Left, left-all, left-done, left-length, left-next, left-room}
-use Rattle.comma_line.specs.Line.{lineText}
+use Rattle.comma_line.specs.Line.{sampleText}
 use Rattle.comma_line.specs.Text.{textFrom, textOf}
 use Rattle.comma_write.proofs.Puts.{text-next, text-none}
 use Rattle.comma_write.proofs.put_text.Statement.{statement}
@@ -26,7 +26,7 @@ Inv-loop samples step out₀ time₀ at₀ i₀ out time at i =
 abbrev μ-loop : tie.MeasureT-loop
 μ-loop samples step out₀ time₀ at₀ i₀ out time at i = length samples - i
 
--- the line that is due, and the lines behind it
+-- the line that is due, and the lines after it
 module _ (c : tie.In-loop Inv-loop μ-loop) where
   abbrev loop : tie.At-loop Inv-loop μ-loop
   loop = c .before
@@ -40,7 +40,7 @@ module _ (c : tie.In-loop Inv-loop μ-loop) where
   abbrev X : ℤ
   X = getD Samples (loop .loop .i) (pos 0)
 
-  here : Left (now (loop .before .before .args .out)) 0 (textOf Step Samples) (lineText (loop .loop .time) X ++ textFrom Step (loop .loop .time + Step) (drop (loop .loop .i + 1) Samples)) (loop .loop .out) (loop .loop .at)
+  here : Left (now (loop .before .before .args .out)) 0 (textOf Step Samples) (sampleText (loop .loop .time) X ++ textFrom Step (loop .loop .time + Step) (drop (loop .loop .i + 1) Samples)) (loop .loop .out) (loop .loop .at)
   here =
       subst (λ (rest : List ℕ). Left (now (loop .before .before .args .out)) 0 (textOf Step Samples) rest (loop .loop .out) (loop .loop .at))
       (turn (textFrom Step (loop .loop .time)) Samples (loop .loop .i) (c .loop-test .taken) ∙ text-next Step (loop .loop .time) X (drop (loop .loop .i + 1) Samples))
@@ -59,7 +59,7 @@ put-line-requires : tie.Need-put-line-requires Inv-loop μ-loop
 put-line-requires c κs =
     let l = c .before .before in
     let f : SFits w32 (X l) = search needs in
-    rw (toZ-ofZ f) (left-room (lineText (loop l .loop .time) (X l)) _ (here l))
+    rw (toZ-ofZ f) (left-room (sampleText (loop l .loop .time) (X l)) _ (here l))
 
 add-time : tie.Need-add-time Inv-loop μ-loop
 add-time c = omega arith
@@ -75,7 +75,7 @@ loop-again c =
     let p = c .before .before in
     let l = p .before .before .before in
     let f : SFits w32 (X l) = search needs in
-    (omega arith, left-next (lineText (loop l .loop .time) (X l)) _ (here l) (rw (toZ-ofZ f) at (p .put-line .ensures)), omega (arith, loop l .loop .inv .2))
+    (omega arith, left-next (sampleText (loop l .loop .time) (X l)) _ (here l) (rw (toZ-ofZ f) at (p .put-line .ensures)), omega (arith, loop l .loop .inv .2))
 
 same-length : tie.Need-same-length Inv-loop μ-loop
 same-length c = left-length (c .before .loop .inv .1)

@@ -1,4 +1,4 @@
--- `decimal::leading_at` meets its contract: the byte behind the run of digits decides, and then the run; each return
+-- `decimal::leading_at` meets its contract: the byte after the run of digits decides, and then the run; each return
 -- has the tests that pick its case. Assumes nothing.
 use mathlib.Core.Path.{_≡_, sym, _∙_}
 use mathlib.Core.Bool.{cond, not, _&&_}

@@ -1,4 +1,4 @@
--- `degrees::size_at` meets its contract: the number, the byte behind it and the digits behind a point decide, each
+-- `degrees::size_at` meets its contract: the number, the byte after it and the digits after a point decide, each
 -- return by its law of `Sizes`. Assumes nothing.
 use mathlib.Core.Path.{_≡_, sym, _∙_}
 use mathlib.Core.Bool.{Bool, true, cond}
@@ -48,7 +48,7 @@ module _ (c : tie.After-known-told) where
   leads : LeadsTo S At Whole End
   leads = leads-number S At Whole End (sym (c .before .before .before .leading-at .ensures) ∙ c .before .whole .given .1)
 
--- the digits behind a point
+-- the digits after a point
 module _ (c : tie.After-run-at) where
   abbrev told : tie.After-known-told
   told = c .before .before .before

@@ -73,8 +73,8 @@ loop-less c = omega arith
 loop-again : tie.Need-loop-again Inv-loop μ-loop
 loop-again c = (same (c .before .before .before .before .before), omega arith)
 
-told-requires : tie.Need-told-requires Inv-loop μ-loop
-told-requires c κs = search needs
+write-report-requires : tie.Need-write-report-requires Inv-loop μ-loop
+write-report-requires c κs = search needs
 
 same-length-3 : tie.Need-same-length-3 Inv-loop μ-loop
 same-length-3 c = c .before .before .loop .inv .0
@@ -87,4 +87,4 @@ all-spec =
     tie.close
     (tie.spec Inv-loop μ-loop loop-holds add-size size-requires one-requires enum-known-c mul-campaigns
     array-set-from-campaigns enum-known-line add-refused refused-requires same-length returns enum-told same-length-2
-    returns-2 add-i loop-less loop-again told-requires same-length-3 returns-3)
+    returns-2 add-i loop-less loop-again write-report-requires same-length-3 returns-3)

@@ -1,4 +1,4 @@
--- `prog_condition::one` is safe and ends. A line begun is less than a line, so there is room to read behind it; the
+-- `prog_condition::one` is safe and ends. A line begun is less than a line, so there is room to read after it; the
 -- bytes that are to come fall. Assumes nothing.
 use Prim.Native.Nat.{_<_}
 use mathlib.Core.Path.{_≡_, refl, sym, _∙_}
@@ -6,12 +6,12 @@ use native.Mathlib.Omega.{arith}
 use borrow.Author.Needs.{needs}
 use lib.ListN.{length}
 use lib.Seq.{length-take-le}
-use Rattle.sheet_line.specs.Form.{longestLine}
+use Rattle.sheet_line.specs.Form.{longestSheetLine}
 use Rattle.prog_condition.proofs.one.Statement.{statement}
 use Rattle.prog_condition.proofs.one.Tie as tie
 
 abbrev Inv-loop : tie.InvT-loop
-Inv-loop size text₀ sheet₀ kept₀ coming₀ text sheet kept coming = (length text ≡ length text₀) × (kept < longestLine)
+Inv-loop size text₀ sheet₀ kept₀ coming₀ text sheet kept coming = (length text ≡ length text₀) × (kept < longestSheetLine)
 
 abbrev μ-loop : tie.MeasureT-loop
 μ-loop size text₀ sheet₀ kept₀ coming₀ text sheet kept coming = coming

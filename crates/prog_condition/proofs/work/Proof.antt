@@ -7,14 +7,14 @@ use native.Mathlib.Omega.{arith}
 use lib.ListN.{take}
 use lib.Seq.{length-take-le}
 use denote.Ref.{now}
-use Rattle.sheet_line.specs.Form.{longestLine}
+use Rattle.sheet_line.specs.Form.{longestSheetLine}
 use Rattle.prog_condition.proofs.Unread.{unread}
 use borrow.Author.Needs.{needs}
 use Rattle.prog_condition.proofs.work.Statement.{statement}
 use Rattle.prog_condition.proofs.work.Tie as tie
 
 -- the bytes left are some of those read, and less than a line
-left-few : (c : tie.After-known-told) → (c .before .reading .given .0 .1 .0 ≤ c .before .before .before .before .before .before .args .end) × (c .before .reading .given .0 .1 .0 < longestLine)
+left-few : (c : tie.After-known-told) → (c .before .reading .given .0 .1 .0 ≤ c .before .before .before .before .before .before .args .end) × (c .before .reading .given .0 .1 .0 < longestSheetLine)
 left-few c =
     let r = c .before .before .before in
     let s = r .before .before .before in

@@ -1,4 +1,4 @@
--- `prog_count::serve` is safe and ends. A line begun is less than a line, so there is room to read behind it; the turns
+-- `prog_count::serve` is safe and ends. A line begun is less than a line, so there is room to read after it; the turns
 -- that are left fall. Assumes nothing.
 use Prim.Native.Nat.{_<_}
 use mathlib.Core.Path.{_≡_, refl, _∙_}
@@ -29,8 +29,8 @@ same-length c = c .before .before .before .turn .kept .1 .0 ∙ c .before .befor
 returns : tie.Need-returns Inv-loop μ-loop
 returns c = search needs
 
-live-requires : tie.Need-live-requires Inv-loop μ-loop
-live-requires c κs = search needs
+show-progress-requires : tie.Need-show-progress-requires Inv-loop μ-loop
+show-progress-requires c κs = search needs
 
 sub-turns : tie.Need-sub-turns Inv-loop μ-loop
 sub-turns c = search needs
@@ -50,5 +50,5 @@ returns-2 c = search needs
 pub serve-spec : {M : Type 1} → statement M
 serve-spec =
     tie.close
-    (tie.spec Inv-loop μ-loop loop-holds turn-requires enum-known-after same-length returns live-requires sub-turns
+    (tie.spec Inv-loop μ-loop loop-holds turn-requires enum-known-after same-length returns show-progress-requires sub-turns
     loop-less loop-again same-length-2 returns-2)

@@ -31,8 +31,8 @@ same-length-2 c = c .before .before .before .before .before .turn .kept .1 .1 .1
 returns : tie.Need-returns Inv-loop μ-loop
 returns c = search needs
 
-live-requires : tie.Need-live-requires Inv-loop μ-loop
-live-requires c κs = search needs
+show-progress-requires : tie.Need-show-progress-requires Inv-loop μ-loop
+show-progress-requires c κs = search needs
 
 sub-turns : tie.Need-sub-turns Inv-loop μ-loop
 sub-turns c = search needs
@@ -55,5 +55,5 @@ returns-2 c = search needs
 pub serve-spec : {M : Type 1} → statement M
 serve-spec =
     tie.close
-    (tie.spec Inv-loop μ-loop loop-holds turn-requires enum-known-after same-length same-length-2 returns live-requires
+    (tie.spec Inv-loop μ-loop loop-holds turn-requires enum-known-after same-length same-length-2 returns show-progress-requires
     sub-turns loop-less loop-again same-length-3 same-length-4 returns-2)

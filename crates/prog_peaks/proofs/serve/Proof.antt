@@ -1,4 +1,4 @@
--- `prog_peaks::serve` is safe and ends. A line begun is less than a line, so there is room to read behind it; the turns
+-- `prog_peaks::serve` is safe and ends. A line begun is less than a line, so there is room to read after it; the turns
 -- that are left fall. Assumes nothing.
 use Prim.Native.Nat.{_<_}
 use mathlib.Core.Path.{_≡_, refl, _∙_}
@@ -23,8 +23,8 @@ turn-requires c κs = omega arith
 enum-known-c : tie.Need-enum-known-c Inv-loop μ-loop
 enum-known-c c = search needs
 
-live-requires : tie.Need-live-requires Inv-loop μ-loop
-live-requires c κs = search needs
+show-progress-requires : tie.Need-show-progress-requires Inv-loop μ-loop
+show-progress-requires c κs = search needs
 
 enum-known-c-2 : tie.Need-enum-known-c-2 Inv-loop μ-loop
 enum-known-c-2 c = search needs
@@ -89,6 +89,6 @@ returns-4 c = search needs
 pub serve-spec : {M : Type 1} → statement M
 serve-spec =
     tie.close
-    (tie.spec Inv-loop μ-loop loop-holds turn-requires enum-known-c live-requires enum-known-c-2 finish-requires
+    (tie.spec Inv-loop μ-loop loop-holds turn-requires enum-known-c show-progress-requires enum-known-c-2 finish-requires
     same-length same-length-2 returns enum-known-line refused-requires same-length-3 same-length-4 returns-2 enum-told
     same-length-5 same-length-6 returns-3 sub-turns loop-less loop-again same-length-7 same-length-8 returns-4)

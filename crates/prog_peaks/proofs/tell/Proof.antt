@@ -20,20 +20,20 @@ returns c = search needs
 returns-2 : tie.Need-returns-2 Inv-loop μ-loop
 returns-2 c = search needs
 
-mul-told : tie.Need-mul-told Inv-loop μ-loop
-mul-told c = omega arith
+mul-write-peak : tie.Need-mul-write-peak Inv-loop μ-loop
+mul-write-peak c = omega arith
 
-shared-slice-read-told : tie.Need-shared-slice-read-told Inv-loop μ-loop
-shared-slice-read-told c = omega arith
+shared-slice-read-write-peak : tie.Need-shared-slice-read-write-peak Inv-loop μ-loop
+shared-slice-read-write-peak c = omega arith
 
-mul-told-2 : tie.Need-mul-told-2 Inv-loop μ-loop
-mul-told-2 c = omega arith
+mul-write-peak-2 : tie.Need-mul-write-peak-2 Inv-loop μ-loop
+mul-write-peak-2 c = omega arith
 
-shared-slice-read-told-2 : tie.Need-shared-slice-read-told-2 Inv-loop μ-loop
-shared-slice-read-told-2 c = omega arith
+shared-slice-read-write-peak-2 : tie.Need-shared-slice-read-write-peak-2 Inv-loop μ-loop
+shared-slice-read-write-peak-2 c = omega arith
 
-told-requires : tie.Need-told-requires Inv-loop μ-loop
-told-requires c κs = search needs
+write-peak-requires : tie.Need-write-peak-requires Inv-loop μ-loop
+write-peak-requires c κs = search needs
 
 returns-3 : tie.Need-returns-3 Inv-loop μ-loop
 returns-3 c = search needs
@@ -53,5 +53,5 @@ returns-4 c = search needs
 pub tell-spec : {M : Type 1} → statement M
 tell-spec =
     tie.close
-    (tie.spec Inv-loop μ-loop loop-holds returns returns-2 mul-told shared-slice-read-told mul-told-2
-    shared-slice-read-told-2 told-requires returns-3 add-i loop-less loop-again returns-4)
+    (tie.spec Inv-loop μ-loop loop-holds returns returns-2 mul-write-peak shared-slice-read-write-peak mul-write-peak-2
+    shared-slice-read-write-peak-2 write-peak-requires returns-3 add-i loop-less loop-again returns-4)

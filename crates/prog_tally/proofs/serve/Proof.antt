@@ -1,16 +1,16 @@
--- `prog_tally::serve` is safe and ends. A line begun is less than a line, so there is room to read behind it; the turns
+-- `prog_tally::serve` is safe and ends. A line begun is less than a line, so there is room to read after it; the turns
 -- that are left fall. Assumes nothing.
 use Prim.Native.Nat.{_<_}
 use mathlib.Core.Path.{_≡_, refl, _∙_}
 use native.Mathlib.Omega.{arith}
 use borrow.Author.Needs.{needs}
 use lib.ListN.{length}
-use Rattle.sheet_line.specs.Form.{longestLine}
+use Rattle.sheet_line.specs.Form.{longestSheetLine}
 use Rattle.prog_tally.proofs.serve.Statement.{statement}
 use Rattle.prog_tally.proofs.serve.Tie as tie
 
 abbrev Inv-loop : tie.InvT-loop
-Inv-loop text₀ out₀ sheet₀ kept₀ turns₀ text out sheet kept turns = (length text ≡ length text₀) × (length out ≡ length out₀) × (kept < longestLine)
+Inv-loop text₀ out₀ sheet₀ kept₀ turns₀ text out sheet kept turns = (length text ≡ length text₀) × (length out ≡ length out₀) × (kept < longestSheetLine)
 
 abbrev μ-loop : tie.MeasureT-loop
 μ-loop text₀ out₀ sheet₀ kept₀ turns₀ text out sheet kept turns = turns

@@ -6,7 +6,7 @@ use native.Mathlib.Omega.{arith}
 use lib.ListN.{length}
 use lib.Seq.{length-take-le}
 use denote.Ref.{now}
-use Rattle.sheet_line.specs.Form.{longestLine}
+use Rattle.sheet_line.specs.Form.{longestSheetLine}
 use borrow.Author.Needs.{needs}
 use Rattle.prog_tally.proofs.work.Statement.{statement}
 use Rattle.prog_tally.proofs.work.Tie as tie
@@ -16,7 +16,7 @@ put-fits : (c : tie.After-known-told) → c .before .reading .given .0 .1 .0 ≤
 put-fits c = omega (arith, rw (c .before .reading .given .1) at (c .before .before .before .before .before .run .ensures .1 .1 .0), c .before .before .before .before .before .run .kept .1 .1 .1 .0)
 
 -- the bytes left are some of those read, and less than a line
-left-few : (c : tie.After-known-told2) → (c .before .reading2 .given .0 .1 .0 ≤ c .before .before .before .before .before .before .before .before .before .before .before .before .before .before .before .before .args .end) × (c .before .reading2 .given .0 .1 .0 < longestLine)
+left-few : (c : tie.After-known-told2) → (c .before .reading2 .given .0 .1 .0 ≤ c .before .before .before .before .before .before .before .before .before .before .before .before .before .before .before .before .args .end) × (c .before .reading2 .given .0 .1 .0 < longestSheetLine)
 left-few c =
     let few = rw (c .before .before .before .before .before .before .before .reading .given .1, c .before .reading2 .given .1) at (c .before .before .before .before .before .before .before .before .before .before .before .run .ensures .1 .1 .1) in
     (omega (arith, few .0, length-take-le (c .before .before .before .before .before .before .before .before .before .before .before .before .before .before .before .before .args .end) (now (c .before .before .before .before .before .before .before .before .before .before .before .before .before .before .before .before .args .text)) (c .before .before .before .before .before .before .before .before .before .before .before .before .before .before .before .before .pre)), few .1)

@@ -6,14 +6,14 @@ use mathlib.Core.Path.{refl, ap, _∙_}
 use mathlib.Core.Bool.{Bool, cond}
 use native.Mathlib.Omega.{arith}
 use Rattle.record_state.proofs.Relations.{kept-from}
-use Rattle.record_state.proofs.Bounds.{small, crossings-below, groups-within, recent-earlier}
+use Rattle.record_state.proofs.Bounds.{small, crossings-below, groups-within, last-crossing-earlier}
 use Rattle.record_step.proofs.Steps.{ext}
 use Rattle.record_feed.proofs.counted.Statement.{statement}
 use Rattle.record_feed.proofs.counted.Tie as tie
 
 far-requires : tie.Need-far-requires
 far-requires c κs =
-    let e = recent-earlier (kept-from (c .before .args .r) (c .before .pre .0)) in
+    let e = last-crossing-earlier (kept-from (c .before .args .r) (c .before .pre .0)) in
     (c .before .pre .3, e .within, e .timed)
 
 add-t6 : tie.Need-add-t6

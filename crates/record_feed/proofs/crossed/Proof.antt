@@ -1,13 +1,13 @@
 -- `record_feed::crossed` meets its contract, by its test. Assumes nothing.
 use mathlib.Core.Path.{sym, _∙_}
 use Rattle.record_state.proofs.Relations.{kept-from}
-use Rattle.record_state.proofs.Bounds.{latest-earlier}
+use Rattle.record_state.proofs.Bounds.{last-chosen-earlier}
 use Rattle.record_feed.proofs.crossed.Statement.{statement}
 use Rattle.record_feed.proofs.crossed.Tie as tie
 
 far-requires : tie.Need-far-requires
 far-requires c κs =
-    let e = latest-earlier (kept-from (c .args .r) (c .pre .0)) in
+    let e = last-chosen-earlier (kept-from (c .args .r) (c .pre .0)) in
     (c .pre .2, e .within, e .timed)
 
 counted-requires : tie.Need-counted-requires

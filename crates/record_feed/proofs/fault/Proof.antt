@@ -1,7 +1,7 @@
 -- `record_feed::fault` meets its contract: the look says whether a sample is bad. Assumes nothing.
 use borrow.Author.Needs.{needs}
 use mathlib.Core.Path.{sym, ap, _∙_}
-use Rattle.record_state.specs.declared.Answer.the-variants.{Refused}
+use Rattle.record_state.specs.declared.RecordAnswer.the-variants.{Refused}
 use Rattle.sample_channels.proofs.Range.{looked-bad, looked-good, equally-long}
 use Rattle.record_feed.proofs.fault.Statement.{statement}
 use Rattle.record_feed.proofs.fault.Tie as tie

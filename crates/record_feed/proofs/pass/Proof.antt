@@ -14,7 +14,7 @@ use Rattle.sample_channels.proofs.Blocks.{good-on, block-equal, moments-cut, bl
 use Rattle.sample_channels.proofs.Moments.{moments-length}
 use Rattle.sample_channels.proofs.Quiet.{ends-say}
 use Rattle.sample_channels.proofs.Range.{all-in, none-bad, ends-tell}
-use Rattle.record_state.specs.declared.Answer.the-variants.{Taken}
+use Rattle.record_state.specs.declared.RecordAnswer.the-variants.{Taken}
 use Rattle.sample_items.specs.Limits.{mostSamples}
 use Rattle.record_state.specs.State.{sound}
 use Rattle.record_step.specs.Step.{stepped}

@@ -1,5 +1,5 @@
 -- `record_list::list` meets its contract: each answer is the law of `Answered` whose tests held on the way to it. A
--- sample is bad in the ramp or behind it (`any-parts`). Assumes nothing.
+-- sample is bad in the ramp or after it (`any-parts`). Assumes nothing.
 use borrow.Author.Needs.{needs}
 use Prim.Native.Nat.{_-_}
 use mathlib.Core.Path.{_≡_, sym, _∙_}

@@ -5,8 +5,8 @@ use mathlib.Core.Path.{sym}
 use Rattle.record_list.proofs.list_timed.Statement.{statement}
 use Rattle.record_list.proofs.list_timed.Tie as tie
 
-straight-requires : tie.Need-straight-requires
-straight-requires c κs = (c .before .before .before .before .pre .0, c .before .before .before .before .pre .1, c .before .before .straightway .ensures (c .before .if1 .taken))
+list-at-once-requires : tie.Need-list-at-once-requires
+list-at-once-requires c κs = (c .before .before .before .before .pre .0, c .before .before .before .before .pre .1, c .before .before .writes-at-once .ensures (c .before .if1 .taken))
 
 settle-requires : tie.Need-settle-requires
 settle-requires c κs = (c .before .before .before .before .before .before .before .before .pre .0, c .before .before .before .before .before .before .before .before .pre .1, record { before = _; same = sym (c .before .before .before .pass .kept .1 .1 .1 .1 .1 .0); passes = c .before .before .before .pass .ensures })
@@ -14,5 +14,5 @@ settle-requires c κs = (c .before .before .before .before .before .before .befo
 pub list-timed-spec : {M : Type 1} → statement M
 list-timed-spec =
     tie.close
-    (tie.spec (λ c κs. search needs) straight-requires (λ c. search needs) (λ c. search needs) (λ c. search needs)
+    (tie.spec (λ c κs. search needs) list-at-once-requires (λ c. search needs) (λ c. search needs) (λ c. search needs)
     (λ c κs. search needs) (λ c. search needs) settle-requires (λ c. search needs) (λ c. search needs))

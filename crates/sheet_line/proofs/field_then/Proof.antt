@@ -1,4 +1,4 @@
--- `sheet_line::field_then` meets its contract: the field reads as decimal's reader says, and the byte behind it is the
+-- `sheet_line::field_then` meets its contract: the field reads as decimal's reader says, and the byte after it is the
 -- one asked for, or not. Assumes nothing.
 use Prim.Native.Nat.{ℕ}
 use mathlib.Core.List.{List}

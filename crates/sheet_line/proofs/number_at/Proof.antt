@@ -1,4 +1,4 @@
--- `sheet_line::number_at` meets its contract. What the run of digits and the byte behind it make of the field is
+-- `sheet_line::number_at` meets its contract. What the run of digits and the byte after it make of the field is
 -- `Reading`'s law; each return has the tests that pick its case. Assumes nothing.
 use mathlib.Core.Path.{_≡_, sym, _∙_}
 use mathlib.Core.Bool.{true, false, not}
@@ -23,7 +23,7 @@ fault-at-requires c κs =
     let r = c .before .before .run-at in
     no-number (now (a .s)) (a .at) (r .result .end) (r .ensures .1) (sym (c .before .ended .ensures) ∙ not-true (c .before .ended .result) (c .if1 .taken))
 
--- past the first test the field ends behind the run, and the run alone decides
+-- past the first test the field ends after the run, and the run alone decides
 module _ (c : tie.Else1) where
   abbrev S : List ℕ
   S = now (c .before .before .before .before .args .s)

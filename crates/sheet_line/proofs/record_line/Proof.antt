@@ -11,7 +11,7 @@ use Rattle.truth.proofs.Laws.{holds, said-no, said-yes}
 use Rattle.campaign_state.proofs.Relations.{kept-from}
 use Rattle.decimal.specs.Field.{tab, lineFeed}
 use Rattle.sheet_line.specs.declared.Field.the-variants.{Number}
-use Rattle.sheet_line.specs.Form.{isLine}
+use Rattle.sheet_line.specs.Form.{isSheetLine}
 use Rattle.sheet_line.specs.Line.{fieldThen, isRecord, lineAfter, outcome, recordLine}
 use Rattle.sheet_line.proofs.Fields.{other-field}
 use borrow.Author.Needs.{needs}
@@ -51,7 +51,7 @@ flag c = (c .before .flag .given .0 .0, c .before .flag .given .0 .1 .0)
 abbrev exposure : tie.After-known-told3 → Found
 exposure c = (c .before .exposure .given .0 .0, c .before .exposure .given .0 .1 .0)
 
-within : (c : tie.Else1) → isLine (Text c) ≡ true
+within : (c : tie.Else1) → isSheetLine (Text c) ≡ true
 within c = said-yes (c .before .is-line .ensures) (c .if1 .left)
 
 first : (c : tie.After-known-told) → fieldThen tab (Text (line-of c)) 0 ≡ Number (number c .0) (number c .1)

@@ -8,7 +8,7 @@ use denote.Ref.{now}
 use Rattle.decimal.specs.Field.{lineFeed}
 use Rattle.sheet_line.specs.declared.Field.the-variants.{Number}
 use Rattle.truth.proofs.Laws.{said-no, said-yes}
-use Rattle.sheet_line.specs.Form.{standardStart, begins, isLine}
+use Rattle.sheet_line.specs.Form.{standardStart, begins, isSheetLine}
 use Rattle.sheet_line.specs.Line.{fieldThen, outcome, standardLine}
 use Rattle.sheet_line.proofs.Fields.{other-field}
 use borrow.Author.Needs.{needs}
@@ -16,7 +16,7 @@ use Rattle.sheet_line.proofs.standard_line.Statement.{statement}
 use Rattle.sheet_line.proofs.standard_line.Tie as tie
 
 -- what is known past each test and the field
-within : (c : tie.Else1) → isLine (now (c .before .before .before .args .text)) ≡ true
+within : (c : tie.Else1) → isSheetLine (now (c .before .before .before .args .text)) ≡ true
 within c = said-yes (c .before .is-line .ensures) (c .if1 .left)
 
 worded : (c : tie.Else2)

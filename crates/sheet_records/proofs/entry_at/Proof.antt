@@ -1,4 +1,4 @@
--- `sheet_records::entry_at` meets its contract: number, flag and exposure with the bytes behind them make up the line,
+-- `sheet_records::entry_at` meets its contract: number, flag and exposure with the bytes after them make up the line,
 -- and where one fails none stands there. Assumes nothing.
 use mathlib.Core.Path.{_≡_, subst, sym, _∙_}
 use mathlib.Core.Bool.{Bool, true, cond}
@@ -39,7 +39,7 @@ module _ (c : tie.After-known-told) where
   number : leadingAt Text (begin .args .at) ≡ Number N End
   number = sym (c .before .before .before .leading-at .ensures) ∙ c .before .number .given .1
 
--- the tab behind it
+-- the tab after it
 module _ (c : tie.Else2) where
   abbrev known : tie.After-known-told
   known = c .before .before .before

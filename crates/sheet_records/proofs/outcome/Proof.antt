@@ -4,7 +4,7 @@ use mathlib.Core.Path.{ap, _∙_}
 use mathlib.Core.Bool.{Bool}
 use mir.Facts.{toZ-ofZ}
 use borrow.Author.Needs.{needs}
-use Rattle.sheet_line.specs.Line.{told}
+use Rattle.sheet_line.specs.Line.{lineOutcome}
 use Rattle.sheet_records.proofs.Puts.{failed-below}
 use Rattle.sheet_records.proofs.outcome.Statement.{statement}
 use Rattle.sheet_records.proofs.outcome.Tie as tie
@@ -13,7 +13,7 @@ returns : tie.Need-returns
 returns c =
     let s = c .before in
     let size = rw (toZ-ofZ (s .fits .x)) at (c .magnitude .ensures) in
-    rw (toZ-ofZ (s .fits .x)) (ap (λ (f : Bool). told f (c .magnitude .result)) (failed-below (s .args .x)) ∙ ap (told _) size)
+    rw (toZ-ofZ (s .fits .x)) (ap (λ (f : Bool). lineOutcome f (c .magnitude .result)) (failed-below (s .args .x)) ∙ ap (lineOutcome _) size)
 
 pub outcome-spec : {M : Type 1} → statement M
 outcome-spec = tie.close (tie.spec (λ c κs. search needs) (λ c. search needs) returns)

@@ -50,14 +50,14 @@ module _ (c : tie.After-known-told2 Inv-loop μ-loop) where
   abbrev Failed : Bool
   Failed = c .before .failed .given .0 .0
 
-  abbrev Behind : ℕ
-  Behind = c .before .failed .given .0 .1 .0
+  abbrev After : ℕ
+  After = c .before .failed .given .0 .1 .0
 
-  entry : EntryHere (Text begin) (loop .loop .at) (loop .loop .count + 1) Failed Behind
+  entry : EntryHere (Text begin) (loop .loop .at) (loop .loop .count + 1) Failed After
   unfolding EntryAt
   entry = subst (EntryAt (Text begin) (loop .loop .at) (loop .loop .count + 1)) (c .before .failed .given .1) (c .before .before .before .entry-at .ensures)
 
-  further : (loop .loop .at < Behind) × (Behind ≤ length (Text begin))
+  further : (loop .loop .at < After) × (After ≤ length (Text begin))
   further = (entry .starts .further, entry .starts .within)
 
 -- its record is taken
@@ -116,7 +116,7 @@ returns-4 : tie.Need-returns-4 Inv-loop μ-loop
 unfolding Passes
 returns-4 c =
     let k = c .before .before in
-    not-taken (loop k .loop .inv) (Failed k) (Behind k) (entry k) (said-no (c .before .takes .ensures) (c .if2 .taken))
+    not-taken (loop k .loop .inv) (Failed k) (After k) (entry k) (said-no (c .before .takes .ensures) (c .if2 .taken))
 
 add-pick : tie.Need-add-pick Inv-loop μ-loop
 add-pick c = let k = c .before .before in omega (arith, few-failures (loop k .loop .inv))
@@ -136,7 +136,7 @@ loop-again : tie.Need-loop-again Inv-loop μ-loop
 loop-again c =
     let k = c .before .before .before in
     let l = loop k .loop in
-    rw (c .pick .ensures) (on (l .inv) (Failed k) (Behind k) (entry k) (taken (c .before)))
+    rw (c .pick .ensures) (on (l .inv) (Failed k) (After k) (entry k) (taken (c .before)))
 
 returns-5 : tie.Need-returns-5 Inv-loop μ-loop
 unfolding Passes

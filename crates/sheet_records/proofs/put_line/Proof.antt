@@ -12,7 +12,7 @@ use Rattle.text.proofs.Parts.{Left, left-all, left-next, left-last}
 use Rattle.record_end.specs.declared.Outcome.{Outcome}
 use Rattle.decimal.specs.Decimal.{zeroByte, digitsOf}
 use Rattle.decimal.specs.Field.{lineFeed, tab}
-use Rattle.sheet_records.specs.Ledger.{exposureIn, failedIn, lineText, outcomeIn}
+use Rattle.sheet_records.specs.Ledger.{exposureIn, failedIn, signedRecordText, outcomeIn}
 use Rattle.sheet_records.proofs.Puts.{line-parts}
 use Rattle.sheet_records.proofs.put_line.Statement.{statement}
 use Rattle.sheet_records.proofs.put_line.Tie as tie
@@ -48,12 +48,12 @@ module _ (c : tie.After-write-number) where
   Flag = zeroByte + cond (failedIn X) 1 0
 
   abbrev Stands : List ℕ → List ℕ → ℕ → Type 0
-  Stands rest out at = Left (now (start c .args .out)) (start c .args .at) (lineText (start c .args .number) X) rest out at
+  Stands rest out at = Left (now (start c .args .out)) (start c .args .at) (signedRecordText (start c .args .number) X) rest out at
 
   whole : Stands (digitsOf (start c .args .number) ++ (tab ∷ (Flag ∷ (tab ∷ Exposure)))) (now (start c .args .out)) (start c .args .at)
   whole =
       subst (λ (rest : List ℕ). Stands rest (now (start c .args .out)) (start c .args .at)) (line-parts (start c .args .number) (failedIn X) (exposureIn X))
-      (left-all _ _ (lineText (start c .args .number) X) (start c .pre))
+      (left-all _ _ (signedRecordText (start c .args .number) X) (start c .pre))
 
   left1 : Stands (tab ∷ (Flag ∷ (tab ∷ Exposure))) (c .write-number .last .1 .0) (c .write-number .result)
   left1 = left-next (digitsOf (start c .args .number)) _ whole (c .write-number .ensures)

@@ -13,7 +13,7 @@ use denote.Ref.{now}
 use borrow.Author.Needs.{needs}
 use Rattle.sample_size.proofs.Turn.{turn}
 use Rattle.text.proofs.Parts.{Left, left-all, left-length, left-next, left-room, left-wrote}
-use Rattle.sheet_records.specs.Ledger.{lineText, linesFrom}
+use Rattle.sheet_records.specs.Ledger.{signedRecordText, linesFrom}
 use Rattle.sheet_records.proofs.Puts.{lines-next, lines-none}
 use Rattle.sheet_records.proofs.put_lines.Statement.{statement}
 use Rattle.sheet_records.proofs.put_lines.Tie as tie
@@ -25,7 +25,7 @@ Inv-loop records out₀ at place₀ i₀ out place i =
 abbrev μ-loop : tie.MeasureT-loop
 μ-loop records out₀ at place₀ i₀ out place i = length records - i
 
--- the line that is due, and the lines behind it
+-- the line that is due, and the lines after it
 module _ (c : tie.In-loop Inv-loop μ-loop) where
   abbrev loop : tie.At-loop Inv-loop μ-loop
   loop = c .before
@@ -39,7 +39,7 @@ module _ (c : tie.In-loop Inv-loop μ-loop) where
   abbrev Stands : List ℕ → Type 0
   Stands rest = Left (now (loop .before .before .args .out)) (loop .before .before .args .at) (linesFrom 1 Records) rest (loop .loop .out) (loop .loop .place)
 
-  here : Stands (lineText (loop .loop .i + 1) X ++ linesFrom (loop .loop .i + 1 + 1) (drop (loop .loop .i + 1) Records))
+  here : Stands (signedRecordText (loop .loop .i + 1) X ++ linesFrom (loop .loop .i + 1 + 1) (drop (loop .loop .i + 1) Records))
   here =
       subst Stands
       (turn (linesFrom (loop .loop .i + 1)) Records (loop .loop .i) (c .loop-test .taken) ∙ lines-next (loop .loop .i + 1) X (drop (loop .loop .i + 1) Records))
@@ -61,7 +61,7 @@ put-line-requires : tie.Need-put-line-requires Inv-loop μ-loop
 put-line-requires c κs =
     let l = c .before .before in
     let f : SFits w32 (X l) = search needs in
-    rw (toZ-ofZ f) (left-room (lineText (loop l .loop .i + 1) (X l)) _ (here l))
+    rw (toZ-ofZ f) (left-room (signedRecordText (loop l .loop .i + 1) (X l)) _ (here l))
 
 add-i : tie.Need-add-i Inv-loop μ-loop
 add-i c = omega arith
@@ -74,7 +74,7 @@ loop-again c =
     let p = c .before .before in
     let l = p .before .before .before in
     let f : SFits w32 (X l) = search needs in
-    (omega arith, left-next (lineText (loop l .loop .i + 1) (X l)) _ (here l) (rw (toZ-ofZ f) at (p .put-line .ensures)))
+    (omega arith, left-next (signedRecordText (loop l .loop .i + 1) (X l)) _ (here l) (rw (toZ-ofZ f) at (p .put-line .ensures)))
 
 same-length : tie.Need-same-length Inv-loop μ-loop
 same-length c = left-length (c .before .loop .inv .1)

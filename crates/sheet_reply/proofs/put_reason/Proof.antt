@@ -1,4 +1,4 @@
--- `sheet_reply::put_reason` meets its contract: the number, and behind that of a malformed line the column. Assumes
+-- `sheet_reply::put_reason` meets its contract: the number, and after that of a malformed line the column. Assumes
 -- nothing.
 use Prim.Native.Nat.{ℕ}
 use mathlib.Core.Path.{_≡_, sym}

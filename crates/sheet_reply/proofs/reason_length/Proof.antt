@@ -1,4 +1,4 @@
--- `sheet_reply::reason_length` meets its contract: each number has one byte behind it. Assumes nothing.
+-- `sheet_reply::reason_length` meets its contract: each number has one byte after it. Assumes nothing.
 use native.Mathlib.Omega.{arith}
 use borrow.Author.Tests.{eq-eqb, ne-eqb}
 use lib.ListN.{length-append}

@@ -1,5 +1,5 @@
 -- `sheet_reply::refused_length` meets its contract: the word and its tab are eight bytes, and the line's number has one
--- behind it. Assumes nothing.
+-- after it. Assumes nothing.
 use mathlib.Core.Path.{ap}
 use native.Mathlib.Omega.{arith}
 use lib.ListN.{length, length-append}

@@ -6,7 +6,7 @@ use Prim.Native.Nat.{ℕ, _+_, _-_, _≤_}
 use mathlib.Core.Path.{_≡_, sym, _∙_}
 use denote.Ref.{now}
 use mathlib.Core.List.{List}
-use Rattle.sheet_line.specs.Form.{longestLine}
+use Rattle.sheet_line.specs.Form.{longestSheetLine}
 use Rattle.sheet_line.specs.Line.{stepping}
 use Rattle.sheet_text.specs.Sheet.{waits}
 use Rattle.sheet_text.specs.Cut.{cut, firstLine, found}
@@ -19,7 +19,7 @@ use Rattle.sheet_text.proofs.find.Tie as tie
 abbrev Rest : tie.After-line-end → List ℕ
 Rest c = drop (c .before .before .args .at) (now (c .before .before .args .text))
 
-end-is : (c : tie.After-line-end) → c .line-end .result ≡ c .before .before .args .at + cut longestLine (Rest c)
+end-is : (c : tie.After-line-end) → c .line-end .result ≡ c .before .before .args .at + cut longestSheetLine (Rest c)
 end-is c = c .line-end .ensures
 
 first : (c : tie.After-line-end) → take (c .line-end .result - c .before .before .args .at) (Rest c) ≡ firstLine (Rest c)

@@ -7,14 +7,14 @@ use borrow.Author.Needs.{needs}
 use borrow.Author.Tests.{eq-eqb, ne-eqb}
 use lib.ListN.{drop}
 use denote.Ref.{now}
-use Rattle.sheet_line.specs.Form.{longestLine}
+use Rattle.sheet_line.specs.Form.{longestSheetLine}
 use Rattle.sheet_text.specs.Cut.{cut}
 use Rattle.sheet_text.proofs.Lines.{reached, reached-start, reached-found, reached-on, reached-end}
 use Rattle.sheet_text.proofs.line_end.Statement.{statement}
 use Rattle.sheet_text.proofs.line_end.Tie as tie
 
 abbrev Inv-loop : tie.InvT-loop
-Inv-loop text at stop i₀ i = (at ≤ i) × (i ≤ stop) × (reached text at i ≡ at + cut longestLine (drop at text))
+Inv-loop text at stop i₀ i = (at ≤ i) × (i ≤ stop) × (reached text at i ≡ at + cut longestSheetLine (drop at text))
 
 abbrev μ-loop : tie.MeasureT-loop
 μ-loop text at stop i₀ i = stop - i

@@ -7,7 +7,7 @@ use borrow.Author.Needs.{needs}
 use lib.ListN.{length}
 use denote.Ref.{now}
 use Rattle.sheet_reply.proofs.Few.{refused-few}
-use Rattle.sheet_text.specs.declared.Found.the-variants.{Taken}
+use Rattle.sheet_text.specs.declared.LineFound.the-variants.{Taken}
 use Rattle.sheet_text.specs.Cut.{found}
 use Rattle.sheet_text.specs.Sheet.{ended}
 use Rattle.sheet_text.proofs.Along.{along-last}

@@ -5,9 +5,9 @@ use native.Mathlib.Omega.{arith}
 use lib.ListN.{length}
 use denote.Ref.{now}
 use Rattle.sheet_reply.specs.Written.{refusedText}
-use Rattle.sheet_text.specs.Cut.{behindOf}
+use Rattle.sheet_text.specs.Cut.{placeCounted}
 use Rattle.sheet_text.specs.Sheet.{endText}
-use Rattle.sheet_text.proofs.Put.{behind-writing, none-written}
+use Rattle.sheet_text.proofs.Put.{counted-writing, none-written}
 use borrow.Author.Needs.{needs}
 use Rattle.sheet_text.proofs.put_end.Statement.{statement}
 use Rattle.sheet_text.proofs.put_end.Tie as tie
@@ -19,11 +19,11 @@ abbrev start : tie.After-end → tie.Start
 start c = c .before .before .before
 
 place : (c : tie.After-write-refused) → let e = end-of c in
-    behindOf (start e .args .at) (c .write-refused .result) ≡ start e .args .at + length (refusedText (e .end .given .0 .0) (e .end .given .0 .1 .0) (e .end .given .0 .1 .1 .0))
-place c = behind-writing (now (start (end-of c) .args .out)) (start (end-of c) .args .at) _ (c .write-refused .ensures .0)
+    placeCounted (start e .args .at) (c .write-refused .result) ≡ start e .args .at + length (refusedText (e .end .given .0 .0) (e .end .given .0 .1 .0) (e .end .given .0 .1 .1 .0))
+place c = counted-writing (now (start (end-of c) .args .out)) (start (end-of c) .args .at) _ (c .write-refused .ensures .0)
 
-behind-requires : tie.Need-behind-requires
-behind-requires c κs =
+place-counted-requires : tie.Need-place-counted-requires
+place-counted-requires c κs =
     let w = c .before .before in
     omega (arith, place w, ap (λ e. length (endText e)) (end-of w .end .given .1), start (end-of w) .pre)
 
@@ -33,7 +33,7 @@ returns c = rw (c .enum-told .given .1) (none-written (now (c .before .before .b
 returns-2 : tie.Need-returns-2
 returns-2 c =
     let w = c .before .before .before in
-    rw (end-of w .end .given .1) (c .behind .ensures ∙ place w, w .write-refused .ensures .1)
+    rw (end-of w .end .given .1) (c .place-counted .ensures ∙ place w, w .write-refused .ensures .1)
 
 returns-3 : tie.Need-returns-3
 returns-3 c = rw (c .enum-told2 .given .1) (none-written (now (c .before .before .before .args .out)) (c .before .before .before .args .at))
@@ -41,5 +41,5 @@ returns-3 c = rw (c .enum-told2 .given .1) (none-written (now (c .before .before
 pub put-end-spec : {M : Type 1} → statement M
 put-end-spec =
     tie.close
-    (tie.spec (λ c. search needs) (λ c. search needs) (λ c κs. search needs) behind-requires (λ c. search needs) returns
+    (tie.spec (λ c. search needs) (λ c. search needs) (λ c κs. search needs) place-counted-requires (λ c. search needs) returns
     (λ c. search needs) returns-2 returns-3)

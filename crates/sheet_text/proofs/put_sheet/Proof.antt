@@ -6,9 +6,9 @@ use native.Mathlib.Omega.{arith}
 use lib.ListN.{length}
 use denote.Ref.{now}
 use Rattle.sheet_reply.specs.Written.{recordText, recordLeft, recordWriting}
-use Rattle.sheet_text.specs.Cut.{behindOf}
+use Rattle.sheet_text.specs.Cut.{placeCounted}
 use Rattle.sheet_text.specs.Sheet.{textOf}
-use Rattle.sheet_text.proofs.Put.{behind-writing, none-written}
+use Rattle.sheet_text.proofs.Put.{counted-writing, none-written}
 use borrow.Author.Needs.{needs}
 use Rattle.sheet_text.proofs.put_sheet.Statement.{statement}
 use Rattle.sheet_text.proofs.put_sheet.Tie as tie
@@ -20,17 +20,17 @@ abbrev start : tie.After-s → tie.Start
 start c = c .before .before .before
 
 place : (c : tie.After-write-record) → let s = sheet-of c in
-    behindOf (start s .args .at) (c .write-record .result) ≡ start s .args .at + length (recordText (s .s .given .0 .0))
+    placeCounted (start s .args .at) (c .write-record .result) ≡ start s .args .at + length (recordText (s .s .given .0 .0))
 unfolding recordWriting
 place c =
     let s = sheet-of c in
-    behind-writing (now (start s .args .out)) (start s .args .at) _ (rw (rw (s .s .given .1) at (start s .pre .0)) at (c .write-record .ensures .0))
+    counted-writing (now (start s .args .out)) (start s .args .at) _ (rw (rw (s .s .given .1) at (start s .pre .0)) at (c .write-record .ensures .0))
 
 returns : tie.Need-returns
 returns c = rw (c .enum-told .given .1) (none-written (now (c .before .before .before .args .out)) (c .before .before .before .args .at))
 
-behind-requires : tie.Need-behind-requires
-behind-requires c κs =
+place-counted-requires : tie.Need-place-counted-requires
+place-counted-requires c κs =
     let w = c .before .before in
     omega (arith, place w, ap (λ s. length (textOf s)) (sheet-of w .s .given .1), start (sheet-of w) .pre .1)
 
@@ -39,10 +39,10 @@ unfolding recordLeft
 returns-2 c =
     let w = c .before .before .before in
     let s = sheet-of w in
-    rw (s .s .given .1) (c .behind .ensures ∙ place w, rw (rw (s .s .given .1) at (start s .pre .0)) at (w .write-record .ensures .1))
+    rw (s .s .given .1) (c .place-counted .ensures ∙ place w, rw (rw (s .s .given .1) at (start s .pre .0)) at (w .write-record .ensures .1))
 
 pub put-sheet-spec : {M : Type 1} → statement M
 put-sheet-spec =
     tie.close
-    (tie.spec (λ c. search needs) (λ c. search needs) returns (λ c κs. search needs) behind-requires (λ c. search needs)
+    (tie.spec (λ c. search needs) (λ c. search needs) returns (λ c κs. search needs) place-counted-requires (λ c. search needs)
     returns-2)

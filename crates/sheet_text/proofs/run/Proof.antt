@@ -12,7 +12,7 @@ use denote.Ref.{now}
 use Rattle.truth.proofs.Laws.{said-no, said-yes}
 use Rattle.sheet_line.specs.Line.{soundSheet}
 use Rattle.decimal.specs.Lines.{linesOf}
-use Rattle.sheet_text.specs.Sheet.{reading}
+use Rattle.sheet_text.specs.Sheet.{readingSheet}
 use Rattle.sheet_text.proofs.Enough.{enough}
 use Rattle.sheet_text.proofs.Promised.{run-broken, run-came, run-short}
 use Rattle.sheet_text.proofs.run.Statement.{statement}
@@ -25,7 +25,7 @@ from-sound : (c : tie.Else1) → soundSheet (start c .args .s) ≡ true
 from-sound c = said-yes (c .before .sound .ensures) (c .if1 .left)
 
 -- either way the lent bytes have room: for anything, or for what was counted
-fits : (c : tie.Joined2) → let a = start (c .before .before) .args in length (reading (a .more) (linesOf (now (a .text))) (a .s) .text) ≤ length (now (a .out))
+fits : (c : tie.Joined2) → let a = start (c .before .before) .args in length (readingSheet (a .more) (linesOf (now (a .text))) (a .s) .text) ≤ length (now (a .out))
 fits c =
     let e = c .before .before in
     let a = start e .args in

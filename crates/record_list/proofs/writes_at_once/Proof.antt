@@ -1,4 +1,4 @@
--- `record_list::straightway` meets its contract: past the two tests there is room, whatever is guessed. Assumes
+-- `record_list::writes_at_once` meets its contract: past the two tests there is room, whatever is guessed. Assumes
 -- nothing.
 use borrow.Author.Needs.{needs}
 use Prim.Native.Nat.{ℕ, _+_, _/_}
@@ -8,8 +8,8 @@ use lib.ListN.{length}
 use Rattle.sample_block.proofs.Cut.{block-length}
 use Rattle.sample_channels.proofs.Blocks.{block-equal}
 use Rattle.record_list.proofs.Steps.{ready-less}
-use Rattle.record_list.proofs.straightway.Statement.{statement}
-use Rattle.record_list.proofs.straightway.Tie as tie
+use Rattle.record_list.proofs.writes_at_once.Statement.{statement}
+use Rattle.record_list.proofs.writes_at_once.Tie as tie
 
 returns : tie.Need-returns
 returns c = λ e. let z : _≡_ {A = ℕ} 0 1 = cc in absurd (omega arith)
@@ -24,8 +24,8 @@ pass-requires c κs =
     let l = block-length xs (length xs / 2) (length xs / 2 + 1024) (omega arith) (omega arith) in
     (ready-less (omega (arith, l)) (a .pre .0), block-equal xs (a .args .acceleration .now) (a .pre .1) (length xs / 2) (length xs / 2 + 1024) (omega arith) (omega arith))
 
-pub straightway-spec : {M : Type 1} → statement M
-straightway-spec =
+pub writes-at-once-spec : {M : Type 1} → statement M
+writes-at-once-spec =
     tie.close
     (tie.spec returns returns-2 (λ c. search needs) (λ c. search needs) (λ c. search needs) (λ c. search needs)
     (λ c. search needs) (λ c. search needs) (λ c. search needs) (λ c. search needs) (λ c. search needs)

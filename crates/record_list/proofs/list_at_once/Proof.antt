@@ -1,4 +1,4 @@
--- `record_list::straight` meets its contract: where no sample is bad nothing is refused, since half as many times as
+-- `record_list::list_at_once` meets its contract: where no sample is bad nothing is refused, since half as many times as
 -- samples are the most. Assumes nothing.
 use borrow.Author.Needs.{needs}
 use Prim.Native.Nat.{_≤_}
@@ -12,8 +12,8 @@ use Rattle.crossing_places.specs.Reading.{countedTimes, unramped}
 use Rattle.record_list.specs.Walk.{Noting}
 use Rattle.record_list.proofs.Walked.{walked-count, walked-times, half-counted}
 use Rattle.record_list.proofs.Answered.{writes-times}
-use Rattle.record_list.proofs.straight.Statement.{statement}
-use Rattle.record_list.proofs.straight.Tie as tie
+use Rattle.record_list.proofs.list_at_once.Statement.{statement}
+use Rattle.record_list.proofs.list_at_once.Tie as tie
 
 returns : tie.Need-returns
 returns c = (looked-bad _ _ (c .enum-told .given .0 .0) (sym (c .before .before .look-over .ensures) ∙ c .enum-told .given .1) .0, refl)
@@ -34,8 +34,8 @@ returns-2 c =
     let t = ap (λ (s : Noting). s .times) e ∙ walked-times (g .step) (g .levels) (g .decorrelation) p (g .times .now) l in
     (looked-good (g .roll .now) (g .acceleration .now) (sym (c .before .before .before .before .before .before .look-over .ensures) ∙ c .before .before .before .before .enum-told2 .given .1), rw (t, n) (writes-times ts (g .times .now) l))
 
-pub straight-spec : {M : Type 1} → statement M
-straight-spec =
+pub list-at-once-spec : {M : Type 1} → statement M
+list-at-once-spec =
     tie.close
     (tie.spec (λ c κs. search needs) (λ c. search needs) returns (λ c. search needs) walk-all-requires
     (λ c. search needs) returns-2)

@@ -1,8 +1,8 @@
--- `sheet_text::behind` meets its contract: refusal 7 carries the bytes needed. Assumes nothing.
+-- `sheet_text::place_counted` meets its contract: refusal 7 carries the bytes needed. Assumes nothing.
 use native.Mathlib.Omega.{arith}
 use borrow.Author.Needs.{needs}
-use Rattle.sheet_text.proofs.behind.Statement.{statement}
-use Rattle.sheet_text.proofs.behind.Tie as tie
+use Rattle.sheet_text.proofs.place_counted.Statement.{statement}
+use Rattle.sheet_text.proofs.place_counted.Tie as tie
 
 add-result : tie.Need-add-result
 add-result c =
@@ -12,6 +12,6 @@ add-result c =
 returns-2 : tie.Need-returns-2
 returns-2 c = rw (c .before .before .w2 .given .1, c .carried .ensures)
 
-pub behind-spec : {M : Type 1} → statement M
-behind-spec =
+pub place-counted-spec : {M : Type 1} → statement M
+place-counted-spec =
     tie.close (tie.spec (λ c. search needs) (λ c. search needs) (λ c κs. search needs) add-result (λ c. search needs) returns-2)

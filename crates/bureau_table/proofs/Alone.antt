@@ -78,12 +78,16 @@ module _ (b : ℕ) (bureau : isBureau b ≡ true) where
         go (campaigned.Refused r) h = record { same = refl; booked = stores s k l (owned b c) refl h }
     works k Judge c l h = go (judging c)
       where
-        go : (a : CampaignJudged) → Agree book (On k Judge) (stored t (bookPlace book k) (record { answer = verdictAnswer a; place = owned b c })) (stored v k (record { answer = verdictAnswer a; place = owned b c }))
+        go : (a : CampaignJudged) → Agree book (On k Judge) (stored t (bookPlace book k)
+            (record { answer = verdictAnswer a; place = owned b c }))
+            (stored v k (record { answer = verdictAnswer a; place = owned b c }))
         go (judged.Given x) = record { same = refl; booked = stores s k l (owned b c) refl h }
         go (judged.Refused r) = record { same = refl; booked = stores s k l (owned b c) refl h }
     works k Rate c l h = go (rating c)
       where
-        go : (a : CampaignRated) → Agree book (On k Rate) (stored t (bookPlace book k) (record { answer = ratesAnswer a; place = owned b c })) (stored v k (record { answer = ratesAnswer a; place = owned b c }))
+        go : (a : CampaignRated) → Agree book (On k Rate) (stored t (bookPlace book k)
+            (record { answer = ratesAnswer a; place = owned b c }))
+            (stored v k (record { answer = ratesAnswer a; place = owned b c }))
         go (rated.Given some x) = record { same = refl; booked = stores s k l (owned b c) refl h }
         go (rated.Refused r) = record { same = refl; booked = stores s k l (owned b c) refl h }
     works k GiveBack c l h = record { same = refl; booked = books.frees s k l h }

@@ -125,7 +125,9 @@ module _ {b : ℕ} {t : List Place} {book : List ℕ} {v : List Place} (s : Book
           shows =
               λ j. by-equal j k
               (λ e. rw (e, struck-same)
-              (List·getD-eq-default (set t (bookPlace book k) free) free {n = 32} (let z = kept-from (set t (bookPlace book k) free) h .long in omega arith) ∙ sym (getD-set-same v k free free on-desk)))
+              (List·getD-eq-default (set t (bookPlace book k) free) free {n = 32} (let z =
+              kept-from (set t (bookPlace book k) free) h .long in omega arith) ∙ sym (getD-set-same v k free
+              free on-desk)))
               (λ n. rw (struck-other j n)
               (getD-set-other t (bookPlace book k) (bookPlace book j) free free (elsewhere j n) ∙ s .shows j ∙ sym (getD-set-other v k j free free n)));
           mine =

@@ -10,7 +10,9 @@ use Rattle.campaign_report.specs.Report.{fourText, letterFor, situationT
 use Rattle.campaign_report.specs.WholeCase.{reportOnThird, reportOnThree, theirReport, thirdAlone, threeSituations, twoSituations}
 
 pub whole-case : reportText twoSituations ≡ theirReport
-unfolding twoSituations theirReport reportText linesFrom situationText fourText fieldText letterFor totalText sumOf digitsOf digitsWithin censored sound judging accepted rejected oneRejected allAccepted standing u l upperRows lowerRows
+unfolding twoSituations theirReport reportText linesFrom situationText fourText fieldText letterFor totalText sumOf
+    digitsOf digitsWithin censored sound judging accepted rejected oneRejected allAccepted standing u l upperRows
+    lowerRows
 whole-case = refl
 
 -- and the one with all letters, then its accepted campaign alone

@@ -34,9 +34,7 @@ sample-odd k e = rw (ne-eqb _ _ e)
 
 pub read-back : (x : ℤ) → sampleOf (codeOf x) ≡ x
 unfolding codeOf
-read-back (pos n) =
-    let h : (n + n) / 2 ≡ n = omega arith in
-    sample-even (n + n) (omega arith) ∙ ap pos h
+read-back (pos n) = let h : (n + n) / 2 ≡ n = omega arith in sample-even (n + n) (omega arith) ∙ ap pos h
 read-back (negsuc n) =
     let h : (n + n + 1) / 2 ≡ n = omega arith in
     sample-odd (n + n + 1) (λ e. omega arith) ∙ ap negsuc h

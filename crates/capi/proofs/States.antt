@@ -41,7 +41,13 @@ pub record-back : (r : Record) → state.sound r ≡ true → recordOf (ofRecord
 unfolding recordOf
 record-back r h =
     let g = and-true (sampleInRange (r .last .roll)) (sampleInRange (r .last .acceleration)) (kept-from r h .range) in
-    rw (le-leb (codeOf (r .last .roll)) highestCode (code-high (r .last .roll) (leb-true _ _ (g .0))), le-leb (codeOf (r .last .acceleration)) highestCode (code-high (r .last .acceleration) (leb-true _ _ (g .1))), read-back (r .last .roll), read-back (r .last .acceleration))
+    rw (
+      le-leb (codeOf (r .last .roll)) highestCode (code-high (r .last .roll) (leb-true _ _ (g .0))),
+      le-leb (codeOf (r .last .acceleration)) highestCode (code-high (r .last .acceleration)
+          (leb-true _ _ (g .1))),
+      read-back (r .last .roll),
+      read-back (r .last .acceleration),
+    )
 
 -- and that of any campaign the campaign
 pub campaign-back : (c : Campaign) → campaignOf (ofCampaign c) ≡ c

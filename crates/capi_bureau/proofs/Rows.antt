@@ -50,7 +50,8 @@ rows-stay [] = refl
 rows-stay (r ∷ rs) = rw (same-self (placeOf r)) (ap (λ (l : List (List ℕ)). r ∷ l) (rows-stay rs))
 
 -- one place was stored
-rows-set : (rows : List (List ℕ)) (i : ℕ) (d : List ℕ) (p : Place) → i < length rows → rowsLeft rows (set (placesOf rows) i p) ≡ cond (samePlace (placeOf (getD rows i d)) p) rows (set rows i (ofPlace p))
+rows-set : (rows : List (List ℕ)) (i : ℕ) (d : List ℕ) (p : Place) → i < length rows → rowsLeft rows
+    (set (placesOf rows) i p) ≡ cond (samePlace (placeOf (getD rows i d)) p) rows (set rows i (ofPlace p))
 unfolding rowsLeft
 rows-set [] i d p l = absurd (omega arith)
 rows-set (r ∷ rs) zero d p l = by-test (samePlace (placeOf r) p) (λ h. rw (h, rows-stay rs)) (λ h. rw (h, rows-stay rs))

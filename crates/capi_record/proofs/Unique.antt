@@ -19,7 +19,8 @@ pub record-open-unique :
 record-open-unique D R level lateral τ s x y = settled
 
 -- what is told, and the channel
-pub record-feed-unique : (s : List ℕ) (xs ys : List ℤ) (x y : Told) (j k : ℕ) → (x ≡ recordFed s xs ys) × (j ≡ channelFed s xs ys) → (y ≡ recordFed s xs ys) × (k ≡ channelFed s xs ys) → (x ≡ y) × (j ≡ k)
+pub record-feed-unique : (s : List ℕ) (xs ys : List ℤ) (x y : Told) (j k : ℕ) → (x ≡ recordFed s xs ys)
+    × (j ≡ channelFed s xs ys) → (y ≡ recordFed s xs ys) × (k ≡ channelFed s xs ys) → (x ≡ y) × (j ≡ k)
 record-feed-unique s xs ys x y j k p q = (settled (p .0) (q .0), settled (p .1) (q .1))
 
 pub record-end-unique : (s x : List ℕ) (a b : Told) → a ≡ recordEnded s x → b ≡ recordEnded s x → a ≡ b

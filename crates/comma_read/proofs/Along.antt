@@ -60,7 +60,12 @@ tally : (sound count f : ℕ) (b : Bool) → sound ≤ count
     ≡ cond (eqb sound count) (count + cond b (suc f) 0) sound
 tally sound count f b low =
     by-test (eqb sound count)
-    (λ e. let same = eqb-true sound count e in by-test b (λ t. rw (e, t, eq-eqb (sound + 1) (count + 1) (omega arith)) (omega arith)) (λ t. rw (e, t, ne-eqb sound (count + 1) (λ q. omega arith)) (omega arith)))
+    (λ e. let same = eqb-true sound count e in by-test b (λ t. rw (
+      e,
+      t,
+      eq-eqb (sound + 1) (count + 1)
+          (omega arith),
+    ) (omega arith)) (λ t. rw (e, t, ne-eqb sound (count + 1) (λ q. omega arith)) (omega arith)))
     (λ e. rw (e, ne-eqb sound (count + 1) (λ q. omega arith)))
 
 -- a right line at a place
@@ -101,7 +106,8 @@ module _ {D : ℕ} {text : List ℕ} {at time count sound : ℕ} (a : Along D te
       record {
         wrong = omega (arith, a .wrong, step-wrong D text at time r);
         number = omega (arith, a .number, step-number D text at time r);
-        bad = tally sound count (firstBad (samplesOf (Lines text (next D text at time r)))) b (a .low) ∙ ap (λ f. cond (eqb sound count) (count + f) sound) (sym (step-bad D text at time r b e)) ∙ a .bad;
+        bad = tally sound count (firstBad (samplesOf (Lines text (next D text at time r)))) b (a .low) ∙
+            ap (λ f. cond (eqb sound count) (count + f) sound) (sym (step-bad D text at time r b e)) ∙ a .bad;
         low = by-test (eqb sound count && b) (λ f. rw f (omega (arith, a .low))) (λ f. rw f (omega (arith, a .low)));
         due = omega (arith, turn time (drop at text) r .small);
         within = within;
@@ -200,7 +206,8 @@ put-as e f p = rw (e, f) p
 sampled : {b b′ : Bool} {n n′ : ℕ} → b ≡ b′ → n ≡ n′ → leb n largestSize ≡ true → cond (leb n′ largestSize) (signed b′ n′) (pos 0) ≡ signed b n
 sampled e f h = rw (← e, ← f, h)
 
-module _ {D : ℕ} {text : List ℕ} {at time count sound : ℕ} (a : Along D text at time count sound) {at₀ count₀ : ℕ} {samples₀ samples : List ℤ} (p : Putting D text at₀ count₀ samples₀ samples at count) where
+module _ {D : ℕ} {text : List ℕ} {at time count sound : ℕ} (a : Along D text at time count sound) {at₀ count₀ : ℕ}
+    {samples₀ samples : List ℤ} (p : Putting D text at₀ count₀ samples₀ samples at count) where
   put-on : (r : right time (drop at text) ≡ true) (b : Bool) (n : ℕ) → below (roll (drop at text)) ≡ b → size (unsigned (roll (drop at text))) ≡ n
       → Putting D text at₀ count₀ samples₀ (set samples count (cond (leb n largestSize) (signed b n) (pos 0))) (next D text at time r) (count + 1)
   put-on r b n sign value =

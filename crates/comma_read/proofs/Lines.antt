@@ -103,7 +103,14 @@ pub first-line : (time : ℕ) (text : List ℕ) → 1 ≤ length text → First 
 first-line time [] some = absurd (omega arith)
 first-line time (b ∷ text) some =
     let h = head b text in
-    record { line = h .line; lines = h .lines; is = h .is; same = by-test (right time (h .line)) (λ r. rw (r, h .parts, right-front time (h .line) (h .more) r)) (λ r. rw r (by-test (right time (b ∷ text)) (λ t. absurd (true≢false (other (h .line) (h .lines) (h .is) r (turn time (b ∷ text) t)))) sym)) }
+    record {
+      line = h .line;
+      lines = h .lines;
+      is = h .is;
+      same = by-test (right time (h .line))
+          (λ r. rw (r, h .parts, right-front time (h .line) (h .more) r)) (λ r. rw r (by-test (right time (b ∷ text))
+          (λ t. absurd (true≢false (other (h .line) (h .lines) (h .is) r (turn time (b ∷ text) t)))) sym));
+    }
   where
     other : (line : List ℕ) (lines : List (List ℕ)) → linesOf (b ∷ text) ≡ line ∷ lines → right time line ≡ false → Turn time (b ∷ text) → true ≡ false
     other line lines e r t =

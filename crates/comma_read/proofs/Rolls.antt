@@ -89,7 +89,9 @@ module _ (s : List ℕ) (c : ℕ) (room : c + 9 ≤ length s) where
         let r₄ = others-are r₃ in
         let r₅ = others-are r₄ in
         let a = a-digit (first-is r₁) in
-        let p = short-at s (c + 1) (omega arith) a (rw (near 1 1) (the-byte (first-is r₂))) (rw (near 1 2) (a-digit (first-is r₃))) (rw (near 1 3) (a-digit (first-is r₄))) (rw (near 1 4) (a-digit (first-is r₅))) (rw (near 1 5) (the-byte (first-is (others-are r₅)))) in
+        let p = short-at s (c + 1) (omega arith) a (rw (near 1 1) (the-byte (first-is r₂)))
+        (rw (near 1 2) (a-digit (first-is r₃))) (rw (near 1 3) (a-digit (first-is r₄)))
+        (rw (near 1 4) (a-digit (first-is r₅))) (rw (near 1 5) (the-byte (first-is (others-are r₅)))) in
         record { mark = rw add-zero at (the-byte (first-is r)); sign = unsigned-roll s c (no-minus (getD s (c + 1) 0) a); plain = rw add-zero p; ends = refl }
 
     pub minus-short : Are minusShort (row s c 0 8) → PlainRoll s c 17
@@ -101,7 +103,10 @@ module _ (s : List ℕ) (c : ℕ) (room : c + 9 ≤ length s) where
         let r₄ = others-are r₃ in
         let r₅ = others-are r₄ in
         let r₆ = others-are r₅ in
-        let p = short-at s (c + 1 + 1) (omega arith) (rw (near 1 1) (a-digit (first-is r₂))) (rw (near₂ 1) (the-byte (first-is r₃))) (rw (near₂ 2) (a-digit (first-is r₄))) (rw (near₂ 3) (a-digit (first-is r₅))) (rw (near₂ 4) (a-digit (first-is r₆))) (rw (near₂ 5) (the-byte (first-is (others-are r₆)))) in
+        let p = short-at s (c + 1 + 1) (omega arith) (rw (near 1 1) (a-digit (first-is r₂)))
+        (rw (near₂ 1) (the-byte (first-is r₃))) (rw (near₂ 2) (a-digit (first-is r₄)))
+        (rw (near₂ 3) (a-digit (first-is r₅))) (rw (near₂ 4) (a-digit (first-is r₆)))
+        (rw (near₂ 5) (the-byte (first-is (others-are r₆)))) in
         record { mark = rw add-zero at (the-byte (first-is r)); sign = signed-roll s c (the-byte (first-is r₁)); plain = p; ends = refl }
 
     -- ,10.000 and what follows: the first digit is no 0
@@ -116,8 +121,21 @@ module _ (s : List ℕ) (c : ℕ) (room : c + 9 ≤ length s) where
         let r₆ = others-are r₅ in
         let feed = the-byte (first-is (others-are r₆)) in
         let a = a-digit (first-is r₁) in
-        let some : ¬ (getD s (c + 1) 0 ≡ zeroByte) = λ z. absurd (omega (arith, is, the-byte (first-is r), z, most (first-is r₂), the-byte (first-is r₃), most (first-is r₄), most (first-is r₅), most (first-is r₆), feed)) in
-        let p = long-at s (c + 1) (omega arith) a some (rw (near 1 1) (a-digit (first-is r₂))) (rw (near 1 2) (the-byte (first-is r₃))) (rw (near 1 3) (a-digit (first-is r₄))) (rw (near 1 4) (a-digit (first-is r₅))) (rw (near 1 5) (a-digit (first-is r₆))) (rw (near 1 6) feed) in
+        let some : ¬ (getD s (c + 1) 0 ≡ zeroByte) = λ z. absurd (omega (
+          arith,
+          is,
+          the-byte (first-is r),
+          z,
+          most (first-is r₂),
+          the-byte (first-is r₃),
+          most (first-is r₄),
+          most (first-is r₅),
+          most (first-is r₆),
+          feed,
+        )) in
+        let p = long-at s (c + 1) (omega arith) a some (rw (near 1 1) (a-digit (first-is r₂)))
+        (rw (near 1 2) (the-byte (first-is r₃))) (rw (near 1 3) (a-digit (first-is r₄)))
+        (rw (near 1 4) (a-digit (first-is r₅))) (rw (near 1 5) (a-digit (first-is r₆))) (rw (near 1 6) feed) in
         record { mark = rw add-zero at (the-byte (first-is r)); sign = unsigned-roll s c (no-minus (getD s (c + 1) 0) a); plain = rw add-zero p; ends = refl }
 
     pub minus-long : Are minusLong (row s c 0 8) → 0x2C2D30392E393939 < v → getD s (c + 8) 0 ≡ lineFeed → PlainRoll s c 19
@@ -130,6 +148,20 @@ module _ (s : List ℕ) (c : ℕ) (room : c + 9 ≤ length s) where
         let r₅ = others-are r₄ in
         let r₆ = others-are r₅ in
         let r₇ = others-are r₆ in
-        let some : ¬ (getD s (c + 1 + 1) 0 ≡ zeroByte) = λ z. absurd (omega (arith, is, the-byte (first-is r), the-byte (first-is r₁), rw (near 1 1) at z, most (first-is r₃), the-byte (first-is r₄), most (first-is r₅), most (first-is r₆), most (first-is r₇))) in
-        let p = long-at s (c + 1 + 1) (omega arith) (rw (near 1 1) (a-digit (first-is r₂))) some (rw (near₂ 1) (a-digit (first-is r₃))) (rw (near₂ 2) (the-byte (first-is r₄))) (rw (near₂ 3) (a-digit (first-is r₅))) (rw (near₂ 4) (a-digit (first-is r₆))) (rw (near₂ 5) (a-digit (first-is r₇))) (rw (near₂ 6) feed) in
+        let some : ¬ (getD s (c + 1 + 1) 0 ≡ zeroByte) = λ z. absurd (omega (
+          arith,
+          is,
+          the-byte (first-is r),
+          the-byte (first-is r₁),
+          rw (near 1 1) at z,
+          most (first-is r₃),
+          the-byte (first-is r₄),
+          most (first-is r₅),
+          most (first-is r₆),
+          most (first-is r₇),
+        )) in
+        let p = long-at s (c + 1 + 1) (omega arith) (rw (near 1 1) (a-digit (first-is r₂))) some
+        (rw (near₂ 1) (a-digit (first-is r₃))) (rw (near₂ 2) (the-byte (first-is r₄)))
+        (rw (near₂ 3) (a-digit (first-is r₅))) (rw (near₂ 4) (a-digit (first-is r₆)))
+        (rw (near₂ 5) (a-digit (first-is r₇))) (rw (near₂ 6) feed) in
         record { mark = rw add-zero at (the-byte (first-is r)); sign = signed-roll s c (the-byte (first-is r₁)); plain = p; ends = refl }

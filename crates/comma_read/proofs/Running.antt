@@ -50,7 +50,9 @@ module _ (width : ℕ) (some : 1 ≤ width) (few : width ≤ 8) where
       → (allDigits (take width (drop at s)) ≡ true) × (valueOf (take width (drop at s)) ≡ time)
   due-stands s at time room small early e =
       let wide : length (take width (drop at s)) ≡ width = length-take-le width (drop at s) (omega (arith, length-drop at s)) in
-      shown-wide (take width (drop at s)) time (bytes-from s at 8 width few small) (omega arith) (sym (front s at room small) ∙ e ∙ ap (λ (z : ℕ). dial 8 time + z) (zeros-are ∙ ap (each 48) (sym wide))) early
+      shown-wide (take width (drop at s)) time (bytes-from s at 8 width few small) (omega arith)
+      (sym (front s at room small) ∙ e ∙ ap (λ (z : ℕ). dial 8 time + z) (zeros-are ∙ ap (each 48) (sym wide)))
+      early
 
 -- the lines so far
 pub record Running (s : List ℕ) (D at due width digits time place lines : ℕ) : Type 0 where
@@ -66,7 +68,8 @@ module _ (s : List ℕ) (D at due width : ℕ) where
   set-out digits e n inside = record { are = none; when = omega arith; dials = e; narrow = n; within = inside; count = omega arith }
 
 -- one line more
-pub on-line : (s : List ℕ) (D at due width : ℕ) {digits time place lines : ℕ} → Running s D at due width digits time place lines → width ≤ 8 → place + 17 ≤ length s → Small s place 8 → time < 99990000 → D ≤ 10000
+pub on-line : (s : List ℕ) (D at due width : ℕ) {digits time place lines : ℕ} → Running s D at due width digits time
+    place lines → width ≤ 8 → place + 17 ≤ length s → Small s place 8 → time < 99990000 → D ≤ 10000
     → word (take 8 (drop place s)) / 2 ^ (64 - 8 * width) ≡ digits + 0x3030303030303030 / 2 ^ (64 - 8 * width)
     → {roll : ℕ} → PlainRoll s (place + width) roll → Running s D at due width (turned digits (dial 8 D + each 246 8)) (time + D) (place + width + roll / 2) (lines + 1)
 on-line s D at due width {digits} {time} {place} {lines} r few room small early step e {roll} p =

@@ -99,5 +99,6 @@ shape time text h =
       value = eqb-true _ _ due;
       is = d .is;
       count = omega (arith, d .count, front-length (leading text) (below (roll text)) (d .bytes));
-      parts = led text .parts ∙ rw append-assoc (ap (λ x. leading text ++ x) (split ∙ ap (λ x. comma ∷ x) (d .parts ∙ ap (λ x. (signBytes (below (roll text)) ++ d .bytes) ++ x) (last ∙ ap (λ x. lineFeed ∷ x) rest))));
+      parts = led text .parts ∙ rw append-assoc (ap (λ x. leading text ++ x) (split ∙ ap (λ x. comma ∷ x) (d .parts
+          ∙ ap (λ x. (signBytes (below (roll text)) ++ d .bytes) ++ x) (last ∙ ap (λ x. lineFeed ∷ x) rest))));
     }

@@ -89,7 +89,9 @@ module _ (s : List ℕ) (at width : ℕ) (room : at + width ≤ length s) where
   time-leads due some few mark plain all worth =
       let wide : length (take width (drop at s)) ≡ width = length-take-le width (drop at s) (omega (arith, length-drop at s)) in
       let after-it : getD (drop width (drop at s)) 0 0 ≡ comma = rw (getD-drop, getD-drop, add-zero) mark in
-      let digits : leading (drop at s) ≡ take width (drop at s) = ap leading (sym (take-append-drop width (drop at s))) ∙ leading-is (take width (drop at s)) (drop width (drop at s)) all (rw after-it) in
+      let digits : leading (drop at s) ≡ take width (drop at s) =
+      ap leading (sym (take-append-drop width (drop at s))) ∙ leading-is (take width (drop at s))
+      (drop width (drop at s)) all (rw after-it) in
       let first : getD (take width (drop at s)) 0 0 ≡ getD s at 0 = rw (take-first (drop at s) width some, getD-drop, add-zero) in
       let number : isNumber (leading (drop at s)) ≡ true = rw (digits, all, wide, le-leb 1 width some, le-leb width longest few, first, plain) in
       record { number = number; value = rw digits (sym worth); place = rw (digits, wide); small = rw (← worth, ← digits) (number-below (leading (drop at s)) number); within = room }

@@ -50,7 +50,14 @@ outside-join f xs ys =
     by-test (eqb (f .outside) 0)
     (λ o.
     by-order (firstBad xs) (length xs)
-    (λ h. rw (o, lt-ltb (firstBad xs) (length xs) h, ne-eqb (f .lines + firstBad xs + 1) 0 (λ z. omega arith), bad-left xs ys h, length-append, lt-ltb (firstBad xs) (length xs + length ys) (omega arith)))
+    (λ h. rw (
+      o,
+      lt-ltb (firstBad xs) (length xs) h,
+      ne-eqb (f .lines + firstBad xs + 1) 0 (λ z. omega arith),
+      bad-left xs ys h,
+      length-append,
+      lt-ltb (firstBad xs) (length xs + length ys) (omega arith),
+    ))
     (λ h.
     rw (bad-append xs ys (omega (arith, bad-within xs)), o, le-ltb (firstBad xs) (length xs) h, o, length-append)
     (by-order (firstBad ys) (length ys)
@@ -158,7 +165,9 @@ module _ {f : Follow} {text : List ℕ} {slice : List ℤ} {at number outside : 
               let further : time + f .step ≡ (f .lines + (number + 1)) * f .step = rw due (omega arith) in
               g .wrong ∙ rw (← due, wrong-on, further) (omega arith);
           noted = rw (front-on, g .noted, outside-last f (samplesOf (g .front)) x, in-range (below (roll (drop at text))) n, many, flip n);
-          put = rw (front-on, map-append held (samplesOf (g .front)) (x ∷ []), held-signed) (ap (λ s. set s number y) (g .put) ∙ put-last (map held (samplesOf (g .front))) slice y number (length-map (samplesOf (g .front)) held ∙ many) room);
+          put = rw (front-on, map-append held (samplesOf (g .front)) (x ∷ []), held-signed)
+              (ap (λ s. set s number y) (g .put) ∙ put-last (map held (samplesOf (g .front))) slice y number
+              (length-map (samplesOf (g .front)) held ∙ many) room);
         }
 
   -- the same by what was read of it
@@ -184,7 +193,14 @@ module _ {f : Follow} {text : List ℕ} {slice : List ℤ} {at number outside : 
     pub going-stopped : number ≤ places → right ((f .lines + number) * f .step) (drop at text) ≡ false → take places (rightLines f text) ≡ g .front
     unfolding rightLines
     going-stopped few r =
-        rw (g .wrong, g .lines, wrong-none (f .step) ((f .lines + number) * f .step) (drop at text) r, add-zero, take-at (g .front) (Lines text at) number (g .count), take-all places (g .front) (omega (arith, g .count)))
+        rw (
+          g .wrong,
+          g .lines,
+          wrong-none (f .step) ((f .lines + number) * f .step) (drop at text) r,
+          add-zero,
+          take-at (g .front) (Lines text at) number (g .count),
+          take-all places (g .front) (omega (arith, g .count)),
+        )
 
   -- then this is what the lines come to
   module _ (places lines : ℕ) (step : stepInRange (f .step) ≡ true) (all : take places (rightLines f text) ≡ g .front) (e : lines ≡ f .lines + number) where

@@ -146,11 +146,24 @@ module _ (s : List ℕ) (at : ℕ) where
       by-form (short mark h) =
           let f = short-facts h in
           let z = short-sized (p .room) mark f in
-          record { is = record { right = z .right; value = refl; count = z .count }; small = rw (z .value) (omega (arith, value-below (shortDigits s at) (f .digits))); feed = f .feed; room = omega (arith, p .room) }
+          record {
+            is = record { right = z .right; value = refl; count = z .count };
+            small = rw (z .value)
+                (omega (arith, value-below (shortDigits s at) (f .digits)));
+            feed = f .feed;
+            room =
+                omega (arith, p .room);
+          }
       by-form (long mark h) =
           let f = long-facts h in
           let z = long-sized (p .room) mark f in
-          record { is = record { right = z .right; value = refl; count = z .count }; small = rw (z .value) (omega (arith, value-below (longDigits s at) (f .digits), digit-range (getD s at 0) (f .tens) .1)); feed = f .feed; room = omega (arith, p .room) }
+          record {
+            is = record { right = z .right; value = refl; count = z .count };
+            small = rw (z .value)
+                (omega (arith, value-below (longDigits s at) (f .digits), digit-range (getD s at 0) (f .tens) .1));
+            feed = f .feed;
+            room = omega (arith, p .room);
+          }
 
   -- what an answer other than 0 says
   stands : 1 ≤ plainBytes s at → Plain s at (plainBytes s at)

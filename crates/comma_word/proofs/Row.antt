@@ -30,7 +30,9 @@ module _ (s : List ℕ) (at : ℕ) where
   row-is k h = rw add-zero at (taken s at 0 k (omega arith))
 
   pub eight-beside : at + 8 ≤ length s
-      → word (getD s at 0 ∷ getD s (at + 1) 0 ∷ getD s (at + 2) 0 ∷ getD s (at + 3) 0 ∷ []) * 4294967296 + word (getD s (at + 4) 0 ∷ getD s (at + 5) 0 ∷ getD s (at + 6) 0 ∷ getD s (at + 7) 0 ∷ []) ≡ word (take 8 (drop at s))
+      → word (getD s at 0 ∷ getD s (at + 1) 0 ∷ getD s (at + 2) 0 ∷ getD s (at + 3) 0 ∷ []) * 4294967296 + word
+      (getD s (at + 4) 0 ∷ getD s (at + 5) 0 ∷ getD s (at + 6) 0 ∷ getD s (at + 7) 0 ∷ [])
+      ≡ word (take 8 (drop at s))
   unfolding word row
   eight-beside h = rw (row-is 8 h, add-zero) (omega arith)
 

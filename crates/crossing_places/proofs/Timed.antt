@@ -82,8 +82,10 @@ module _ (D R : ℕ) (a : Levels) where
   crossing-times : (xs : List Moment) → R ≤ length xs → map (timeAt D R) (crossings R a xs) ≡ map (timeAt D 0) (crossings 0 a (drop R xs))
   crossing-times xs l =
       let n : length xs ≡ R + length (drop R xs) = omega (arith, length-drop R xs) in
-      let s : passing (crossesAt R a xs) (0 + R) (length (drop R xs)) ≡ passing (crossesAt R a xs) R (length (drop R xs)) = ap (λ (i : ℕ). passing (crossesAt R a xs) i (length (drop R xs))) (zero-add R) in
-      ap (map (timeAt D R)) (skip (crossesAt R a xs) R 0 (length (drop R xs)) n (λ j h. ramp-none R a xs j (omega arith)) ∙ s ∙ sym (scan R a xs R still (drop R xs) refl (λ t. absurd (omega (arith, ltb-true R R t)))))
+      let s : passing (crossesAt R a xs) (0 + R) (length (drop R xs)) ≡ passing (crossesAt R a xs) R
+      (length (drop R xs)) = ap (λ (i : ℕ). passing (crossesAt R a xs) i (length (drop R xs))) (zero-add R) in
+      ap (map (timeAt D R)) (skip (crossesAt R a xs) R 0 (length (drop R xs)) n (λ j h. ramp-none R a xs j
+      (omega arith)) ∙ s ∙ sym (scan R a xs R still (drop R xs) refl (λ t. absurd (omega (arith, ltb-true R R t)))))
       ∙ shifted 0 still (drop R xs) (omega arith)
       ∙ ap (map (timeAt D 0)) (places-whole 0 a (drop R xs))
 

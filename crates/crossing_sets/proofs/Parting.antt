@@ -58,7 +58,8 @@ module _ {A : Type 0} (joins : A → A → Bool) where
   attach-cut x ([] ∷ gs) c = absurd c
   attach-cut x ((y ∷ g) ∷ gs) c = rw c
 
-  pub first-group : (x : A) (g : List A) (gs : List (List A)) → Linked joins x g → Cut joins (lastFrom joins x g) gs → groups joins (together gs) ≡ gs → groups joins (x ∷ (g ++ together gs)) ≡ (x ∷ g) ∷ gs
+  pub first-group : (x : A) (g : List A) (gs : List (List A)) → Linked joins x g → Cut joins (lastFrom joins x g) gs
+      → groups joins (together gs) ≡ gs → groups joins (x ∷ (g ++ together gs)) ≡ (x ∷ g) ∷ gs
   unfolding groups attach
   first-group x [] gs l c e = ap (attach joins x) e ∙ attach-cut x gs c
   first-group x (y ∷ g) gs l c e = ap (attach joins x) (first-group y g gs (l .1) c e) ∙ rw (l .0)

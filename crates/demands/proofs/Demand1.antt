@@ -250,7 +250,8 @@ unfolding telling entering
 tells c f t g = go (eqb t 0) refl (ltb longestTime t) refl
   where
     go : (a : Bool) → eqb t 0 ≡ a → (b : Bool) → ltb longestTime t ≡ b
-        → cond a (campaigned.Refused TooShort) (cond b (campaigned.Refused TooLong) (entering c (lineOutcome f t))) ≡ cond a (campaigned.Refused TooShort) (cond b (campaigned.Refused TooLong) (taken c f t))
+        → cond a (campaigned.Refused TooShort) (cond b (campaigned.Refused TooLong) (entering c (lineOutcome f t)))
+        ≡ cond a (campaigned.Refused TooShort) (cond b (campaigned.Refused TooLong) (taken c f t))
     go true e b l = refl
     go false e true l = refl
     go false e false l = rw (g, le-leb 1 t (some t (eqb-false t 0 e)), le-leb t longestTime (ltb-false longestTime t l))
@@ -262,7 +263,10 @@ demand-1 =
       open-record =
           λ items.
           decided Refused (Taken (stateOf items [])) own-record (λ r e. no (cc)) (itemTests items []) (opened items)
-          (swapped (eqb (itemOutside items) 0) _ _ ∙ first-item Refused [] (Taken (stateOf items [])) (stepInRange (items .step)) (rampInRange (items .ramp)) (levelInRange (items .levels .roll)) (decorrelationInRange (items .decorrelation)) (levelInRange (items .levels .acceleration)) (itemOutside items) refl);
+          (swapped (eqb (itemOutside items) 0) _ _ ∙ first-item Refused [] (Taken (stateOf items []))
+          (stepInRange (items .step)) (rampInRange (items .ramp)) (levelInRange (items .levels .roll))
+          (decorrelationInRange (items .decorrelation)) (levelInRange (items .levels .acceleration))
+          (itemOutside items) refl);
       open-campaign = λ q. decided campaigned.Refused (campaigned.Taken (empty q)) own-campaign (λ r e. no (cc)) _ (campaigns.opened q) (swapped (standardInRange q) _ _);
       feed = λ r xs ys. decided Refused (Taken (foldl stepped r (moments xs ys))) own-record (λ f e. no (cc)) _ (fed r xs ys) refl;
       end = λ r. decided ended.Refused (ended.Given (resultOf r)) own-result (λ f e. no (cc)) _ (ending r) refl;
@@ -270,7 +274,10 @@ demand-1 =
       list =
           λ items xs ys places.
           decided listing.Refused (listing.Times (length (counted items (moments xs ys)))) own-list (λ r e. no (cc)) _ (listed items xs ys places)
-          (first-item listing.Refused (listTests items xs ys places) (listing.Times (length (counted items (moments xs ys)))) (stepInRange (items .step)) (rampInRange (items .ramp)) (levelInRange (items .levels .roll)) (decorrelationInRange (items .decorrelation)) (levelInRange (items .levels .acceleration)) (itemOutside items) refl);
+          (first-item listing.Refused (listTests items xs ys places)
+          (listing.Times (length (counted items (moments xs ys)))) (stepInRange (items .step))
+          (rampInRange (items .ramp)) (levelInRange (items .levels .roll)) (decorrelationInRange
+          (items .decorrelation)) (levelInRange (items .levels .acceleration)) (itemOutside items) refl);
       kept = λ items xs ys before after r p. p .leaves;
       verdict = λ c. decided judging.Refused (judging.Given (verdictOf c)) own-verdict (λ r e. no (cc)) _ (verdicts.judging c) (swapped (campaigning.sound c) _ _);
       rates = λ c. decided rating.Refused (rating.Given (not (eqb (c .records) 0)) (ratesOf c)) own-rates (λ r e. no (cc)) _ (verdicts.rating c) (swapped (campaigning.sound c) _ _);

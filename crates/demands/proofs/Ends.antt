@@ -230,8 +230,7 @@ short-ends = refl
 
 -- and for a list, with R = 1; more counted times than places give 7 with the number needed
 abbrev pub list : List ℤ → ℕ → ℕ × ℕ
-list xs places =
-    ofListed (listed (usual 500 1) xs (map (λ (x : ℤ). pos 0) xs) places)
+list xs places = ofListed (listed (usual 500 1) xs (map (λ (x : ℤ). pos 0) xs) places)
 
 pub short-list-ends : list (replicate 2 (pos 0)) 0 ∷ list (replicate 3 (pos 0)) 0 ∷ [] ≡ (4, 0) ∷ taken ∷ []
 unfolding listed itemOutside firstBad firsts inGroups attach passing moments

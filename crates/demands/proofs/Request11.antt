@@ -77,7 +77,8 @@ pub record Request11 : Type 0 where
   pub highest : (l : List Peak) → All (Highest l) (kept l)
   pub all-kept : (l : List Peak) (p : Peak) (g : List Peak) → Stands (high (length l) (sum l)) l (p ∷ g) → In (largest (p ∷ g)) (kept l)
   pub apart : (D R τ : ℕ) (xs : List ℤ) → 1 ≤ D → Spaced (τ + 1) 0 (handed D R τ xs)
-  pub settled : (D R τ : ℕ) (xs : List ℤ) (sizes times : List ℕ) (x y : PeaksFound) (s t u v : List ℕ) → FindsTo D R τ xs sizes times x s u → FindsTo D R τ xs sizes times y t v → (x ≡ y) × (s ≡ t) × (u ≡ v)
+  pub settled : (D R τ : ℕ) (xs : List ℤ) (sizes times : List ℕ) (x y : PeaksFound) (s t u v : List ℕ) → FindsTo D R
+      τ xs sizes times x s u → FindsTo D R τ xs sizes times y t v → (x ≡ y) × (s ≡ t) × (u ≡ v)
 
 -- ---- the proof
 level-in-range : (D R τ : ℕ) → ¬ (itemAsked D R τ ≡ 3) × ¬ (itemAsked D R τ ≡ 6)

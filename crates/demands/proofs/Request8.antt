@@ -134,7 +134,8 @@ quiet-roll a (y ∷ ys) (suc k) = quiet-roll a ys k
 levels : (items : Items) → itemOutside items ≡ 0
     → (levelInRange (items .levels .roll) ≡ true) × (levelInRange (items .levels .acceleration) ≡ true)
 unfolding itemOutside
-levels items = go (stepInRange (items .step)) (rampInRange (items .ramp)) (levelInRange (items .levels .roll)) (decorrelationInRange (items .decorrelation)) (levelInRange (items .levels .acceleration))
+levels items = go (stepInRange (items .step)) (rampInRange (items .ramp)) (levelInRange (items .levels .roll))
+    (decorrelationInRange (items .decorrelation)) (levelInRange (items .levels .acceleration))
   where
     go : (b c d e f : Bool) → _≡_ {A = ℕ} (cond (not b) 1 (cond (not c) 2 (cond (not d) 3 (cond (not e) 4 (cond (not f) 6 0))))) 0 → (d ≡ true) × (f ≡ true)
     go false c d e f z = absurd (omega (arith, z))

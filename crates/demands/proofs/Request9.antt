@@ -175,7 +175,8 @@ module _ (t : List Place) (b : ℕ) where
 
   enter-is : (i : ℕ) (o : Outcome) → sound (at t i .campaign) ≡ true
       → worked b (at t i .campaign) (Enter o) .answer
-      ≡ decide Refused (not (outcomeKept o) gives BrokenState ∷ (eqb (at t i .campaign .records) mostRecords gives CampaignFull ∷ (eqb (at t i .campaign .failures) rows gives RowsUsedUp ∷ []))) Entered
+      ≡ decide Refused (not (outcomeKept o) gives BrokenState ∷ (eqb (at t i .campaign .records) mostRecords gives
+      CampaignFull ∷ (eqb (at t i .campaign .failures) rows gives RowsUsedUp ∷ []))) Entered
   unfolding entering decide
   enter-is i o s = rw s (handed-on b (at t i .campaign) _ (not (outcomeKept o)) (eqb (at t i .campaign .records) mostRecords) (eqb (at t i .campaign .failures) rows))
 

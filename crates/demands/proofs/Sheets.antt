@@ -68,8 +68,7 @@ stoppedText =
     ++ ((49 ∷ 9 ∷ 48 ∷ 9 ∷ 53 ∷ 10 ∷ [])))
 
 abbrev stoppedReply : List ℕ
-stoppedReply =
-    (114 ∷ 101 ∷ 102 ∷ 117 ∷ 115 ∷ 101 ∷ 100 ∷ 9 ∷ 50 ∷ 9 ∷ 51 ∷ 10 ∷ [])
+stoppedReply = (114 ∷ 101 ∷ 102 ∷ 117 ∷ 115 ∷ 101 ∷ 100 ∷ 9 ∷ 50 ∷ 9 ∷ 51 ∷ 10 ∷ [])
 
 pub stopped : says stoppedText ≡ stoppedReply
 unfolding says
@@ -77,12 +76,10 @@ stopped = refl
 
 -- an absent line 1 is 9: refused 1 9 0
 abbrev absentText : List ℕ
-absentText =
-    []
+absentText = []
 
 abbrev absentReply : List ℕ
-absentReply =
-    (114 ∷ 101 ∷ 102 ∷ 117 ∷ 115 ∷ 101 ∷ 100 ∷ 9 ∷ 49 ∷ 9 ∷ 57 ∷ 9 ∷ 48 ∷ 10 ∷ [])
+absentReply = (114 ∷ 101 ∷ 102 ∷ 117 ∷ 115 ∷ 101 ∷ 100 ∷ 9 ∷ 49 ∷ 9 ∷ 57 ∷ 9 ∷ 48 ∷ 10 ∷ [])
 
 pub absent : says absentText ≡ absentReply
 unfolding says
@@ -95,8 +92,7 @@ unendedText =
     ++ ((49 ∷ 9 ∷ 48 ∷ 9 ∷ 53 ∷ []))
 
 abbrev unendedReply : List ℕ
-unendedReply =
-    (114 ∷ 101 ∷ 102 ∷ 117 ∷ 115 ∷ 101 ∷ 100 ∷ 9 ∷ 50 ∷ 9 ∷ 57 ∷ 9 ∷ 48 ∷ 10 ∷ [])
+unendedReply = (114 ∷ 101 ∷ 102 ∷ 117 ∷ 115 ∷ 101 ∷ 100 ∷ 9 ∷ 50 ∷ 9 ∷ 57 ∷ 9 ∷ 48 ∷ 10 ∷ [])
 
 pub unended : says unendedText ≡ unendedReply
 unfolding says
@@ -104,12 +100,10 @@ unended = refl
 
 -- line 1 is the word standard, then q: Standard 5 gives refused 1 9 1
 abbrev standardFirstText : List ℕ
-standardFirstText =
-    (83 ∷ 116 ∷ 97 ∷ 110 ∷ 100 ∷ 97 ∷ 114 ∷ 100 ∷ 9 ∷ 53 ∷ 10 ∷ [])
+standardFirstText = (83 ∷ 116 ∷ 97 ∷ 110 ∷ 100 ∷ 97 ∷ 114 ∷ 100 ∷ 9 ∷ 53 ∷ 10 ∷ [])
 
 abbrev standardFirstReply : List ℕ
-standardFirstReply =
-    (114 ∷ 101 ∷ 102 ∷ 117 ∷ 115 ∷ 101 ∷ 100 ∷ 9 ∷ 49 ∷ 9 ∷ 57 ∷ 9 ∷ 49 ∷ 10 ∷ [])
+standardFirstReply = (114 ∷ 101 ∷ 102 ∷ 117 ∷ 115 ∷ 101 ∷ 100 ∷ 9 ∷ 49 ∷ 9 ∷ 57 ∷ 9 ∷ 49 ∷ 10 ∷ [])
 
 pub standard-first : says standardFirstText ≡ standardFirstReply
 unfolding says
@@ -117,12 +111,10 @@ standard-first = refl
 
 -- a number of 12 digits is a number: standard 999999999999 is refused by 1
 abbrev standardRangeText : List ℕ
-standardRangeText =
-    standardStart ++ (57 ∷ 57 ∷ 57 ∷ 57 ∷ 57 ∷ 57 ∷ 57 ∷ 57 ∷ 57 ∷ 57 ∷ 57 ∷ 57 ∷ 10 ∷ [])
+standardRangeText = standardStart ++ (57 ∷ 57 ∷ 57 ∷ 57 ∷ 57 ∷ 57 ∷ 57 ∷ 57 ∷ 57 ∷ 57 ∷ 57 ∷ 57 ∷ 10 ∷ [])
 
 abbrev standardRangeReply : List ℕ
-standardRangeReply =
-    (114 ∷ 101 ∷ 102 ∷ 117 ∷ 115 ∷ 101 ∷ 100 ∷ 9 ∷ 49 ∷ 9 ∷ 49 ∷ 10 ∷ [])
+standardRangeReply = (114 ∷ 101 ∷ 102 ∷ 117 ∷ 115 ∷ 101 ∷ 100 ∷ 9 ∷ 49 ∷ 9 ∷ 49 ∷ 10 ∷ [])
 
 pub standard-range : says standardRangeText ≡ standardRangeReply
 unfolding says
@@ -130,12 +122,10 @@ standard-range = refl
 
 -- one of 13 is none: refused 1 9 10
 abbrev thirteenText : List ℕ
-thirteenText =
-    standardStart ++ (49 ∷ 48 ∷ 48 ∷ 48 ∷ 48 ∷ 48 ∷ 48 ∷ 48 ∷ 48 ∷ 48 ∷ 48 ∷ 48 ∷ 48 ∷ 10 ∷ [])
+thirteenText = standardStart ++ (49 ∷ 48 ∷ 48 ∷ 48 ∷ 48 ∷ 48 ∷ 48 ∷ 48 ∷ 48 ∷ 48 ∷ 48 ∷ 48 ∷ 48 ∷ 10 ∷ [])
 
 abbrev thirteenReply : List ℕ
-thirteenReply =
-    (114 ∷ 101 ∷ 102 ∷ 117 ∷ 115 ∷ 101 ∷ 100 ∷ 9 ∷ 49 ∷ 9 ∷ 57 ∷ 9 ∷ 49 ∷ 48 ∷ 10 ∷ [])
+thirteenReply = (114 ∷ 101 ∷ 102 ∷ 117 ∷ 115 ∷ 101 ∷ 100 ∷ 9 ∷ 49 ∷ 9 ∷ 57 ∷ 9 ∷ 49 ∷ 48 ∷ 10 ∷ [])
 
 pub thirteen : says thirteenText ≡ thirteenReply
 unfolding says
@@ -143,12 +133,10 @@ thirteen = refl
 
 -- 0 itself is a number: standard 0 is refused by 1
 abbrev zeroItselfText : List ℕ
-zeroItselfText =
-    (115 ∷ 116 ∷ 97 ∷ 110 ∷ 100 ∷ 97 ∷ 114 ∷ 100 ∷ 9 ∷ 48 ∷ 10 ∷ [])
+zeroItselfText = (115 ∷ 116 ∷ 97 ∷ 110 ∷ 100 ∷ 97 ∷ 114 ∷ 100 ∷ 9 ∷ 48 ∷ 10 ∷ [])
 
 abbrev zeroItselfReply : List ℕ
-zeroItselfReply =
-    (114 ∷ 101 ∷ 102 ∷ 117 ∷ 115 ∷ 101 ∷ 100 ∷ 9 ∷ 49 ∷ 9 ∷ 49 ∷ 10 ∷ [])
+zeroItselfReply = (114 ∷ 101 ∷ 102 ∷ 117 ∷ 115 ∷ 101 ∷ 100 ∷ 9 ∷ 49 ∷ 9 ∷ 49 ∷ 10 ∷ [])
 
 pub zero-itself : says zeroItselfText ≡ zeroItselfReply
 unfolding says
@@ -156,12 +144,10 @@ zero-itself = refl
 
 -- no leading zero but for 0: standard 05 gives refused 1 9 10
 abbrev zeroFirstText : List ℕ
-zeroFirstText =
-    (115 ∷ 116 ∷ 97 ∷ 110 ∷ 100 ∷ 97 ∷ 114 ∷ 100 ∷ 9 ∷ 48 ∷ 53 ∷ 10 ∷ [])
+zeroFirstText = (115 ∷ 116 ∷ 97 ∷ 110 ∷ 100 ∷ 97 ∷ 114 ∷ 100 ∷ 9 ∷ 48 ∷ 53 ∷ 10 ∷ [])
 
 abbrev zeroFirstReply : List ℕ
-zeroFirstReply =
-    (114 ∷ 101 ∷ 102 ∷ 117 ∷ 115 ∷ 101 ∷ 100 ∷ 9 ∷ 49 ∷ 9 ∷ 57 ∷ 9 ∷ 49 ∷ 48 ∷ 10 ∷ [])
+zeroFirstReply = (114 ∷ 101 ∷ 102 ∷ 117 ∷ 115 ∷ 101 ∷ 100 ∷ 9 ∷ 49 ∷ 9 ∷ 57 ∷ 9 ∷ 49 ∷ 48 ∷ 10 ∷ [])
 
 pub zero-first : says zeroFirstText ≡ zeroFirstReply
 unfolding says
@@ -169,12 +155,10 @@ zero-first = refl
 
 -- no digit is no number: refused 1 9 10
 abbrev noDigitsText : List ℕ
-noDigitsText =
-    (115 ∷ 116 ∷ 97 ∷ 110 ∷ 100 ∷ 97 ∷ 114 ∷ 100 ∷ 9 ∷ 10 ∷ [])
+noDigitsText = (115 ∷ 116 ∷ 97 ∷ 110 ∷ 100 ∷ 97 ∷ 114 ∷ 100 ∷ 9 ∷ 10 ∷ [])
 
 abbrev noDigitsReply : List ℕ
-noDigitsReply =
-    (114 ∷ 101 ∷ 102 ∷ 117 ∷ 115 ∷ 101 ∷ 100 ∷ 9 ∷ 49 ∷ 9 ∷ 57 ∷ 9 ∷ 49 ∷ 48 ∷ 10 ∷ [])
+noDigitsReply = (114 ∷ 101 ∷ 102 ∷ 117 ∷ 115 ∷ 101 ∷ 100 ∷ 9 ∷ 49 ∷ 9 ∷ 57 ∷ 9 ∷ 49 ∷ 48 ∷ 10 ∷ [])
 
 pub no-digits : says noDigitsText ≡ noDigitsReply
 unfolding says
@@ -187,8 +171,7 @@ numberedText =
     ++ ((50 ∷ 9 ∷ 48 ∷ 9 ∷ 53 ∷ 10 ∷ []))
 
 abbrev numberedReply : List ℕ
-numberedReply =
-    (114 ∷ 101 ∷ 102 ∷ 117 ∷ 115 ∷ 101 ∷ 100 ∷ 9 ∷ 50 ∷ 9 ∷ 57 ∷ 9 ∷ 49 ∷ 10 ∷ [])
+numberedReply = (114 ∷ 101 ∷ 102 ∷ 117 ∷ 115 ∷ 101 ∷ 100 ∷ 9 ∷ 50 ∷ 9 ∷ 57 ∷ 9 ∷ 49 ∷ 10 ∷ [])
 
 pub numbered : says numberedText ≡ numberedReply
 unfolding says
@@ -201,8 +184,7 @@ flaggedText =
     ++ ((49 ∷ 9 ∷ 50 ∷ 9 ∷ 53 ∷ 10 ∷ []))
 
 abbrev flaggedReply : List ℕ
-flaggedReply =
-    (114 ∷ 101 ∷ 102 ∷ 117 ∷ 115 ∷ 101 ∷ 100 ∷ 9 ∷ 50 ∷ 9 ∷ 57 ∷ 9 ∷ 51 ∷ 10 ∷ [])
+flaggedReply = (114 ∷ 101 ∷ 102 ∷ 117 ∷ 115 ∷ 101 ∷ 100 ∷ 9 ∷ 50 ∷ 9 ∷ 57 ∷ 9 ∷ 51 ∷ 10 ∷ [])
 
 pub flagged : says flaggedText ≡ flaggedReply
 unfolding says
@@ -215,8 +197,7 @@ partedText =
     ++ ((49 ∷ 9 ∷ 9 ∷ 48 ∷ 9 ∷ 53 ∷ 10 ∷ []))
 
 abbrev partedReply : List ℕ
-partedReply =
-    (114 ∷ 101 ∷ 102 ∷ 117 ∷ 115 ∷ 101 ∷ 100 ∷ 9 ∷ 50 ∷ 9 ∷ 57 ∷ 9 ∷ 48 ∷ 10 ∷ [])
+partedReply = (114 ∷ 101 ∷ 102 ∷ 117 ∷ 115 ∷ 101 ∷ 100 ∷ 9 ∷ 50 ∷ 9 ∷ 57 ∷ 9 ∷ 48 ∷ 10 ∷ [])
 
 pub parted : says partedText ≡ partedReply
 unfolding says
@@ -229,8 +210,7 @@ spacedText =
     ++ ((49 ∷ 32 ∷ 48 ∷ 32 ∷ 53 ∷ 10 ∷ []))
 
 abbrev spacedReply : List ℕ
-spacedReply =
-    (114 ∷ 101 ∷ 102 ∷ 117 ∷ 115 ∷ 101 ∷ 100 ∷ 9 ∷ 50 ∷ 9 ∷ 57 ∷ 9 ∷ 48 ∷ 10 ∷ [])
+spacedReply = (114 ∷ 101 ∷ 102 ∷ 117 ∷ 115 ∷ 101 ∷ 100 ∷ 9 ∷ 50 ∷ 9 ∷ 57 ∷ 9 ∷ 48 ∷ 10 ∷ [])
 
 pub spaced : says spacedText ≡ spacedReply
 unfolding says

@@ -32,8 +32,7 @@ use Rattle.demands.proofs.Tail.{figures, sum-of-figures}
 -- the runs 2 | -1 | 5 | -1 | 7 | -1 | 6 | -1 | 2, one sample each: of the peaks 1 5 1 7 1 6 1, seven with the sum 22,
 -- those from 4 on are high, and 1,000 ms part one from the next
 abbrev swaying : List ℤ
-swaying =
-    pos 2 ∷ negsuc 0 ∷ pos 5 ∷ negsuc 0 ∷ pos 7 ∷ negsuc 0 ∷ pos 6 ∷ negsuc 0 ∷ pos 2 ∷ []
+swaying = pos 2 ∷ negsuc 0 ∷ pos 5 ∷ negsuc 0 ∷ pos 7 ∷ negsuc 0 ∷ pos 6 ∷ negsuc 0 ∷ pos 2 ∷ []
 
 abbrev at : Peak → ℕ × ℕ
 at p = (p .size, p .time)

@@ -63,11 +63,24 @@ module _ (D R τ : ℕ) (xs : List ℤ) (sizes times : List ℕ) where
   -- a refusal of the tests that listing has
   pub finds-refused : (f : Refusal) → tested (unlevelled D R τ) xs xs ≡ size.Refused f → FindsTo D R τ xs sizes times (Refused f) sizes times
   unfolding tested found written
-  finds-refused f e = record { answers = go (eqb (itemAsked D R τ) 0) (ltb (firstBad xs) (length xs)) (ltb (mostSamples D R) (length xs)) (tooFew R (length xs)) (rw (eq-eqb (length xs) (length xs) refl, twice (ltb (firstBad xs) (length xs)), le-leb (firstBad xs) (firstBad xs) (omega arith)) at e); sizes-left = refl; times-left = refl }
+  finds-refused f e = record {
+    answers = go (eqb (itemAsked D R τ) 0) (ltb (firstBad xs) (length xs))
+        (ltb (mostSamples D R) (length xs)) (tooFew R (length xs)) (rw (
+          eq-eqb (length xs) (length xs) refl,
+          twice (ltb (firstBad xs) (length xs)),
+          le-leb (firstBad xs) (firstBad xs) (omega arith),
+        ) at e);
+    sizes-left =
+        refl;
+    times-left = refl;
+  }
     where
       go : (i b l s : Bool)
-          → cond (not i) (size.Refused (Item (itemAsked D R τ))) (cond b (size.Refused (Sample (firstBad xs))) (cond l (size.Refused TooLong) (cond s (size.Refused TooShort) size.Fits))) ≡ size.Refused f
-          → Refused f ≡ cond (not i) (Refused (Item (itemAsked D R τ))) (cond b (Refused (Sample (firstBad xs))) (cond l (Refused TooLong) (cond s (Refused TooShort) (placed (length sizes) (length times) (length (handed D R τ xs))))))
+          → cond (not i) (size.Refused (Item (itemAsked D R τ))) (cond b (size.Refused (Sample (firstBad xs)))
+          (cond l (size.Refused TooLong) (cond s (size.Refused TooShort) size.Fits))) ≡ size.Refused f
+          → Refused f ≡ cond (not i) (Refused (Item (itemAsked D R τ))) (cond b (Refused (Sample (firstBad xs)))
+          (cond l (Refused TooLong) (cond s (Refused TooShort) (placed (length sizes) (length times)
+          (length (handed D R τ xs))))))
       go false b l s e = cc
       go true true l s e = cc
       go true false true s e = cc
@@ -80,6 +93,8 @@ module _ (D R τ : ℕ) (xs : List ℤ) (sizes times : List ℕ) where
     finds-bad b = record { answers = rw (eq-eqb _ _ (f .ranged), lt-ltb _ _ b); sizes-left = refl; times-left = refl }
 
     -- what the timed samples hand out is the record's
-    pub finds-good : length xs ≤ firstBad xs → {answer : PeaksFound} {sizesAfter timesAfter : List ℕ} → HandsOut (handed D R τ xs) sizes times answer sizesAfter timesAfter → FindsTo D R τ xs sizes times answer sizesAfter timesAfter
+    pub finds-good : length xs ≤ firstBad xs → {answer : PeaksFound} {sizesAfter timesAfter : List ℕ} →
+        HandsOut (handed D R τ xs) sizes times answer sizesAfter timesAfter → FindsTo D R τ xs sizes times answer
+        sizesAfter timesAfter
     unfolding found
     finds-good g h = record { answers = rw (eq-eqb _ _ (f .ranged), le-ltb _ _ g, le-ltb _ _ (f .most), le-ltb _ _ (f .few)) (h .answers); sizes-left = h .sizes-left; times-left = h .times-left }

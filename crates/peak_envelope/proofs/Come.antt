@@ -25,12 +25,15 @@ module _ (n s : ℕ) where
   unfolding those
   standing-next g p l = let h = met n s g p in ap (those (high n s)) (within-next (alike n s) g h (p ∷ l) l (turned-next (alike n s (g .last) p) g p) (left-next (alike n s) g p l)) ∙ go (gave g h)
     where
-      go : (k : Bool) → (let h = met n s g p in those (high n s) (cond k (g .best ∷ within (alike n s) h l) (within (alike n s) h l)) ≡ cond (k && high n s (g .best)) (g .best ∷ standingLeft h l) (standingLeft h l))
+      go : (k : Bool) → (let h = met n s g p in those (high n s) (cond k (g .best ∷ within (alike n s) h l)
+          (within (alike n s) h l)) ≡ cond (k && high n s (g .best)) (g .best ∷ standingLeft h l) (standingLeft h l))
       go true = refl
       go false = refl
 
 -- ---- the chains: a kept peak p comes, or none
-chains-next : (τ : ℕ) (g : Group) (b : Bool) (p : Peak) (l : List Peak) → (let h = cond b (chained τ g p) g in left (close τ) g (cond b (p ∷ l) l) ≡ cond (closed g (h .opened)) (g .best ∷ left (close τ) h l) (left (close τ) h l))
+chains-next : (τ : ℕ) (g : Group) (b : Bool) (p : Peak) (l : List Peak) → (let h = cond b (chained τ g p) g in
+    left (close τ) g (cond b (p ∷ l) l) ≡ cond (closed g (h .opened)) (g .best ∷ left (close τ) h l) (left (close τ)
+    h l))
 chains-next τ g true p l = left-next (close τ) g p l
 chains-next τ g false p l = rw (closed-none g)
 
@@ -39,7 +42,8 @@ module _ (n s τ : ℕ) where
   unfoldable pub toCome : Envelope → List Peak → List Peak
   toCome e l = left (close τ) (e .chains) (standingLeft n s (e .stretches) l)
 
-  pub come-next : (e : Envelope) (p : Peak) (l : List Peak) → (let f = stepped n s τ e p in toCome e (p ∷ l) ≡ cond (closed (e .chains) (f .chains .opened)) (e .chains .best ∷ toCome f l) (toCome f l))
+  pub come-next : (e : Envelope) (p : Peak) (l : List Peak) → (let f = stepped n s τ e p in toCome e (p ∷ l)
+      ≡ cond (closed (e .chains) (f .chains .opened)) (e .chains .best ∷ toCome f l) (toCome f l))
   unfolding toCome stepped
   come-next e p l =
       let h = met n s (e .stretches) p in

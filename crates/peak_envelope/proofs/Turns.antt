@@ -61,10 +61,12 @@ module _ (g h : Group) (n : Next g h) (l : List Peak) where
   pub place-next : h .opened - 1 + length l ≡ g .opened - 1 + length (cond (closed g (h .opened)) (g .best ∷ l) l)
   place-next = ap (λ (k : ℕ). k + length l) (next-place g h n) ∙ count-next (closed g (h .opened)) (g .opened - 1) (g .best) l
 
-  pub sets-next : (f : Peak → ℕ) (slice : List ℕ) → sets (noting g (h .opened) (f (g .best)) slice) (h .opened - 1) (map f l) ≡ sets slice (g .opened - 1) (map f (cond (closed g (h .opened)) (g .best ∷ l) l))
+  pub sets-next : (f : Peak → ℕ) (slice : List ℕ) → sets (noting g (h .opened) (f (g .best)) slice) (h .opened - 1)
+      (map f l) ≡ sets slice (g .opened - 1) (map f (cond (closed g (h .opened)) (g .best ∷ l) l))
   sets-next f slice = ap (λ (k : ℕ). sets (noting g (h .opened) (f (g .best)) slice) k (map f l)) (next-place g h n) ∙ go (closed g (h .opened))
     where
-      go : (b : Bool) → sets (cond b (set slice (g .opened - 1) (f (g .best))) slice) (cond b (g .opened - 1 + 1) (g .opened - 1)) (map f l) ≡ sets slice (g .opened - 1) (map f (cond b (g .best ∷ l) l))
+      go : (b : Bool) → sets (cond b (set slice (g .opened - 1) (f (g .best))) slice) (cond b (g .opened - 1 + 1)
+          (g .opened - 1)) (map f l) ≡ sets slice (g .opened - 1) (map f (cond b (g .best ∷ l) l))
       go true = rw add-one
       go false = refl
 

@@ -64,7 +64,17 @@ larger-at : (D t : ℕ) (s : Bool) (r : Run) (x : ℤ) → r .below ≡ s → si
 unfolding larger
 larger-at D t s r x h e = rw (e, h) (go (ltb (r .size) (natAbs x)))
   where
-    go : (b : Bool) → _≡_ {A = Peak} (record { below = s; size = cond b (natAbs x) (r .size); time = t + cond b (r .length) (r .place) * D }) (cond b (record { below = s; size = natAbs x; time = t + r .length * D }) (record { below = s; size = r .size; time = t + r .place * D }))
+    go : (b : Bool) → _≡_ {A = Peak} (record {
+      below = s;
+      size = cond b (natAbs x) (r .size);
+      time =
+          t + cond b (r .length) (r .place) * D;
+    }) (cond b (record {
+      below = s;
+      size = natAbs x;
+      time = t + r .length
+          * D;
+    }) (record { below = s; size = r .size; time = t + r .place * D }))
     go true = refl
     go false = refl
 
@@ -100,7 +110,9 @@ module _ (D t : ℕ) where
           rest = a .rest ∙ ap (λ (v : ℕ). groups sameSide (points D false (t + v * D) (drop (length (a .group)) ys))) m;
           fits = omega (arith, a .fits);
           long = λ r h l. ap (λ (v : Run). v .length) (w r h) ∙ a .long (longer r y) h (omega arith) ∙ m;
-          peak = λ r h l. ap (peakAt D t) (w r h) ∙ a .peak (longer r y) h (omega arith) ∙ ap (λ (b : Peak). foldl larger b (a .group)) (larger-at D t s r y h f ∙ ap (λ (v : ℕ). larger (peakAt D t r) (point s (t + v * D) y)) l);
+          peak = λ r h l. ap (peakAt D t) (w r h) ∙ a .peak (longer r y) h (omega arith) ∙
+              ap (λ (b : Peak). foldl larger b (a .group)) (larger-at D t s r y h f ∙
+              ap (λ (v : ℕ). larger (peakAt D t r) (point s (t + v * D) y)) l);
         }
 
     -- it does not

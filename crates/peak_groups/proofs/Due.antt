@@ -38,10 +38,14 @@ next D t x xs =
     let n = length (a .group) in
     let l : r .length ≡ suc n = a .long (opened x) refl refl ∙ (omega arith) in
     let u : t + D ≡ t + 1 * D = omega arith in
-    let p : peakAt D t r ≡ foldl larger (point false t x) (a .group) = a .peak (opened x) refl refl ∙ ap (λ (v : ℕ). foldl larger (record { below = side false x; size = natAbs x; time = v }) (a .group)) (omega arith) in
-    let e : all D t (x ∷ xs) ≡ foldl larger (point false t x) (a .group) ∷ map largest (a .later) = ap (λ (v : ℕ). tops sameSide (point false t x ∷ points D (side false x) v xs)) u ∙ ap (map largest) (a .is) in
+    let p : peakAt D t r ≡ foldl larger (point false t x) (a .group) = a .peak (opened x) refl refl ∙
+    ap (λ (v : ℕ). foldl larger (record { below = side false x; size = natAbs x; time = v }) (a .group))
+    (omega arith) in
+    let e : all D t (x ∷ xs) ≡ foldl larger (point false t x) (a .group) ∷ map largest (a .later) =
+    ap (λ (v : ℕ). tops sameSide (point false t x ∷ points D (side false x) v xs)) u ∙ ap (map largest) (a .is) in
     record {
-      is = rw (p, l) (e ∙ ap (λ (g : List (List Peak)). foldl larger (point false t x) (a .group) ∷ map largest g) (a .rest ∙ ap (λ (v : ℕ). groups sameSide (points D false (t + v * D) (drop n xs))) (omega arith)));
+      is = rw (p, l) (e ∙ ap (λ (g : List (List Peak)). foldl larger (point false t x) (a .group) ∷ map largest g)
+          (a .rest ∙ ap (λ (v : ℕ). groups sameSide (points D false (t + v * D) (drop n xs))) (omega arith)));
       some = omega arith;
       fits = omega (arith, a .fits);
       inner = inside (opened x) xs (omega arith);
@@ -109,7 +113,9 @@ unfolding points started zeros
 zeros-started D t [] = refl
 zeros-started D t (x ∷ xs) = go (eqb (natAbs x) 0) refl (zeros-started D (t + D) xs)
   where
-    go : (b : Bool) → eqb (natAbs x) 0 ≡ b → started (points D false (t + D) xs) ≡ points D false (t + D + zeros xs * D) (drop (zeros xs) xs) → started (points D false t (x ∷ xs)) ≡ points D false (t + zeros (x ∷ xs) * D) (drop (zeros (x ∷ xs)) (x ∷ xs))
+    go : (b : Bool) → eqb (natAbs x) 0 ≡ b → started (points D false (t + D) xs) ≡ points D false (t + D + zeros xs
+        * D) (drop (zeros xs) xs) → started (points D false t (x ∷ xs)) ≡ points D false (t + zeros (x ∷ xs) * D)
+        (drop (zeros (x ∷ xs)) (x ∷ xs))
     go true e i = let u : t + D + zeros xs * D ≡ t + suc (zeros xs) * D = omega arith in rw e (i ∙ ap (λ (v : ℕ). points D false v (drop (zeros xs) xs)) u)
     go false e i =
         let u : t ≡ t + 0 * D = omega arith in

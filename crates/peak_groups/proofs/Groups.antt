@@ -39,6 +39,8 @@ module _ (joins : Peak → Peak → Bool) where
   not-last p b x [] = refl
   not-last p b x (y ∷ l) = go (not-last p (larger b y) y l) (joins x y)
     where
-      go : dropLast (p ∷ from (larger b y) y l) ≡ p ∷ dropLast (from (larger b y) y l) → (k : Bool) → dropLast (p ∷ cond k (from (larger b y) y l) (b ∷ from y y l)) ≡ p ∷ dropLast (cond k (from (larger b y) y l) (b ∷ from y y l))
+      go : dropLast (p ∷ from (larger b y) y l) ≡ p ∷ dropLast (from (larger b y) y l) → (k : Bool) →
+          dropLast (p ∷ cond k (from (larger b y) y l) (b ∷ from y y l)) ≡ p ∷ dropLast
+          (cond k (from (larger b y) y l) (b ∷ from y y l))
       go i true = i
       go i false = refl

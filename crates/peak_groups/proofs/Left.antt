@@ -62,7 +62,10 @@ module _ (joins : Peak → Peak → Bool) where
     unfolding within
     within-next e = rw e (go (ltb 1 (g .opened)) (eqb (g .opened) (h .opened)) (ltb 0 (g .opened)) refl refl refl)
       where
-        go : (b d a : Bool) → ltb 1 (g .opened) ≡ b → eqb (g .opened) (h .opened) ≡ d → ltb 0 (g .opened) ≡ a → dropLast (cond b (cond (a && not d) (g .best ∷ left h m) (left h m)) (drop 1 (cond (a && not d) (g .best ∷ left h m) (left h m)))) ≡ cond (b && not d) (g .best ∷ within h m) (within h m)
+        go : (b d a : Bool) → ltb 1 (g .opened) ≡ b → eqb (g .opened) (h .opened) ≡ d → ltb 0 (g .opened) ≡ a →
+            dropLast (cond b (cond (a && not d) (g .best ∷ left h m) (left h m))
+            (drop 1 (cond (a && not d) (g .best ∷ left h m) (left h m)))) ≡ cond (b && not d) (g .best ∷ within h m)
+            (within h m)
         go true true a p q r = rw (and-false a, lt-ltb 1 (h .opened) (omega (arith, ltb-true 1 (g .opened) p, eqb-true (g .opened) (h .opened) q)))
         go true false true p q r = rw (lt-ltb 1 (h .opened) (omega (arith, ltb-true 1 (g .opened) p))) (open-last (g .best) h m (omega (arith, ltb-true 1 (g .opened) p)))
         go true false false p q r = absurd (omega (arith, ltb-true 1 (g .opened) p, ltb-false 0 (g .opened) r))

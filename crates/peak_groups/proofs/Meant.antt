@@ -36,7 +36,12 @@ top-next p y l t = go (ltb (p .size) (y .size)) refl
           before = l;
           after = [];
           is = refl;
-          smaller = rw (t .is) (all-append (λ q. q .size < y .size) (t .before) (p ∷ t .after) (all-weaken (p .size) (y .size) (omega arith) (t .before) (t .smaller)) (h, all-below (p .size) (y .size) h (t .after) (t .no-larger)));
+          smaller = rw (t .is) (all-append (λ q. q .size < y .size) (t .before) (p ∷ t .after) (all-weaken (p .size)
+              (y .size) (omega arith) (t .before) (t .smaller)) (
+                h,
+                all-below (p .size) (y .size) h (t .after)
+                    (t .no-larger),
+              ));
           no-larger = tt;
         }
     go false e =

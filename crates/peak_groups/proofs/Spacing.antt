@@ -43,9 +43,13 @@ module _ (d : ℕ) (joins : Peak → Peak → Bool) (gap : (x y : Peak) → x .t
   spaced-from : (t : ℕ) (b x : Peak) (l : List Peak) → t ≤ b .time → b .time ≤ x .time → Spaced 1 (x .time + 1) l → Spaced d t (from joins b x l)
   unfolding from larger
   spaced-from t b x [] h k s = (h, tt)
-  spaced-from t b x (y ∷ l) h k s = go (joins x y) refl (ltb (b .size) (y .size)) (λ (c : Peak) (m : t ≤ c .time) (n : c .time ≤ y .time). spaced-from t c y l m n (s .1)) (λ (u : ℕ) (m : u ≤ y .time). spaced-from u y y l m (omega arith) (s .1))
+  spaced-from t b x (y ∷ l) h k s = go (joins x y) refl (ltb (b .size) (y .size)) (λ (c : Peak) (m : t ≤ c .time)
+      (n : c .time ≤ y .time). spaced-from t c y l m n (s .1)) (λ (u : ℕ) (m : u ≤ y .time). spaced-from u y y l m
+      (omega arith) (s .1))
     where
-      go : (a : Bool) → joins x y ≡ a → (w : Bool) → ((c : Peak) → t ≤ c .time → c .time ≤ y .time → Spaced d t (from joins c y l)) → ((u : ℕ) → u ≤ y .time → Spaced d u (from joins y y l)) → Spaced d t (cond a (from joins (cond w y b) y l) (b ∷ from joins y y l))
+      go : (a : Bool) → joins x y ≡ a → (w : Bool) → ((c : Peak) → t ≤ c .time → c .time ≤ y .time →
+          Spaced d t (from joins c y l)) → ((u : ℕ) → u ≤ y .time → Spaced d u (from joins y y l)) →
+          Spaced d t (cond a (from joins (cond w y b) y l) (b ∷ from joins y y l))
       go true e true i j = i y (omega (arith, s .0)) (omega arith)
       go true e false i j = i b h (omega (arith, s .0))
       go false e w i j = (h, j (b .time + d) (omega (arith, gap x y (omega (arith, s .0)) e)))

@@ -77,10 +77,14 @@ module _ (n s : ℕ) where
     walk a x ((y ∷ g) ∷ []) e c w = tt
     walk a x ((y ∷ g) ∷ ([] ∷ gs)) e c w = absurd (w .1)
     walk a x ((y ∷ g) ∷ ((z ∷ h) ∷ gs)) e c w =
-        let d : l ≡ (a ++ (x ∷ front y g)) ++ (lastFrom f y g ∷ together ((z ∷ h) ∷ gs)) = e ∙ ap (λ (m : List Peak). a ++ (x ∷ m)) (last-split y g (together ((z ∷ h) ∷ gs))) ∙ sym (append-assoc a (x ∷ front y g) (lastFrom f y g ∷ together ((z ∷ h) ∷ gs))) in
+        let d : l ≡ (a ++ (x ∷ front y g)) ++ (lastFrom f y g ∷ together ((z ∷ h) ∷ gs)) = e ∙
+        ap (λ (m : List Peak). a ++ (x ∷ m)) (last-split y g (together ((z ∷ h) ∷ gs))) ∙
+        sym (append-assoc a (x ∷ front y g) (lastFrom f y g ∷ together ((z ∷ h) ∷ gs))) in
         go (H (largest (y ∷ g))) refl (walk (a ++ (x ∷ front y g)) (lastFrom f y g) ((z ∷ h) ∷ gs) d (w .1) (w .2))
       where
-        go : (b : Bool) → H (largest (y ∷ g)) ≡ b → All Kept (those H (dropLast (map largest ((z ∷ h) ∷ gs)))) → All Kept (cond b (largest (y ∷ g) ∷ those H (dropLast (map largest ((z ∷ h) ∷ gs)))) (those H (dropLast (map largest ((z ∷ h) ∷ gs)))))
+        go : (b : Bool) → H (largest (y ∷ g)) ≡ b → All Kept (those H (dropLast (map largest ((z ∷ h) ∷ gs)))) →
+            All Kept (cond b (largest (y ∷ g) ∷ those H (dropLast (map largest ((z ∷ h) ∷ gs))))
+            (those H (dropLast (map largest ((z ∷ h) ∷ gs)))))
         go true q i =
             let k : H y ≡ true = sym (largest-alike y g (w .0)) ∙ q in (
               (
@@ -161,7 +165,8 @@ module _ (n s : ℕ) where
         let j : together gs ≡ z ∷ after = sym (ap together (o .2)) ∙ groups-together (alike n s) (z ∷ after) in
         let cut : Cut (alike n s) (lastFrom (alike n s) y g) gs = rw (last-high y g a, c) in
         let k : groups (alike n s) (together gs) ≡ gs = ap (groups (alike n s)) j ∙ o .2 in
-        let e : groups (alike n s) (y ∷ (g ++ (z ∷ after))) ≡ (y ∷ g) ∷ gs = ap (λ (m : List Peak). groups (alike n s) (y ∷ (g ++ m))) (sym j) ∙ first-group (alike n s) y g gs (linked-high y g a) cut k in
+        let e : groups (alike n s) (y ∷ (g ++ (z ∷ after))) ≡ (y ∷ g) ∷ gs = ap (λ (m : List Peak). groups
+        (alike n s) (y ∷ (g ++ m))) (sym j) ∙ first-group (alike n s) y g gs (linked-high y g a) cut k in
         let d : alike n s x y ≡ false = rw (b, a .0) in
         record { head = x; heads = []; earlier = []; next = z ∷ o .0; later = o .1; is = ap (attach (alike n s) x) e ∙ rw d }
 

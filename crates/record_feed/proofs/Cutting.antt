@@ -48,11 +48,18 @@ module _ (r : Record) (xs ys us vs : List ℤ) where
       let n = ap (λ (u : Record). u .n) (sym (a .end)) ∙ run-n r (moments xs ys) in
       let k = moments-length xs ys (a .equal) in
       fed-taken r (xs ++ us) (ys ++ vs) (a .state) (omega (arith, length-append xs us, length-append ys vs, a .equal, b .equal))
-      (omega (arith, length-append xs us, bad-append xs us (a .roll), b .roll)) (omega (arith, length-append ys vs, bad-append ys vs (a .acceleration), b .acceleration)) (omega (arith, length-append xs us, b .room))
-      ∙ ap Taken (ap (foldl stepped r) (moments-append xs ys us vs (a .equal)) ∙ foldl-append stepped r (moments xs ys) (moments us vs) ∙ ap (λ (u : Record). foldl stepped u (moments us vs)) (a .end) ∙ b .end)
+      (omega (arith, length-append xs us, bad-append xs us (a .roll), b .roll)) (omega (
+        arith,
+        length-append ys vs,
+        bad-append ys vs (a .acceleration),
+        b .acceleration,
+      )) (omega (arith, length-append xs us, b .room))
+      ∙ ap Taken (ap (foldl stepped r) (moments-append xs ys us vs (a .equal)) ∙ foldl-append stepped r
+      (moments xs ys) (moments us vs) ∙ ap (λ (u : Record). foldl stepped u (moments us vs)) (a .end) ∙ b .end)
 
   -- both slices cut at the same place
-  pub splits : {t : Record} → length xs ≡ length ys → fed r (xs ++ us) (ys ++ vs) ≡ Taken t → (fed r xs ys ≡ Taken (foldl stepped r (moments xs ys))) × (fed (foldl stepped r (moments xs ys)) us vs ≡ Taken t)
+  pub splits : {t : Record} → length xs ≡ length ys → fed r (xs ++ us) (ys ++ vs) ≡ Taken t →
+      (fed r xs ys ≡ Taken (foldl stepped r (moments xs ys))) × (fed (foldl stepped r (moments xs ys)) us vs ≡ Taken t)
   splits {t} i e =
       let a = taken r (xs ++ us) (ys ++ vs) t e in
       let l = length-append xs us in

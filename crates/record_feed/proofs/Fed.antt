@@ -64,7 +64,9 @@ only-taken false d b c f s t e = let z : _≡_ {A = ℕ} 0 1 = cc in absurd (ome
 pub taken : (r : Record) (xs ys : List ℤ) (t : Record) → fed r xs ys ≡ Taken t → Meets r xs ys t
 unfolding fed
 taken r xs ys t e =
-    let o = only-taken (sound r) (eqb (length xs) (length ys)) (anyBad xs ys) (ltb (mostSamples (r .items .step) (r .items .ramp)) (r .n + length xs)) (badSample (firstBad xs) (firstBad ys)) (foldl stepped r (moments xs ys)) t e in
+    let o = only-taken (sound r) (eqb (length xs) (length ys)) (anyBad xs ys) (ltb (mostSamples (r .items .step)
+    (r .items .ramp)) (r .n + length xs)) (badSample (firstBad xs) (firstBad ys)) (foldl stepped r
+    (moments xs ys)) t e in
     let g = none-bad xs ys (o .2) in
     record {
       state = o .0;
@@ -89,4 +91,6 @@ never true false false k p q s e = let z : _≡_ {A = ℕ} 0 1 = cc in omega ari
 pub not-broken : (r : Record) (xs ys : List ℤ) → sound r ≡ true → fed r xs ys ≡ Refused BrokenState → ⊥
 unfolding fed
 not-broken r xs ys s e =
-    never (eqb (length xs) (length ys)) (anyBad xs ys) (ltb (mostSamples (r .items .step) (r .items .ramp)) (r .n + length xs)) (leb (firstBad xs) (firstBad ys)) (firstBad xs) (firstBad ys) (foldl stepped r (moments xs ys)) (rw s at e)
+    never (eqb (length xs) (length ys)) (anyBad xs ys) (ltb (mostSamples (r .items .step) (r .items .ramp))
+    (r .n + length xs)) (leb (firstBad xs) (firstBad ys)) (firstBad xs) (firstBad ys) (foldl stepped r
+    (moments xs ys)) (rw s at e)

@@ -84,13 +84,20 @@ module _ (items : Items) (xs : List Moment) where
   groups-parted = groups-part (near (timeAt (items .step) (items .ramp)) (items .decorrelation)) (crossings (items .ramp) (items .levels) xs)
 
   pub set-largest : LargestSet (timeAt (items .step) (items .ramp)) (items .decorrelation) (crossings (items .ramp) (items .levels) xs) (largestSet items xs)
-  set-largest = walk-largest (timeAt (items .step) (items .ramp)) (items .decorrelation) (crossings (items .ramp) (items .levels) xs) (rising-passing (items .step) (items .ramp) (crossesAt (items .ramp) (items .levels) xs) 0 (length xs))
+  set-largest = walk-largest (timeAt (items .step) (items .ramp)) (items .decorrelation) (crossings (items .ramp)
+      (items .levels) xs) (rising-passing (items .step) (items .ramp) (crossesAt (items .ramp) (items .levels) xs) 0
+      (length xs))
 
   pub groups-fewer : length (groups items xs) ≤ length (largestSet items xs)
-  groups-fewer = fewer (timeAt (items .step) (items .ramp)) (items .decorrelation) (crossings (items .ramp) (items .levels) xs) (largestSet items xs) (rising-passing (items .step) (items .ramp) (crossesAt (items .ramp) (items .levels) xs) 0 (length xs)) set-largest
+  groups-fewer = fewer (timeAt (items .step) (items .ramp)) (items .decorrelation) (crossings (items .ramp)
+      (items .levels) xs) (largestSet items xs) (rising-passing (items .step) (items .ramp) (crossesAt (items .ramp)
+      (items .levels) xs) 0 (length xs)) set-largest
 
   pub times-apart : Apart itself (items .decorrelation) (countedTimes items xs)
-  times-apart = apart-times (timeAt (items .step) (items .ramp)) (items .decorrelation) (counted items xs) (firsts-apart (timeAt (items .step) (items .ramp)) (items .decorrelation) (crossings (items .ramp) (items .levels) xs) (rising-passing (items .step) (items .ramp) (crossesAt (items .ramp) (items .levels) xs) 0 (length xs)))
+  times-apart = apart-times (timeAt (items .step) (items .ramp)) (items .decorrelation) (counted items xs)
+      (firsts-apart (timeAt (items .step) (items .ramp)) (items .decorrelation) (crossings (items .ramp)
+      (items .levels) xs) (rising-passing (items .step) (items .ramp) (crossesAt (items .ramp) (items .levels) xs) 0
+      (length xs)))
 
 -- 4: the place found by the search over a whole record is its state's first failure, and a mark outside the record if
 -- that has none

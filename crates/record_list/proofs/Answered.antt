@@ -39,7 +39,11 @@ module _ (items : Items) (xs ys : List ℤ) (slice : List ℕ) where
   -- a refusal of the tests before the count
   pub lists-refused : (f : Refusal) → tested items xs ys ≡ size.Refused f → ListsTo items xs ys slice (Refused f) slice
   unfolding tested listed written
-  lists-refused f e = record { answers = go (eqb (itemOutside items) 0) (eqb (length xs) (length ys)) (anyBad xs ys) (ltb (mostSamples (items .step) (items .ramp)) (length xs)) (tooFew (items .ramp) (length xs)) e; leaves = refl }
+  lists-refused f e = record {
+    answers = go (eqb (itemOutside items) 0) (eqb (length xs) (length ys)) (anyBad xs ys)
+        (ltb (mostSamples (items .step) (items .ramp)) (length xs)) (tooFew (items .ramp) (length xs)) e;
+    leaves = refl;
+  }
     where
       n : ℕ
       n = length (counted items (moments xs ys))
@@ -48,8 +52,12 @@ module _ (items : Items) (xs ys : List ℤ) (slice : List ℕ) where
       g = badSample (firstBad xs) (firstBad ys)
 
       go : (i m b l s : Bool)
-          → cond (not i) (size.Refused (Item (itemOutside items))) (cond (not m) (size.Refused Unequal) (cond b (size.Refused g) (cond l (size.Refused TooLong) (cond s (size.Refused TooShort) size.Fits)))) ≡ size.Refused f
-          → Refused f ≡ cond (not i) (Refused (Item (itemOutside items))) (cond (not m) (Refused Unequal) (cond b (Refused g) (cond l (Refused TooLong) (cond s (Refused TooShort) (cond (ltb (length slice) n) (Refused (Room n)) (Times n))))))
+          → cond (not i) (size.Refused (Item (itemOutside items))) (cond (not m) (size.Refused Unequal)
+          (cond b (size.Refused g) (cond l (size.Refused TooLong) (cond s (size.Refused TooShort) size.Fits))))
+          ≡ size.Refused f
+          → Refused f ≡ cond (not i) (Refused (Item (itemOutside items))) (cond (not m) (Refused Unequal)
+          (cond b (Refused g) (cond l (Refused TooLong) (cond s (Refused TooShort) (cond (ltb (length slice) n)
+          (Refused (Room n)) (Times n))))))
       go false m b l s e = cc
       go true false b l s e = cc
       go true true true l s e = cc
@@ -61,10 +69,15 @@ module _ (items : Items) (xs ys : List ℤ) (slice : List ℕ) where
   pub times-number : {k : ℕ} → Times k ≡ listed items xs ys (length slice) → k ≡ length (counted items (moments xs ys))
   unfolding listed
   times-number {k} e =
-      go (eqb (itemOutside items) 0) (eqb (length xs) (length ys)) (anyBad xs ys) (ltb (mostSamples (items .step) (items .ramp)) (length xs)) (tooFew (items .ramp) (length xs)) (ltb (length slice) (length (counted items (moments xs ys)))) (badSample (firstBad xs) (firstBad ys)) (length (counted items (moments xs ys))) e
+      go (eqb (itemOutside items) 0) (eqb (length xs) (length ys)) (anyBad xs ys) (ltb (mostSamples (items .step)
+      (items .ramp)) (length xs)) (tooFew (items .ramp) (length xs)) (ltb (length slice)
+      (length (counted items (moments xs ys)))) (badSample (firstBad xs) (firstBad ys))
+      (length (counted items (moments xs ys))) e
     where
       go : (i m b l s r : Bool) (g : Refusal) (n : ℕ)
-          → Times k ≡ cond (not i) (Refused (Item (itemOutside items))) (cond (not m) (Refused Unequal) (cond b (Refused g) (cond l (Refused TooLong) (cond s (Refused TooShort) (cond r (Refused (Room n)) (Times n))))))
+          → Times k ≡ cond (not i) (Refused (Item (itemOutside items))) (cond (not m) (Refused Unequal)
+          (cond b (Refused g) (cond l (Refused TooLong) (cond s (Refused TooShort) (cond r (Refused (Room n))
+          (Times n))))))
           → k ≡ n
       go false m b l s r g n e = let z : _≡_ {A = ℕ} 0 1 = cc in absurd (omega arith)
       go true false b l s r g n e = let z : _≡_ {A = ℕ} 0 1 = cc in absurd (omega arith)
@@ -80,7 +93,10 @@ module _ (items : Items) (xs ys : List ℤ) (slice : List ℕ) where
     lists-bad b = record { answers = rw (eq-eqb _ _ (f .ranged), eq-eqb (length xs) (length ys) (f .equal), b); leaves = refl }
 
     -- the times of the timed samples are the record's
-    pub lists-good : anyBad xs ys ≡ false → {answer : Listed} {after : List ℕ} → WritesTo (countedTimes (unramped (items .step) (items .levels) (items .decorrelation)) (moments (drop (items .ramp) xs) (drop (items .ramp) ys))) slice answer after → ListsTo items xs ys slice answer after
+    pub lists-good : anyBad xs ys ≡ false → {answer : Listed} {after : List ℕ} →
+        WritesTo (countedTimes (unramped (items .step) (items .levels) (items .decorrelation))
+        (moments (drop (items .ramp) xs) (drop (items .ramp) ys))) slice answer after → ListsTo items xs ys slice
+        answer after
     unfolding listed
     lists-good g {answer} {after} w =
         let p = moments xs ys in

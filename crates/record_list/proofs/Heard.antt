@@ -24,7 +24,8 @@ module _ (D : ℕ) (a : Levels) (τ : ℕ) (xs ys : List ℤ) where
   times = countedTimes (unramped D a τ) (moments xs ys)
 
   -- with room for them, a pass over good samples writes the times
-  pub writes-passed : (before after : List ℕ) (r : GroupCount) → anyBad xs ys ≡ false → length times ≤ length before → Passes D a τ xs ys before r after → WritesTo times before (Times (length times)) after
+  pub writes-passed : (before after : List ℕ) (r : GroupCount) → anyBad xs ys ≡ false → length times ≤ length before
+      → Passes D a τ xs ys before r after → WritesTo times before (Times (length times)) after
   writes-passed before after (Count n) g l p = rw (p .2 ∙ walked-times D a τ (moments xs ys) before l) (writes-times times before l)
   writes-passed before after Bad g l p = absurd (true≢false (sym p ∙ g))
 

@@ -74,11 +74,13 @@ module _ (D : ℕ) (a : Levels) (τ : ℕ) (ts : List ℕ) where
   quiet-from w (x ∷ xs) [] k e = ap (λ (n : ℕ). noting (passed D w n) ts) (omega arith)
   quiet-from w (x ∷ xs) (y ∷ ys) k e =
       let q = first-quiet a x y xs ys e in
-      ap (λ (s : Noting). foldl (noted D a τ) s (moments xs ys)) (noted-quiet (passed D w k) (moment x y) (q .0) ∙ ap (λ (t : ℕ). noting (record { below = true; time = t; count = w .count; due = w .due }) ts) (omega arith))
+      ap (λ (s : Noting). foldl (noted D a τ) s (moments xs ys)) (noted-quiet (passed D w k) (moment x y) (q .0) ∙
+      ap (λ (t : ℕ). noting (record { below = true; time = t; count = w .count; due = w .due }) ts) (omega arith))
       ∙ quiet-from w xs ys (k + 1) (q .1) ∙ ap (λ (n : ℕ). noting (passed D w n) ts) (omega arith)
 
   -- only the time moves
-  pub quiet-block : (w : Walk) (xs ys : List ℤ) → anyAbove a xs ys ≡ false → 1 ≤ length (moments xs ys) → foldl (noted D a τ) (noting w ts) (moments xs ys) ≡ noting (passed D w (length (moments xs ys))) ts
+  pub quiet-block : (w : Walk) (xs ys : List ℤ) → anyAbove a xs ys ≡ false → 1 ≤ length (moments xs ys) →
+      foldl (noted D a τ) (noting w ts) (moments xs ys) ≡ noting (passed D w (length (moments xs ys))) ts
   unfolding moments
   quiet-block w [] ys e l = absurd (omega arith)
   quiet-block w (x ∷ xs) [] e l = absurd (omega arith)

@@ -31,7 +31,8 @@ begins D a τ xs ys before r =
 
 module _ {D : ℕ} {a : Levels} {τ : ℕ} {xs ys : List ℤ} {before ts : List ℕ} {w : Walk} {i : ℕ} (equal : length xs ≡ length ys) (u : Underway D a τ xs ys before ts w i) where
   -- a block from i to e
-  pub goes-on : {us : List ℕ} {v : Walk} (e : ℕ) → i ≤ e → e ≤ length xs → noting v us ≡ foldl (noted D a τ) (noting w ts) (moments (take (e - i) (drop i xs)) (take (e - i) (drop i ys))) → Underway D a τ xs ys before us v e
+  pub goes-on : {us : List ℕ} {v : Walk} (e : ℕ) → i ≤ e → e ≤ length xs → noting v us ≡ foldl (noted D a τ)
+      (noting w ts) (moments (take (e - i) (drop i xs)) (take (e - i) (drop i ys))) → Underway D a τ xs ys before us v e
   goes-on {us} {v} e h l d =
       let f = noted D a τ in
       let block = moments (take (e - i) (drop i xs)) (take (e - i) (drop i ys)) in

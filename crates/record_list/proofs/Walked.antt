@@ -24,7 +24,8 @@ module _ (D : ℕ) (a : Levels) (τ : ℕ) (xs : List Moment) (ts : List ℕ) wh
   walked-count = heard D a τ xs ts .counted ∙ zero-add _
 
   -- into a slice with room for them
-  pub walked-times : length (countedTimes (unramped D a τ) xs) ≤ length ts → foldl (noted D a τ) (noting start ts) xs .times ≡ countedTimes (unramped D a τ) xs ++ drop (length (countedTimes (unramped D a τ) xs)) ts
+  pub walked-times : length (countedTimes (unramped D a τ) xs) ≤ length ts → foldl (noted D a τ) (noting start ts)
+      xs .times ≡ countedTimes (unramped D a τ) xs ++ drop (length (countedTimes (unramped D a τ) xs)) ts
   walked-times l = heard D a τ xs ts .slice ∙ sets-front (countedTimes (unramped D a τ) xs) ts l
 
 -- at most half of the samples are counted: just before each stands one at most the level

@@ -13,8 +13,8 @@ use sample_channels::Moment;
 use sample_items::Items;
 
 // The items, how many samples came and the last of both channels, and the figures so far: the crossings, the largest
-// set of them, the groups. `first`, `last_chosen` and `last_crossing` are places of samples, those of the first crossing, of the
-// largest set's last and of the last crossing; places without a meaning yet hold 0.
+// set of them, the groups. `first`, `last_chosen` and `last_crossing` are places of samples, those of the first
+// crossing, of the largest set's last and of the last crossing; places without a meaning yet hold 0.
 pub struct Record {
     pub items: Items,
     pub n: u64,

@@ -20,7 +20,9 @@ use Rattle.record_state.proofs.Relations.{None, Failure, Kept, kept-from, kept-
 use Rattle.record_state.proofs.Bounds.{failure, last-crossing-after, groups-within}
 
 -- states are equal figure by figure
-pub ext : (s t : Record) → s .items ≡ t .items → s .n ≡ t .n → s .last ≡ t .last → s .crossings ≡ t .crossings → s .largest ≡ t .largest → s .first ≡ t .first → s .«last_chosen» ≡ t .«last_chosen» → s .«last_crossing» ≡ t .«last_crossing» → s .groups ≡ t .groups → s ≡ t
+pub ext : (s t : Record) → s .items ≡ t .items → s .n ≡ t .n → s .last ≡ t .last → s .crossings ≡ t .crossings →
+    s .largest ≡ t .largest → s .first ≡ t .first → s .«last_chosen» ≡ t .«last_chosen» → s .«last_crossing»
+    ≡ t .«last_crossing» → s .groups ≡ t .groups → s ≡ t
 ext s t a e f g h j k l m =
     λ i. record { items = a i; n = e i; last = f i; crossings = g i; largest = h i; first = j i; «last_chosen» = k i; «last_crossing» = l i; groups = m i }
 
@@ -69,15 +71,28 @@ marked r x first counts starts =
 
 module _ (r : Record) (x : Moment) (s : Kept r) (h : r .items .ramp < r .n) where
   -- a crossing far from the last one is far from the largest set's last, which is not after it
-  wider : since (timeAt (r .items .step) (r .items .ramp)) (r .items .decorrelation) (r .«last_crossing») (r .n) ≡ true → since (timeAt (r .items .step) (r .items .ramp)) (r .items .decorrelation) (r .«last_chosen») (r .n) ≡ true
+  wider : since (timeAt (r .items .step) (r .items .ramp)) (r .items .decorrelation) (r .«last_crossing») (r .n)
+      ≡ true → since (timeAt (r .items .step) (r .items .ramp)) (r .items .decorrelation) (r .«last_chosen») (r .n)
+      ≡ true
   wider e =
       let t = mul-le-mul-right {m = r .«last_chosen» - r .items .ramp} {n = r .«last_crossing» - r .items .ramp} (r .items .step) (omega (arith, last-crossing-after s)) in
-      le-leb (timeAt (r .items .step) (r .items .ramp) (r .«last_chosen») + r .items .decorrelation) (timeAt (r .items .step) (r .items .ramp) (r .n)) (omega (arith, t, leb-true (timeAt (r .items .step) (r .items .ramp) (r .«last_crossing») + r .items .decorrelation) (timeAt (r .items .step) (r .items .ramp) (r .n)) e))
+      le-leb (timeAt (r .items .step) (r .items .ramp) (r .«last_chosen») + r .items .decorrelation)
+      (timeAt (r .items .step) (r .items .ramp) (r .n)) (omega (
+        arith,
+        t,
+        leb-true (timeAt (r .items .step)
+            (r .items .ramp) (r .«last_crossing») + r .items .decorrelation) (timeAt (r .items .step) (r .items .ramp)
+            (r .n)) e,
+      ))
 
   -- so one near the largest set's last is near the last one, and not the first
   pub near-both : counts r ≡ false
-      → (eqb (r .crossings) 0 ≡ false) × (since (timeAt (r .items .step) (r .items .ramp)) (r .items .decorrelation) (r .«last_chosen») (r .n) ≡ false) × (since (timeAt (r .items .step) (r .items .ramp)) (r .items .decorrelation) (r .«last_crossing») (r .n) ≡ false)
-  near-both e = go (eqb (r .crossings) 0) (since (timeAt (r .items .step) (r .items .ramp)) (r .items .decorrelation) (r .«last_chosen») (r .n)) (since (timeAt (r .items .step) (r .items .ramp)) (r .items .decorrelation) (r .«last_crossing») (r .n)) e wider
+      → (eqb (r .crossings) 0 ≡ false) × (since (timeAt (r .items .step) (r .items .ramp)) (r .items .decorrelation)
+      (r .«last_chosen») (r .n) ≡ false) × (since (timeAt (r .items .step) (r .items .ramp))
+      (r .items .decorrelation) (r .«last_crossing») (r .n) ≡ false)
+  near-both e = go (eqb (r .crossings) 0) (since (timeAt (r .items .step) (r .items .ramp))
+      (r .items .decorrelation) (r .«last_chosen») (r .n)) (since (timeAt (r .items .step) (r .items .ramp))
+      (r .items .decorrelation) (r .«last_crossing») (r .n)) e wider
     where
       go : (z b g : Bool) → (z || b) ≡ false → (g ≡ true → b ≡ true) → (z ≡ false) × (b ≡ false) × (g ≡ false)
       go true b g e i = absurd (true≢false e)

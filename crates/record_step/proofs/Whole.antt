@@ -138,11 +138,14 @@ turn r y ys cs = go (crosses r y)
     go false = ext _ _ refl (omega arith) refl refl refl refl refl refl refl
 
 -- a step leaves the ramp and the level, and the next sample is compared with this one
-next-places : (r : Record) (y : Moment) (ys : List Moment) → placesFrom (stepped r y .items .ramp) (stepped r y .items .levels) (stepped r y .n) (stepped r y .last) ys ≡ placesFrom (r .items .ramp) (r .items .levels) (r .n + 1) y ys
+next-places : (r : Record) (y : Moment) (ys : List Moment) → placesFrom (stepped r y .items .ramp)
+    (stepped r y .items .levels) (stepped r y .n) (stepped r y .last) ys ≡ placesFrom (r .items .ramp)
+    (r .items .levels) (r .n + 1) y ys
 unfolding stepped
 next-places r y ys = go (crosses r y)
   where
-    go : (b : Bool) → (let s = cond b (crossed r y) (moved r 1 y) in placesFrom (s .items .ramp) (s .items .levels) (s .n) (s .last) ys) ≡ placesFrom (r .items .ramp) (r .items .levels) (r .n + 1) y ys
+    go : (b : Bool) → (let s = cond b (crossed r y) (moved r 1 y) in placesFrom (s .items .ramp) (s .items .levels)
+        (s .n) (s .last) ys) ≡ placesFrom (r .items .ramp) (r .items .levels) (r .n + 1) y ys
     go true = refl
     go false = refl
 
@@ -159,4 +162,6 @@ state items xs =
     whole (stateOf items []) xs
     ∙ ap (finish (stateOf items []) xs) (places-whole (items .ramp) (items .levels) xs)
     ∙ ext (finish (stateOf items []) xs (crossings (items .ramp) (items .levels) xs)) (stateOf items xs) refl (zero-add _) refl (zero-add _) (zero-add _) refl refl refl
-    (zero-add _ ∙ sym (ap length (start.firsts-begin (timeAt (items .step) (items .ramp)) (items .decorrelation) (crossings (items .ramp) (items .levels) xs))) ∙ as-many (grouping.near (timeAt (items .step) (items .ramp)) (items .decorrelation)) (crossings (items .ramp) (items .levels) xs))
+    (zero-add _ ∙ sym (ap length (start.firsts-begin (timeAt (items .step) (items .ramp)) (items .decorrelation)
+    (crossings (items .ramp) (items .levels) xs))) ∙ as-many (grouping.near (timeAt (items .step) (items .ramp))
+    (items .decorrelation)) (crossings (items .ramp) (items .levels) xs))

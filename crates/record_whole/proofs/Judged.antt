@@ -44,7 +44,9 @@ module _ (items : Items) (xs ys : List ℤ) where
 
       -- one that does not fit is too long or too short, unless a sample is bad
       pub sized-fault : (leb (length xs) (mostSamples (items .step) (items .ramp)) && leb (items .ramp + 2) (length xs)) ≡ false
-          → cond (anyBad xs ys) (Refused (badSample (firstBad xs) (firstBad ys))) (cond (ltb (mostSamples (items .step) (items .ramp)) (length xs)) (Refused TooLong) (Refused TooShort)) ≡ sized items xs ys
+          → cond (anyBad xs ys) (Refused (badSample (firstBad xs) (firstBad ys)))
+          (cond (ltb (mostSamples (items .step) (items .ramp)) (length xs)) (Refused TooLong)
+          (Refused TooShort)) ≡ sized items xs ys
       unfolding sized tested
       sized-fault s = rw (eq-eqb _ 0 i, eq-eqb (length xs) (length ys) l, s) (go (ltb (mostSamples (items .step) (items .ramp)) (length xs)) refl)
         where
@@ -53,7 +55,9 @@ module _ (items : Items) (xs ys : List ℤ) where
               ≡ cond (anyBad xs ys) (Refused (badSample (firstBad xs) (firstBad ys))) (cond b (Refused TooLong) (cond (tooFew (items .ramp) (length xs)) (Refused TooShort) Fits))
           go true e = refl
           go false e =
-              let f : length xs < items .ramp + 2 = leb-false (items .ramp + 2) (length xs) (rw (le-leb (length xs) (mostSamples (items .step) (items .ramp)) (ltb-false (mostSamples (items .step) (items .ramp)) (length xs) e)) at s) in
+              let f : length xs < items .ramp + 2 = leb-false (items .ramp + 2) (length xs)
+              (rw (le-leb (length xs) (mostSamples (items .step) (items .ramp))
+              (ltb-false (mostSamples (items .step) (items .ramp)) (length xs) e)) at s) in
               rw (lt-ltb (length xs) (items .ramp + 2) f)
 
   -- ---- and back from an answer
@@ -71,9 +75,13 @@ module _ (items : Items) (xs ys : List ℤ) where
   sound-size = go (eqb (itemOutside items) 0) (eqb (length xs) (length ys)) (anyBad xs ys) (ltb (mostSamples (items .step) (items .ramp)) (length xs)) (tooFew (items .ramp) (length xs)) refl refl
     where
       go : (i m b l s : Bool) → ltb (mostSamples (items .step) (items .ramp)) (length xs) ≡ l → tooFew (items .ramp) (length xs) ≡ s
-          → cond (not i) (Refused (Item (itemOutside items))) (cond (not m) (Refused Unequal) (cond b (Refused (badSample (firstBad xs) (firstBad ys))) (cond l (Refused TooLong) (cond s (Refused TooShort) Fits)))) ≡ Fits
+          → cond (not i) (Refused (Item (itemOutside items))) (cond (not m) (Refused Unequal)
+          (cond b (Refused (badSample (firstBad xs) (firstBad ys))) (cond l (Refused TooLong)
+          (cond s (Refused TooShort) Fits)))) ≡ Fits
           → (i && (m && (leb (length xs) (mostSamples (items .step) (items .ramp)) && leb (items .ramp + 2) (length xs)))) ≡ true
-      go true true false false false q r e = both-true (le-leb (length xs) (mostSamples (items .step) (items .ramp)) (ltb-false (mostSamples (items .step) (items .ramp)) (length xs) q)) (le-leb (items .ramp + 2) (length xs) (ltb-false (length xs) (items .ramp + 2) r))
+      go true true false false false q r e = both-true (le-leb (length xs) (mostSamples (items .step) (items .ramp))
+          (ltb-false (mostSamples (items .step) (items .ramp)) (length xs) q)) (le-leb (items .ramp + 2) (length xs)
+          (ltb-false (length xs) (items .ramp + 2) r))
       go true true false false true q r e = let z : _≡_ {A = ℕ} 0 1 = cc in absurd (omega arith)
       go true true false true s q r e = let z : _≡_ {A = ℕ} 0 1 = cc in absurd (omega arith)
       go true true true l s q r e = let z : _≡_ {A = ℕ} 0 1 = cc in absurd (omega arith)

@@ -65,12 +65,18 @@ sides a d g [] = rw (above-low a d) (go (ltb a d || ltb a g))
     go false = refl
 sides a d g (pos n ∷ xs) = rw (low-pos n d) (go (ltb g n) refl (λ (k : ℕ). sides a d k xs))
   where
-    go : (b : Bool) → ltb g n ≡ b → ((k : ℕ) → (above a (foldl lower (negℤ (pos d)) xs) || above a (foldl higher (pos k) xs)) ≡ ((ltb a d || ltb a k) || anyAbove a xs)) → (above a (foldl lower (negℤ (pos d)) xs) || above a (foldl higher (cond b (pos n) (pos g)) xs)) ≡ ((ltb a d || ltb a g) || (ltb a n || anyAbove a xs))
+    go : (b : Bool) → ltb g n ≡ b → ((k : ℕ) → (above a (foldl lower (negℤ (pos d)) xs) || above a
+        (foldl higher (pos k) xs)) ≡ ((ltb a d || ltb a k) || anyAbove a xs)) →
+        (above a (foldl lower (negℤ (pos d)) xs) || above a (foldl higher (cond b (pos n) (pos g)) xs))
+        ≡ ((ltb a d || ltb a g) || (ltb a n || anyAbove a xs))
     go true e s = s n ∙ ap (λ (q : Bool). (ltb a d || q) || anyAbove a xs) (greater a g n true e) ∙ second-last (ltb a d) (ltb a g) (ltb a n) (anyAbove a xs)
     go false e s = s g ∙ ap (λ (q : Bool). (ltb a d || q) || anyAbove a xs) (greater a g n false e) ∙ second-last (ltb a d) (ltb a g) (ltb a n) (anyAbove a xs)
 sides a d g (negsuc n ∷ xs) = rw (low-negsuc n d) (go (ltb d (suc n)) refl (λ (k : ℕ). sides a k g xs))
   where
-    go : (b : Bool) → ltb d (suc n) ≡ b → ((k : ℕ) → (above a (foldl lower (negℤ (pos k)) xs) || above a (foldl higher (pos g) xs)) ≡ ((ltb a k || ltb a g) || anyAbove a xs)) → (above a (foldl lower (cond b (negsuc n) (negℤ (pos d))) xs) || above a (foldl higher (pos g) xs)) ≡ ((ltb a d || ltb a g) || (ltb a (suc n) || anyAbove a xs))
+    go : (b : Bool) → ltb d (suc n) ≡ b → ((k : ℕ) → (above a (foldl lower (negℤ (pos k)) xs) || above a
+        (foldl higher (pos g) xs)) ≡ ((ltb a k || ltb a g) || anyAbove a xs)) →
+        (above a (foldl lower (cond b (negsuc n) (negℤ (pos d))) xs) || above a (foldl higher (pos g) xs))
+        ≡ ((ltb a d || ltb a g) || (ltb a (suc n) || anyAbove a xs))
     go true e s = s (suc n) ∙ ap (λ (q : Bool). (q || ltb a g) || anyAbove a xs) (greater a d (suc n) true e) ∙ first-last (ltb a d) (ltb a g) (ltb a (suc n)) (anyAbove a xs)
     go false e s = s d ∙ ap (λ (q : Bool). (q || ltb a g) || anyAbove a xs) (greater a d (suc n) false e) ∙ first-last (ltb a d) (ltb a g) (ltb a (suc n)) (anyAbove a xs)
 

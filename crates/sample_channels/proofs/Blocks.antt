@@ -43,7 +43,9 @@ module _ (xs ys : List ℤ) (same : length xs ≡ length ys) (i e : ℕ) (h : i 
   pub block-bad : i + firstBad (drop i xs) ≡ firstBad xs → i + firstBad (drop i ys) ≡ firstBad ys → anyBad (take (e - i) (drop i xs)) (take (e - i) (drop i ys)) ≡ true → anyBad xs ys ≡ true
   block-bad v w =
       let m : e ≤ length ys = omega arith in
-      either-true (ltb (firstBad (take (e - i) (drop i xs))) (length (take (e - i) (drop i xs)))) (ltb (firstBad (take (e - i) (drop i ys))) (length (take (e - i) (drop i ys)))) (ltb (firstBad xs) (length xs)) (ltb (firstBad ys) (length ys))
+      either-true (ltb (firstBad (take (e - i) (drop i xs))) (length (take (e - i) (drop i xs))))
+      (ltb (firstBad (take (e - i) (drop i ys))) (length (take (e - i) (drop i ys)))) (ltb (firstBad xs)
+      (length xs)) (ltb (firstBad ys) (length ys))
       (λ t. lt-ltb (firstBad xs) (length xs) (bad-here xs i e h l v (ltb-true _ _ t)))
       (λ t. lt-ltb (firstBad ys) (length ys) (bad-here ys i e h m w (ltb-true _ _ t)))
 
@@ -70,4 +72,6 @@ pub any-parts : (xs ys : List ℤ) (k : ℕ) → anyBad xs ys ≡ (anyBad (take 
 any-parts xs ys k =
     ap (λ (l : List ℤ). ltb (firstBad l) (length l) || ltb (firstBad ys) (length ys)) (sym (take-append-drop k xs))
     ∙ ap (λ (l : List ℤ). ltb (firstBad (take k xs ++ drop k xs)) (length (take k xs ++ drop k xs)) || ltb (firstBad l) (length l)) (sym (take-append-drop k ys))
-    ∙ rw (one-parts (take k xs) (drop k xs), one-parts (take k ys) (drop k ys)) (crossed (ltb (firstBad (take k xs)) (length (take k xs))) (ltb (firstBad (drop k xs)) (length (drop k xs))) (ltb (firstBad (take k ys)) (length (take k ys))) (ltb (firstBad (drop k ys)) (length (drop k ys))))
+    ∙ rw (one-parts (take k xs) (drop k xs), one-parts (take k ys) (drop k ys)) (crossed (ltb (firstBad (take k xs))
+    (length (take k xs))) (ltb (firstBad (drop k xs)) (length (drop k xs))) (ltb (firstBad (take k ys))
+    (length (take k ys))) (ltb (firstBad (drop k ys)) (length (drop k ys))))

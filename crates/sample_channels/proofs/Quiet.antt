@@ -37,6 +37,8 @@ quiet-at a xs ys i e k l m h n q =
     let b = both-quiet a (take (e - i) (drop i xs)) (take (e - i) (drop i ys)) q in
     rw (moments-at xs ys k (omega arith) (omega arith), one.quiet-at (a .roll) xs i e k l h n (b .0), one.quiet-at (a .acceleration) ys i e k m h n (b .1))
 
-pub ends-say : (a : Levels) (xs ys : List ℤ) (e f : Ends) → (e .lowest ≡ one-channel.lowest xs) × (e .highest ≡ one-channel.highest xs) → (f .lowest ≡ one-channel.lowest ys) × (f .highest ≡ one-channel.highest ys)
+pub ends-say : (a : Levels) (xs ys : List ℤ) (e f : Ends) → (e .lowest ≡ one-channel.lowest xs)
+    × (e .highest ≡ one-channel.highest xs) → (f .lowest ≡ one-channel.lowest ys)
+    × (f .highest ≡ one-channel.highest ys)
     → (pastEnds (a .roll) e || pastEnds (a .acceleration) f) ≡ anyAbove a xs ys
 ends-say a xs ys e f p q = rw (p .0, p .1, q .0, q .1, sides.ends-say (a .roll) xs, sides.ends-say (a .acceleration) ys)

@@ -56,7 +56,9 @@ over-bad xs = go (one-channel.anyAbove sampleLimit xs) refl
     go true e = sym (lt-ltb (firstBad xs) (length xs) (loud-bad xs e))
     go false e = sym (le-ltb (firstBad xs) (length xs) (omega (arith, quiet-good xs e)))
 
-pub ends-tell : (xs ys : List ℤ) (e f : Ends) → (e .lowest ≡ one-channel.lowest xs) × (e .highest ≡ one-channel.highest xs) → (f .lowest ≡ one-channel.lowest ys) × (f .highest ≡ one-channel.highest ys)
+pub ends-tell : (xs ys : List ℤ) (e f : Ends) → (e .lowest ≡ one-channel.lowest xs)
+    × (e .highest ≡ one-channel.highest xs) → (f .lowest ≡ one-channel.lowest ys)
+    × (f .highest ≡ one-channel.highest ys)
     → (outsideEnds e || outsideEnds f) ≡ anyBad xs ys
 ends-tell xs ys e f p q = rw (p .0, p .1, q .0, q .1, ends-bad xs, ends-bad ys, over-bad xs, over-bad ys)
 

@@ -27,7 +27,9 @@ outside-unique e f x y p q = p ∙ sym q
 pub moment-at-unique : (xs ys : List ℤ) (i : ℕ) (x y : Moment) → x ≡ getD (moments xs ys) i still → y ≡ getD (moments xs ys) i still → x ≡ y
 moment-at-unique xs ys i x y e f = e ∙ sym f
 
-pub mark-unique : (a : Levels) (xs ys : List ℤ) (ups x y : List Bool) → x ≡ paste ups 0 (map (above a) (moments xs ys)) (min (length ups) (length (moments xs ys))) → y ≡ paste ups 0 (map (above a) (moments xs ys)) (min (length ups) (length (moments xs ys))) → x ≡ y
+pub mark-unique : (a : Levels) (xs ys : List ℤ) (ups x y : List Bool) → x ≡ paste ups 0
+    (map (above a) (moments xs ys)) (min (length ups) (length (moments xs ys))) → y ≡ paste ups 0
+    (map (above a) (moments xs ys)) (min (length ups) (length (moments xs ys))) → x ≡ y
 mark-unique a xs ys ups x y e f = e ∙ sym f
 
 pub look-over-unique : (xs ys : List ℤ) (x y : Look) → x ≡ looked xs ys → y ≡ looked xs ys → x ≡ y

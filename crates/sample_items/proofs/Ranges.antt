@@ -33,7 +33,9 @@ high l h x e = leb-true x h (and-true (leb l x) (leb x h) e .1)
 pub within-ranges : (items : Items) → itemOutside items ≡ 0 → WithinRanges items
 unfolding itemOutside
 within-ranges items e =
-    let i = none-outside (stepInRange (items .step)) (rampInRange (items .ramp)) (levelInRange (items .levels .roll)) (decorrelationInRange (items .decorrelation)) (levelInRange (items .levels .acceleration)) e in
+    let i = none-outside (stepInRange (items .step)) (rampInRange (items .ramp))
+    (levelInRange (items .levels .roll)) (decorrelationInRange (items .decorrelation))
+    (levelInRange (items .levels .acceleration)) e in
     record {
       step-low = low 1 10000 (items .step) (i .0);
       step-high = high 1 10000 (items .step) (i .0);
@@ -45,7 +47,9 @@ within-ranges items e =
 pub most-in-range : (items : Items) → itemOutside items ≡ 0 → mostInRange (items .step) (items .ramp) ≡ mostSamples (items .step) (items .ramp)
 unfolding itemOutside mostInRange
 most-in-range items e =
-    let i = none-outside (stepInRange (items .step)) (rampInRange (items .ramp)) (levelInRange (items .levels .roll)) (decorrelationInRange (items .decorrelation)) (levelInRange (items .levels .acceleration)) e in
+    let i = none-outside (stepInRange (items .step)) (rampInRange (items .ramp))
+    (levelInRange (items .levels .roll)) (decorrelationInRange (items .decorrelation))
+    (levelInRange (items .levels .acceleration)) e in
     rw (both-true (i .0) (i .1))
 
 -- the longest record, in samples

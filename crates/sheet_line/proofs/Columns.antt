@@ -88,6 +88,7 @@ record-few due line =
     let second = next-few line short 0 in
     rw (l, p)
     (first-few _ _ (look-few line short due due 0 (omega arith))
-    (first-few _ _ (look-few line short 0 1 (nextField (fieldAt line 0)) second) (look-few line short 0 mostNumber (nextField (fieldAt line (nextField (fieldAt line 0)))) (next-few line short (nextField (fieldAt line 0)))))))
+    (first-few _ _ (look-few line short 0 1 (nextField (fieldAt line 0)) second) (look-few line short 0 mostNumber
+    (nextField (fieldAt line (nextField (fieldAt line 0)))) (next-few line short (nextField (fieldAt line 0)))))))
     (λ p. rw (l, p) (omega arith)))
     (λ l. rw l (omega arith))

@@ -43,10 +43,7 @@ not-next : {s : Sheet} {line column : ℕ} {r : Refusal} → ¬ (Next s ≡ Stop
 not-next e = let z : _≡_ {A = ℕ} 0 1 = cc in absurd (omega arith)
 
 same-line : {n l k m : ℕ} {q r : Refusal} → k < 1000 → Stop n k q ≡ Stop l m r → (l ≡ n) × (m < 1000)
-same-line {n} {l} {k} {m} h e =
-    let line : l ≡ n = cc in
-    let column : k ≡ m = cc in
-    (line, omega arith)
+same-line {n} {l} {k} {m} h e = let line : l ≡ n = cc in let column : k ≡ m = cc in (line, omega arith)
 
 pub says-stop : {P : Sheet → Type 0} {line : ℕ} {step : Step} {l column : ℕ} {r : Refusal} → Says P line step → step ≡ Stop l column r → (l ≡ line) × (column < 1000)
 says-stop (goes p) e = absurd (not-next e)

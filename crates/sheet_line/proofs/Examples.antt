@@ -25,7 +25,8 @@ texts =
     ∷ (57 ∷ 57 ∷ 57 ∷ 57 ∷ 57 ∷ 57 ∷ 57 ∷ 57 ∷ 57 ∷ 57 ∷ 57 ∷ 57 ∷ 57 ∷ 32 ∷ 10 ∷ [])  -- 13 digits and a blank
     ∷ []
 
-pub readings : map (λ text. fieldAt text 0) texts ≡ Number 0 1 ∷ Number 40 2 ∷ Number 40 2 ∷ Number 999999999999 12 ∷ TooLong ∷ LeadingZero ∷ LeadingZero ∷ Empty ∷ Strange 1 ∷ Strange 0 ∷ Strange 1 ∷ LeadingZero ∷ Strange 13 ∷ []
+pub readings : map (λ text. fieldAt text 0) texts ≡ Number 0 1 ∷ Number 40 2 ∷ Number 40 2 ∷ Number 999999999999 12
+    ∷ TooLong ∷ LeadingZero ∷ LeadingZero ∷ Empty ∷ Strange 1 ∷ Strange 0 ∷ Strange 1 ∷ LeadingZero ∷ Strange 13 ∷ []
 unfolding fieldAt readAs faultIn leading fieldOf isNumber allDigits valueOf
 readings = refl
 

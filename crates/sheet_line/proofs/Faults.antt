@@ -109,4 +109,11 @@ strange-within s at =
     (λ n. rw n (omega arith))
     (λ n. by-test (eqb (length field) 0)
     (λ e. rw (n, e) (omega arith))
-    (λ e. by-test (allDigits field) (λ f. by-test (leadingZero field) (λ g. rw (n, e, f, g) (omega arith)) (λ g. rw (n, e, f, g) (omega arith))) (λ f. rw (n, e, f) (omega (arith, strange-few (drop at s), length-drop at s, strange-field (drop at s))))))
+    (λ e. by-test (allDigits field) (λ f. by-test (leadingZero field) (λ g. rw (n, e, f, g) (omega arith))
+    (λ g. rw (n, e, f, g) (omega arith))) (λ f. rw (n, e, f) (omega (
+      arith,
+      strange-few (drop at s),
+      length-drop
+          at s,
+      strange-field (drop at s),
+    )))))

@@ -62,7 +62,8 @@ module _ (c : Campaign) (f : Bool) (t : ℕ) where
       past false r a e = e
 
 -- and so is any result with that failure and that exposure
-pub line-results : (c : Campaign) (line : List ℕ) (s : Sheet) (e : Entry c line s) (x : Result) → outcomeOf x ≡ lineOutcome (eqb (e .flag) 1) (e .exposure) → entering c (outcomeOf x) ≡ Taken (e .after)
+pub line-results : (c : Campaign) (line : List ℕ) (s : Sheet) (e : Entry c line s) (x : Result) → outcomeOf x
+    ≡ lineOutcome (eqb (e .flag) 1) (e .exposure) → entering c (outcomeOf x) ≡ Taken (e .after)
 line-results c line s e x o = rw o (told-entered c (eqb (e .flag) 1) (e .exposure) (e .after) (e .taken))
 
 -- ---- a field that was written reads back

@@ -136,7 +136,9 @@ module _ {text : List ℕ} {q begin at count failures : ℕ} (a : Along text q b
       go [] parts e = omega (arith, ap length parts, length-drop at text)
       go (line ∷ lines) parts e =
           let o = first-line c line lines d (a .good) e in
-          none (o .failed) (o .exposure) (joined lines) (omega (arith, few)) (o .low) (o .high) (parts ∙ ap (λ (l : List ℕ). l ++ joined lines) (o .bytes ∙ ap (λ (n : ℕ). entryText (n + 1) (cond (o .failed) 1 0) (o .exposure)) (a .records)))
+          none (o .failed) (o .exposure) (joined lines) (omega (arith, few)) (o .low) (o .high) (parts ∙
+          ap (λ (l : List ℕ). l ++ joined lines) (o .bytes ∙ ap (λ (n : ℕ). entryText (n + 1) (cond (o .failed)
+          1 0) (o .exposure)) (a .records)))
 
   module _ (f : Bool) (next : ℕ) (h : EntryHere text at (count + 1) f next) where
     abbrev t : ℕ

@@ -93,9 +93,23 @@ module _ (s : List ℕ) (at due : ℕ) where
       let (flag, tabs) = stand-back s (end + 1) (zeroByte + cond f 1 0) _ (end + 2) (omega arith) flags in
       let (second, digits) = stand-back s (end + 2) tab _ (end + 3) (omega arith) tabs in
       let is : leading (drop (end + 3) s) ≡ digitsOf t = ap leading digits ∙ leading-is (digitsOf t) (lineFeed ∷ rest) (all-digits t) refl in
-      let feeds : drop (end + 3 + length (digitsOf t)) s ≡ lineFeed ∷ rest = sym (drop-drop (length (digitsOf t)) (end + 3) s) ∙ ap (drop (length (digitsOf t))) digits ∙ drop-append-seam (digitsOf t) (lineFeed ∷ rest) in
+      let feeds : drop (end + 3 + length (digitsOf t)) s ≡ lineFeed ∷ rest = sym (drop-drop (length (digitsOf t))
+      (end + 3) s) ∙ ap (drop (length (digitsOf t))) digits ∙ drop-append-seam (digitsOf t) (lineFeed ∷ rest) in
       let (last, after-it) = stand-back s (end + 3 + length (digitsOf t)) lineFeed rest _ refl feeds in
-      record { end = end; feed = end + 3 + length (digitsOf t); number = number; first = first; flag = flag; second = second; rest = rest; exposure = digits; place = ap (λ (l : List ℕ). end + 3 + length l) (sym is); last = last }
+      record {
+        end = end;
+        feed = end + 3 + length (digitsOf t);
+        number = number;
+        first = first;
+        flag =
+            flag;
+        second = second;
+        rest = rest;
+        exposure = digits;
+        place = ap (λ (l : List ℕ). end + 3 + length l)
+            (sym is);
+        last = last;
+      }
 
   abbrev NoEntry : Type 0
   NoEntry = (f : Bool) (t : ℕ) (rest : List ℕ) → due < 10 ^ longest → 1 ≤ t → t ≤ longestTime → ¬ (drop at s ≡ entryText due (cond f 1 0) t ++ rest)
@@ -156,8 +170,20 @@ module _ (s : List ℕ) (at due : ℕ) where
           let two : end + 1 + 1 ≡ end + 2 = omega arith in
           let three : end + 2 + 1 ≡ end + 3 = omega arith in
           let t = x .exposure in
-          let whole : entryText due (cond f 1 0) t ++ drop (feed + 1) s ≡ digitsOf due ++ (tab ∷ ((zeroByte + cond f 1 0) ∷ (tab ∷ (digitsOf t ++ (lineFeed ∷ drop (feed + 1) s))))) = ap (λ (l : List ℕ). l ++ drop (feed + 1) s) (line-parts due f t) ∙ simp append-assoc in
-          record { exposure = t; starts = record { bytes = a ∙ rw (is, b, c, two, d, three, e, g) (sym whole); further = omega (arith, first-end, x .place); within = omega (arith, within) }; low = x .low; high = x .high }
+          let whole : entryText due (cond f 1 0) t ++ drop (feed + 1) s ≡ digitsOf due ++
+          (tab ∷ ((zeroByte + cond f 1 0) ∷ (tab ∷ (digitsOf t ++ (lineFeed ∷ drop (feed + 1) s))))) =
+          ap (λ (l : List ℕ). l ++ drop (feed + 1) s) (line-parts due f t) ∙ simp append-assoc in
+          record {
+            exposure = t;
+            starts = record {
+              bytes = a ∙ rw (is, b, c, two, d, three, e, g) (sym whole);
+              further = omega (arith, first-end, x .place);
+              within = omega (arith, within);
+            };
+            low = x .low;
+            high =
+                x .high;
+          }
 
 -- ---- line 1
 module _ (s : List ℕ) where

@@ -97,12 +97,16 @@ lines-again [] c d g e = (refl, same e)
 lines-again (line ∷ lines) c d g e =
     let o = first-line c line lines d g e in
     let x = recordIn line in
-    let is : x ≡ signed (o .failed) (o .exposure) = ap recordIn (o .bytes) ∙ entry-says (c .records + 1) (cond (o .failed) 1 0) (o .exposure) ∙ ap (λ f. signed f (o .exposure)) (flag-of (o .failed) .0) in
+    let is : x ≡ signed (o .failed) (o .exposure) = ap recordIn (o .bytes) ∙ entry-says (c .records + 1)
+    (cond (o .failed) 1 0) (o .exposure) ∙ ap (λ f. signed f (o .exposure)) (flag-of (o .failed) .0) in
     let (f, t) = number-parts (o .failed) (o .exposure) (o .low) in
     let failed : failedIn x ≡ o .failed = ap failedIn is ∙ f in
     let exposure : exposureIn x ≡ o .exposure = ap exposureIn is ∙ t in
-    let (text, judges) = lines-again lines (o .after) d (o .good) (o .rest) in
-    (ap (λ l. l ++ joined lines) (o .bytes) ∙ rw (failed, exposure) (ap (λ l. entryText (c .records + 1) (cond (o .failed) 1 0) (o .exposure) ++ l) (rw (o .one-more) at text)), rw (failed, exposure, o .taken) judges)
+    let (text, judges) = lines-again lines (o .after) d (o .good) (o .rest) in (
+      ap (λ l. l ++ joined lines) (o .bytes) ∙ rw (failed, exposure) (ap (λ l. entryText (c .records + 1)
+          (cond (o .failed) 1 0) (o .exposure) ++ l) (rw (o .one-more) at text)),
+      rw (failed, exposure, o .taken) judges,
+    )
 
 -- ---- line 1
 pub record Begun (line : List ℕ) (lines : List (List ℕ)) (d : Campaign) : Type 0 where
@@ -159,5 +163,6 @@ written-again text d e =
     let records : map recordIn (drop 1 (linesOf text)) ≡ map recordIn (a .lines) = ap (λ l. map recordIn (drop 1 l)) (a .are) in
     let standard : d .standard ≡ b .standard = judged-standard (b .start) (map recordIn (a .lines)) d judges ∙ b .kept in (
       ap (λ (q : ℕ). judged q (recordsOf text)) standard ∙ ap (judged (b .standard)) records ∙ rw (b .opens) judges,
-      ap (λ (q : ℕ). sheetText q (recordsOf text)) standard ∙ ap (sheetText (b .standard)) records ∙ sym (a .parts ∙ ap (λ l. l ++ joined (a .lines)) (b .bytes) ∙ ap (λ l. headText (b .standard) ++ l) (rw (b .none) at lines)),
+      ap (λ (q : ℕ). sheetText q (recordsOf text)) standard ∙ ap (sheetText (b .standard)) records ∙ sym (a .parts ∙
+          ap (λ l. l ++ joined (a .lines)) (b .bytes) ∙ ap (λ l. headText (b .standard) ++ l) (rw (b .none) at lines)),
     )

@@ -93,7 +93,14 @@ module _ (s : List ℕ) (at : ℕ) where
     unfolding isNumber leadingAt
     few end e more short =
         let some : 1 ≤ length Digits = omega (arith, e, more) in
-        let number : isNumber Digits ≡ true = rw (led (drop at s) .all, le-leb 1 (length Digits) some, le-leb (length Digits) longest (omega (arith, e)), ne-eqb (getD Digits 0 0) zeroByte (not-zero-byte some), and-false (ltb 1 (length Digits))) in
+        let number : isNumber Digits ≡ true = rw (
+          led (drop at s) .all,
+          le-leb 1 (length Digits) some,
+          le-leb (length Digits) longest (omega (arith, e)),
+          ne-eqb (getD Digits 0 0) zeroByte
+              (not-zero-byte some),
+          and-false (ltb 1 (length Digits)),
+        ) in
         let v = valueOf Digits in
         let reads : leadingAt s at ≡ Number v end = rw (number, e) in
         let high : v ≤ longestTime = by-order v (10 ^ 7) (λ h. omega arith) (λ h. absurd (omega (arith, e, ap length (digits-value Digits number), digits-above 7 v h))) in

@@ -59,8 +59,23 @@ wide-room w = omega (arith, w .top, w .low)
 pub wide-on : {v width limit : ℕ} → Wide v width limit → Wide (v + 1) (cond (eqb (v + 1) limit) (width + 1) width) (cond (eqb (v + 1) limit) (limit * 10) limit)
 wide-on {v} {width} {limit} w =
     by-test (eqb (v + 1) limit)
-    (λ e. let full = eqb-true (v + 1) limit e in rw e (record { below = suc (w .below); is = omega (arith, w .is); top = omega (arith, w .top); low = omega (arith, w .top); high = omega arith; few = omega (arith, w .few) }))
-    (λ e. let more = eqb-false (v + 1) limit e in rw e (record { below = w .below; is = w .is; top = w .top; low = omega (arith, w .low); high = omega (arith, more, w .high); few = omega (arith, w .few) }))
+    (λ e. let full = eqb-true (v + 1) limit e in rw e (record {
+      below = suc (w .below);
+      is = omega (arith, w .is);
+      top = omega (arith, w .top);
+      low = omega (arith, w .top);
+      high = omega arith;
+      few = omega (arith, w .few);
+    }))
+    (λ e. let more = eqb-false (v + 1) limit e in rw e (record {
+      below = w .below;
+      is = w .is;
+      top = w .top;
+      low =
+          omega (arith, w .low);
+      high = omega (arith, more, w .high);
+      few = omega (arith, w .few);
+    }))
 
 -- ---- a record's line at a place: its flag, its exposure, and the place after it
 pub record Stands (s : List ℕ) (at width : ℕ) (f : Bool) (t : ℕ) (rest : List ℕ) : Type 0 where
@@ -86,7 +101,9 @@ stands s at due f t rest width w short e =
     let byte : getD s (at + width + 1) 0 ≡ F = rw (← add-zero (at + width + 1), ← getD-drop) (ap (λ (l : List ℕ). getD l 0 0) flags) in
     let digits = on s (at + width) (tab ∷ F ∷ tab ∷ []) after-it (at + width + 3) tabs refl in
     let is : leadingDigits longest (drop (at + width + 3) s) ≡ digitsOf t =
-    leading-front longest (drop (at + width + 3) s) ∙ ap (λ (l : List ℕ). take longest (leading l)) digits ∙ ap (take longest) (leading-is (digitsOf t) (lineFeed ∷ rest) (all-digits t) refl) ∙ take-all longest (digitsOf t) (digits-below 11 t short)
+    leading-front longest (drop (at + width + 3) s) ∙ ap (λ (l : List ℕ). take longest (leading l)) digits ∙
+    ap (take longest) (leading-is (digitsOf t) (lineFeed ∷ rest) (all-digits t) refl) ∙ take-all longest
+    (digitsOf t) (digits-below 11 t short)
     in
     let end : runEnd s (at + width + 3) ≡ at + width + 3 + length (digitsOf t) = ap (λ (l : List ℕ). at + width + 3 + length l) is in
     let last = on s (at + width + 3) (digitsOf t) (lineFeed ∷ rest) (runEnd s (at + width + 3)) digits end in
@@ -150,10 +167,15 @@ module _ {text : List ℕ} {before places : List ℤ} {at count width limit : �
       go (line ∷ lines) are e =
           let o = first-line (p .so-far) line lines (p .end) (p .good) e in
           let bytes = o .bytes ∙ ap (λ (n : ℕ). entryText (n + 1) (cond (o .failed) 1 0) (o .exposure)) (p .records) in
-          let parts : drop at text ≡ entryText (count + 1) (cond (o .failed) 1 0) (o .exposure) ++ joined lines = sym (lines-joined (drop at text)) ∙ ap joined are ∙ ap (λ (l : List ℕ). l ++ joined lines) bytes in
-          let again : line ∷ lines ≡ entryText (count + 1) (cond (o .failed) 1 0) (o .exposure) ∷ linesOf (joined lines) = sym are ∙ ap linesOf parts ∙ entry-lines (count + 1) (cond (o .failed) 1 0) (o .exposure) (joined lines) in
+          let parts : drop at text ≡ entryText (count + 1) (cond (o .failed) 1 0) (o .exposure) ++ joined lines =
+          sym (lines-joined (drop at text)) ∙ ap joined are ∙ ap (λ (l : List ℕ). l ++ joined lines) bytes in
+          let again : line ∷ lines ≡ entryText (count + 1) (cond (o .failed) 1 0) (o .exposure) ∷ linesOf
+          (joined lines) = sym are ∙ ap linesOf parts ∙ entry-lines (count + 1) (cond (o .failed) 1 0)
+          (o .exposure) (joined lines) in
           let after-it : lines ≡ linesOf (joined lines) = cc (again) in
-          let says : recordIn line ≡ signed (o .failed) (o .exposure) = ap recordIn bytes ∙ entry-says (count + 1) (cond (o .failed) 1 0) (o .exposure) ∙ ap (λ (f : Bool). signed f (o .exposure)) (flag-of (o .failed) .0) in
+          let says : recordIn line ≡ signed (o .failed) (o .exposure) = ap recordIn bytes ∙ entry-says (count + 1)
+          (cond (o .failed) 1 0) (o .exposure) ∙ ap (λ (f : Bool). signed f (o .exposure))
+          (flag-of (o .failed) .0) in
           record {
             failed = o .failed;
             exposure = o .exposure;
@@ -176,7 +198,8 @@ module _ {text : List ℕ} {before places : List ℤ} {at count width limit : �
         good = d .good;
         records = d .records;
         reads = ap (λ (l : List ℕ). readingSheet false (linesOf l) (Open (d .after)) .end) rest ∙ d .reads;
-        puts = rw (stored, add-one) (ap (λ (l : List ℕ). sets (set places count (signed (d .failed) (d .exposure))) (suc count) (map recordIn (linesOf l))) rest ∙ ap (sets places count) (sym (d .puts)) ∙ p .puts);
+        puts = rw (stored, add-one) (ap (λ (l : List ℕ). sets (set places count (signed (d .failed) (d .exposure)))
+            (suc count) (map recordIn (linesOf l))) rest ∙ ap (sets places count) (sym (d .puts)) ∙ p .puts);
         size = rw stored (length-set places count (signed (d .failed) (d .exposure)) ∙ p .size);
         wide = wide-on (p .wide);
       }

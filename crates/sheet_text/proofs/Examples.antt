@@ -35,7 +35,9 @@ answer =
     ++ (114 ∷ 101 ∷ 102 ∷ 117 ∷ 115 ∷ 101 ∷ 100 ∷ 9 ∷ 52 ∷ 9 ∷ 52 ∷ 10 ∷ []))
 
 pub whole-case : meaning sheet ≡ record { text = answer; end = Stopped 4 0 TooShort }
-unfolding meaning readingSheet linesOf stepping standardLine recordLine fieldThen endedBy startsWith begins fieldAt readAs fieldOf isNumber allDigits valueOf telling entering sound censored recordText figures letterFor fieldText digitsOf digitsWithin refusedText reasonText l u lowerRows upperRows
+unfolding meaning readingSheet linesOf stepping standardLine recordLine fieldThen endedBy startsWith begins fieldAt
+    readAs fieldOf isNumber allDigits valueOf telling entering sound censored recordText figures letterFor fieldText
+    digitsOf digitsWithin refusedText reasonText l u lowerRows upperRows
 whole-case = refl
 
 -- document 02, request 10: the column of a strange byte. standard 5; 1 0 4x7
@@ -44,5 +46,7 @@ typed = (115 ∷ 116 ∷ 97 ∷ 110 ∷ 100 ∷ 97 ∷ 114 ∷ 100 ∷ 9 ∷ 53 
 
 -- refused 2 9 6
 pub strange-case : meaning typed ≡ record { text = 114 ∷ 101 ∷ 102 ∷ 117 ∷ 115 ∷ 101 ∷ 100 ∷ 9 ∷ 50 ∷ 9 ∷ 57 ∷ 9 ∷ 54 ∷ 10 ∷ []; end = Stopped 2 6 (Line 2) }
-unfolding meaning readingSheet linesOf stepping standardLine recordLine standardColumn recordColumn recordFields howMany fieldThen endedBy startsWith begins fieldAt readAs faultIn leading fieldOf isNumber allDigits valueOf entering sound censored recordText figures letterFor fieldText digitsOf digitsWithin refusedText reasonText
+unfolding meaning readingSheet linesOf stepping standardLine recordLine standardColumn recordColumn recordFields
+    howMany fieldThen endedBy startsWith begins fieldAt readAs faultIn leading fieldOf isNumber allDigits valueOf
+    entering sound censored recordText figures letterFor fieldText digitsOf digitsWithin refusedText reasonText
 strange-case = refl

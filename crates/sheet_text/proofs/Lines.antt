@@ -201,7 +201,9 @@ reading-turn more (b ∷ text) s h = ⊎-elim (λ w. rw w) long (first-of longes
     piece : List ℕ
     piece = take (cut longestSheetLine whole) whole
 
-    long : Long longestSheetLine whole → readingSheet more (linesOf whole) s ≡ cond (waits more piece) (ended (Waiting s (length piece))) (afterStep (stepping s piece) (readingSheet more (linesOf (drop (cut longestSheetLine whole) whole))))
+    long : Long longestSheetLine whole → readingSheet more (linesOf whole) s ≡ cond (waits more piece)
+        (ended (Waiting s (length piece))) (afterStep (stepping s piece) (readingSheet more
+        (linesOf (drop (cut longestSheetLine whole) whole))))
     long l =
         let none : isSheetLine piece ≡ false = rw (l .unended) (and-false (leb (length piece) longestSheetLine)) in
         let too-long : isSheetLine (l .line) ≡ false = rw (lt-leb (length (l .line)) longestSheetLine (l .longer)) in

@@ -61,7 +61,8 @@ no-wait false line w = refl
 
 -- one cut: what is read before it goes on with what follows, and leaves no more unread than there is
 record Cut (more : Bool) (text after : List ℕ) (s : Sheet) : Type 0 where
-  goes : onward (readingSheet true (linesOf text) s) (readingSheet true (linesOf text) s .end) text (λ t kept. readingSheet more (linesOf (kept ++ after)) t) ≡ readingSheet more (linesOf (text ++ after)) s
+  goes : onward (readingSheet true (linesOf text) s) (readingSheet true (linesOf text) s .end) text
+      (λ t kept. readingSheet more (linesOf (kept ++ after)) t) ≡ readingSheet more (linesOf (text ++ after)) s
   left : leftIn (readingSheet true (linesOf text) s .end) ≤ length text
 
 module _ (more : Bool) (text after : List ℕ) (s : Sheet) (some : 0 < length text) where
@@ -91,7 +92,16 @@ module _ (more : Bool) (text after : List ℕ) (s : Sheet) (some : 0 < length te
 
   cut-next : {t : Sheet} → waits true line ≡ false → stepping s line ≡ Next t → Cut more rest after t → Cut more text after s
   unfolding readingSheet
-  cut-next {t} w f c = record { goes = rw (turn w, f) (by-end (readingSheet true (linesOf rest) t .end) refl ∙ sym (turn-after w ∙ rw f)); left = rw (turn w, f) (omega (arith, c .left, length-drop (cut longestSheetLine text) text)) }
+  cut-next {t} w f c = record {
+    goes = rw (turn w, f) (by-end (readingSheet true (linesOf rest) t .end) refl ∙
+        sym (turn-after w ∙ rw f));
+    left = rw (turn w, f) (omega (
+      arith,
+      c .left,
+      length-drop (cut longestSheetLine
+          text) text,
+    ));
+  }
     where
       A : Account
       A = readingSheet true (linesOf rest) t
@@ -139,7 +149,8 @@ module _ (more : Bool) (after : List ℕ) where
   cuts (suc n) text s h = cut-text n text s h (cuts n)
 
 pub one-cut : (more : Bool) (text after : List ℕ) (s : Sheet)
-    → onward (readingSheet true (linesOf text) s) (readingSheet true (linesOf text) s .end) text (λ t kept. readingSheet more (linesOf (kept ++ after)) t) ≡ readingSheet more (linesOf (text ++ after)) s
+    → onward (readingSheet true (linesOf text) s) (readingSheet true (linesOf text) s .end) text
+    (λ t kept. readingSheet more (linesOf (kept ++ after)) t) ≡ readingSheet more (linesOf (text ++ after)) s
 one-cut more text after s = cuts more after (length text) text s (omega arith) .goes
 
 -- ---- the theorem, for any number of cuts

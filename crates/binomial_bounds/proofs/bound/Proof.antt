@@ -11,7 +11,7 @@ unfolding bounding
 returns c = rw (said-no (c .before .sound .ensures) (c .if1 .taken))
 
 bounds-of-requires : tie.Need-bounds-of-requires
-bounds-of-requires c κs = kept-from (c .before .before .before .args .s) (holds (said-yes (c .before .before .sound .ensures) (c .before .if1 .left)))
+bounds-of-requires c κs = kept-from _ (holds (said-yes (c .before .before .sound .ensures) (c .before .if1 .left)))
 
 returns-2 : tie.Need-returns-2
 unfolding bounding

@@ -6,10 +6,10 @@ use Rattle.binomial_bounds.proofs.bounds_of.Statement.{statement}
 use Rattle.binomial_bounds.proofs.bounds_of.Tie as tie
 
 add-t5 : tie.Need-add-t5
-add-t5 c = omega (arith, c .before .half-width .ensures, width-small (c .before .before .before .args .s) (c .before .before .before .pre))
+add-t5 c = omega (arith, c .before .half-width .ensures, width-small _ (c .before .before .before .pre))
 
 mul-t6 : tie.Need-mul-t6
-mul-t6 c = omega (arith, small (c .before .before .before .before .args .s) (c .before .before .before .before .pre) .time)
+mul-t6 c = omega (arith, small _ (c .before .before .before .before .pre) .time)
 
 returns : tie.Need-returns
 returns c = rw (c .before .less .ensures, c .before .before .half-width .ensures)

@@ -11,4 +11,6 @@ returns-2 c = rw (← c .before .before .before .either .ensures, c .before .bef
 
 pub take-spec : {M : Type 1} → statement M
 take-spec =
-    tie.close (tie.spec (λ c. search needs) (λ c. search needs) (λ c κs. search needs) returns (λ c. search needs) (λ c. search needs) returns-2)
+    tie.close
+    (tie.spec (λ c. search needs) (λ c. search needs) (λ c κs. search needs) returns (λ c. search needs)
+    (λ c. search needs) returns-2)

@@ -11,11 +11,15 @@ returns c = rw (said-no (c .before .before .fine .ensures) (c .before .if1 .take
 
 returns-2 : tie.Need-returns-2
 unfolding chosen
-returns-2 c = rw (said-yes (c .before .before .before .before .fine .ensures) (c .before .before .before .if1 .left), said-no (c .before .before .is-bureau .ensures) (c .before .if2 .taken)) (c .refusing2 .ensures)
+returns-2 c =
+    let b = c .before .before in
+    rw (said-yes (b .before .before .fine .ensures) (b .before .if1 .left), said-no (b .is-bureau .ensures) (c .before .if2 .taken)) (c .refusing2 .ensures)
 
 returns-3 : tie.Need-returns-3
 unfolding chosen
-returns-3 c = rw (said-yes (c .before .before .before .before .fine .ensures) (c .before .before .before .if1 .left), said-yes (c .before .before .is-bureau .ensures) (c .before .if2 .left)) (c .choosing .ensures)
+returns-3 c =
+    let b = c .before .before in
+    rw (said-yes (b .before .before .fine .ensures) (b .before .if1 .left), said-yes (b .is-bureau .ensures) (c .before .if2 .left)) (c .choosing .ensures)
 
 pub choose-spec : {M : Type 1} → statement M
 choose-spec =

@@ -10,6 +10,4 @@ returns-2 : tie.Need-returns-2
 returns-2 c = rw (c .before .ask2 .given .1)
 
 pub choosing-spec : {M : Type 1} → statement M
-choosing-spec =
-    tie.close
-    (tie.spec (λ c. search needs) (λ c κs. search needs) (λ c. search needs) returns returns-2)
+choosing-spec = tie.close (tie.spec (λ c. search needs) (λ c κs. search needs) (λ c. search needs) returns returns-2)

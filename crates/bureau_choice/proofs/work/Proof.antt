@@ -8,7 +8,9 @@ returns : tie.Need-returns
 returns c = rw (c .before .before .before .w .given .1, ← c .before .enter .ensures) (c .entry .ensures)
 
 returns-2 : tie.Need-returns-2
-returns-2 c = rw (c .before .before .before .enum-told .given .1, ← only _ (c .before .before .judge .result) (c .before .before .judge .ensures), ← c .before .verdict-answer .ensures) (c .read .ensures)
+returns-2 c =
+    let b = c .before .before in
+    rw (b .before .enum-told .given .1, ← only _ (b .judge .result) (b .judge .ensures), ← c .before .verdict-answer .ensures) (c .read .ensures)
 
 returns-3 : tie.Need-returns-3
 returns-3 c = rw (c .before .before .before .enum-told2 .given .1, ← c .before .before .rate .ensures, ← c .before .rates-answer .ensures) (c .read2 .ensures)

@@ -103,7 +103,8 @@ module _ {M : Type 1} (𝓤 : URA M) (H : Heap 𝓤) (A : Atoms 𝓤) (W : Given
   unfolding partOf
   out-of = id⊢ 𝓤 _
 
-module _ {M : Type 1} (𝓤 : URA M) (H : Heap 𝓤) (A : Atoms 𝓤) (W : Given 𝓤 H A) (mem′ : Memory → SProp 𝓤) (run : Routine → Fun 𝓤) (ys : List Place) (c₀ : Call) (gs : Is RP c₀ (P′.lowered c₀ ∷ [])) where
+module _ {M : Type 1} (𝓤 : URA M) (H : Heap 𝓤) (A : Atoms 𝓤) (W : Given 𝓤 H A) (mem′ : Memory → SProp 𝓤)
+    (run : Routine → Fun 𝓤) (ys : List Place) (c₀ : Call) (gs : Is RP c₀ (P′.lowered c₀ ∷ [])) where
   abbrev Arg : Type 0
   Arg = List Place × (Call × Unit {0})
 
@@ -167,14 +168,19 @@ module _ {M : Type 1} (𝓤 : URA M) (H : Heap 𝓤) (A : Atoms 𝓤) (W : Given
         move ! (17 ∷ []) $ fsplit ! $ move ! (10 ∷ 0 ∷ []) $ use2 W (‵ (partAt RA fullShare ys l₃ 0)) (into 𝓤 H A W ys l₃ (AV ys)) $
         use1 W (‵ (arr-parts (shares R) 32 .part fullShare ys l₃ 0)) (array-apart 𝓤 H A W R fullShare tt 32 ys l₃ 0) $ fsplit ! $ feqL ! (λ len.
         use1 W (‵ (cells (mem R) ys l₃ 0)) (whole-in 𝓤 H A W R ys l₃ 0) $ lft-new ! tt (λ α. move ! (1 ∷ []) $
-        use1 W (later (some (λ (γ : GName). ‵ (MutSlice (named 0) (α ∷ []) R .own (x l₃ α γ) (sliceVal (l₃, 0) (length ys) ∷ [])) ⊛ ‵ (flent (α ∷ []) (Held R (length ys) l₃ 0 γ))))) (lends-slice 𝓤 H A W R (named 0) (α ∷ []) ys l₃ 0 (subst (Room R) (sym len) (lit< tt, lit< tt))) $ await ! tt $ pick ! (λ γ. split ! $
+        use1 W (later (some (λ (γ : GName). ‵ (MutSlice (named 0) (α ∷ []) R .own (x l₃ α γ) (sliceVal (l₃, 0)
+        (length ys) ∷ [])) ⊛ ‵ (flent (α ∷ []) (Held R (length ys) l₃ 0 γ))))) (lends-slice 𝓤 H A W R (named 0)
+        (α ∷ []) ys l₃ 0 (subst (Room R) (sym len) (lit< tt, lit< tt))) $ await ! tt $ pick ! (λ γ. split ! $
         -- [the slice; the lender's part; the token; what a owns; _7; …; _6; …; _5; …; _4; …; that _3 dies; _2; …; _1;
         -- …; room for _0; …]
         rewrite ! 6 (λ (m : ℕ). ‵ (fat fullShare (sliceTy (tyRef erased mut (pointee (R .written)))) l₆ 0 (sliceVal (l₃, 0) m))) (sym len) refl $
         nothing ! $ move ! (3 ∷ 0 ∷ []) $ join ! $ use2 W (raw (Serve 𝓤 H A mem′ run .pre (to-serve l₃ α γ))) (goes l₃ α γ) $
         calls-at ! fm (Serve 𝓤 H A mem′ run) known (to-serve l₃ α γ) (and-then ! (load ! (from ! (stop !)) (look ! 5 refl)) (and-then ! (load ! (from ! (stop !)) (look ! 12 refl)) (no-more !))) (λ w.
-        use1 W (later (some (λ (r : TableAnswer). ((‵ (flft (α ∷ []) fullShare) ⊛ ‵ ftrue) ⊛ ‵ (RE .own r (w ∷ []))) ⊛ raw (ensured 𝓤 H A serve.ended (serve.clauses 𝓤 H A mem′ run) ((α ∷ []), tt) (x l₃ α γ, (c₀, tt)) tt r)))) (id⊢ 𝓤 _) $ await ! tt $ pick ! (λ r.
-        split ! $ move ! (1 ∷ []) $ use1 W (some (λ (zs : List Place × (Unit {0} × Unit {0})). ‵ (lasts serve.ended ((α ∷ []), tt) (x l₃ α γ, (c₀, tt)) zs) ⊛ raw (fact 𝓤 (Said c₀ ys r (zs .0))))) (id⊢ 𝓤 _) $ pick ! (λ zs.
+        use1 W (later (some (λ (r : TableAnswer). ((‵ (flft (α ∷ []) fullShare) ⊛ ‵ ftrue) ⊛ ‵ (RE .own r (w ∷ [])))
+        ⊛ raw (ensured 𝓤 H A serve.ended (serve.clauses 𝓤 H A mem′ run) ((α ∷ []), tt) (x l₃ α γ, (c₀, tt)) tt
+        r)))) (id⊢ 𝓤 _) $ await ! tt $ pick ! (λ r.
+        split ! $ move ! (1 ∷ []) $ use1 W (some (λ (zs : List Place × (Unit {0} × Unit {0})). ‵ (lasts serve.ended
+        ((α ∷ []), tt) (x l₃ α γ, (c₀, tt)) zs) ⊛ raw (fact 𝓤 (Said c₀ ys r (zs .0))))) (id⊢ 𝓤 _) $ pick ! (λ zs.
         split ! $ move ! (1 ∷ []) $ heard ! (Said c₀ ys r (zs .0)) (λ e. fsplit ! $ fsplit ! $ move ! (1 ∷ []) $ feqL ! (λ same.
         move ! (2 ∷ []) $ split ! $ move ! (1 ∷ []) $ peeks ! RE (Is RE) (shows 𝓤 H A RE) r (w ∷ []) (λ is.
         let gr : Is RE r (E′.lowered r ∷ []) = subst (Is RE r) (E′.lowers .val-is r (w ∷ []) is) is in
@@ -184,28 +190,42 @@ module _ {M : Type 1} (𝓤 : URA M) (H : Heap 𝓤) (A : Atoms 𝓤) (W : Given
         move ! (1 ∷ []) $ split ! $ lft-end ! tt $ move ! (0 ∷ 5 ∷ 3 ∷ []) $
         use3 W (later (‵ (Arr (mem R) (length ys) .lies (zs .0) l₃ 0))) (slice-back 𝓤 H A W R (α ∷ []) γ (zs .0) (length ys) l₃ 0) $ await ! tt $ fsplit ! $ drop ! $
         use1 W (‵ (row R fullShare (zs .0) l₃ 0)) (whole-out 𝓤 H A W R (zs .0) l₃ 0) $ feqI ! ℕ (length (zs .0)) 32 (same ∙ len) $ fjoin ! $
-        use1 W (‵ (partAt RA fullShare (zs .0) l₃ 0)) (array-whole 𝓤 H A W R fullShare 32 (zs .0) l₃ 0) $ use1 W (some (λ (vs : List Val). ‵ (cellAt fullShare (RA .mir) vs l₃ 0) ⊛ ‵ (RA .own (zs .0) vs))) (out-of 𝓤 H A W (zs .0) l₃) $ pick ! (λ vs. split ! $
+        use1 W (‵ (partAt RA fullShare (zs .0) l₃ 0)) (array-whole 𝓤 H A W R fullShare 32 (zs .0) l₃ 0) $ use1 W
+        (some (λ (vs : List Val). ‵ (cellAt fullShare (RA .mir) vs l₃ 0) ⊛ ‵ (RA .own (zs .0) vs)))
+        (out-of 𝓤 H A W (zs .0) l₃) $ pick ! (λ vs. split ! $
         move ! (1 ∷ []) $ peeks ! RA (Is RA) (shows 𝓤 H A RA) (zs .0) vs (λ gv.
         let gz : Is RA (zs .0) (AV (zs .0) ∷ []) = subst (Is RA (zs .0)) (tells-all (zs .0) vs gv) gv in
         rewrite ! 1 (λ (us : List Val). ‵ (cellAt fullShare (RA .mir) us l₃ 0)) (tells-all (zs .0) vs gv) refl $ drop ! $
         use1 W (‵ (fat fullShare (tyArray T′.mir 32) l₃ 0 (AV (zs .0)))) (W .laws .raw-at fullShare (tyArray T′.mir 32) l₃ 0 (AV (zs .0))) $
         -- [_3; true; …; …; what a owns; _7; …; _6; …; _5; …; _4; …; that _3 dies; _2; …; _1; …; room for _0; …]
         assigns ! (of-opd ! (load ! (from ! (stop !)) (look ! 0 refl))) (from ! (stop !)) (init ! 5 refl (typed (zs .0) gz)) $
-        assigns ! (agg ! (and-then ! (load ! (from ! (stop !)) (look ! 5 refl)) (and-then ! (load ! (from ! (stop !)) (look ! 11 refl)) (no-more !)))) (from ! (stop !)) (init ! 18 refl (LL.lawful K.the-type K′.the-laws 𝓤 H A W .typed (sv (zs .0) r) (mach (zs .0) r ∷ []) (made (zs .0) r gz gr) .0)) $
+        assigns ! (agg ! (and-then ! (load ! (from ! (stop !)) (look ! 5 refl))
+        (and-then ! (load ! (from ! (stop !)) (look ! 11 refl)) (no-more !)))) (from ! (stop !)) (init ! 18 refl
+        (LL.lawful K.the-type K′.the-laws 𝓤 H A W .typed (sv (zs .0) r) (mach (zs .0) r ∷ []) (made (zs .0) r gz
+        gr) .0)) $
         returns ! (look ! 18 refl) $ forget ! 0 refl $ forget ! 5 refl $ forget ! 7 refl $ forget ! 9 refl $ forget ! 11 refl $ forget ! 14 refl $ forget ! 16 refl $ forget ! 18 refl $
-        move ! (18 ∷ 19 ∷ []) $ free1 ! $ move ! (16 ∷ 17 ∷ []) $ free1 ! $ move ! (14 ∷ 15 ∷ []) $ free1 ! $ move ! (0 ∷ 13 ∷ []) $ free1 ! $ move ! (10 ∷ 11 ∷ []) $ free1 ! $ move ! (8 ∷ 9 ∷ []) $ free1 ! $ move ! (6 ∷ 7 ∷ []) $ free1 ! $ move ! (4 ∷ 5 ∷ []) $ free1 ! $ free0 ! $
+        move ! (18 ∷ 19 ∷ []) $ free1 ! $ move ! (16 ∷ 17 ∷ []) $ free1 ! $ move ! (14 ∷ 15 ∷ []) $ free1 ! $ move !
+        (0 ∷ 13 ∷ []) $ free1 ! $ move ! (10 ∷ 11 ∷ []) $ free1 ! $ move ! (8 ∷ 9 ∷ []) $ free1 ! $ move !
+        (6 ∷ 7 ∷ []) $ free1 ! $ move ! (4 ∷ 5 ∷ []) $ free1 ! $ free0 ! $
         keep ! [] $ by ! (exits (zs .0) r e gz gr))))))))))))))))))))
 
 module _ {M : Type 1} (𝓤 : URA M) (H : Heap 𝓤) (A : Atoms 𝓤) (W : Given 𝓤 H A) (mem′ : Memory → SProp 𝓤) (run : Routine → Fun 𝓤) where
-  lent-walks : (C : Calls 𝓤 H) (Λ : Loops 𝓤 H) → FmC 𝓤 H (W .laws) C → Triple 𝓤 (C #bureau-entries·serve) (Serve 𝓤 H A mem′ run) → Walks 𝓤 H A lent.ended stayed (WpFn 𝓤 H C Λ code.function) (lent.clauses 𝓤 H A mem′ run)
+  lent-walks : (C : Calls 𝓤 H) (Λ : Loops 𝓤 H) → FmC 𝓤 H (W .laws) C → Triple 𝓤 (C #bureau-entries·serve)
+      (Serve 𝓤 H A mem′ run) → Walks 𝓤 H A lent.ended stayed (WpFn 𝓤 H C Λ code.function) (lent.clauses 𝓤 H A mem′ run)
   lent-walks C Λ fm known = walked 𝓤 H A lent.ended stayed (lent.clauses 𝓤 H A mem′ run) (WpFn 𝓤 H C Λ code.function)
       (λ κs. (array-vals (LL.vals T.the-type T′.the-laws), ((λ (d : Call). P′.lowered d ∷ []), tt))) (λ κs. (tells-all, (P′.lowers .val-is, tt)))
       (λ κs qs bounds a g are. via 𝓤 _ (fst∗ 𝓤 _ (emp 𝓤)) (walk 𝓤 H A W mem′ run (a .0) (a .1 .0) (are .1 .0) C Λ fm known (are .0)))
 
-lent-meets : {M : Type 1} (𝓤 : URA M) (H : Heap 𝓤) (A : Atoms 𝓤) → Given 𝓤 H A → (mem′ : Memory → SProp 𝓤) (run : Routine → Fun 𝓤) (𝓣 : Tables 𝓤 H) → Triple 𝓤 (𝓣 .C #bureau-entries·serve) (Serve 𝓤 H A mem′ run)
+lent-meets : {M : Type 1} (𝓤 : URA M) (H : Heap 𝓤) (A : Atoms 𝓤) → Given 𝓤 H A → (mem′ : Memory → SProp 𝓤)
+    (run : Routine → Fun 𝓤) (𝓣 : Tables 𝓤 H) → Triple 𝓤 (𝓣 .C #bureau-entries·serve) (Serve 𝓤 H A mem′ run)
     → Meets 𝓤 H A lent.signature (WpFn 𝓤 H (𝓣 .C) (𝓣 .Λ) code.function) (lent.spec 𝓤 H A mem′ run)
 lent-meets 𝓤 H A W mem′ run 𝓣 known =
-    walk-meets 𝓤 H A lent.ended stayed W (goes-dropped 𝓤 H A W 0 (ArrayOf (plain (λ _. R)) (λ _. tt) 32) yes (λ κs x f. refl), (goes-dropped 𝓤 H A W 0 (plain (λ _. RP)) yes (λ κs x f. refl), tt)) (lent.clauses 𝓤 H A mem′ run)
+    walk-meets 𝓤 H A lent.ended stayed W (
+      goes-dropped 𝓤 H A W 0 (ArrayOf (plain (λ _. R)) (λ _. tt) 32) yes
+          (λ κs x f. refl),
+      (goes-dropped 𝓤 H A W 0 (plain (λ _. RP)) yes (λ κs x f. refl), tt),
+    ) (lent.clauses 𝓤 H A
+    mem′ run)
     (WpFn 𝓤 H (𝓣 .C) (𝓣 .Λ) code.function) (WpFn-mono 𝓤 H (W .laws) 𝓣 code.function) (lent-walks 𝓤 H A W mem′ run (𝓣 .C) (𝓣 .Λ) (fmOf 𝓤 H (W .laws) 𝓣) known)
 
 pub lent-spec : {M : Type 1} → stated.statement M

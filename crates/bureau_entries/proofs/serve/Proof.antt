@@ -138,7 +138,8 @@ left xs c d e t =
     let s : workedOn xs c d ≡ called xs (c .bureau) (c .ask) = ap (workedOn xs c) e ∙ serves xs c in
     (ap (λ (x : Done). x .answer) (rw t at s), ap (λ (x : Done). x .table) (rw t at s))
 
-module _ {M : Type 1} (𝓤 : URA M) (H : Heap 𝓤) (A : Atoms 𝓤) (W : Given 𝓤 H A) (mem : Memory → SProp 𝓤) (run : Routine → Fun 𝓤) (κ : Lft) (q : Share) (b o : ℕ) (γ : GName) (xs : List Place) (c₀ : Call) where
+module _ {M : Type 1} (𝓤 : URA M) (H : Heap 𝓤) (A : Atoms 𝓤) (W : Given 𝓤 H A) (mem : Memory → SProp 𝓤)
+    (run : Routine → Fun 𝓤) (κ : Lft) (q : Share) (b o : ℕ) (γ : GName) (xs : List Place) (c₀ : Call) where
   abbrev n : ℕ
   n = length xs
 
@@ -166,7 +167,10 @@ module _ {M : Type 1} (𝓤 : URA M) (H : Heap 𝓤) (A : Atoms 𝓤) (W : Given
       frame ! $ fjoin ! $ pureI ! (at-slice R (x ys) (at .0)) (tt, (tt, tt)) (ap (λ (m : ℕ). sliceVal (b, o) m ∷ []) (sym e), subst (Room R) (sym e) gn) $ fjoin ! $ fjoin ! $ frame ! $
       owned ! RE (Is RE) ((LE.makes E.the-type E′.the-plain) 𝓤 H A) r _ gr $ done !
 
-  module _ (𝓣 : Tables 𝓤 H) (surveys : Triple 𝓤 (𝓣 .C #bureau-survey·look) (Survey 𝓤 H A mem run)) (chooses : Triple 𝓤 (𝓣 .C #bureau-choice·choose) (Choose 𝓤 H A mem run)) (acts : Triple 𝓤 (𝓣 .C #bureau-choice·act) (Act 𝓤 H A mem run)) (gn : Room R n) (gc : Is RP c₀ (P′.lowered c₀ ∷ [])) (l₀ l₁ l₂ l₃ l₄ l₅ l₆ l₇ l₈ l₉ l₁₀ l₁₁ l₁₂ l₁₃ l₁₄ l₁₅ l₁₆ l₁₇ : ℕ) where
+  module _ (𝓣 : Tables 𝓤 H) (surveys : Triple 𝓤 (𝓣 .C #bureau-survey·look) (Survey 𝓤 H A mem run)) (chooses : Triple
+      𝓤 (𝓣 .C #bureau-choice·choose) (Choose 𝓤 H A mem run)) (acts : Triple 𝓤 (𝓣 .C #bureau-choice·act)
+      (Act 𝓤 H A mem run)) (gn : Room R n) (gc : Is RP c₀ (P′.lowered c₀ ∷ [])) (l₀ l₁ l₂ l₃ l₄ l₅ l₆ l₇ l₈ l₉ l₁₀
+      l₁₁ l₁₂ l₁₃ l₁₄ l₁₅ l₁₆ l₁₇ : ℕ) where
     abbrev C : Calls 𝓤 H
     C = 𝓣 .C
 
@@ -174,15 +178,25 @@ module _ {M : Type 1} (𝓤 : URA M) (H : Heap 𝓤) (A : Atoms 𝓤) (W : Given
     Λ = 𝓣 .Λ
 
     abbrev En : Env 𝓤 H
-    En = (E′.mir, l₀) ∷ (slice, l₁) ∷ (P′.mir, l₂) ∷ (S′.mir, l₃) ∷ (word, l₄) ∷ (D′.mir, l₅) ∷ (word, l₆) ∷ (K′.mir, l₇) ∷ (word, l₈) ∷ (tyBool, l₉) ∷ (tyPtr, l₁₀) ∷ (T′.mir, l₁₁) ∷ (word, l₁₂) ∷ (tyBool, l₁₃) ∷ (word, l₁₄) ∷ (tyPtr, l₁₅) ∷ (T′.mir, l₁₆) ∷ (tyPtr, l₁₇) ∷ []
+    En = (E′.mir, l₀) ∷ (slice, l₁) ∷ (P′.mir, l₂) ∷ (S′.mir, l₃) ∷ (word, l₄) ∷ (D′.mir, l₅) ∷ (word, l₆) ∷
+        (K′.mir, l₇) ∷ (word, l₈) ∷ (tyBool, l₉) ∷ (tyPtr, l₁₀) ∷ (T′.mir, l₁₁) ∷ (word, l₁₂) ∷ (tyBool, l₁₃) ∷
+        (word, l₁₄) ∷ (tyPtr, l₁₅) ∷ (T′.mir, l₁₆) ∷ (tyPtr, l₁₇) ∷ []
 
     abbrev Dies : List (Item 𝓤)
-    Dies = ‵ (fdies E′.mir l₀) ∷ ‵ (fdies slice l₁) ∷ ‵ (fdies P′.mir l₂) ∷ ‵ (fdies S′.mir l₃) ∷ ‵ (fdies word l₄) ∷ ‵ (fdies D′.mir l₅) ∷ ‵ (fdies word l₆) ∷ ‵ (fdies K′.mir l₇) ∷ ‵ (fdies word l₈) ∷ ‵ (fdies tyBool l₉) ∷ ‵ (fdies tyPtr l₁₀) ∷ ‵ (fdies T′.mir l₁₁) ∷ ‵ (fdies word l₁₂) ∷ ‵ (fdies tyBool l₁₃) ∷ ‵ (fdies word l₁₄) ∷ ‵ (fdies tyPtr l₁₅) ∷ ‵ (fdies T′.mir l₁₆) ∷ ‵ (fdies tyPtr l₁₇) ∷ []
+    Dies = ‵ (fdies E′.mir l₀) ∷ ‵ (fdies slice l₁) ∷ ‵ (fdies P′.mir l₂) ∷ ‵ (fdies S′.mir l₃) ∷ ‵ (fdies word l₄)
+        ∷ ‵ (fdies D′.mir l₅) ∷ ‵ (fdies word l₆) ∷ ‵ (fdies K′.mir l₇) ∷ ‵ (fdies word l₈) ∷ ‵ (fdies tyBool l₉) ∷
+        ‵ (fdies tyPtr l₁₀) ∷ ‵ (fdies T′.mir l₁₁) ∷ ‵ (fdies word l₁₂) ∷ ‵ (fdies tyBool l₁₃) ∷ ‵ (fdies word l₁₄)
+        ∷ ‵ (fdies tyPtr l₁₅) ∷ ‵ (fdies T′.mir l₁₆) ∷ ‵ (fdies tyPtr l₁₇) ∷ []
 
     -- the context where a turn begins
     abbrev At : St → List (Item 𝓤)
-    At z = ‵ (row R fullShare xs b o) ∷ ‵ (fat fullShare S′.mir l₃ 0 (S′.lowered (z .1))) ∷ ‵ (fat fullShare word l₄ 0 (vint w64 (z .0))) ∷ ‵ (froom word l₈ 0) ∷ ‵ (froom tyBool l₉ 0) ∷ ‵ (froom tyPtr l₁₀ 0) ∷ ‵ (froom T′.mir l₁₁ 0)
-        ∷ ‵ (fat fullShare slice l₁ 0 (sliceVal (b, o) n)) ∷ ‵ (fat fullShare P′.mir l₂ 0 (P′.lowered c₀)) ∷ ‵ (froom E′.mir l₀ 0) ∷ ‵ (froom D′.mir l₅ 0) ∷ ‵ (froom word l₆ 0) ∷ ‵ (froom K′.mir l₇ 0) ∷ ‵ (froom word l₁₂ 0) ∷ ‵ (froom tyBool l₁₃ 0) ∷ ‵ (froom word l₁₄ 0) ∷ ‵ (froom tyPtr l₁₅ 0) ∷ ‵ (froom T′.mir l₁₆ 0) ∷ ‵ (froom tyPtr l₁₇ 0)
+    At z = ‵ (row R fullShare xs b o) ∷ ‵ (fat fullShare S′.mir l₃ 0 (S′.lowered (z .1))) ∷ ‵ (fat fullShare word l₄
+        0 (vint w64 (z .0))) ∷ ‵ (froom word l₈ 0) ∷ ‵ (froom tyBool l₉ 0) ∷ ‵ (froom tyPtr l₁₀ 0) ∷ ‵
+        (froom T′.mir l₁₁ 0)
+        ∷ ‵ (fat fullShare slice l₁ 0 (sliceVal (b, o) n)) ∷ ‵ (fat fullShare P′.mir l₂ 0 (P′.lowered c₀)) ∷ ‵
+        (froom E′.mir l₀ 0) ∷ ‵ (froom D′.mir l₅ 0) ∷ ‵ (froom word l₆ 0) ∷ ‵ (froom K′.mir l₇ 0) ∷ ‵
+        (froom word l₁₂ 0) ∷ ‵ (froom tyBool l₁₃ 0) ∷ ‵ (froom word l₁₄ 0) ∷ ‵ (froom tyPtr l₁₅ 0) ∷ ‵
+        (froom T′.mir l₁₆ 0) ∷ ‵ (froom tyPtr l₁₇ 0)
         ∷ ‵ (fobor κ q (Held R n b o γ)) ∷ ‵ (fobs γ (codedHoleys R .code (heres R xs))) ∷ ‵ (fauth γ (codedHoleys R .code (heres R xs))) ∷ ‵ Rest ∷ Dies
 
     -- t places are left
@@ -202,9 +216,19 @@ module _ {M : Type 1} (𝓤 : URA M) (H : Heap 𝓤) (A : Atoms 𝓤) (W : Given
 
     -- every local is room again, and is freed
     freed : (ys : List Place) (r : TableAnswer) → length ys ≡ n → Says xs c₀ r ys → Is RE r (E′.lowered r ∷ [])
-        → Sq W (‵ (fobs γ (codedHoleys R .code (heres R ys))) ∷ ‵ (fbor κ (Held R (length ys) b o γ)) ∷ ‵ (flft κ q) ∷ ‵ (froom S′.mir l₃ 0) ∷ ‵ (froom word l₄ 0) ∷ ‵ (froom word l₈ 0) ∷ ‵ (froom tyBool l₉ 0) ∷ ‵ (froom tyPtr l₁₀ 0) ∷ ‵ (froom T′.mir l₁₁ 0) ∷ ‵ (froom slice l₁ 0) ∷ ‵ (froom P′.mir l₂ 0) ∷ ‵ (froom E′.mir l₀ 0) ∷ ‵ (froom D′.mir l₅ 0) ∷ ‵ (froom word l₆ 0) ∷ ‵ (froom K′.mir l₇ 0) ∷ ‵ (froom word l₁₂ 0) ∷ ‵ (froom tyBool l₁₃ 0) ∷ ‵ (froom word l₁₄ 0) ∷ ‵ (froom tyPtr l₁₅ 0) ∷ ‵ (froom T′.mir l₁₆ 0) ∷ ‵ (froom tyPtr l₁₇ 0) ∷ ‵ Rest ∷ Dies) (frees En (prop (Post (E′.lowered r))))
+        → Sq W (‵ (fobs γ (codedHoleys R .code (heres R ys))) ∷ ‵ (fbor κ (Held R (length ys) b o γ)) ∷ ‵ (flft κ q)
+        ∷ ‵ (froom S′.mir l₃ 0) ∷ ‵ (froom word l₄ 0) ∷ ‵ (froom word l₈ 0) ∷ ‵ (froom tyBool l₉ 0) ∷ ‵
+        (froom tyPtr l₁₀ 0) ∷ ‵ (froom T′.mir l₁₁ 0) ∷ ‵ (froom slice l₁ 0) ∷ ‵ (froom P′.mir l₂ 0) ∷ ‵
+        (froom E′.mir l₀ 0) ∷ ‵ (froom D′.mir l₅ 0) ∷ ‵ (froom word l₆ 0) ∷ ‵ (froom K′.mir l₇ 0) ∷ ‵
+        (froom word l₁₂ 0) ∷ ‵ (froom tyBool l₁₃ 0) ∷ ‵ (froom word l₁₄ 0) ∷ ‵ (froom tyPtr l₁₅ 0) ∷ ‵
+        (froom T′.mir l₁₆ 0) ∷ ‵ (froom tyPtr l₁₇ 0) ∷ ‵ Rest ∷ Dies) (frees En (prop (Post (E′.lowered r))))
     freed ys r e said gr =
-        move ! (11 ∷ 22 ∷ []) $ free1 ! $ move ! (9 ∷ 21 ∷ []) $ free1 ! $ move ! (9 ∷ 20 ∷ []) $ free1 ! $ move ! (3 ∷ 19 ∷ []) $ free1 ! $ move ! (3 ∷ 18 ∷ []) $ free1 ! $ move ! (7 ∷ 17 ∷ []) $ free1 ! $ move ! (7 ∷ 16 ∷ []) $ free1 ! $ move ! (7 ∷ 15 ∷ []) $ free1 ! $ move ! (3 ∷ 14 ∷ []) $ free1 ! $ move ! (3 ∷ 13 ∷ []) $ free1 ! $ move ! (3 ∷ 12 ∷ []) $ free1 ! $ move ! (3 ∷ 11 ∷ []) $ free1 ! $ move ! (3 ∷ 10 ∷ []) $ free1 ! $ move ! (3 ∷ 9 ∷ []) $ free1 ! $ move ! (3 ∷ 8 ∷ []) $ free1 ! $ move ! (3 ∷ 7 ∷ []) $ free1 ! $ move ! (3 ∷ 6 ∷ []) $ free1 ! $ move ! (3 ∷ 5 ∷ []) $ free1 ! $ free0 ! $
+        move ! (11 ∷ 22 ∷ []) $ free1 ! $ move ! (9 ∷ 21 ∷ []) $ free1 ! $ move ! (9 ∷ 20 ∷ []) $ free1 ! $ move !
+        (3 ∷ 19 ∷ []) $ free1 ! $ move ! (3 ∷ 18 ∷ []) $ free1 ! $ move ! (7 ∷ 17 ∷ []) $ free1 ! $ move !
+        (7 ∷ 16 ∷ []) $ free1 ! $ move ! (7 ∷ 15 ∷ []) $ free1 ! $ move ! (3 ∷ 14 ∷ []) $ free1 ! $ move !
+        (3 ∷ 13 ∷ []) $ free1 ! $ move ! (3 ∷ 12 ∷ []) $ free1 ! $ move ! (3 ∷ 11 ∷ []) $ free1 ! $ move !
+        (3 ∷ 10 ∷ []) $ free1 ! $ move ! (3 ∷ 9 ∷ []) $ free1 ! $ move ! (3 ∷ 8 ∷ []) $ free1 ! $ move !
+        (3 ∷ 7 ∷ []) $ free1 ! $ move ! (3 ∷ 6 ∷ []) $ free1 ! $ move ! (3 ∷ 5 ∷ []) $ free1 ! $ free0 ! $
         keep ! (0 ∷ 1 ∷ 2 ∷ 3 ∷ []) $ by ! (exits ys r e said gr gn)
 
     -- a turn at place i
@@ -229,11 +253,19 @@ module _ {M : Type 1} (𝓤 : URA M) (H : Heap 𝓤) (A : Atoms 𝓤) (W : Given
         rewrite ! 5 (λ (m : ℕ). ‵ (fat fullShare tyPtr l₁₀ 0 (vptr b m))) (sym (place-is 48 o i)) refl $
         elem-out ! R (Is R) (shows 𝓤 H A R) (LL.vals T.the-type T′.the-laws) (LL.tells T.the-type T′.the-laws) fullShare xs i free b o small (λ gp.
         -- [t[i]; what it owns; the others; _3; _4; _8; _9; _10; _11; _1; _2; …]
-        assigns ! (of-opd ! (load ! (from ! (hop ! (look ! 7 refl) (stop !))) (look-raw ! 0 refl))) (from ! (stop !)) (init ! 8 refl (LL.lawful T.the-type T′.the-laws 𝓤 H A W .typed (getD xs i free) (T′.lowered (getD xs i free) ∷ []) gp .0)) $
+        assigns ! (of-opd ! (load ! (from ! (hop ! (look ! 7 refl) (stop !))) (look-raw ! 0 refl)))
+        (from ! (stop !)) (init ! 8 refl (LL.lawful T.the-type T′.the-laws 𝓤 H A W .typed (getD xs i free)
+        (T′.lowered (getD xs i free) ∷ []) gp .0)) $
         use0 W (raw (Survey 𝓤 H A mem run .pre (to-survey 𝓤 H A mem run s i (getD xs i free)))) (goes-survey 𝓤 H A mem run W s i (getD xs i free) gs gi gp) $
-        calls-at ! (fmOf 𝓤 H (W .laws) 𝓣) (Survey 𝓤 H A mem run) surveys (to-survey 𝓤 H A mem run s i (getD xs i free)) (and-then ! (load ! (from ! (stop !)) (look ! 4 refl)) (and-then ! (load ! (from ! (stop !)) (look ! 5 refl)) (and-then ! (load ! (from ! (stop !)) (look ! 9 refl)) (no-more !)))) (λ v.
-        use1 W (later (some (λ (r : Seen). (‵ ftrue ⊛ ‵ (RS .own r (v ∷ []))) ⊛ raw (ensured 𝓤 H A survey.ended (survey.clauses 𝓤 H A mem run) tt (s, (i, (getD xs i free, tt))) tt r)))) (id⊢ 𝓤 _) $ await ! tt $ pick ! (λ r.
-        split ! $ move ! (1 ∷ []) $ use1 W (raw (fact 𝓤 (r ≡ surveyed s i (getD xs i free)))) (survey-of 𝓤 H A mem run s i (getD xs i free) r) $ heard ! (r ≡ surveyed s i (getD xs i free)) (λ er. split ! $ leave ! $
+        calls-at ! (fmOf 𝓤 H (W .laws) 𝓣) (Survey 𝓤 H A mem run) surveys (to-survey 𝓤 H A mem run s i
+        (getD xs i free)) (and-then ! (load ! (from ! (stop !)) (look ! 4 refl))
+        (and-then ! (load ! (from ! (stop !)) (look ! 5 refl)) (and-then ! (load ! (from ! (stop !))
+        (look ! 9 refl)) (no-more !)))) (λ v.
+        use1 W (later (some (λ (r : Seen). (‵ ftrue ⊛ ‵ (RS .own r (v ∷ []))) ⊛ raw (ensured 𝓤 H A survey.ended
+        (survey.clauses 𝓤 H A mem run) tt (s, (i, (getD xs i free, tt))) tt r)))) (id⊢ 𝓤 _) $ await ! tt $ pick
+        ! (λ r.
+        split ! $ move ! (1 ∷ []) $ use1 W (raw (fact 𝓤 (r ≡ surveyed s i (getD xs i free)))) (survey-of 𝓤 H A mem
+        run s i (getD xs i free) r) $ heard ! (r ≡ surveyed s i (getD xs i free)) (λ er. split ! $ leave ! $
         peeks ! RS (Is RS) (shows 𝓤 H A RS) r (v ∷ []) (λ is.
         let gr : Is RS r (S′.lowered r ∷ []) = subst (λ (vs : List Val). Is RS r vs) (S′.lowers .val-is r _ is) is in
         land ! (from ! (stop !)) (store ! 4 refl (LL.lawful S.the-type S′.the-laws 𝓤 H A W .typed r _ is .0)) $ leave ! $
@@ -251,8 +283,11 @@ module _ {M : Type 1} (𝓤 : URA M) (H : Heap 𝓤) (A : Atoms 𝓤) (W : Given
         -- [the table; _3; _4; _8; _9; _10; _11; _1; _2; _0; _5; _6; _7; _12; _13; _14; _15; _16; _17; …]
         assigns ! (of-opd ! (load ! (from ! (fld ! refl (stop !))) (look-in ! 7 (sub ! 1 refl (whole !))))) (from ! (stop !)) (init ! 13 refl (tt, record { fits = gn′ })) $
         use0 W (raw (Choose 𝓤 H A mem run .pre (to-choose 𝓤 H A mem run c₀ s n))) (goes-choose 𝓤 H A mem run W c₀ s n gc gs gn′) $
-        calls-at ! (fmOf 𝓤 H (W .laws) 𝓣) (Choose 𝓤 H A mem run) chooses (to-choose 𝓤 H A mem run c₀ s n) (and-then ! (load ! (from ! (stop !)) (look ! 9 refl)) (and-then ! (load ! (from ! (stop !)) (look ! 2 refl)) (and-then ! (load ! (from ! (stop !)) (look ! 14 refl)) (no-more !)))) (λ v.
-        use1 W (later (some (λ (d : Choice). (‵ ftrue ⊛ ‵ (RD .own d (v ∷ []))) ⊛ raw (ensured 𝓤 H A choose.ended (choose.clauses 𝓤 H A mem run) tt (c₀, (s, (n, tt))) tt d)))) (id⊢ 𝓤 _) $ await ! tt $ pick ! (λ d.
+        calls-at ! (fmOf 𝓤 H (W .laws) 𝓣) (Choose 𝓤 H A mem run) chooses (to-choose 𝓤 H A mem run c₀ s n)
+        (and-then ! (load ! (from ! (stop !)) (look ! 9 refl)) (and-then ! (load ! (from ! (stop !))
+        (look ! 2 refl)) (and-then ! (load ! (from ! (stop !)) (look ! 14 refl)) (no-more !)))) (λ v.
+        use1 W (later (some (λ (d : Choice). (‵ ftrue ⊛ ‵ (RD .own d (v ∷ []))) ⊛ raw (ensured 𝓤 H A choose.ended
+        (choose.clauses 𝓤 H A mem run) tt (c₀, (s, (n, tt))) tt d)))) (id⊢ 𝓤 _) $ await ! tt $ pick ! (λ d.
         split ! $ move ! (1 ∷ []) $ use1 W (raw (fact 𝓤 (d ≡ chosen c₀ s n))) (choose-of 𝓤 H A mem run c₀ s n d) $ heard ! (d ≡ chosen c₀ s n) (λ ed. split ! $ leave ! $
         peeks ! RD (Is RD) (shows 𝓤 H A RD) d (v ∷ []) (λ is. let fields = LL.owed D.the-type D′.the-laws d (v ∷ []) is in
         let gd : Is RD d (D′.lowered d ∷ []) = subst (λ (vs : List Val). Is RD d vs) (D′.lowers .val-is d _ is) is in
@@ -273,11 +308,19 @@ module _ {M : Type 1} (𝓤 : URA M) (H : Heap 𝓤) (A : Atoms 𝓤) (W : Given
         elem-out ! R (Is R) (shows 𝓤 H A R) (LL.vals T.the-type T′.the-laws) (LL.tells T.the-type T′.the-laws) fullShare xs (d .at) free b o small (λ gp.
         -- [the place; what it owns; the others; _3; _4; _8; _9; _10; _11; _1; _2; _0; _5; _6; _7; _12; _13; _14; _15;
         -- _16; _17; …]
-        assigns ! (of-opd ! (load ! (from ! (hop ! (look ! 18 refl) (stop !))) (look-raw ! 0 refl))) (from ! (stop !)) (init ! 19 refl (LL.lawful T.the-type T′.the-laws 𝓤 H A W .typed (getD xs (d .at) free) (T′.lowered (getD xs (d .at) free) ∷ []) gp .0)) $
+        assigns ! (of-opd ! (load ! (from ! (hop ! (look ! 18 refl) (stop !))) (look-raw ! 0 refl)))
+        (from ! (stop !)) (init ! 19 refl (LL.lawful T.the-type T′.the-laws 𝓤 H A W .typed (getD xs (d .at)
+        free) (T′.lowered (getD xs (d .at) free) ∷ []) gp .0)) $
         use0 W (raw (Act 𝓤 H A mem run .pre (to-act 𝓤 H A mem run c₀ d (getD xs (d .at) free)))) (goes-act 𝓤 H A mem run W c₀ d (getD xs (d .at) free) gc gd gp) $
-        calls-at ! (fmOf 𝓤 H (W .laws) 𝓣) (Act 𝓤 H A mem run) acts (to-act 𝓤 H A mem run c₀ d (getD xs (d .at) free)) (and-then ! (load ! (from ! (stop !)) (look ! 11 refl)) (and-then ! (load ! (from ! (stop !)) (look ! 13 refl)) (and-then ! (load ! (from ! (stop !)) (look ! 20 refl)) (no-more !)))) (λ u.
-        use1 W (later (some (λ (w : Worked). (‵ ftrue ⊛ ‵ (RK .own w (u ∷ []))) ⊛ raw (ensured 𝓤 H A act.ended (act.clauses 𝓤 H A mem run) tt (c₀, (d, (getD xs (d .at) free, tt))) tt w)))) (id⊢ 𝓤 _) $ await ! tt $ pick ! (λ w.
-        split ! $ move ! (1 ∷ []) $ use1 W (raw (fact 𝓤 (w ≡ acted c₀ d (getD xs (d .at) free)))) (act-of 𝓤 H A mem run c₀ d (getD xs (d .at) free) w) $ heard ! (w ≡ acted c₀ d (getD xs (d .at) free)) (λ ew. split ! $ leave ! $
+        calls-at ! (fmOf 𝓤 H (W .laws) 𝓣) (Act 𝓤 H A mem run) acts (to-act 𝓤 H A mem run c₀ d (getD xs (d .at)
+        free)) (and-then ! (load ! (from ! (stop !)) (look ! 11 refl)) (and-then ! (load ! (from ! (stop !))
+        (look ! 13 refl)) (and-then ! (load ! (from ! (stop !)) (look ! 20 refl)) (no-more !)))) (λ u.
+        use1 W (later (some (λ (w : Worked). (‵ ftrue ⊛ ‵ (RK .own w (u ∷ []))) ⊛ raw (ensured 𝓤 H A act.ended
+        (act.clauses 𝓤 H A mem run) tt (c₀, (d, (getD xs (d .at) free, tt))) tt w)))) (id⊢ 𝓤 _) $ await ! tt $
+        pick ! (λ w.
+        split ! $ move ! (1 ∷ []) $ use1 W (raw (fact 𝓤 (w ≡ acted c₀ d (getD xs (d .at) free)))) (act-of 𝓤 H A mem
+        run c₀ d (getD xs (d .at) free) w) $ heard ! (w ≡ acted c₀ d (getD xs (d .at) free)) (λ ew. split ! $
+        leave ! $
         peeks ! RK (Is RK) (shows 𝓤 H A RK) w (u ∷ []) (λ iw. let parts = LL.owed K.the-type K′.the-laws w (u ∷ []) iw in
         let gw : Is RE (w .answer) (E′.lowered (w .answer) ∷ []) = subst (λ (vs : List Val). Is RE (w .answer) vs) (E′.lowers .val-is (w .answer) _ (parts .0)) (parts .0) in
         land ! (from ! (stop !)) (init ! 15 refl (LL.lawful K.the-type K′.the-laws 𝓤 H A W .typed w _ iw .0)) $ leave ! $
@@ -285,17 +328,28 @@ module _ {M : Type 1} (𝓤 : URA M) (H : Heap 𝓤) (A : Atoms 𝓤) (W : Given
         assigns ! (bin ! (load ! (from ! (stop !)) (look ! 13 refl)) (lit ! tt) (record { fits = gm })) (from ! (stop !)) (store ! 17 refl (tt, record { fits = gm })) $
         assigns ! (bin ! (load ! (from ! (fld ! refl (stop !))) (look-in ! 9 (sub ! 0 refl (whole !)))) (load ! (from ! (stop !)) (look ! 17 refl)) tt) (from ! (stop !)) (init ! 20 refl (tt, tt)) $
         rewrite ! 20 (λ (m : ℕ). ‵ (fat fullShare tyPtr l₁₇ 0 (vptr b m))) (sym (place-is 48 o (d .at))) refl $
-        assigns ! (of-opd ! (load ! (from ! (fld ! refl (stop !))) (look-in ! 14 (sub ! 1 refl (whole !))))) (from ! (hop ! (look ! 20 refl) (stop !))) (store-raw ! 0 refl (LL.lawful T.the-type T′.the-laws 𝓤 H A W .typed (w .place) (T′.lowered (w .place) ∷ []) (parts .1 .0) .0)) $
-        move ! (1 ∷ []) $ leave ! $ owned ! R (Is R) ((LL.makes T.the-type T′.the-plain) 𝓤 H A) (w .place) _ (parts .1 .0) $ move ! (1 ∷ 0 ∷ []) $ elem-put ! R fullShare xs (d .at) (w .place) (T′.lowered (w .place) ∷ []) b o small $
-        assigns ! (of-opd ! (load ! (from ! (fld ! refl (stop !))) (look-in ! 12 (sub ! 0 refl (whole !))))) (from ! (stop !)) (init ! 9 refl (LE.lawful E.the-type E′.the-laws 𝓤 H A W tt .typed (w .answer) (E′.lowered (w .answer) ∷ []) gw .0)) $
+        assigns ! (of-opd ! (load ! (from ! (fld ! refl (stop !))) (look-in ! 14 (sub ! 1 refl (whole !)))))
+        (from ! (hop ! (look ! 20 refl) (stop !))) (store-raw ! 0 refl (LL.lawful T.the-type T′.the-laws 𝓤 H A
+        W .typed (w .place) (T′.lowered (w .place) ∷ []) (parts .1 .0) .0)) $
+        move ! (1 ∷ []) $ leave ! $ owned ! R (Is R) ((LL.makes T.the-type T′.the-plain) 𝓤 H A) (w .place) _
+        (parts .1 .0) $ move ! (1 ∷ 0 ∷ []) $ elem-put ! R fullShare xs (d .at) (w .place)
+        (T′.lowered (w .place) ∷ []) b o small $
+        assigns ! (of-opd ! (load ! (from ! (fld ! refl (stop !))) (look-in ! 12 (sub ! 0 refl (whole !)))))
+        (from ! (stop !)) (init ! 9 refl (LE.lawful E.the-type E′.the-laws 𝓤 H A W tt .typed (w .answer)
+        (E′.lowered (w .answer) ∷ []) gw .0)) $
         move ! (0 ∷ 19 ∷ 20 ∷ 21 ∷ []) $ closes-slice ! tt R xs (set xs (d .at) (w .place)) (length-set xs (d .at) (w .place)) b o $
-        returns-within ! Post refl (look ! 11 refl) $ forget ! 3 refl $ forget ! 4 refl $ forget ! 9 refl $ forget ! 10 refl $ forget ! 11 refl $ forget ! 12 refl $ forget ! 13 refl $ forget ! 14 refl $ forget ! 15 refl $ forget ! 16 refl $ forget ! 17 refl $ forget ! 18 refl $ forget ! 19 refl $ forget ! 20 refl $
+        returns-within ! Post refl (look ! 11 refl) $ forget ! 3 refl $ forget ! 4 refl $ forget ! 9 refl $ forget !
+        10 refl $ forget ! 11 refl $ forget ! 12 refl $ forget ! 13 refl $ forget ! 14 refl $ forget ! 15 refl $
+        forget ! 16 refl $ forget ! 17 refl $ forget ! 18 refl $ forget ! 19 refl $ forget ! 20 refl $
         freed (set xs (d .at) (w .place)) (w .answer) (length-set xs (d .at) (w .place))
         (subst (λ (w : Worked). Says xs c₀ (w .answer) (set xs (d .at) (w .place))) (sym ew) (worked-on xs c₀ d chose small)) gw))))))
         (λ past. skips ! $ exec ! C Λ En mir′.t-10 (atRet En Post) $
-        assigns ! (of-opd ! (load ! (from ! (fld ! refl (stop !))) (look-in ! 10 (sub ! 1 refl (whole !))))) (from ! (stop !)) (init ! 9 refl (LE.lawful E.the-type E′.the-laws 𝓤 H A W tt .typed (d .answer) (E′.lowered (d .answer) ∷ []) ga .0)) $
+        assigns ! (of-opd ! (load ! (from ! (fld ! refl (stop !))) (look-in ! 10 (sub ! 1 refl (whole !)))))
+        (from ! (stop !)) (init ! 9 refl (LE.lawful E.the-type E′.the-laws 𝓤 H A W tt .typed (d .answer)
+        (E′.lowered (d .answer) ∷ []) ga .0)) $
         move ! (0 ∷ 19 ∷ 20 ∷ 21 ∷ []) $ closes-slice ! tt R xs xs refl b o $
-        returns ! (look ! 11 refl) $ forget ! 3 refl $ forget ! 4 refl $ forget ! 9 refl $ forget ! 10 refl $ forget ! 11 refl $ forget ! 12 refl $ forget ! 13 refl $ forget ! 15 refl $ forget ! 16 refl $
+        returns ! (look ! 11 refl) $ forget ! 3 refl $ forget ! 4 refl $ forget ! 9 refl $ forget ! 10 refl $ forget
+        ! 11 refl $ forget ! 12 refl $ forget ! 13 refl $ forget ! 15 refl $ forget ! 16 refl $
         freed xs (d .answer) refl (left xs c₀ d chose (is-not (ltb (d .at) n) past)) ga)))))
       where
         is-not : (t : Bool) → Holds (not t) → t ≡ false
@@ -342,12 +396,18 @@ module _ {M : Type 1} (𝓤 : URA M) (H : Heap 𝓤) (A : Atoms 𝓤) (W : Given
         (loop-rule 𝓤 H (W .laws) 𝓣 _<_ (Nat·lt-wfRel .wf) En mir′.turn-1 Left Inv turns n))
 
   -- the MIR, up to the loop
-  walk : (𝓣 : Tables 𝓤 H) → Triple 𝓤 (𝓣 .C #bureau-survey·unseen) (Start 𝓤 H A mem run) → Triple 𝓤 (𝓣 .C #bureau-survey·look) (Survey 𝓤 H A mem run) → Triple 𝓤 (𝓣 .C #bureau-choice·choose) (Choose 𝓤 H A mem run) → Triple 𝓤 (𝓣 .C #bureau-choice·act) (Act 𝓤 H A mem run) → Room R n → Is RP c₀ (P′.lowered c₀ ∷ []) → ent 𝓤 (onEntry 𝓤 H A serve.signature (κ, tt) (q, tt) a at)
+  walk : (𝓣 : Tables 𝓤 H) → Triple 𝓤 (𝓣 .C #bureau-survey·unseen) (Start 𝓤 H A mem run) →
+      Triple 𝓤 (𝓣 .C #bureau-survey·look) (Survey 𝓤 H A mem run) → Triple 𝓤 (𝓣 .C #bureau-choice·choose)
+      (Choose 𝓤 H A mem run) → Triple 𝓤 (𝓣 .C #bureau-choice·act) (Act 𝓤 H A mem run) → Room R n →
+      Is RP c₀ (P′.lowered c₀ ∷ []) → ent 𝓤 (onEntry 𝓤 H A serve.signature (κ, tt) (q, tt) a at)
       (WpFn 𝓤 H (𝓣 .C) (𝓣 .Λ) code.function (sliceVal (b, o) n ∷ P′.lowered c₀ ∷ []) Post)
   walk 𝓣 starts surveys chooses acts gn gc =
       let wt = LL.lawful P.the-type P′.the-laws 𝓤 H A W .typed c₀ (P′.lowered c₀ ∷ []) gc .0 in
       qed W ((‵ (flft κ q) ⊛ ‵ ftrue) ∷ ‵ (owns (MutSlice (named 0) κ R ∷ RP ∷ []) a at) ∷ []) ∵ enter ! (𝓣 .C) (𝓣 .Λ) code.function (sliceVal (b, o) n ∷ P′.lowered c₀ ∷ []) _ $
-      alloc1 ! (λ l₀. alloc1 ! (λ l₁. alloc1 ! (λ l₂. alloc1 ! (λ l₃. alloc1 ! (λ l₄. alloc1 ! (λ l₅. alloc1 ! (λ l₆. alloc1 ! (λ l₇. alloc1 ! (λ l₈. alloc1 ! (λ l₉. alloc1 ! (λ l₁₀. alloc1 ! (λ l₁₁. alloc1 ! (λ l₁₂. alloc1 ! (λ l₁₃. alloc1 ! (λ l₁₄. alloc1 ! (λ l₁₅. alloc1 ! (λ l₁₆. alloc1 ! (λ l₁₇. alloc0 ! $ params1 ! $
+      alloc1 ! (λ l₀. alloc1 ! (λ l₁. alloc1 ! (λ l₂. alloc1 ! (λ l₃. alloc1 ! (λ l₄. alloc1 ! (λ l₅. alloc1 !
+      (λ l₆. alloc1 ! (λ l₇. alloc1 ! (λ l₈. alloc1 ! (λ l₉. alloc1 ! (λ l₁₀. alloc1 ! (λ l₁₁. alloc1 !
+      (λ l₁₂. alloc1 ! (λ l₁₃. alloc1 ! (λ l₁₄. alloc1 ! (λ l₁₅. alloc1 ! (λ l₁₆. alloc1 ! (λ l₁₇. alloc0 ! $
+      params1 ! $
       pass1 ! (init ! 32 refl (tt, (tt, (record { fits = gn .0 }, tt)))) $ pass1 ! (init ! 30 refl wt) $ pass0 ! $
       use0 W (raw (Start 𝓤 H A mem run .pre (to-start 𝓤 H A mem run))) (goes-start 𝓤 H A mem run W) $
       calls-at ! (fmOf 𝓤 H (W .laws) 𝓣) (Start 𝓤 H A mem run) starts (to-start 𝓤 H A mem run) (no-more !) (λ v.
@@ -359,17 +419,25 @@ module _ {M : Type 1} (𝓤 : URA M) (H : Heap 𝓤) (A : Atoms 𝓤) (W : Given
       rewrite ! 28 (λ (u : Val). ‵ (fat fullShare S′.mir l₃ 0 u)) (ap only (S′.lowers .val-is r (v ∷ []) is)) refl $
       assigns ! (of-opd ! (lit ! tt)) (from ! (stop !)) (init ! 26 refl (tt, record { fits = lit< tt })) $
       move ! (37 ∷ []) $ fsplit ! $ fsplit ! $ leave ! $ fsplit ! $ move ! (39 ∷ []) $ split ! $ move ! (2 ∷ 3 ∷ 0 ∷ []) $ opens-slice ! tt R xs b o $
-      keep ! (0 ∷ 34 ∷ 32 ∷ 24 ∷ 22 ∷ 20 ∷ 18 ∷ 38 ∷ 36 ∷ 40 ∷ 30 ∷ 28 ∷ 26 ∷ 16 ∷ 14 ∷ 12 ∷ 10 ∷ 8 ∷ 6 ∷ 1 ∷ 2 ∷ 3 ∷ 5 ∷ 41 ∷ 39 ∷ 37 ∷ 35 ∷ 33 ∷ 31 ∷ 29 ∷ 27 ∷ 25 ∷ 23 ∷ 21 ∷ 19 ∷ 17 ∷ 15 ∷ 13 ∷ 11 ∷ 9 ∷ 7 ∷ []) $ loops 𝓣 surveys chooses acts gn gc l₀ l₁ l₂ l₃ l₄ l₅ l₆ l₇ l₈ l₉ l₁₀ l₁₁ l₁₂ l₁₃ l₁₄ l₁₅ l₁₆ l₁₇ r er gr))))))))))))))))))))))
+      keep ! (0 ∷ 34 ∷ 32 ∷ 24 ∷ 22 ∷ 20 ∷ 18 ∷ 38 ∷ 36 ∷ 40 ∷ 30 ∷ 28 ∷ 26 ∷ 16 ∷ 14 ∷ 12 ∷ 10 ∷ 8 ∷ 6 ∷ 1 ∷ 2 ∷ 3
+      ∷ 5 ∷ 41 ∷ 39 ∷ 37 ∷ 35 ∷ 33 ∷ 31 ∷ 29 ∷ 27 ∷ 25 ∷ 23 ∷ 21 ∷ 19 ∷ 17 ∷ 15 ∷ 13 ∷ 11 ∷ 9 ∷ 7 ∷ []) $ loops
+      𝓣 surveys chooses acts gn gc l₀ l₁ l₂ l₃ l₄ l₅ l₆ l₇ l₈ l₉ l₁₀ l₁₁ l₁₂ l₁₃ l₁₄ l₁₅ l₁₆ l₁₇ r er
+      gr))))))))))))))))))))))
 
 module _ {M : Type 1} (𝓤 : URA M) (H : Heap 𝓤) (A : Atoms 𝓤) (W : Given 𝓤 H A) (mem : Memory → SProp 𝓤) (run : Routine → Fun 𝓤) where
-  serve-walks : (𝓣 : Tables 𝓤 H) → Triple 𝓤 (𝓣 .C #bureau-survey·unseen) (Start 𝓤 H A mem run) → Triple 𝓤 (𝓣 .C #bureau-survey·look) (Survey 𝓤 H A mem run) → Triple 𝓤 (𝓣 .C #bureau-choice·choose) (Choose 𝓤 H A mem run) → Triple 𝓤 (𝓣 .C #bureau-choice·act) (Act 𝓤 H A mem run)
+  serve-walks : (𝓣 : Tables 𝓤 H) → Triple 𝓤 (𝓣 .C #bureau-survey·unseen) (Start 𝓤 H A mem run) →
+      Triple 𝓤 (𝓣 .C #bureau-survey·look) (Survey 𝓤 H A mem run) → Triple 𝓤 (𝓣 .C #bureau-choice·choose)
+      (Choose 𝓤 H A mem run) → Triple 𝓤 (𝓣 .C #bureau-choice·act) (Act 𝓤 H A mem run)
       → Walks 𝓤 H A serve.ended stayed (WpFn 𝓤 H (𝓣 .C) (𝓣 .Λ) code.function) (serve.clauses 𝓤 H A mem run)
   serve-walks 𝓣 starts surveys chooses acts = walked 𝓤 H A serve.ended stayed (serve.clauses 𝓤 H A mem run) (WpFn 𝓤 H (𝓣 .C) (𝓣 .Λ) code.function)
       (λ κs. (slice-vals, ((λ (d : Call). P′.lowered d ∷ []), tt))) (λ κs. (mut-slice-tells (named 0) (κs .0) R, (P′.lowers .val-is, tt)))
       (λ κs qs bounds a g are. via 𝓤 _ (fst∗ 𝓤 _ (emp 𝓤))
       (walk 𝓤 H A W mem run (κs .0) (qs .0) (a .0 .ptr .0) (a .0 .ptr .1) (a .0 .name) (a .0 .now) (a .1 .0) 𝓣 starts surveys chooses acts (are .0 .0 .1) (are .1 .0)))
 
-serve-meets : {M : Type 1} (𝓤 : URA M) (H : Heap 𝓤) (A : Atoms 𝓤) (W : Given 𝓤 H A) (mem : Memory → SProp 𝓤) (run : Routine → Fun 𝓤) (𝓣 : Tables 𝓤 H) → Triple 𝓤 (𝓣 .C #bureau-survey·unseen) (Start 𝓤 H A mem run) → Triple 𝓤 (𝓣 .C #bureau-survey·look) (Survey 𝓤 H A mem run) → Triple 𝓤 (𝓣 .C #bureau-choice·choose) (Choose 𝓤 H A mem run) → Triple 𝓤 (𝓣 .C #bureau-choice·act) (Act 𝓤 H A mem run)
+serve-meets : {M : Type 1} (𝓤 : URA M) (H : Heap 𝓤) (A : Atoms 𝓤) (W : Given 𝓤 H A) (mem : Memory → SProp 𝓤)
+    (run : Routine → Fun 𝓤) (𝓣 : Tables 𝓤 H) → Triple 𝓤 (𝓣 .C #bureau-survey·unseen) (Start 𝓤 H A mem run) →
+    Triple 𝓤 (𝓣 .C #bureau-survey·look) (Survey 𝓤 H A mem run) → Triple 𝓤 (𝓣 .C #bureau-choice·choose)
+    (Choose 𝓤 H A mem run) → Triple 𝓤 (𝓣 .C #bureau-choice·act) (Act 𝓤 H A mem run)
     → Meets 𝓤 H A serve.signature (WpFn 𝓤 H (𝓣 .C) (𝓣 .Λ) code.function) (serve.spec 𝓤 H A mem run)
 serve-meets 𝓤 H A W mem run 𝓣 starts surveys chooses acts = walk-meets 𝓤 H A serve.ended stayed W (goes-slice 𝓤 H A W 1 0 tt (plain (λ _. R)), (goes-none 𝓤 H A W 1 (λ _. RP) yes (λ κs x f. refl), tt))
     (serve.clauses 𝓤 H A mem run) (WpFn 𝓤 H (𝓣 .C) (𝓣 .Λ) code.function) (WpFn-mono 𝓤 H (W .laws) 𝓣 code.function) (serve-walks 𝓤 H A W mem run 𝓣 starts surveys chooses acts)

@@ -24,5 +24,4 @@ returns : tie.Need-returns
 returns c = rw (c .both4 .ensures, c .before .both3 .ensures, c .before .before .both2 .ensures, c .before .before .before .both .ensures)
 
 pub zeros-spec : {M : Type 1} → statement M
-zeros-spec =
-    tie.close (tie.spec both-requires both-requires-2 both-requires-3 both-requires-4 returns)
+zeros-spec = tie.close (tie.spec both-requires both-requires-2 both-requires-3 both-requires-4 returns)

@@ -27,9 +27,7 @@ look-requires c κs =
     omega arith
 
 returns-2 : tie.Need-returns-2
-returns-2 c =
-    let l = c .before .before in
-    at-fault _ _ (as-many (l .before)) (l .look .ensures) (c .if2 .taken)
+returns-2 c = let l = c .before .before in at-fault _ _ (as-many (l .before)) (l .look .ensures) (c .if2 .taken)
 
 returns-3 : tie.Need-returns-3
 returns-3 c =
@@ -47,6 +45,4 @@ returns-5 c =
     all-open _ _ (as-many (l .before)) (l .look .ensures) (c .before .before .if2 .left) (c .before .if3 .left) (c .if4 .left)
 
 pub judge-spec : {M : Type 1} → statement M
-judge-spec =
-    tie.close
-    (tie.spec (λ c κs. search needs) returns look-requires returns-2 returns-3 returns-4 returns-5)
+judge-spec = tie.close (tie.spec (λ c κs. search needs) returns look-requires returns-2 returns-3 returns-4 returns-5)

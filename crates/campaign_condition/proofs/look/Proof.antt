@@ -32,18 +32,6 @@ array-copy-out-c c = omega arith
 add-lowest : tie.Need-add-lowest Inv-loop μ-loop
 add-lowest c = omega arith
 
-lowest-requires : tie.Need-lowest-requires Inv-loop μ-loop
-lowest-requires c κs = search needs
-
-said-requires : tie.Need-said-requires Inv-loop μ-loop
-said-requires c κs = search needs
-
-either-requires : tie.Need-either-requires Inv-loop μ-loop
-either-requires c κs = search needs
-
-both-requires : tie.Need-both-requires Inv-loop μ-loop
-both-requires c κs = search needs
-
 add-i : tie.Need-add-i Inv-loop μ-loop
 add-i c = omega arith
 
@@ -52,15 +40,16 @@ loop-less c = omega arith
 
 loop-again : tie.Need-loop-again Inv-loop μ-loop
 loop-again c =
-    let x = c .before .before .before .before in
+    let b = c .before .before in
+    let x = b .before .before in
     let l = x .before .before in
     let a = l .before .args in
     let room : a .number ≤ length (a .t1) = search needs in
     let next = on _ _ (front-next (a .t1) (a .number) room (l .loop .i) (empty 0) (x .before .loop-test .taken)) (l .loop .inv .1) in
-    let says = c .before .before .said .ensures in
+    let says = b .said .ensures in
     let one = c .before .either .ensures ∙ ap (λ (v : Told). l .loop .one || v .rejected) says in
     let all = c .both .ensures ∙ ap (λ (v : Told). l .loop .all && v .accepted) says in
-    (omega arith, rw (c .before .before .before .lowest .ensures, one, all) next)
+    (omega arith, rw (b .before .lowest .ensures, one, all) next)
 
 returns : tie.Need-returns Inv-loop μ-loop
 returns c =
@@ -72,5 +61,5 @@ returns c =
 pub look-spec : {M : Type 1} → statement M
 look-spec =
     tie.close
-    (tie.spec Inv-loop μ-loop loop-holds mul-c array-copy-out-c add-lowest lowest-requires said-requires either-requires
-    both-requires add-i loop-less loop-again returns)
+    (tie.spec Inv-loop μ-loop loop-holds mul-c array-copy-out-c add-lowest (λ c κs. search needs) (λ c κs. search needs)
+    (λ c κs. search needs) (λ c κs. search needs) add-i loop-less loop-again returns)

@@ -12,12 +12,12 @@ unfolding letterFor
 returns c =
     let v = c .before .before in
     let j = v .before .before in
-    c .verdict-letter .ensures ∙ ap verdictLetter (has-verdict (j .before .args .c) (j .before .pre) (j .judge .result) (j .judge .ensures) (v .v .given .1))
+    c .verdict-letter .ensures ∙ ap verdictLetter (has-verdict _ (j .before .pre) (j .judge .result) (j .judge .ensures) (v .v .given .1))
 
 returns-2 : tie.Need-returns-2
 returns-2 c =
     let j = c .before .before in
-    absurd (not-refused (j .before .args .c) (j .before .pre) (j .judge .result) (j .judge .ensures) (c .enum-told .given .1))
+    absurd (not-refused _ (j .before .pre) (j .judge .result) (j .judge .ensures) (c .enum-told .given .1))
 
 pub letter-spec : {M : Type 1} → statement M
 letter-spec =

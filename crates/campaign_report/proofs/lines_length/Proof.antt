@@ -31,7 +31,7 @@ due-at : (c : tie.In-loop Inv-loop μ-loop) → let a = c .before .before .args 
 due-at c =
     let a = c .before .before .args in
     let room : a .number ≤ length (a .t1) = search needs in
-    due (a .t1) (a .number) (c .before .loop .i) room (c .loop-test .taken) (c .before .loop .inv .1)
+    due (a .t1) (a .number) _ room (c .loop-test .taken) (c .before .loop .inv .1)
 
 loop-holds : tie.Need-loop-holds Inv-loop μ-loop
 loop-holds c = (omega arith, c .pre .1, omega arith, omega arith)
@@ -73,7 +73,9 @@ returns c =
     let a = l .before .args in
     let i = l .loop .i in
     let room : a .number ≤ length (a .t1) = search needs in
-    let none : length (linesFrom (i + 1) (drop i (take (a .number) (a .t1)))) ≡ 0 = ap (λ (cs : List Campaign). length (linesFrom (i + 1) cs)) (front-end (a .t1) (a .number) room i (c .loop-test .left)) ∙ ap length (lines-none (i + 1)) in
+    let none : length (linesFrom (i + 1) (drop i (take (a .number) (a .t1)))) ≡ 0 = ap (λ (cs : List Campaign).
+    length (linesFrom (i + 1) cs)) (front-end (a .t1) (a .number) room i (c .loop-test .left)) ∙
+    ap length (lines-none (i + 1)) in
     (omega (arith, none, l .loop .inv .2), omega (arith, l .loop .inv .3, l .before .pre .0))
 
 pub lines-length-spec : {M : Type 1} → statement M

@@ -92,7 +92,9 @@ returns c =
     let l = c .before in
     let a = l .before .before .args in
     let room : a .number ≤ length (a .t1) = search needs in
-    let none : linesFrom (l .loop .i + 1) (drop (l .loop .i) (take (a .number) (a .t1))) ≡ [] = ap (linesFrom (l .loop .i + 1)) (front-end (a .t1) (a .number) room (l .loop .i) (c .loop-test .left)) ∙ lines-none (l .loop .i + 1) in
+    let none : linesFrom (l .loop .i + 1) (drop (l .loop .i) (take (a .number) (a .t1))) ≡ [] =
+    ap (linesFrom (l .loop .i + 1)) (front-end (a .t1) (a .number) room (l .loop .i) (c .loop-test .left)) ∙
+    lines-none (l .loop .i + 1) in
     left-wrote (subst (λ (rest : List ℕ). Left (now (a .out)) 0 (linesFrom 1 (take (a .number) (a .t1))) rest (l .loop .out) (l .loop .place)) none (l .loop .inv .2))
 
 pub put-lines-spec : {M : Type 1} → statement M

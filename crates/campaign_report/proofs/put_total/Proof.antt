@@ -45,9 +45,7 @@ left3 : (c : tie.After-write-byte) → let s = start (word-of (sums-of c)) in St
 left3 c = left-next (start (word-of (sums-of c)) .args .letter ∷ []) _ (left2 (sums-of c)) (c .write-byte .ensures)
 
 put-four-requires : tie.Need-put-four-requires
-put-four-requires c κs =
-    let w = c .before .before .before in
-    left-room (Sums (start w)) _ (left1 w)
+put-four-requires c κs = let w = c .before .before .before in left-room (Sums (start w)) _ (left1 w)
 
 returns : tie.Need-returns
 returns c = left-last (left3 (c .before .before .before .before .before .before)) (c .before .before .write-byte2 .ensures)

@@ -23,8 +23,11 @@ Inv-loop number campaigns records₀ failures₀ exposure₀ billed₀ i₀ reco
     × Summed (take number campaigns) (drop i (take number campaigns)) i records failures exposure billed
 
 abbrev μ-loop : tie.MeasureT-loop
-μ-loop number campaigns records₀ failures₀ exposure₀ billed₀ i₀ records failures exposure billed i =
-    number - i
+μ-loop number campaigns records₀ failures₀ exposure₀ billed₀ i₀ records failures exposure billed i = number - i
+
+-- ways back to earlier places of the function
+abbrev loop : tie.After-struct-known2 Inv-loop μ-loop → tie.In-loop Inv-loop μ-loop
+loop c = c .before .before .before
 
 -- the campaign that is due, and its relations
 module _ (c : tie.In-loop Inv-loop μ-loop) where
@@ -53,20 +56,20 @@ add-records c =
 
 add-failures : tie.Need-add-failures Inv-loop μ-loop
 add-failures c =
-    let t = c .before .before .before in
+    let t = loop c in
     omega (arith, kept t .failures-rows, t .before .loop .inv .2 .few-failures, t .before .before .pre .0)
 
 add-exposure : tie.Need-add-exposure Inv-loop μ-loop
 add-exposure c =
-    let t = c .before .before .before .before in
+    let t = loop (c .before) in
     omega (arith, kept t .records, kept t .exposure-high, t .before .loop .inv .2 .few-exposure, t .before .before .pre .0)
 
 blocks-requires : tie.Need-blocks-requires Inv-loop μ-loop
-blocks-requires c κs = kept (c .before .before .before .before) .failures-rows
+blocks-requires c κs = kept (loop (c .before)) .failures-rows
 
 add-billed : tie.Need-add-billed Inv-loop μ-loop
 add-billed c =
-    let t = c .before .before .before .before .before in
+    let t = loop (c .before .before) in
     omega (arith, c .blocks2 .ensures, kept t .failures-rows, t .before .loop .inv .2 .few-billed, t .before .before .pre .0)
 
 add-i : tie.Need-add-i Inv-loop μ-loop
@@ -77,7 +80,7 @@ loop-less c = omega arith
 
 loop-again : tie.Need-loop-again Inv-loop μ-loop
 loop-again c =
-    let t = c .before .before .before .before .before in
+    let t = loop (c .before .before) in
     let d = due-at t in
     (omega arith, d .whole, rw (c .blocks2 .ensures) (on (d .next) (kept t) (t .before .loop .inv .2)))
 

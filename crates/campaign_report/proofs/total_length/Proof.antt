@@ -8,9 +8,10 @@ use Rattle.campaign_report.proofs.total_length.Tie as tie
 
 returns : tie.Need-returns
 returns c =
-    let s = c .before .before .before .before in
-    let d1 = c .before .before .before .digits .ensures in
-    let d2 = c .before .before .digits2 .ensures in
+    let b = c .before .before in
+    let s = b .before .before in
+    let d1 = b .before .digits .ensures in
+    let d2 = b .digits2 .ensures in
     let d3 = c .before .digits3 .ensures in
     let d4 = c .digits4 .ensures in
     (omega (arith, d1 .0, d2 .0, d3 .0, d4 .0, total-bytes (s .args .t) (s .args .letter)), omega (arith, d1 .1, d2 .1, d3 .1, d4 .1))

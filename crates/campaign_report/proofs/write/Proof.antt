@@ -20,6 +20,10 @@ use borrow.Author.Needs.{needs}
 use Rattle.campaign_report.proofs.write.Statement.{statement}
 use Rattle.campaign_report.proofs.write.Tie as tie
 
+-- ways back to earlier places of the function
+abbrev put-lines : tie.After-put-total-arg → tie.After-put-lines
+put-lines c = c .before .before .before
+
 -- the condition has its standing
 module _ (c : tie.After-known-told2) where
   abbrev start : tie.Start
@@ -69,7 +73,7 @@ module _ (c : tie.Else1) where
 
 left1 : (c : tie.After-put-lines) → let e = c .before .before in let j = judged (e .before) in
     Left (Out j) 0 (reportText (Situations j)) (Last (e .before)) (c .put-lines .last .1 .1 .0) (c .put-lines .result)
-left1 c = left-next (linesFrom 1 (Situations (judged (c .before .before .before)))) _ (left0 (c .before .before)) (c .put-lines .ensures)
+left1 c = left-next _ _ (left0 (c .before .before)) (c .put-lines .ensures)
 
 sum-requires : tie.Need-sum-requires
 sum-requires c κs = (stands c .few, stands c .whole)
@@ -91,7 +95,7 @@ put-lines-requires c κs =
     (stands j .few, stands j .whole, omega (arith, room (c .before), ap length (whole t) ∙ length-append (linesFrom 1 (Situations j)) (Last t)))
 
 put-total-requires : tie.Need-put-total-requires
-put-total-requires c κs = left-fits (left1 (c .before .before .before))
+put-total-requires c κs = left-fits (left1 (put-lines c))
 
 returns-2 : tie.Need-returns-2
 unfolding laidBy
@@ -104,7 +108,7 @@ returns-2 c =
 returns-3 : tie.Need-returns-3
 returns-3 c =
     let p = c .before .before in
-    let l = p .before .before .before .before in
+    let l = put-lines (p .before) in
     let e = l .before .before in
     let t = e .before in
     let j = judged t in

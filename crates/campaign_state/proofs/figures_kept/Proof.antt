@@ -8,4 +8,5 @@ returns c = rw (c .both3 .ensures, c .before .before .before .before .before .bo
 
 pub figures-kept-spec : {M : Type 1} → statement M
 figures-kept-spec =
-    tie.close (tie.spec (λ c κs. search needs) (λ c. search needs) (λ c κs. search needs) (λ c κs. search needs) returns)
+    tie.close
+    (tie.spec (λ c κs. search needs) (λ c. search needs) (λ c κs. search needs) (λ c κs. search needs) returns)

@@ -12,7 +12,16 @@ returns c = rw (lt-leb _ _ (c .if1 .taken))
 
 returns-2 : tie.Need-returns-2
 unfolding sound
-returns-2 c = rw (le-leb _ _ (c .before .before .before .before .before .before .before .if1 .left), c .both3 .ensures, c .before .before .before .before .both .ensures, c .before .both2 .ensures, c .before .before .before .figures-kept .ensures, c .before .before .last-kept .ensures)
+returns-2 c =
+    let b = c .before .before .before in
+    rw (
+      le-leb _ _ (b .before .before .before .before .if1 .left),
+      c .both3 .ensures,
+      b .before .both .ensures,
+      c .before .both2 .ensures,
+      b .figures-kept .ensures,
+      c .before .before .last-kept .ensures,
+    )
 
 pub sound-spec : {M : Type 1} → statement M
 sound-spec =

@@ -13,7 +13,7 @@ unfolding counting
 returns c = rw (said-no (c .before .sound .ensures) (c .if1 .taken))
 
 censored-of-requires : tie.Need-censored-of-requires
-censored-of-requires c κs = kept-from (c .before .before .args .c) (holds (said-yes (c .before .sound .ensures) (c .if1 .left)))
+censored-of-requires c κs = kept-from _ (holds (said-yes (c .before .sound .ensures) (c .if1 .left)))
 
 returns-2 : tie.Need-returns-2
 unfolding counting

@@ -12,7 +12,9 @@ unfolding censored
 returns c = rw (eq-eqb _ _ (c .if1 .taken))
 
 sub-result : tie.Need-sub-result
-sub-result c = let s = c .before .before .before .before .args .c in rw (c .before .pick .ensures) (before-fits (s .failed) (s .failures) (c .before .before .before .before .pre .failed))
+sub-result c =
+    let b = c .before .before .before .before in
+    let s = b .args .c in rw (c .before .pick .ensures) (before-fits (s .failed) (s .failures) (b .pre .failed))
 
 returns-2 : tie.Need-returns-2
 unfolding censored

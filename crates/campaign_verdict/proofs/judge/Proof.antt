@@ -14,10 +14,12 @@ returns-2 : tie.Need-returns-2
 returns-2 c = (said-yes (c .before .before .before .sound .ensures) (c .before .before .if1 .left), c .if2 .taken)
 
 weigh-requires : tie.Need-weigh-requires
-weigh-requires c κs = (kept-from (c .before .before .before .before .args .c) (holds (said-yes (c .before .before .before .sound .ensures) (c .before .before .if1 .left))), omega arith)
+weigh-requires c κs = (kept-from _ (holds (said-yes (c .before .before .before .sound .ensures) (c .before .before .if1 .left))), omega arith)
 
 returns-3 : tie.Need-returns-3
-returns-3 c = (said-yes (c .before .before .before .before .sound .ensures) (c .before .before .before .if1 .left), c .weigh .ensures)
+returns-3 c =
+    let b = c .before .before .before in
+    (said-yes (b .before .sound .ensures) (b .if1 .left), c .weigh .ensures)
 
 pub judge-spec : {M : Type 1} → statement M
 judge-spec = tie.close (tie.spec (λ c κs. search needs) returns returns-2 weigh-requires returns-3)

@@ -19,11 +19,13 @@ unfolding rating
 returns-2 c = rw (said-yes (c .before .before .before .sound .ensures) (c .before .before .if1 .left), eq-eqb _ _ (c .if2 .taken))
 
 three-requires : tie.Need-three-requires
-three-requires c κs = kept-from (c .before .before .before .before .args .c) (holds (said-yes (c .before .before .before .sound .ensures) (c .before .before .if1 .left)))
+three-requires c κs = kept-from _ (holds (said-yes (c .before .before .before .sound .ensures) (c .before .before .if1 .left)))
 
 returns-3 : tie.Need-returns-3
 unfolding rating
-returns-3 c = rw (said-yes (c .before .before .before .before .sound .ensures) (c .before .before .before .if1 .left), ne-eqb _ _ (c .before .if2 .left)) (ap (Given true) (c .three .ensures))
+returns-3 c =
+    let b = c .before .before .before in
+    rw (said-yes (b .before .sound .ensures) (b .if1 .left), ne-eqb _ _ (c .before .if2 .left)) (ap (Given true) (c .three .ensures))
 
 pub rate-spec : {M : Type 1} → statement M
 rate-spec = tie.close (tie.spec (λ c κs. search needs) returns returns-2 three-requires returns-3)

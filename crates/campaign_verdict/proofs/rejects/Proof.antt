@@ -7,7 +7,7 @@ use Rattle.campaign_verdict.proofs.rejects.Statement.{statement}
 use Rattle.campaign_verdict.proofs.rejects.Tie as tie
 
 mul-result-2 : tie.Need-mul-result-2
-mul-result-2 c = omega (arith, mul-le-mul (c .before .before .pre .2) (c .before .before .pre .0 .standard-high))
+mul-result-2 c = let p = c .before .before .pre in omega (arith, mul-le-mul (p .2) (p .0 .standard-high))
 
 returns : tie.Need-returns
 returns c = rw (← c .before .before .pre .1)

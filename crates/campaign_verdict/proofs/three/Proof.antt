@@ -4,7 +4,9 @@ use Rattle.campaign_verdict.proofs.three.Statement.{statement}
 use Rattle.campaign_verdict.proofs.three.Tie as tie
 
 returns : tie.Need-returns
-returns c = rw (c .before .before .before .before .quotient .ensures, c .before .before .rate-of .ensures, c .before .before .before .low .ensures .0, c .rate-of2 .ensures, c .before .high .ensures .0)
+returns c =
+    let b = c .before .before in
+    rw (b .before .before .quotient .ensures, b .rate-of .ensures, b .before .low .ensures .0, c .rate-of2 .ensures, c .before .high .ensures .0)
 
 pub three-spec : {M : Type 1} → statement M
 three-spec =

@@ -22,18 +22,23 @@ module _ (c : Campaign) (some : 1 ≤ c .records) where
   continued r a d e = (some, r, a, d, e)
 
 returns : tie.Need-returns
-returns c = rejected (c .before .before .before .before .args .c) (c .before .before .before .before .pre .1) (sym (c .before .before .rejects .ensures) ∙ c .before .if1 .taken) (rw (← c .before .before .before .low .ensures .0) (c .rate-of .ensures))
+returns c =
+    let b = c .before .before .before in
+    rejected (b .before .args .c) (b .before .pre .1) (sym (c .before .before .rejects .ensures) ∙ c .before .if1 .taken) (rw (← b .low .ensures .0) (c .rate-of .ensures))
 
 returns-2 : tie.Need-returns-2
-returns-2 c = accepted (c .before .before .before .before .before .before .before .args .c) (c .before .before .before .before .before .before .before .pre .1) (sym (c .before .before .accepts .ensures) ∙ c .before .if2 .taken) (rw (← c .before .before .before .high .ensures .0) (c .rate-of2 .ensures))
+returns-2 c =
+    let b = c .before .before in
+    accepted _ (b .before .before .before .before .before .pre .1) (sym (b .accepts .ensures) ∙ c .before .if2 .taken) (rw (← b .before .high .ensures .0) (c .rate-of2 .ensures))
 
 returns-3 : tie.Need-returns-3
 returns-3 c =
-    continued (c .before .before .before .before .before .before .before .before .args .c) (c .before .before .before .before .before .before .before .before .pre .1)
-    (sym (c .before .before .before .before .before .before .rejects .ensures) ∙ c .before .before .before .before .before .if1 .left)
+    let b = c .before .before .before .before in let d = b .before .before in
+    continued _ (d .before .before .pre .1)
+    (sym (d .rejects .ensures) ∙ b .before .if1 .left)
     (sym (c .before .before .before .accepts .ensures) ∙ c .before .before .if2 .left)
-    (rw (← c .before .before .before .before .before .before .before .low .ensures .0) (c .before .rate-of3 .ensures))
-    (rw (← c .before .before .before .before .high .ensures .0) (c .rate-of4 .ensures))
+    (rw (← d .before .low .ensures .0) (c .before .rate-of3 .ensures))
+    (rw (← b .high .ensures .0) (c .rate-of4 .ensures))
 
 pub weigh-spec : {M : Type 1} → statement M
 weigh-spec =

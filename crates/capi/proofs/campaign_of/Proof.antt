@@ -16,7 +16,9 @@ returns-2 c = rw (eq-eqb _ campaignNumbers (c .before .before .before .if1 .left
 
 returns-3 : tie.Need-returns-3
 unfolding campaignOf
-returns-3 c = rw (eq-eqb _ campaignNumbers (c .before .before .before .before .before .before .before .if1 .left), le-leb _ 1 (c .before .before .before .before .before .if2 .left))
+returns-3 c =
+    let b = c .before .before .before .before .before in
+    rw (eq-eqb _ campaignNumbers (b .before .before .if1 .left), le-leb _ 1 (b .if2 .left))
 
 pub campaign-of-spec : {M : Type 1} → statement M
 campaign-of-spec =

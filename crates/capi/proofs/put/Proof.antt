@@ -26,49 +26,30 @@ returns c = rw (ne-eqb _ _ (c .if1 .taken))
 loop-holds : tie.Need-loop-holds Inv-loop μ-loop
 loop-holds c = (search needs, c .if1 .left, refl)
 
-mul-to : tie.Need-mul-to Inv-loop μ-loop
-mul-to c = search needs
-
-shared-slice-read-to : tie.Need-shared-slice-read-to Inv-loop μ-loop
-shared-slice-read-to c = search needs
-
-mul-to-2 : tie.Need-mul-to-2 Inv-loop μ-loop
-mul-to-2 c = search needs
-
-slice-write-to : tie.Need-slice-write-to Inv-loop μ-loop
-slice-write-to c = search needs
-
-add-i : tie.Need-add-i Inv-loop μ-loop
-add-i c = search needs
-
-loop-less : tie.Need-loop-less Inv-loop μ-loop
-loop-less c = search needs
-
 loop-again : tie.Need-loop-again Inv-loop μ-loop
 loop-again c =
-    let i = c .before .before .loop .i in
-    let to = c .before .before .loop .to in
-    let from = c .before .before .before .before .args .from .now in
-    let v = c .before .before .loop .inv in
+    let b = c .before .before in
+    let i = b .loop .i in
+    let to = b .loop .to in
+    let from = b .before .before .args .from .now in
+    let v = b .loop .inv in
     let e : take i to ≡ take i from = v .2 in
     let h : i < length from = c .before .loop-test .taken in
     let k : i < length to = omega (arith, v .1) in
     (search needs, length-set to i (getD from i 0) ∙ v .1, rw (add-one, take-suc-set to i (getD from i 0) k, take-suc from i 0 h, e))
 
-same-length : tie.Need-same-length Inv-loop μ-loop
-same-length c = search needs
-
 returns-2 : tie.Need-returns-2 Inv-loop μ-loop
 returns-2 c =
-    let i = c .before .loop .i in
-    let v = c .before .loop .inv in
-    let to = c .before .loop .to in
+    let l = c .before .loop in
+    let i = l .i in
+    let v = l .inv in
+    let to = l .to in
     let from = c .before .before .before .args .from .now in
-    rw (placed-right from (c .before .before .before .args .to .now) (c .before .before .if1 .left))
+    rw (placed-right from _ (c .before .before .if1 .left))
     (sym (take-all i to (omega (arith, v .1))) ∙ v .2 ∙ take-all i from (omega arith))
 
 pub put-spec : {M : Type 1} → statement M
 put-spec =
     tie.close
-    (tie.spec Inv-loop μ-loop returns loop-holds mul-to shared-slice-read-to mul-to-2 slice-write-to add-i loop-less
-    loop-again same-length returns-2)
+    (tie.spec Inv-loop μ-loop returns loop-holds (λ c. search needs) (λ c. search needs) (λ c. search needs)
+    (λ c. search needs) (λ c. search needs) (λ c. search needs) loop-again (λ c. search needs) returns-2)

@@ -19,14 +19,25 @@ returns-2 c = rw (eq-eqb _ recordNumbers (c .before .before .before .if1 .left),
 
 returns-3 : tie.Need-returns-3
 unfolding recordOf
-returns-3 c = rw (eq-eqb _ recordNumbers (c .before .before .before .before .before .if1 .left), le-leb _ highestCode (c .before .before .before .if2 .left), lt-leb _ highestCode (c .before .if3 .taken), c .no-record3 .ensures)
+returns-3 c =
+    let b = c .before .before .before in
+    rw (eq-eqb _ recordNumbers (b .before .before .if1 .left), le-leb _ highestCode (b .if2 .left), lt-leb _ highestCode (c .before .if3 .taken), c .no-record3 .ensures)
 
 returns-4 : tie.Need-returns-4
 unfolding recordOf
 returns-4 c =
     let roll : SFits w32 (c .before .before .before .before .before .before .before .before .before .sample-of .result) = search needs in
     let acceleration : SFits w32 (c .before .before .before .before .before .before .before .sample-of2 .result) = search needs in
-    rw (eq-eqb _ recordNumbers (c .before .before .before .before .before .before .before .before .before .before .before .before .before .before .before .before .before .before .before .before .if1 .left), le-leb _ highestCode (c .before .before .before .before .before .before .before .before .before .before .before .before .before .before .before .before .before .before .if2 .left), le-leb _ highestCode (c .before .before .before .before .before .before .before .before .before .before .before .before .before .before .before .before .if3 .left), toZ-ofZ roll, toZ-ofZ acceleration, c .before .before .before .before .before .before .before .before .before .sample-of .ensures, c .before .before .before .before .before .before .before .sample-of2 .ensures)
+    rw (
+      eq-eqb _ recordNumbers
+          (c .before .before .before .before .before .before .before .before .before .before .before .before .before .before .before .before .before .before .before .before .if1 .left),
+      le-leb _ highestCode (c .before .before .before .before .before .before .before .before .before .before .before .before .before .before .before .before .before .before .if2 .left),
+      le-leb _ highestCode (c .before .before .before .before .before .before .before .before .before .before .before .before .before .before .before .before .if3 .left),
+      toZ-ofZ roll,
+      toZ-ofZ acceleration,
+      c .before .before .before .before .before .before .before .before .before .sample-of .ensures,
+      c .before .before .before .before .before .before .before .sample-of2 .ensures,
+    )
 
 pub record-of-spec : {M : Type 1} → statement M
 record-of-spec =

@@ -24,10 +24,10 @@ low-fits : (k : ℕ) → k ≤ highestCode → SFits w32 (negsuc 0 -ℤ toZ w32 
 low-fits k h = subst (SFits w32) (sym (low k h)) (omega arith)
 
 sub-result : tie.Need-sub-result
-sub-result c = low-fits (c .before .args .code) (c .before .pre)
+sub-result c = low-fits _ (c .before .pre)
 
 returns : tie.Need-returns
-returns c = half (c .before .args .code) (c .before .pre) ∙ sym (sample-even (c .before .args .code) (c .if1 .taken))
+returns c = half _ (c .before .pre) ∙ sym (sample-even _ (c .if1 .taken))
 
 returns-2 : tie.Need-returns-2
 returns-2 c =

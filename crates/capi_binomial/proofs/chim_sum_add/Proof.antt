@@ -5,7 +5,9 @@ use Rattle.capi_binomial.proofs.chim_sum_add.Statement.{statement}
 use Rattle.capi_binomial.proofs.chim_sum_add.Tie as tie
 
 returns : tie.Need-returns
-returns c = rw (← c .before .before .before .before .before .before .before .sum-of .ensures, ← c .before .before .before .before .before .before .record-of .ensures, ← c .before .before .before .before .before .add .ensures) (c .before .before .keep-sum .ensures)
+returns c =
+    let b = c .before .before .before .before .before in
+    rw (← b .before .before .sum-of .ensures, ← b .before .record-of .ensures, ← b .add .ensures) (c .before .before .keep-sum .ensures)
 
 pub chim-sum-add-spec : {M : Type 1} → statement M
 chim-sum-add-spec =

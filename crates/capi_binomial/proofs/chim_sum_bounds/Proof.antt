@@ -16,13 +16,28 @@ returns c = rw (ne-eqb _ _ (c .before .before .if1 .taken), c .refuse .ensures .
 returns-2 : tie.Need-returns-2
 unfolding sumBounded boundsTold
 returns-2 c =
-    let l = c .before .before .before .before .before .before .before .before .before .before .before .before .before .before .if1 .left in
-    let e = c .before .before .before .before .before .before .before .before .of-bounds .ensures in
-    rw (eq-eqb _ _ l, ← c .before .before .before .before .before .before .before .before .before .before .before .before .before .sum-of .ensures, ← c .before .before .before .before .before .before .before .before .before .before .before .before .bound .ensures, c .before .before .before .before .before .before .before .before .before .before .a .given .1, c .give .ensures .0, c .give .ensures .1, c .before .before .flag .ensures, c .before .before .before .before .before .put .ensures, placed-right (c .before .before .before .before .before .before .before .before .of-bounds .result) (c .before .before .before .before .before .before .before .before .before .before .before .before .before .before .before .before .before .args .bounds .now) (l ∙ sym (ap length e)), e)
+    let b = c .before .before .before .before .before .before .before .before in
+    let d = b .before .before .before .before in
+    let l = d .before .before .if1 .left in
+    let e = b .of-bounds .ensures in
+    rw (
+      eq-eqb _ _ l,
+      ← d .before .sum-of .ensures,
+      ← d .bound .ensures,
+      b .before .before .a .given .1,
+      c .give .ensures .0,
+      c .give .ensures .1,
+      c .before .before .flag .ensures,
+      c .before .before .before .before .before .put .ensures,
+      placed-right _ _ (l ∙ sym (ap length e)),
+      e,
+    )
 
 returns-3 : tie.Need-returns-3
 unfolding sumBounded boundsTold
-returns-3 c = rw (eq-eqb _ _ (c .before .before .before .before .before .before .before .if1 .left), ← c .before .before .before .before .before .before .sum-of .ensures, ← c .before .before .before .before .before .bound .ensures, c .before .before .before .a2 .given .1, c .refuse2 .ensures .0, c .refuse2 .ensures .1)
+returns-3 c =
+    let b = c .before .before .before .before .before in
+    rw (eq-eqb _ _ (b .before .before .if1 .left), ← b .before .sum-of .ensures, ← b .bound .ensures, c .before .before .before .a2 .given .1, c .refuse2 .ensures .0, c .refuse2 .ensures .1)
 
 pub chim-sum-bounds-spec : {M : Type 1} → statement M
 chim-sum-bounds-spec =

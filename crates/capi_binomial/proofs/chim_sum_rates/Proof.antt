@@ -6,11 +6,15 @@ use Rattle.capi_binomial.proofs.chim_sum_rates.Tie as tie
 
 returns : tie.Need-returns
 unfolding ratedTold
-returns c = rw (← c .before .before .before .before .before .before .before .sum-of .ensures, ← c .before .before .before .before .before .before .rate .ensures, c .before .before .before .before .a .given .1, c .give .ensures .0, c .give .ensures .1, c .before .before .flag .ensures)
+returns c =
+    let b = c .before .before .before .before in
+    rw (← b .before .before .before .sum-of .ensures, ← b .before .before .rate .ensures, b .a .given .1, c .give .ensures .0, c .give .ensures .1, c .before .before .flag .ensures)
 
 returns-2 : tie.Need-returns-2
 unfolding ratedTold
-returns-2 c = rw (← c .before .before .before .before .before .before .sum-of .ensures, ← c .before .before .before .before .before .rate .ensures, c .before .before .before .a2 .given .1, c .refuse .ensures .0, c .refuse .ensures .1)
+returns-2 c =
+    let b = c .before .before .before in
+    rw (← b .before .before .before .sum-of .ensures, ← b .before .before .rate .ensures, b .a2 .given .1, c .refuse .ensures .0, c .refuse .ensures .1)
 
 pub chim-sum-rates-spec : {M : Type 1} → statement M
 chim-sum-rates-spec =

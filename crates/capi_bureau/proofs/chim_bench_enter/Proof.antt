@@ -4,8 +4,11 @@ use Rattle.capi_bureau.proofs.chim_bench_enter.Statement.{statement}
 use Rattle.capi_bureau.proofs.chim_bench_enter.Tie as tie
 
 returns : tie.Need-returns
-returns c = rw (← c .before .before .before .before .before .outcome-of .ensures) (rw (← c .before .before .before .serve .ensures .0) (c .tell .ensures), c .before .before .before .serve .ensures .1)
+returns c =
+    let b = c .before .before .before in
+    rw (← b .before .before .outcome-of .ensures) (rw (← b .serve .ensures .0) (c .tell .ensures), b .serve .ensures .1)
 
 pub chim-bench-enter-spec : {M : Type 1} → statement M
 chim-bench-enter-spec =
-    tie.close (tie.spec (λ c κs. search needs) (λ c κs. search needs) (λ c κs. search needs) (λ c. search needs) returns)
+    tie.close
+    (tie.spec (λ c κs. search needs) (λ c κs. search needs) (λ c κs. search needs) (λ c. search needs) returns)

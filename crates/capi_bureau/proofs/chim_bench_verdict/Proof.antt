@@ -4,8 +4,9 @@ use Rattle.capi_bureau.proofs.chim_bench_verdict.Statement.{statement}
 use Rattle.capi_bureau.proofs.chim_bench_verdict.Tie as tie
 
 returns : tie.Need-returns
-returns c = (rw (← c .before .before .before .before .before .serve .ensures .0) (c .tell-verdict .ensures), c .before .before .before .before .before .serve .ensures .1)
+returns c =
+    let e = c .before .before .before .before .before .serve .ensures in
+    (rw (← e .0) (c .tell-verdict .ensures), e .1)
 
 pub chim-bench-verdict-spec : {M : Type 1} → statement M
-chim-bench-verdict-spec =
-    tie.close (tie.spec (λ c κs. search needs) (λ c κs. search needs) (λ c. search needs) returns)
+chim-bench-verdict-spec = tie.close (tie.spec (λ c κs. search needs) (λ c κs. search needs) (λ c. search needs) returns)

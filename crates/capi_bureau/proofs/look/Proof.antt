@@ -18,9 +18,6 @@ Inv-loop table s₀ i₀ s i = (i ≤ length table) × (looked s i (drop i (plac
 abbrev μ-loop : tie.MeasureT-loop
 μ-loop table s₀ i₀ s i = length table - i
 
-unseen-requires : tie.Need-unseen-requires Inv-loop μ-loop
-unseen-requires c κs = search needs
-
 loop-holds : tie.Need-loop-holds Inv-loop μ-loop
 loop-holds c = (omega arith, ap (λ (u : Seen). looked u 0 (placesOf (c .before .args .table .now))) (c .unseen .ensures))
 
@@ -30,12 +27,6 @@ mul-r c = omega arith
 shared-slice-copy-out-r : tie.Need-shared-slice-copy-out-r Inv-loop μ-loop
 shared-slice-copy-out-r c = omega arith
 
-place-of-requires : tie.Need-place-of-requires Inv-loop μ-loop
-place-of-requires c κs = search needs
-
-look-requires : tie.Need-look-requires Inv-loop μ-loop
-look-requires c κs = search needs
-
 add-i : tie.Need-add-i Inv-loop μ-loop
 add-i c = omega arith
 
@@ -44,10 +35,14 @@ loop-less c = omega arith
 
 loop-again : tie.Need-loop-again Inv-loop μ-loop
 loop-again c =
-    let rows = c .before .before .before .before .before .before .args .table .now in
-    let i = c .before .before .before .before .loop .i in
-    let s = c .before .before .before .before .loop .s in
-    (omega arith, ap (λ (u : Seen). looked u (i + 1) (drop (i + 1) (placesOf rows))) (c .look .ensures ∙ ap (surveyed s i) (c .before .place-of .ensures)) ∙ sym (look-row s i rows _ (omega arith)) ∙ c .before .before .before .before .loop .inv .1)
+    let b = c .before .before .before .before in
+    let rows = b .before .before .args .table .now in
+    let i = b .loop .i in
+    let s = b .loop .s in (
+      omega arith,
+      ap (λ (u : Seen). looked u (i + 1) (drop (i + 1) (placesOf rows))) (c .look .ensures ∙
+          ap (surveyed s i) (c .before .place-of .ensures)) ∙ sym (look-row s i rows _ (omega arith)) ∙ b .loop .inv .1,
+    )
 
 returns : tie.Need-returns Inv-loop μ-loop
 returns c = let l = c .before .loop in sym (look-all (l .s) (l .i) (c .before .before .before .args .table .now) (omega arith)) ∙ l .inv .1
@@ -55,5 +50,5 @@ returns c = let l = c .before .loop in sym (look-all (l .s) (l .i) (c .before .b
 pub look-spec : {M : Type 1} → statement M
 look-spec =
     tie.close
-    (tie.spec Inv-loop μ-loop unseen-requires loop-holds mul-r shared-slice-copy-out-r place-of-requires look-requires
-    add-i loop-less loop-again returns)
+    (tie.spec Inv-loop μ-loop (λ c κs. search needs) loop-holds mul-r shared-slice-copy-out-r (λ c κs. search needs)
+    (λ c κs. search needs) add-i loop-less loop-again returns)

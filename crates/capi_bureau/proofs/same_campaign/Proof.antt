@@ -4,7 +4,9 @@ use Rattle.capi_bureau.proofs.same_campaign.Statement.{statement}
 use Rattle.capi_bureau.proofs.same_campaign.Tie as tie
 
 returns : tie.Need-returns
-returns c = rw (c .both4 .ensures, c .before .both3 .ensures, c .before .before .both2 .ensures, c .before .before .before .both .ensures, c .before .before .before .before .before .flag .ensures, c .before .before .before .before .flag2 .ensures)
+returns c =
+    let b = c .before .before .before in
+    rw (c .both4 .ensures, c .before .both3 .ensures, c .before .before .both2 .ensures, b .both .ensures, b .before .before .flag .ensures, b .before .flag2 .ensures)
 
 pub same-campaign-spec : {M : Type 1} → statement M
 same-campaign-spec =

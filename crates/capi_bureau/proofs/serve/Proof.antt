@@ -10,20 +10,27 @@ use Rattle.capi_bureau.proofs.Rows.{none-chosen, one-chosen}
 use Rattle.capi_bureau.proofs.serve.Statement.{statement}
 use Rattle.capi_bureau.proofs.serve.Tie as tie
 
+-- ways back to earlier places of the function
+abbrev start : tie.After-choose → tie.Start
+start c = c .before .before .before
+
 returns : tie.Need-returns
 returns c =
-    let x = c .before .before .before .before .before .before .before .before .before .before .before .args in
+    let d = c .before .before .before .before in let b = d .before .before .before in
+    let x = start (b .before) .args in
     let rows = x .table .now in
-    let looks = c .before .before .before .before .before .before .before .before .before .look in
-    let chose = c .before .before .before .before .before .before .before .before .choose in
-    let place = c .before .before .before .before .before .place-of in
-    let w = c .before .before .before .before .act in
-    let said = one-chosen rows (x .c) (looks .result) (chose .result) (looks .ensures) (chose .ensures) _ (c .before .before .before .before .before .before .before .if1 .taken) (w .result) (w .ensures ∙ ap (λ (p : Place). acted (x .c) (chose .result) p) (place .ensures)) in
+    let looks = b .before .before .look in
+    let chose = b .before .choose in
+    let place = d .before .place-of in
+    let w = d .act in
+    let said = one-chosen rows (x .c) (looks .result) (chose .result) (looks .ensures) (chose .ensures) _
+    (b .if1 .taken) (w .result) (w .ensures ∙ ap (λ (p : Place). acted (x .c) (chose .result) p)
+    (place .ensures)) in
     (said .0, c .before .put .ensures ∙ ap (λ (p : Place). cond (samePlace p (w .result .place)) rows (set rows (chose .result .at) (ofPlace (w .result .place)))) (place .ensures) ∙ said .1)
 
 returns-2 : tie.Need-returns-2
 returns-2 c =
-    let x = c .before .before .before .before .args in
+    let x = start (c .before) .args in
     let looks = c .before .before .look in
     let chose = c .before .choose in
     none-chosen (x .table .now) (x .c) (looks .result) (chose .result) (looks .ensures) (chose .ensures) (c .if1 .left)

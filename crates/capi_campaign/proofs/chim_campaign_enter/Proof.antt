@@ -12,7 +12,11 @@ returns c = rw (lt-leb _ 1 (c .before .before .if1 .taken), c .refuse .ensures .
 
 returns-2 : tie.Need-returns-2
 unfolding campaignEntered
-returns-2 c = rw (le-leb _ 1 (c .before .before .before .before .before .before .before .before .if1 .left), ← c .before .before .before .before .before .before .campaign-of .ensures, ← c .before .before .before .before .before .enter .ensures) (c .before .before .keep-campaign .ensures)
+returns-2 c = rw (
+  le-leb _ 1 (c .before .before .before .before .before .before .before .before .if1 .left),
+  ← c .before .before .before .before .before .before .campaign-of .ensures,
+  ← c .before .before .before .before .before .enter .ensures,
+) (c .before .before .keep-campaign .ensures)
 
 pub chim-campaign-enter-spec : {M : Type 1} → statement M
 chim-campaign-enter-spec =

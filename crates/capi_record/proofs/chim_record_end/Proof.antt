@@ -9,4 +9,5 @@ returns c = rw (← c .before .before .before .before .before .before .record-of
 
 pub chim-record-end-spec : {M : Type 1} → statement M
 chim-record-end-spec =
-    tie.close (tie.spec (λ c κs. search needs) (λ c κs. search needs) (λ c κs. search needs) (λ c. search needs) returns)
+    tie.close
+    (tie.spec (λ c κs. search needs) (λ c κs. search needs) (λ c κs. search needs) (λ c. search needs) returns)

@@ -5,7 +5,13 @@ use Rattle.capi_record.proofs.chim_record_feed.Statement.{statement}
 use Rattle.capi_record.proofs.chim_record_feed.Tie as tie
 
 returns : tie.Need-returns
-returns c = rw (← c .before .before .before .before .before .before .before .record-of .ensures, ← c .before .before .before .before .before .before .feed .ensures) (c .before .before .keep-record .ensures, c .before .before .before .before .before .channel-in .ensures)
+returns c = rw (
+  ← c .before .before .before .before .before .before .before .record-of .ensures,
+  ← c .before .before .before .before .before .before .feed .ensures,
+) (
+  c .before .before .keep-record .ensures,
+  c .before .before .before .before .before .channel-in .ensures,
+)
 
 pub chim-record-feed-spec : {M : Type 1} → statement M
 chim-record-feed-spec =

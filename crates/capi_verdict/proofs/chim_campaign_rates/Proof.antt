@@ -7,11 +7,15 @@ use Rattle.capi_verdict.proofs.chim_campaign_rates.Tie as tie
 
 returns : tie.Need-returns
 unfolding ratedTold
-returns c = rw (← c .before .before .before .before .before .before .before .campaign-of .ensures, ← c .before .before .before .before .before .before .rate .ensures, c .before .before .before .before .a .given .1, c .give .ensures .0, c .give .ensures .1, c .before .before .flag .ensures)
+returns c =
+    let b = c .before .before .before .before in
+    rw (← b .before .before .before .campaign-of .ensures, ← b .before .before .rate .ensures, b .a .given .1, c .give .ensures .0, c .give .ensures .1, c .before .before .flag .ensures)
 
 returns-2 : tie.Need-returns-2
 unfolding ratedTold
-returns-2 c = rw (← c .before .before .before .before .before .before .campaign-of .ensures, ← c .before .before .before .before .before .rate .ensures, c .before .before .before .a2 .given .1, c .refuse .ensures .0, c .refuse .ensures .1)
+returns-2 c =
+    let b = c .before .before .before in
+    rw (← b .before .before .before .campaign-of .ensures, ← b .before .before .rate .ensures, b .a2 .given .1, c .refuse .ensures .0, c .refuse .ensures .1)
 
 pub chim-campaign-rates-spec : {M : Type 1} → statement M
 chim-campaign-rates-spec =

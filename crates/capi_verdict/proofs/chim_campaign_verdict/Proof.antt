@@ -8,11 +8,15 @@ use Rattle.capi_verdict.proofs.chim_campaign_verdict.Tie as tie
 
 returns : tie.Need-returns
 unfolding judgedTold
-returns c = rw (← c .before .before .before .before .before .before .before .before .campaign-of .ensures, ← only _ (c .before .before .before .before .before .before .before .judge .result) (c .before .before .before .before .before .before .before .judge .ensures), c .before .before .before .before .before .a .given .1, c .tell .ensures)
+returns c =
+    let b = c .before .before .before .before .before in let d = b .before .before in
+    rw (← d .before .campaign-of .ensures, ← only _ (d .judge .result) (d .judge .ensures), b .a .given .1, c .tell .ensures)
 
 returns-2 : tie.Need-returns-2
 unfolding judgedTold
-returns-2 c = rw (← c .before .before .before .before .before .before .campaign-of .ensures, ← only _ (c .before .before .before .before .before .judge .result) (c .before .before .before .before .before .judge .ensures), c .before .before .before .a2 .given .1, c .refuse .ensures .0, c .refuse .ensures .1)
+returns-2 c =
+    let b = c .before .before .before .before .before in
+    rw (← b .before .campaign-of .ensures, ← only _ (b .judge .result) (b .judge .ensures), c .before .before .before .a2 .given .1, c .refuse .ensures .0, c .refuse .ensures .1)
 
 pub chim-campaign-verdict-spec : {M : Type 1} → statement M
 chim-campaign-verdict-spec =

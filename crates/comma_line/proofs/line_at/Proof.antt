@@ -100,7 +100,9 @@ returns-6 c =
     let e = c .before .before in
     let d = told e in
     let m = e .before .before .before .before in
-    whole-line (S d) (At d) (Time d) (Found d) (End d) (leads d) (Minus e) (Size e) (Next e) (reads e) (m .before .before .if1 .left) (said-yes (mark (m .before)) (m .if2 .left)) (said-yes (feed (c .before)) (c .if3 .left))
+    whole-line (S d) (At d) (Time d) (Found d) (End d) (leads d) (Minus e) (Size e) (Next e) (reads e)
+    (m .before .before .if1 .left) (said-yes (mark (m .before)) (m .if2 .left)) (said-yes (feed (c .before))
+    (c .if3 .left))
 
 pub line-at-spec : {M : Type 1} → statement M
 line-at-spec =

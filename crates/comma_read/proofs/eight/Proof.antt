@@ -7,9 +7,10 @@ use Rattle.comma_read.proofs.eight.Tie as tie
 
 returns : tie.Need-returns
 returns c =
-    let p = c .before .before .before .before .before .four .ensures in
+    let b = c .before .before .before .before .before in
+    let p = b .four .ensures in
     let q = c .four2 .ensures in
-    let s = c .before .before .before .before .before .before .before .before .before .before .before in
+    let s = b .before .before .before .before .before .before in
     (rw (p .0, q .0) (eight-beside (now (s .args .s)) (s .args .at) (s .pre)), eight-small (now (s .args .s)) (s .args .at) (p .2) (p .3) (p .4) (p .5) (q .2) (q .3) (q .4) (q .5))
 
 pub eight-spec : {M : Type 1} → statement M

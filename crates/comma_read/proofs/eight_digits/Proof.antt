@@ -9,7 +9,7 @@ mul-result : tie.Need-mul-result
 mul-result c = omega (arith, short 4 _ (c .four-digits .result) (c .four-digits .ensures))
 
 add-result : tie.Need-add-result
-add-result c = omega (arith, short 4 _ (c .before .four-digits .result) (c .before .four-digits .ensures), short 4 _ (c .four-digits2 .result) (c .four-digits2 .ensures))
+add-result c = omega (arith, short 4 _ _ (c .before .four-digits .ensures), short 4 _ (c .four-digits2 .result) (c .four-digits2 .ensures))
 
 returns : tie.Need-returns
 returns c = omega (arith, parts 4 4 (c .before .before .args .n))

@@ -30,10 +30,16 @@ use Rattle.comma_read.proofs.fill_front.Statement.{statement}
 use Rattle.comma_read.proofs.fill_front.Tie as tie
 
 abbrev Inv-loop : tie.InvT-loop
-Inv-loop text step front lines samples₀ at₀ width₀ count₀ samples at width count = Along step text at (count * step) count count × Putting step text 0 0 samples₀ samples at count × Narrow width (count * step) × Ahead text step at (count * step) front (0 + lines * step) × (count ≤ lines)
+Inv-loop text step front lines samples₀ at₀ width₀ count₀ samples at width count = Along step text at (count * step)
+    count count × Putting step text 0 0 samples₀ samples at count × Narrow width (count * step) × Ahead text step at
+    (count * step) front (0 + lines * step) × (count ≤ lines)
 
 abbrev μ-loop : tie.MeasureT-loop
 μ-loop text step front lines samples₀ at₀ width₀ count₀ samples at width count = lines - count
+
+-- ways back to earlier places of the function
+abbrev form-of : tie.After-samples Inv-loop μ-loop → tie.After-form-of Inv-loop μ-loop
+form-of c = c .before .before .before .before
 
 -- the line that is ahead
 module _ (c : tie.In-loop Inv-loop μ-loop) where
@@ -82,7 +88,15 @@ gone : (c : tie.In-loop Inv-loop μ-loop) → begun c .loop .count * begun c .be
 gone c = begun c .loop .inv .0 .due
 
 loop-holds : tie.Need-loop-holds Inv-loop μ-loop
-loop-holds c = let a = c .before .args in (of-front none (c .before .pre .0), put-none (a .step) (now (a .text)) 0 0 (now (a .samples)), record { some = omega arith; few = digits-some (0 * a .step) }, rw zero-mul (forward (c .before .pre .2)), omega arith)
+loop-holds c = let a = c .before .args in (
+  of-front none (c .before .pre .0),
+  put-none (a .step) (now (a .text)) 0 0
+      (now (a .samples)),
+  record { some = omega arith; few = digits-some (0 * a .step) },
+  rw zero-mul
+      (forward (c .before .pre .2)),
+  omega arith,
+)
 
 mul-width-in : tie.Need-mul-width-in Inv-loop μ-loop
 mul-width-in c = omega (arith, gone c)
@@ -106,30 +120,38 @@ store-requires : tie.Need-store-requires Inv-loop μ-loop
 store-requires c κs = let i = inside (c .before .before) in let l = begun i in omega (arith, i .loop-test .taken, l .loop .inv .1 .same, l .before .before .pre .4)
 
 add-at : tie.Need-add-at Inv-loop μ-loop
-add-at c = omega (arith, ends (c .before .before .before .before))
+add-at c = omega (arith, ends (form-of c))
 
 add-at-2 : tie.Need-add-at-2 Inv-loop μ-loop
-add-at-2 c = omega (arith, ends (c .before .before .before .before))
+add-at-2 c = omega (arith, ends (form-of c))
 
 add-count : tie.Need-add-count Inv-loop μ-loop
-add-count c = let l = c .before .before .before .before .before .before .before in omega (arith, l .loop .inv .0 .few, ends (c .before .before .before .before))
+add-count c = let b = form-of c in let l = b .before .before .before in omega (arith, l .loop .inv .0 .few, ends b)
 
 loop-less : tie.Need-loop-less Inv-loop μ-loop
 loop-less c = omega (arith, c .before .before .before .before .before .before .loop-test .taken)
 
 loop-again : tie.Need-loop-again Inv-loop μ-loop
 loop-again c =
+    let b = form-of c in
     let v = c .before .before .before in
-    let f = c .before .before .before .before in
-    let l = c .before .before .before .before .before .before .before in
+    let f = b in
+    let l = b .before .before .before in
     let s = l .before .before in
     let fits : SFits w32 (v .plain-sample .result) = search needs in
     let size = plain-facts (Text (inside f)) _ (f .form-of .ensures .plain) .small in
-    let stored = c .before .store .ensures ∙ ap (set (l .loop .samples) (l .loop .count)) (toZ-ofZ fits ∙ v .plain-sample .ensures ∙ in-size (eqb (Roll f % 2) 1) (rollSize (Text (inside f)) (l .loop .at + Width f) (Roll f)) size) in
+    let stored = c .before .store .ensures ∙ ap (set (l .loop .samples) (l .loop .count)) (toZ-ofZ fits ∙
+    v .plain-sample .ensures ∙ in-size (eqb (Roll f % 2) 1) (rollSize (Text (inside f)) (l .loop .at + Width f)
+    (Roll f)) size) in
     let on = filled-on (l .loop .inv .0) (told f) (s .pre .1) (s .pre .0) (l .loop .inv .1) stored in
     let a = ahead (inside f) in
-    let later : (l .loop .count + 1) * s .args .step ≡ l .loop .count * s .args .step + s .args .step = omega arith in
-    (rw later (on .0), on .1, rw later (narrow-on (s .args .step) (c .before .before .before .before .before .width-in .ensures .0)), rw later (rw (a .this .line .place ∙ sym (told f .place)) at (a .others)), omega (arith, c .before .before .before .before .before .before .loop-test .taken))
+    let later : (l .loop .count + 1) * s .args .step ≡ l .loop .count * s .args .step + s .args .step = omega arith in (
+      rw later (on .0),
+      on .1,
+      rw later (narrow-on (s .args .step) (b .before .width-in .ensures .0)),
+      rw later (rw (a .this .line .place ∙ sym (told f .place)) at (a .others)),
+      omega (arith, b .before .before .loop-test .taken),
+    )
 
 same-length : tie.Need-same-length Inv-loop μ-loop
 same-length c = c .before .loop .inv .1 .same

@@ -25,17 +25,43 @@ use Rattle.comma_read.proofs.fill_rest.Statement.{statement}
 use Rattle.comma_read.proofs.fill_rest.Tie as tie
 
 abbrev Inv-loop : tie.InvT-loop
-Inv-loop text step front lines samples₀ at₀ time₀ width₀ count₀ samples at time width count = Along step text at time count count × Putting step text front lines samples₀ samples at count × Narrow width time
+Inv-loop text step front lines samples₀ at₀ time₀ width₀ count₀ samples at time width count = Along step text at
+    time count count × Putting step text front lines samples₀ samples at count × Narrow width time
 
 abbrev μ-loop : tie.MeasureT-loop
 μ-loop text step front lines samples₀ at₀ time₀ width₀ count₀ samples at time width count = length text - at
 
-few : (c : tie.In-loop Inv-loop μ-loop) → c .before .loop .count < length (now (c .before .before .before .args .text))
+-- ways back to earlier places of the function
+abbrev start : tie.In-loop Inv-loop μ-loop → tie.Start Inv-loop μ-loop
+start c = c .before .before .before
+
+abbrev loop₂ : tie.After-bytes-at Inv-loop μ-loop → tie.In-loop Inv-loop μ-loop
+loop₂ c = c .before .before .before
+
+abbrev loop : tie.After-bytes-at Inv-loop μ-loop → tie.At-loop Inv-loop μ-loop
+loop c = c .before .before .before .before
+
+abbrev width-at : tie.After-degrees-at Inv-loop μ-loop → tie.After-width-at Inv-loop μ-loop
+width-at c = c .before .before .before .before
+
+abbrev bytes-at : tie.After-minus Inv-loop μ-loop → tie.After-bytes-at Inv-loop μ-loop
+bytes-at c = c .before .before .before .before
+
+abbrev bytes-at₂ : tie.After-known-told Inv-loop μ-loop → tie.After-bytes-at Inv-loop μ-loop
+bytes-at₂ c = bytes-at (c .before)
+
+abbrev size-at : tie.After-samples2 Inv-loop μ-loop → tie.After-size-at Inv-loop μ-loop
+size-at c = c .before .before .before .before
+
+abbrev known-told : tie.After-samples Inv-loop μ-loop → tie.After-known-told Inv-loop μ-loop
+known-told c = c .before .before .before .before
+
+few : (c : tie.In-loop Inv-loop μ-loop) → c .before .loop .count < length (now (start c .args .text))
 few c = omega (arith, c .before .loop .inv .0 .few, c .loop-test .taken)
 
 -- the line is right
-good : (c : tie.In-loop Inv-loop μ-loop) → right (c .before .loop .time) (drop (c .before .loop .at) (now (c .before .before .before .args .text))) ≡ true
-good c = all-right (c .before .loop .inv .0) (c .before .before .before .pre .1) (c .loop-test .taken)
+good : (c : tie.In-loop Inv-loop μ-loop) → right (c .before .loop .time) (drop (c .before .loop .at) (now (start c .args .text))) ≡ true
+good c = all-right (c .before .loop .inv .0) (start c .pre .1) (c .loop-test .taken)
 
 -- and its time is this wide
 wide : (c : tie.After-width-at Inv-loop μ-loop) → c .width-at .result ≡ length (digitsOf (c .before .before .loop .time))
@@ -45,21 +71,26 @@ narrow : (c : tie.After-width-at Inv-loop μ-loop) → c .width-at .result ≤ 1
 narrow c = let l = c .before .before .loop in omega (arith, wide c, digits-below 12 (l .time) (omega (arith, l .inv .0 .due)))
 
 -- what the reader of degrees said of it
-told : (c : tie.After-known-told Inv-loop μ-loop) → let l = c .before .before .before .before .before .before .before .before .before in let m = c .before .minus .given .0 in
+told : (c : tie.After-known-told Inv-loop μ-loop) → let l = loop (bytes-at₂ c) in let m = c .before .minus .given .0 in
     LineRead (now (l .before .before .args .text)) (l .loop .at) (l .loop .time) (m .0) (m .1 .0) (m .1 .1 .0 + 1)
 told c =
-    let w = c .before .before .before .before .before .before .before in
+    let b = c .before .before .before in
+    let w = width-at b in
     let l = w .before .before in
     let s = now (l .before .before .args .text) in
     line-by-roll s (l .loop .at) (l .loop .time) (w .width-at .result) (good (w .before)) (wide w)
-    (degrees-read s (l .loop .at + w .width-at .result + 1) _ _ _ (sym (c .before .before .before .degrees-at .ensures) ∙ c .before .minus .given .1))
+    (degrees-read s (l .loop .at + w .width-at .result + 1) _ _ _ (sym (b .degrees-at .ensures) ∙ c .before .minus .given .1))
 
 -- or that it is plain
-plain : (c : tie.Else1 Inv-loop μ-loop) → Plain (now (c .before .before .before .before .before .before .before .args .text)) (c .before .before .past-minus .result) (c .before .bytes-at .result)
+plain : (c : tie.Else1 Inv-loop μ-loop) → Plain (now (start (loop₂ (c .before)) .args .text)) (c .before .before .past-minus .result) (c .before .bytes-at .result)
 plain c = plain-of _ _ (c .before .bytes-at .ensures) (omega (arith, c .if1 .left))
 
-plainly : (c : tie.After-size-at Inv-loop μ-loop) → let l = c .before .before .before .before .before .before in let p = c .before .before .before in
-    LineRead (now (l .before .before .args .text)) (l .loop .at) (l .loop .time) (not (eqb (p .past-minus .result) (l .loop .at + p .before .width-at .result + 1))) (c .size-at .result) (p .past-minus .result + c .before .before .bytes-at .result + 1)
+plainly : (c : tie.After-size-at Inv-loop μ-loop) →
+    let b = c .before .before in
+    let l = loop b in let p = b .before in
+    LineRead (now (l .before .before .args .text)) (l .loop .at) (l .loop .time) (not (eqb (p .past-minus .result)
+    (l .loop .at + p .before .width-at .result + 1))) (c .size-at .result) (p .past-minus .result +
+    b .bytes-at .result + 1)
 plainly c =
     let p = c .before .before .before in
     let w = p .before in
@@ -74,7 +105,16 @@ mul-time : tie.Need-mul-time Inv-loop μ-loop
 mul-time c = omega (arith, of-front (c .before .pre .2) (c .before .pre .0) .due)
 
 loop-holds : tie.Need-loop-holds Inv-loop μ-loop
-loop-holds c = let a = c .before .args in (of-front (c .before .pre .2) (c .before .pre .0), put-none (a .step) (now (a .text)) (a .front) (a .lines) (now (a .samples)), record { some = omega arith; few = digits-some (a .lines * a .step) })
+loop-holds c = let a = c .before .args in (
+  of-front (c .before .pre .2) (c .before .pre .0),
+  put-none (a .step)
+      (now (a .text)) (a .front) (a .lines) (now (a .samples)),
+  record {
+    some = omega arith;
+    few = digits-some
+        (a .lines * a .step);
+  },
+)
 
 width-at-requires : tie.Need-width-at-requires Inv-loop μ-loop
 width-at-requires c κs = (c .before .loop .inv .0 .within, c .before .loop .inv .2)
@@ -85,88 +125,69 @@ add-roll c = omega (arith, narrow c, c .before .loop-test .taken)
 add-roll-2 : tie.Need-add-roll-2 Inv-loop μ-loop
 add-roll-2 c = omega (arith, narrow c, c .before .loop-test .taken)
 
-past-minus-requires : tie.Need-past-minus-requires Inv-loop μ-loop
-past-minus-requires c κs = search needs
-
-bytes-at-requires : tie.Need-bytes-at-requires Inv-loop μ-loop
-bytes-at-requires c κs = search needs
-
-degrees-at-requires : tie.Need-degrees-at-requires Inv-loop μ-loop
-degrees-at-requires c κs = search needs
-
-enum-known-minus : tie.Need-enum-known-minus Inv-loop μ-loop
-enum-known-minus c = search needs
-
-enum-told : tie.Need-enum-told Inv-loop μ-loop
-enum-told c = search needs
-
 same-length : tie.Need-same-length Inv-loop μ-loop
-same-length c = c .before .before .before .before .before .before .before .before .loop .inv .1 .same
+same-length c = loop (c .before .before .before .before) .loop .inv .1 .same
 
 returns : tie.Need-returns Inv-loop μ-loop
-returns c = let w = c .before .before .before .before .before .before in let l = w .before .before in absurd (roll-good (now (l .before .before .args .text)) (l .loop .at) (l .loop .time) (w .width-at .result) (good (w .before)) (wide w) (sym (c .before .before .degrees-at .ensures) ∙ c .enum-told .given .1))
-
-sample-requires : tie.Need-sample-requires Inv-loop μ-loop
-sample-requires c κs = search needs
-
-put-requires : tie.Need-put-requires Inv-loop μ-loop
-put-requires c κs = search needs
+returns c = let w = width-at (c .before .before) in let l = w .before .before in absurd (roll-good _ (l .loop .at)
+    (l .loop .time) (w .width-at .result) (good (w .before)) (wide w) (sym (c .before .before .degrees-at .ensures)
+    ∙ c .enum-told .given .1))
 
 add-count : tie.Need-add-count Inv-loop μ-loop
-add-count c = omega (arith, few (c .before .before .before .before .before .before .before .before .before .before .before .before))
+add-count c = omega (arith, few (loop₂ (bytes-at₂ (known-told c))))
 
 add-time : tie.Need-add-time Inv-loop μ-loop
-add-time c = let l = c .before .before .before .before .before .before .before .before .before .before .before .before .before in omega (arith, l .loop .inv .0 .due, l .before .before .pre .0)
+add-time c = let l = loop (bytes-at₂ (known-told c)) in omega (arith, l .loop .inv .0 .due, l .before .before .pre .0)
 
 add-at : tie.Need-add-at Inv-loop μ-loop
-add-at c = omega (arith, filled-place (c .before .before .before .before .before .before .before .before .before .before .before .before .before .loop .inv .0) (told (c .before .before .before .before)) .1)
+add-at c = omega (arith, filled-place (loop (bytes-at₂ (known-told c)) .loop .inv .0) (told (known-told c)) .1)
 
 loop-less : tie.Need-loop-less Inv-loop μ-loop
-loop-less c = omega (arith, filled-place (c .before .before .before .before .before .before .before .before .before .before .before .before .before .loop .inv .0) (told (c .before .before .before .before)) .0, c .before .before .before .before .before .before .before .before .before .before .before .before .loop-test .taken)
+loop-less c =
+    let d = known-told c in
+    let b = loop₂ (d .before .before .before .before .before) in
+    omega (arith, filled-place (b .before .loop .inv .0) (told d) .0, b .loop-test .taken)
 
 loop-again : tie.Need-loop-again Inv-loop μ-loop
 loop-again c =
-    let v = c .before .before .before in
-    let l = c .before .before .before .before .before .before .before .before .before .before .before .before .before in
+    let d = c .before .before .before in
+    let b = width-at (d .before .before .before .before) in
+    let v = d in
+    let l = b .before .before in
     let s = l .before .before in
     let f : SFits w32 (v .sample .result) = search needs in
     let stored = c .before .put .ensures ∙ ap (set (l .loop .samples) (l .loop .count)) (toZ-ofZ f ∙ v .sample .ensures) in
-    let on = filled-on (l .loop .inv .0) (told (c .before .before .before .before)) (s .pre .1) (s .pre .0) (l .loop .inv .1) stored in
-    (on .0, on .1, narrow-on (s .args .step) (c .before .before .before .before .before .before .before .before .before .before .before .width-at .ensures .0))
-
-size-at-requires : tie.Need-size-at-requires Inv-loop μ-loop
-size-at-requires c κs = search needs
-
-sample-requires-2 : tie.Need-sample-requires-2 Inv-loop μ-loop
-sample-requires-2 c κs = search needs
-
-put-requires-2 : tie.Need-put-requires-2 Inv-loop μ-loop
-put-requires-2 c κs = search needs
+    let on = filled-on (l .loop .inv .0) (told (d .before)) (s .pre .1) (s .pre .0) (l .loop .inv .1) stored in
+    (on .0, on .1, narrow-on (s .args .step) (b .width-at .ensures .0))
 
 add-count-2 : tie.Need-add-count-2 Inv-loop μ-loop
-add-count-2 c = omega (arith, few (c .before .before .before .before .before .before .before .before .before))
+add-count-2 c = omega (arith, few (loop₂ (c .before .before .before .before .before .before)))
 
 add-time-2 : tie.Need-add-time-2 Inv-loop μ-loop
-add-time-2 c = let l = c .before .before .before .before .before .before .before .before .before .before in omega (arith, l .loop .inv .0 .due, l .before .before .pre .0)
+add-time-2 c = let l = loop (c .before .before .before .before .before .before) in omega (arith, l .loop .inv .0 .due, l .before .before .pre .0)
 
 add-at-2 : tie.Need-add-at-2 Inv-loop μ-loop
-add-at-2 c = omega (arith, filled-place (c .before .before .before .before .before .before .before .before .before .before .loop .inv .0) (plainly (c .before .before .before .before)) .1)
+add-at-2 c = let b = size-at c in omega (arith, filled-place (loop (b .before .before) .loop .inv .0) (plainly b) .1)
 
 add-at-3 : tie.Need-add-at-3 Inv-loop μ-loop
-add-at-3 c = omega (arith, filled-place (c .before .before .before .before .before .before .before .before .before .before .loop .inv .0) (plainly (c .before .before .before .before)) .1)
+add-at-3 c = let b = size-at c in omega (arith, filled-place (loop (b .before .before) .loop .inv .0) (plainly b) .1)
 
 loop-less-2 : tie.Need-loop-less-2 Inv-loop μ-loop
-loop-less-2 c = omega (arith, filled-place (c .before .before .before .before .before .before .before .before .before .before .loop .inv .0) (plainly (c .before .before .before .before)) .0, c .before .before .before .before .before .before .before .before .before .loop-test .taken)
+loop-less-2 c =
+    let d = size-at c in
+    let b = loop₂ (d .before .before) in
+    omega (arith, filled-place (b .before .loop .inv .0) (plainly d) .0, b .loop-test .taken)
 
 loop-again-2 : tie.Need-loop-again-2 Inv-loop μ-loop
 loop-again-2 c =
-    let v = c .before .before .before in
-    let l = c .before .before .before .before .before .before .before .before .before .before in
+    let b = c .before .before .before in let d = b .before .before .before .before .before in
+    let v = b in
+    let l = d .before .before in
     let s = l .before .before in
     let f : SFits w32 (v .sample2 .result) = search needs in
     let stored = c .before .put2 .ensures ∙ ap (set (l .loop .samples) (l .loop .count)) (toZ-ofZ f ∙ v .sample2 .ensures) in
-    let on = filled-on (l .loop .inv .0) (plainly (c .before .before .before .before)) (s .pre .1) (s .pre .0) (l .loop .inv .1) stored in
-    (on .0, on .1, narrow-on (s .args .step) (c .before .before .before .before .before .before .before .before .width-at .ensures .0))
+    let on = filled-on (l .loop .inv .0) (plainly (b .before)) (s .pre .1) (s .pre .0) (l .loop .inv .1) stored in
+    (on .0, on .1, narrow-on (s .args .step) (d .width-at .ensures .0))
 
 same-length-2 : tie.Need-same-length-2 Inv-loop μ-loop
 same-length-2 c = c .before .loop .inv .1 .same
@@ -177,7 +198,8 @@ returns-2 c = let l = c .before in put-all (l .loop .inv .0) (l .loop .inv .1) (
 pub fill-rest-spec : {M : Type 1} → statement M
 fill-rest-spec =
     tie.close
-    (tie.spec Inv-loop μ-loop mul-time loop-holds width-at-requires add-roll add-roll-2 past-minus-requires
-    bytes-at-requires degrees-at-requires enum-known-minus enum-told same-length returns sample-requires put-requires
-    add-count add-time add-at loop-less loop-again size-at-requires sample-requires-2 put-requires-2 add-count-2
-    add-time-2 add-at-2 add-at-3 loop-less-2 loop-again-2 same-length-2 returns-2)
+    (tie.spec Inv-loop μ-loop mul-time loop-holds width-at-requires add-roll add-roll-2 (λ c κs. search needs)
+    (λ c κs. search needs) (λ c κs. search needs) (λ c. search needs) (λ c. search needs) same-length returns
+    (λ c κs. search needs) (λ c κs. search needs) add-count add-time add-at loop-less loop-again (λ c κs. search needs)
+    (λ c κs. search needs) (λ c κs. search needs) add-count-2 add-time-2 add-at-2 add-at-3 loop-less-2 loop-again-2
+    same-length-2 returns-2)

@@ -12,4 +12,5 @@ returns c = (omega arith, omega arith, omega arith, omega arith, omega arith, om
 pub four-spec : {M : Type 1} → statement M
 four-spec =
     tie.close
-    (tie.spec (λ c. search needs) (λ c. search needs) (λ c. search needs) (λ c. search needs) (λ c. search needs) (λ c. search needs) returns)
+    (tie.spec (λ c. search needs) (λ c. search needs) (λ c. search needs) (λ c. search needs) (λ c. search needs)
+    (λ c. search needs) returns)

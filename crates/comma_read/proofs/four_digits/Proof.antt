@@ -9,7 +9,7 @@ mul-result : tie.Need-mul-result
 mul-result c = omega (arith, short 2 _ (c .two-digits .result) (c .two-digits .ensures))
 
 add-result : tie.Need-add-result
-add-result c = omega (arith, short 2 _ (c .before .two-digits .result) (c .before .two-digits .ensures), short 2 _ (c .two-digits2 .result) (c .two-digits2 .ensures))
+add-result c = omega (arith, short 2 _ _ (c .before .two-digits .ensures), short 2 _ (c .two-digits2 .result) (c .two-digits2 .ensures))
 
 returns : tie.Need-returns
 returns c = omega (arith, parts 2 2 (c .before .before .args .n))

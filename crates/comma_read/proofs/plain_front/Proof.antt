@@ -23,7 +23,7 @@ gone : (c : tie.At-loop Inv-loop μ-loop) → let a = c .before .before .args in
 gone c = of-front (c .loop .inv .0) (c .before .before .pre)
 
 loop-holds : tie.Need-loop-holds Inv-loop μ-loop
-loop-holds c = (none, record { some = omega arith; few = digits-some (0 * c .before .args .step) })
+loop-holds c = (none, record { some = omega arith; few = digits-some _ })
 
 mul-width-at : tie.Need-mul-width-at Inv-loop μ-loop
 mul-width-at c = omega (arith, gone (c .before) .due)
@@ -41,17 +41,22 @@ returns : tie.Need-returns Inv-loop μ-loop
 returns c = c .before .before .before .before .before .loop .inv .0
 
 add-passed : tie.Need-add-passed Inv-loop μ-loop
-add-passed c = let l = c .before .before .before .before .before .before in let g = of-front (run-after-run (l .loop .inv .0) (c .before .before .before .plain-lines .ensures)) (l .before .before .pre) in omega (arith, g .few, g .within)
+add-passed c =
+    let b = c .before .before .before in
+    let l = b .before .before .before in let g = of-front (run-after-run (l .loop .inv .0) (b .plain-lines .ensures)) (l .before .before .pre) in omega (arith, g .few, g .within)
 
 loop-less : tie.Need-loop-less Inv-loop μ-loop
-loop-less c = omega (arith, lines-ahead (c .before .before .before .plain-lines .ensures), c .before .if1 .left, c .before .before .before .before .before .loop-test .taken)
+loop-less c =
+    let b = c .before .before .before in
+    omega (arith, lines-ahead (b .plain-lines .ensures), c .before .if1 .left, b .before .before .loop-test .taken)
 
 loop-again : tie.Need-loop-again Inv-loop μ-loop
 loop-again c =
-    let l = c .before .before .before .before .before .before in
-    let q = c .before .before .before .plain-lines in
+    let b = c .before .before .before in
+    let l = b .before .before .before in
+    let q = b .plain-lines in
     let d = l .before .before .args .step in
-    (run-after-run (l .loop .inv .0) (q .ensures), rw (add-mul (l .loop .passed) (q .result .lines) d) (narrow-on (q .result .lines * d) (c .before .before .before .before .width-at .ensures .0)))
+    (run-after-run (l .loop .inv .0) (q .ensures), rw (add-mul (l .loop .passed) (q .result .lines) d) (narrow-on (q .result .lines * d) (b .before .width-at .ensures .0)))
 
 returns-2 : tie.Need-returns-2 Inv-loop μ-loop
 returns-2 c = c .before .loop .inv .0

@@ -43,11 +43,13 @@ module _ (e : tie.After-eight) where
 
 returns : tie.Need-returns
 unfolding word maskOf bitsOf moreOf own
-returns c = let e = c .before .before .before in λ h. plus-long (S e) (C e) (room e) (e .eight .result) (same e) (are e plusLong refl refl (c .before .held .ensures (c .if2 .taken))) (c .before .before .if1 .taken)
+returns c = let e = c .before .before .before in λ h. plus-long (S e) (C e) (room e) (e .eight .result) (same e)
+    (are e plusLong refl refl (c .before .held .ensures (c .if2 .taken))) (c .before .before .if1 .taken)
 
 returns-2 : tie.Need-returns-2
 unfolding word maskOf bitsOf moreOf own
-returns-2 c = let e = c .before .before .before .before .before in λ h. plus-short (S e) (C e) (room e) (e .eight .result) (same e) (are e plusShort refl refl (c .before .plus-short .ensures (c .if3 .taken)))
+returns-2 c = let e = c .before .before .before .before .before in λ h. plus-short (S e) (C e) (room e)
+    (e .eight .result) (same e) (are e plusShort refl refl (c .before .plus-short .ensures (c .if3 .taken)))
 
 returns-3 : tie.Need-returns-3
 returns-3 c = λ h. absurd (omega arith)
@@ -55,20 +57,23 @@ returns-3 c = λ h. absurd (omega arith)
 returns-4 : tie.Need-returns-4
 unfolding word maskOf bitsOf moreOf own
 returns-4 c =
-    let e = c .before .before .before .before .before .before in
+    let b = c .before .before .before in
+    let e = b .before .before .before in
     let (ten, feed) = and-true _ _ (sym (c .before .both .ensures) ∙ c .if5 .taken) in
-    λ h. minus-long (S e) (C e) (room e) (e .eight .result) (same e) (are e minusLong refl refl (c .before .before .before .before .held2 .ensures (c .before .before .before .if4 .taken))) (ltb-true _ _ ten) (eqb-true _ _ feed)
+    λ h. minus-long (S e) (C e) (room e) (e .eight .result) (same e) (are e minusLong refl refl (b .before .held2 .ensures (b .if4 .taken))) (ltb-true _ _ ten) (eqb-true _ _ feed)
 
 returns-5 : tie.Need-returns-5
 returns-5 c = λ h. absurd (omega arith)
 
 returns-6 : tie.Need-returns-6
 unfolding word maskOf bitsOf moreOf own
-returns-6 c = let e = c .before .before .before .before .before in λ h. minus-short (S e) (C e) (room e) (e .eight .result) (same e) (are e minusShort refl refl (c .before .held3 .ensures (c .if6 .taken)))
+returns-6 c = let e = c .before .before .before .before .before in λ h. minus-short (S e) (C e) (room e)
+    (e .eight .result) (same e) (are e minusShort refl refl (c .before .held3 .ensures (c .if6 .taken)))
 
 returns-7 : tie.Need-returns-7
 unfolding word maskOf bitsOf moreOf own
-returns-7 c = let e = c .before .before .before .before .before .before .before in λ h. plus-short (S e) (C e) (room e) (e .eight .result) (same e) (are e plusShort refl refl (c .before .plus-short2 .ensures (c .if7 .taken)))
+returns-7 c = let e = c .before .before .before .before .before .before .before in λ h. plus-short (S e) (C e)
+    (room e) (e .eight .result) (same e) (are e plusShort refl refl (c .before .plus-short2 .ensures (c .if7 .taken)))
 
 returns-8 : tie.Need-returns-8
 returns-8 c = λ h. absurd (omega arith)

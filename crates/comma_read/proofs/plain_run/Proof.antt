@@ -23,9 +23,16 @@ abbrev μ-loop : tie.MeasureT-loop
 μ-loop text at width due step last shift zeros by digits₀ time₀ place₀ lines₀ digits time place lines =
     length text - place
 
+-- ways back to earlier places of the function
+abbrev start₂ : tie.Else1 Inv-loop μ-loop → tie.Start Inv-loop μ-loop
+start₂ c = c .before .before .before .before .before .before
+
+abbrev else1 : tie.Else3 Inv-loop μ-loop → tie.Else1 Inv-loop μ-loop
+else1 c = c .before .before .before .before
+
 -- there is room for a line
-room : (c : tie.Else1 Inv-loop μ-loop) → c .before .before .loop .place + 17 ≤ length (now (c .before .before .before .before .before .before .args .text))
-room c = omega (arith, c .if1 .left, c .before .before .before .before .before .before .pre .0)
+room : (c : tie.Else1 Inv-loop μ-loop) → c .before .before .loop .place + 17 ≤ length (now (start₂ c .args .text))
+room c = omega (arith, c .if1 .left, start₂ c .pre .0)
 
 -- the lines before this one, and plain degrees after its comma
 module _ (c : tie.Else3 Inv-loop μ-loop) where
@@ -56,18 +63,14 @@ sub-shift c = omega (arith, c .before .pre .2)
 shr-zeros : tie.Need-shr-zeros Inv-loop μ-loop
 shr-zeros c = omega (arith, c .before .pre .1 .some, c .before .pre .2)
 
-eight-digits-requires : tie.Need-eight-digits-requires Inv-loop μ-loop
-eight-digits-requires c κs = search needs
-
 add-by : tie.Need-add-by Inv-loop μ-loop
 unfolding each
 add-by c = omega (arith, c .eight-digits .ensures, fits (c .before .before .args .step))
 
-eight-digits-requires-2 : tie.Need-eight-digits-requires-2 Inv-loop μ-loop
-eight-digits-requires-2 c κs = search needs
-
 loop-holds : tie.Need-loop-holds Inv-loop μ-loop
-loop-holds c = let s = c .before .before .before in set-out (now (s .args .text)) (s .args .step) (s .args .at) (s .args .due) (s .args .width) (c .eight-digits2 .result) (c .eight-digits2 .ensures) (s .pre .1) (omega (arith, s .pre .0))
+loop-holds c = let s = c .before .before .before in set-out (now (s .args .text)) (s .args .step) (s .args .at)
+    (s .args .due) (s .args .width) (c .eight-digits2 .result) (c .eight-digits2 .ensures) (s .pre .1)
+    (omega (arith, s .pre .0))
 
 returns : tie.Need-returns Inv-loop μ-loop
 returns c = c .before .before .loop .inv .are
@@ -76,11 +79,13 @@ eight-requires : tie.Need-eight-requires Inv-loop μ-loop
 eight-requires c κs = omega (arith, room c)
 
 shr-if2 : tie.Need-shr-if2 Inv-loop μ-loop
-shr-if2 c = let s = c .before .before .before .before .before .before .before in omega (arith, s .pre .1 .some, s .pre .2)
+shr-if2 c = let s = start₂ (c .before) in omega (arith, s .pre .1 .some, s .pre .2)
 
 add-if2 : tie.Need-add-if2 Inv-loop μ-loop
 unfolding each
-add-if2 c = let l = c .before .before .before .loop in omega (arith, l .inv .dials, fits (l .time), zeros-small (64 - 8 * (c .before .before .before .before .before .before .before .args .width)))
+add-if2 c =
+    let b = c .before .before .before in
+    let l = b .loop in omega (arith, l .inv .dials, fits (l .time), zeros-small (64 - 8 * (b .before .before .before .before .args .width)))
 
 returns-2 : tie.Need-returns-2 Inv-loop μ-loop
 returns-2 c = c .before .before .before .before .loop .inv .are
@@ -95,22 +100,19 @@ returns-3 : tie.Need-returns-3 Inv-loop μ-loop
 returns-3 c = c .before .before .before .before .before .before .loop .inv .are
 
 add-place : tie.Need-add-place Inv-loop μ-loop
-add-place c = omega (arith, room (c .before .before .before .before))
+add-place c = omega (arith, room (else1 c))
 
 add-place-2 : tie.Need-add-place-2 Inv-loop μ-loop
 add-place-2 c = omega (arith, ends c)
-
-moved-on-requires : tie.Need-moved-on-requires Inv-loop μ-loop
-moved-on-requires c κs = search needs
 
 add-time : tie.Need-add-time Inv-loop μ-loop
 add-time c = let e = c .before in omega (arith, e .before .before .before .before .before .loop-test .taken, (start e) .pre .3)
 
 add-lines : tie.Need-add-lines Inv-loop μ-loop
-add-lines c = let e = c .before in omega (arith, (lines e) .loop .inv .count, room (e .before .before .before .before))
+add-lines c = let e = c .before in omega (arith, (lines e) .loop .inv .count, room (else1 e))
 
 loop-less : tie.Need-loop-less Inv-loop μ-loop
-loop-less c = let e = c .before in omega (arith, (start e) .pre .1 .some, room (e .before .before .before .before))
+loop-less c = let e = c .before in omega (arith, (start e) .pre .1 .some, room (else1 e))
 
 loop-again : tie.Need-loop-again Inv-loop μ-loop
 unfolding each
@@ -119,7 +121,11 @@ loop-again c =
     let l = lines e in
     let s = start e in
     rw (c .moved-on .ensures, l .before .before .eight-digits .ensures)
-    (on-line (now (s .args .text)) (s .args .step) (s .args .at) (s .args .due) (s .args .width) (l .loop .inv) (s .pre .2) (room (e .before .before .before .before)) (e .before .before .before .eight .ensures .1) (e .before .before .before .before .before .loop-test .taken) (s .pre .3) (ap (λ (v : ℕ). v / 2 ^ (64 - 8 * s .args .width)) (sym (e .before .before .before .eight .ensures .0)) ∙ e .before .before .if2 .left) (found e))
+    (on-line (now (s .args .text)) (s .args .step) (s .args .at) (s .args .due) (s .args .width) (l .loop .inv)
+    (s .pre .2) (room (else1 e)) (e .before .before .before .eight .ensures .1)
+    (e .before .before .before .before .before .loop-test .taken) (s .pre .3)
+    (ap (λ (v : ℕ). v / 2 ^ (64 - 8 * s .args .width)) (sym (e .before .before .before .eight .ensures .0)) ∙
+    e .before .before .if2 .left) (found e))
 
 returns-4 : tie.Need-returns-4 Inv-loop μ-loop
 returns-4 c = c .before .loop .inv .are
@@ -127,6 +133,7 @@ returns-4 c = c .before .loop .inv .are
 pub plain-run-spec : {M : Type 1} → statement M
 plain-run-spec =
     tie.close
-    (tie.spec Inv-loop μ-loop sub-last mul-shift sub-shift shr-zeros eight-digits-requires add-by eight-digits-requires-2 loop-holds
-    returns eight-requires shr-if2 add-if2 returns-2 add-plain-roll plain-roll-requires returns-3 add-place add-place-2
-    moved-on-requires add-time add-lines loop-less loop-again returns-4)
+    (tie.spec Inv-loop μ-loop sub-last mul-shift sub-shift shr-zeros (λ c κs. search needs) add-by
+    (λ c κs. search needs) loop-holds returns eight-requires shr-if2 add-if2 returns-2 add-plain-roll
+    plain-roll-requires returns-3 add-place add-place-2 (λ c κs. search needs) add-time add-lines loop-less loop-again
+    returns-4)

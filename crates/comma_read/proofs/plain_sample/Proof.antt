@@ -14,6 +14,10 @@ use borrow.Author.Needs.{needs}
 use Rattle.comma_read.proofs.plain_sample.Statement.{statement}
 use Rattle.comma_read.proofs.plain_sample.Tie as tie
 
+-- ways back to earlier places of the function
+abbrev start : tie.Else2 → tie.Start
+start c = c .before .before .before
+
 -- none but these four
 one-of : (s : List ℕ) (c roll : ℕ) → PlainRoll s c roll → ¬ (roll ≡ 16) → ¬ (roll ≡ 14) → ¬ (roll ≡ 19) → roll ≡ 17
 one-of s c roll p a b d = by-form (p .plain .form) (p .ends)
@@ -25,8 +29,8 @@ one-of s c roll p a b d = by-form (p .plain .form) (p .ends)
 roll-as : {s : List ℕ} {c roll : ℕ} → PlainRoll s c roll → (k : ℕ) → roll ≡ k → PlainRoll s c k
 roll-as p k e = rw e at p
 
-last : (c : tie.Else3) → c .before .before .before .before .args .roll ≡ 17
-last c = one-of _ _ _ (c .before .before .before .before .pre) (c .before .before .if1 .left) (c .before .if2 .left) (c .if3 .left)
+last : (c : tie.Else3) → start (c .before) .args .roll ≡ 17
+last c = one-of _ _ _ (start (c .before) .pre) (c .before .before .if1 .left) (c .before .if2 .left) (c .if3 .left)
 
 plain-size-requires : tie.Need-plain-size-requires
 plain-size-requires c κs = rw add-zero at (roll-as (c .before .before .pre) 16 (c .if1 .taken) .plain)
@@ -47,22 +51,23 @@ returns-2 : tie.Need-returns-2
 returns-2 c = let f : SFits w32 (c .signed-size2 .result) = search needs in toZ-ofZ f ∙ c .signed-size2 .ensures ∙ rw (c .before .before .if2 .taken, c .before .plain-size2 .ensures .0, add-zero)
 
 plain-size-requires-3 : tie.Need-plain-size-requires-3
-plain-size-requires-3 c κs = rw (add-assoc (c .before .before .before .before .args .c) 1 1) at (roll-as (c .before .before .before .before .pre) 19 (c .if3 .taken) .plain)
+plain-size-requires-3 c κs = rw (add-assoc _ 1 1) at (roll-as (start (c .before) .pre) 19 (c .if3 .taken) .plain)
 
 signed-size-requires-3 : tie.Need-signed-size-requires-3
 signed-size-requires-3 c κs = c .plain-size3 .ensures .1
 
 returns-3 : tie.Need-returns-3
-returns-3 c = let f : SFits w32 (c .signed-size3 .result) = search needs in toZ-ofZ f ∙ c .signed-size3 .ensures ∙ rw (c .before .before .if3 .taken, c .before .plain-size3 .ensures .0, add-assoc (c .before .before .before .before .before .before .args .c) 1 1)
+returns-3 c = let f : SFits w32 (c .signed-size3 .result) = search needs in toZ-ofZ f ∙ c .signed-size3 .ensures ∙
+    rw (c .before .before .if3 .taken, c .before .plain-size3 .ensures .0, add-assoc _ 1 1)
 
 plain-size-requires-4 : tie.Need-plain-size-requires-4
-plain-size-requires-4 c κs = rw (add-assoc (c .before .before .before .before .args .c) 1 1) at (roll-as (c .before .before .before .before .pre) 17 (last c) .plain)
+plain-size-requires-4 c κs = rw (add-assoc _ 1 1) at (roll-as (start (c .before) .pre) 17 (last c) .plain)
 
 signed-size-requires-4 : tie.Need-signed-size-requires-4
 signed-size-requires-4 c κs = c .plain-size4 .ensures .1
 
 returns-4 : tie.Need-returns-4
-returns-4 c = let f : SFits w32 (c .signed-size4 .result) = search needs in toZ-ofZ f ∙ c .signed-size4 .ensures ∙ rw (last (c .before .before), c .before .plain-size4 .ensures .0, add-assoc (c .before .before .before .before .before .before .args .c) 1 1)
+returns-4 c = let f : SFits w32 (c .signed-size4 .result) = search needs in toZ-ofZ f ∙ c .signed-size4 .ensures ∙ rw (last (c .before .before), c .before .plain-size4 .ensures .0, add-assoc _ 1 1)
 
 pub plain-sample-spec : {M : Type 1} → statement M
 plain-sample-spec =

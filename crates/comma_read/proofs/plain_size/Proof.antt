@@ -13,6 +13,10 @@ use borrow.Author.Needs.{needs}
 use Rattle.comma_read.proofs.plain_size.Statement.{statement}
 use Rattle.comma_read.proofs.plain_size.Tie as tie
 
+-- ways back to earlier places of the function
+abbrev else1 : tie.After-shared-slice-known10 → tie.Else1
+else1 c = c .before .before .before .before .before
+
 module _ (c : tie.Else1) where
   long : let s = now (c .before .before .args .s) in let at = c .before .before .args .at in
       LongFacts s at × Sized (drop at s) ((getD s at 0 - zeroByte) * 10000 + valueOf (longDigits s at)) 6
@@ -25,7 +29,10 @@ four-value-requires : tie.Need-four-value-requires
 four-value-requires c κs = let b = c .before .before .before .before in let s = b .before .before in short-of (now (s .args .s)) (s .args .at) (s .pre) (b .if1 .taken) .0 .digits
 
 returns : tie.Need-returns
-returns c = let b = c .before .before .before .before .before in let s = b .before .before in (c .four-value .ensures .0 ∙ sym (short-of (now (s .args .s)) (s .args .at) (s .pre) (b .if1 .taken) .1 .value), omega (arith, c .four-value .ensures .1))
+returns c = let b = c .before .before .before .before .before in let s = b .before .before in (
+  c .four-value .ensures .0 ∙ sym (short-of (now (s .args .s)) (s .args .at) (s .pre) (b .if1 .taken) .1 .value),
+  omega (arith, c .four-value .ensures .1),
+)
 
 cast-result : tie.Need-cast-result
 cast-result c = omega (arith, tens (c .before) .1)
@@ -34,16 +41,18 @@ mul-result : tie.Need-mul-result
 mul-result c = omega (arith, tens (c .before) .1)
 
 four-value-requires-2 : tie.Need-four-value-requires-2
-four-value-requires-2 c κs = long (c .before .before .before .before .before) .0 .digits
+four-value-requires-2 c κs = long (else1 c) .0 .digits
 
 add-result : tie.Need-add-result
-add-result c = omega (arith, tens (c .before .before .before .before .before .before) .1, c .four-value2 .ensures .1)
+add-result c = omega (arith, tens (else1 (c .before)) .1, c .four-value2 .ensures .1)
 
 sub-result : tie.Need-sub-result
-sub-result c = omega (arith, tens (c .before .before .before .before .before .before) .0)
+sub-result c = omega (arith, tens (else1 (c .before)) .0)
 
 returns-2 : tie.Need-returns-2
-returns-2 c = (rw (long (c .before .before .before .before .before .before) .1 .value, c .four-value2 .ensures .0) (omega (arith, tens (c .before .before .before .before .before .before) .0)), omega (arith, tens (c .before .before .before .before .before .before) .1, c .four-value2 .ensures .1))
+returns-2 c =
+    let b = else1 (c .before) in
+    (rw (long b .1 .value, c .four-value2 .ensures .0) (omega (arith, tens b .0)), omega (arith, tens b .1, c .four-value2 .ensures .1))
 
 pub plain-size-spec : {M : Type 1} → statement M
 plain-size-spec =

@@ -20,15 +20,19 @@ use borrow.Author.Needs.{needs}
 use Rattle.comma_read.proofs.read.Statement.{statement}
 use Rattle.comma_read.proofs.read.Tie as tie
 
+-- ways back to earlier places of the function
+abbrev start₂ : tie.Else1 → tie.Start
+start₂ c = c .before .before .before
+
 -- the step is in range
-step : (c : tie.Else1) → stepInRange (c .before .before .before .args .step) ≡ true
+step : (c : tie.Else1) → stepInRange (start₂ c .args .step) ≡ true
 step c = said-yes (c .before .step-in-range .ensures) (c .if1 .left)
 
-small : (c : tie.Else1) → c .before .before .before .args .step ≤ 10000
-small c = let d = c .before .before .before .args .step in leb-true d 10000 (and-true (leb 1 d) (leb d 10000) (step c) .1)
+small : (c : tie.Else1) → start₂ c .args .step ≤ 10000
+small c = let d = start₂ c .args .step in leb-true d 10000 (and-true (leb 1 d) (leb d 10000) (step c) .1)
 
-some : (c : tie.Else1) → 1 ≤ c .before .before .before .args .step
-some c = let d = c .before .before .before .args .step in leb-true 1 d (and-true (leb 1 d) (leb d 10000) (step c) .0)
+some : (c : tie.Else1) → 1 ≤ start₂ c .args .step
+some c = let d = start₂ c .args .step in leb-true 1 d (and-true (leb 1 d) (leb d 10000) (step c) .0)
 
 -- and this was found
 module _ (c : tie.After-survey) where
@@ -76,10 +80,20 @@ returns-2 c = let k = c .before .before in let s = k .before .before in (bad-sam
 
 returns-3 : tie.Need-returns-3
 unfolding filledBy
-returns-3 c = let k = c .before .before .before in let s = k .before .before in (no-room (start s .args .step) (Found s) (Places s) (step (front s .before)) _ _ (right-found k) (c .before .if2 .left) (c .if3 .taken), refl)
+returns-3 c = let k = c .before .before .before in let s = k .before .before in (
+  no-room (start s .args .step)
+      (Found s) (Places s) (step (front s .before)) _ _ (right-found k) (c .before .if2 .left) (c .if3 .taken),
+  refl,
+)
 
 fill-requires : tie.Need-fill-requires
-fill-requires c κs = let k = c .before .before .before .before in (small (front (k .before .before) .before), all-good k (c .before .before .if2 .left), front (k .before .before) .plain-front .ensures, some (front (k .before .before) .before), omega (arith, fewer k, c .before .if3 .left))
+fill-requires c κs = let k = c .before .before .before .before in (
+  small (front (k .before .before) .before),
+  all-good k (c .before .before .if2 .left),
+  front (k .before .before) .plain-front .ensures,
+  some (front (k .before .before) .before),
+  omega (arith, fewer k, c .before .if3 .left),
+)
 
 returns-4 : tie.Need-returns-4
 unfolding filledBy
@@ -87,11 +101,12 @@ returns-4 c = let k = c .before in let s = k .before .before in (wrong-line (sta
 
 returns-5 : tie.Need-returns-5
 returns-5 c =
-    let k = c .before .before .before .before .before .before in
+    let b = c .before .before .before in
+    let k = b .before .before .before in
     let s = k .before .before in
     let r = right-found k in
-    let all = c .before .before .before .before .if2 .left in
-    let room = c .before .before .before .if3 .left in
+    let all = b .before .if2 .left in
+    let room = b .if3 .left in
     (all-read (start s .args .step) (Found s) (Places s) (step (front s .before)) _ _ r all room, c .before .fill .ensures ∙ samples-put (Found s) (now (start s .args .samples)) _ (r .number) room)
 
 pub read-spec : {M : Type 1} → statement M

@@ -14,7 +14,7 @@ returns : tie.Need-returns
 returns c = let n = c .before .args .size in rw (c .if1 .taken) (toZ-ofZ (turned-fits n (omega (arith, c .before .pre))) ∙ turned n (omega (arith, c .before .pre)))
 
 returns-2 : tie.Need-returns-2
-returns-2 c = rw (c .if1 .left) (plain (c .before .args .size) (omega (arith, c .before .pre)))
+returns-2 c = rw (c .if1 .left) (plain _ (omega (arith, c .before .pre)))
 
 pub signed-size-spec : {M : Type 1} → statement M
 signed-size-spec = tie.close (tie.spec (λ c. search needs) sub-result returns returns-2)

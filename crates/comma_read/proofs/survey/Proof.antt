@@ -30,7 +30,11 @@ module _ (c : tie.After-plain-lines Inv-loop μ-loop) where
   abbrev begun : tie.At-loop Inv-loop μ-loop
   begun = c .before .before .before
 
-  gone : Along (begun .before .before .args .step) (now (begun .before .before .args .text)) (c .plain-lines .result .at) (begun .loop .due + c .plain-lines .result .lines * begun .before .before .args .step) (begun .loop .count + c .plain-lines .result .lines) (cond (eqb (begun .loop .sound) (begun .loop .count)) (begun .loop .sound + c .plain-lines .result .lines) (begun .loop .sound))
+  gone : Along (begun .before .before .args .step) (now (begun .before .before .args .text))
+      (c .plain-lines .result .at) (begun .loop .due + c .plain-lines .result .lines *
+      begun .before .before .args .step) (begun .loop .count + c .plain-lines .result .lines)
+      (cond (eqb (begun .loop .sound) (begun .loop .count)) (begun .loop .sound + c .plain-lines .result .lines)
+      (begun .loop .sound))
   gone = all-on (begun .loop .inv .0) (c .plain-lines .ensures) (begun .before .before .pre .0)
 
 -- what the line reader said of the line after them
@@ -60,7 +64,7 @@ mul-due : tie.Need-mul-due Inv-loop μ-loop
 mul-due c = omega (arith, of-front (c .before .pre .1) (c .before .pre .0) .due)
 
 loop-holds : tie.Need-loop-holds Inv-loop μ-loop
-loop-holds c = (of-front (c .before .pre .1) (c .before .pre .0), record { some = omega arith; few = digits-some (c .before .args .lines * c .before .args .step) })
+loop-holds c = (of-front (c .before .pre .1) (c .before .pre .0), record { some = omega arith; few = digits-some _ })
 
 width-at-requires : tie.Need-width-at-requires Inv-loop μ-loop
 width-at-requires c κs = (c .before .loop .inv .0 .within, c .before .loop .inv .1)
@@ -81,45 +85,48 @@ add-due : tie.Need-add-due Inv-loop μ-loop
 add-due c = omega (arith, gone (c .before .before .before) .due)
 
 returns : tie.Need-returns Inv-loop μ-loop
-returns c = rw (c .before .before .before .carried .ensures) (ended (gone (c .before .before .before .before)) (c .if1 .taken))
-
-line-at-requires : tie.Need-line-at-requires Inv-loop μ-loop
-line-at-requires c κs = search needs
-
-enum-known-size : tie.Need-enum-known-size Inv-loop μ-loop
-enum-known-size c = search needs
-
-enum-told : tie.Need-enum-told Inv-loop μ-loop
-enum-told c = search needs
+returns c = let b = c .before .before .before in rw (b .carried .ensures) (ended (gone (b .before)) (c .if1 .taken))
 
 returns-2 : tie.Need-returns-2 Inv-loop μ-loop
 returns-2 c =
     let e = c .before .before .before in
     let p = e .before .before .before .before in
     let l = begun p in
-    stopped (gone p) (e .if1 .left) (line-wrong (now (l .before .before .args .text)) (p .plain-lines .result .at) (l .loop .due + p .plain-lines .result .lines * l .before .before .args .step) (sym (c .before .before .line-at .ensures) ∙ c .enum-told .given .1))
-
-cast-tallied : tie.Need-cast-tallied Inv-loop μ-loop
-cast-tallied c = search needs
+    stopped (gone p) (e .if1 .left) (line-wrong _ (p .plain-lines .result .at) _ (sym (c .before .before .line-at .ensures) ∙ c .enum-told .given .1))
 
 tallied-requires : tie.Need-tallied-requires Inv-loop μ-loop
-tallied-requires c κs = (rw (c .before .before .before .before .before .before .before .carried .ensures) (gone (c .before .before .before .before .before .before .before .before) .low), omega (arith, gone (c .before .before .before .before .before .before .before .before) .few, c .before .before .before .before .if1 .left))
+tallied-requires c κs =
+    let b = c .before .before .before .before .before .before .before in
+    (rw (b .carried .ensures) (gone (b .before) .low), omega (arith, gone (b .before) .few, c .before .before .before .before .if1 .left))
 
 add-count-2 : tie.Need-add-count-2 Inv-loop μ-loop
-add-count-2 c = omega (arith, gone (c .before .before .before .before .before .before .before .before .before) .few, c .before .before .before .before .before .if1 .left)
+add-count-2 c =
+    let b = c .before .before .before .before .before in
+    omega (arith, gone (b .before .before .before .before) .few, b .if1 .left)
 
 add-due-2 : tie.Need-add-due-2 Inv-loop μ-loop
-add-due-2 c = omega (arith, gone (c .before .before .before .before .before .before .before .before .before) .due, c .before .before .before .before .before .before .before .before .before .before .before .before .before .before .pre .0)
+add-due-2 c =
+    let b = c .before .before .before .before .before .before .before .before .before in
+    omega (arith, gone b .due, b .before .before .before .before .before .pre .0)
 
 loop-less : tie.Need-loop-less Inv-loop μ-loop
-loop-less c = omega (arith, further (c .before), lines-ahead (c .before .before .before .before .before .before .before .before .before .plain-lines .ensures), c .before .before .before .before .before .before .before .before .before .before .before .loop-test .taken)
+loop-less c =
+    let b = c .before .before .before .before .before .before .before .before .before in
+    omega (arith, further (c .before), lines-ahead (b .plain-lines .ensures), b .before .before .loop-test .taken)
 
 loop-again : tie.Need-loop-again Inv-loop μ-loop
 loop-again c =
     let d = c .before in
     let p = lines d in
-    let l = begun p in
-    (rw (c .tallied .ensures, d .before .before .before .before .before .before .before .carried .ensures, read d .place) (on (gone p) (read d .is) (l .before .before .pre .0) _ (ap (λ n. leb n largestSize) (sym (read d .value)))), narrow-on (l .before .before .args .step) (narrow-on (p .plain-lines .result .lines * l .before .before .args .step) (p .before .width-at .ensures .0)))
+    let l = begun p in (
+      rw (
+        c .tallied .ensures,
+        d .before .before .before .before .before .before .before .carried .ensures,
+        read d .place,
+      ) (on (gone p) (read d .is) (l .before .before .pre .0) _ (ap (λ n. leb n largestSize)
+          (sym (read d .value)))),
+      narrow-on _ (narrow-on _ (p .before .width-at .ensures .0)),
+    )
 
 returns-3 : tie.Need-returns-3 Inv-loop μ-loop
 returns-3 c = ended (c .before .loop .inv .0) (c .loop-test .left)
@@ -128,5 +135,5 @@ pub survey-spec : {M : Type 1} → statement M
 survey-spec =
     tie.close
     (tie.spec Inv-loop μ-loop mul-due loop-holds width-at-requires plain-lines-requires carried-requires add-count
-    mul-due-2 add-due returns line-at-requires enum-known-size enum-told returns-2 cast-tallied tallied-requires
-    add-count-2 add-due-2 loop-less loop-again returns-3)
+    mul-due-2 add-due returns (λ c κs. search needs) (λ c. search needs) (λ c. search needs) returns-2
+    (λ c. search needs) tallied-requires add-count-2 add-due-2 loop-less loop-again returns-3)

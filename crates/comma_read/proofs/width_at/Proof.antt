@@ -9,4 +9,5 @@ add-if1 : tie.Need-add-if1
 add-if1 c = omega (arith, digits-below 19 (c .before .args .due) (omega arith), c .before .pre .1 .few)
 
 pub width-at-spec : {M : Type 1} → statement M
-width-at-spec = tie.close (tie.spec add-if1 (λ c κs. search needs) (λ c. search needs) (λ c κs. search needs) (λ c. search needs))
+width-at-spec = tie.close (tie.spec add-if1 (λ c κs. search needs) (λ c. search needs) (λ c κs. search needs)
+    (λ c. search needs))

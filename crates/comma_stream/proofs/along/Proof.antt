@@ -63,23 +63,8 @@ loop-holds c =
     let s = start-of c in
     (omega arith, rw add-zero, omega arith, omega (arith, early c), omega arith, start (s .args .f) (now (s .args .text)) (now (s .args .samples)))
 
-line-at-requires : tie.Need-line-at-requires Inv-loop μ-loop
-line-at-requires c κs = search needs
-
-enum-known-minus : tie.Need-enum-known-minus Inv-loop μ-loop
-enum-known-minus c = search needs
-
-enum-told : tie.Need-enum-told Inv-loop μ-loop
-enum-told c = search needs
-
 add-lines : tie.Need-add-lines Inv-loop μ-loop
 add-lines c = omega (arith, small c, L c .loop .inv .0, L c .loop .inv .2, S c .pre .1)
-
-noted-requires : tie.Need-noted-requires Inv-loop μ-loop
-noted-requires c κs = search needs
-
-sample-requires : tie.Need-sample-requires Inv-loop μ-loop
-sample-requires c κs = search needs
 
 mul-t12 : tie.Need-mul-t12 Inv-loop μ-loop
 mul-t12 c = omega (arith, small (c .before .before), L (c .before .before) .loop .inv .2)
@@ -136,6 +121,6 @@ returns-2 c =
 pub along-spec : {M : Type 1} → statement M
 along-spec =
     tie.close
-    (tie.spec Inv-loop μ-loop mul-time loop-holds line-at-requires enum-known-minus enum-told add-lines noted-requires
-    sample-requires mul-t12 slice-set-from-samples add-time add-number loop-less loop-again same-length returns
-    same-length-2 returns-2)
+    (tie.spec Inv-loop μ-loop mul-time loop-holds (λ c κs. search needs) (λ c. search needs) (λ c. search needs)
+    add-lines (λ c κs. search needs) (λ c κs. search needs) mul-t12 slice-set-from-samples add-time add-number loop-less
+    loop-again same-length returns same-length-2 returns-2)

@@ -14,6 +14,10 @@ use Rattle.comma_stream.specs.Follow.{longestCommaLine, unended, mayBegi
 use Rattle.comma_stream.proofs.left.Statement.{statement}
 use Rattle.comma_stream.proofs.left.Tie as tie
 
+-- ways back to earlier places of the function
+abbrev start : tie.Else3 → tie.Start
+start c = c .before .before .before
+
 -- something is left
 module _ (text : List ℕ) (at : ℕ) (inside : at < length text) where
   abbrev Left : List ℕ
@@ -52,14 +56,14 @@ returns-3 c =
     (rw (not-true (a .more) (c .if3 .taken)) (sym (over (now (a .text)) (a .at) (c .before .if1 .left))), omega arith)
 
 -- more may come
-more-comes : (c : tie.Else3) → c .before .before .before .args .more ≡ true
-more-comes c = not-false (c .before .before .before .args .more) (c .if3 .left)
+more-comes : (c : tie.Else3) → start c .args .more ≡ true
+more-comes c = not-false _ (c .if3 .left)
 
 returns-4 : tie.Need-returns-4
 unfolding waitingFor
 returns-4 c =
     let e = c .before in
-    let a = e .before .before .before .args in
+    let a = start e .args in
     (rw (more-comes e) (sym (long (now (a .text)) (a .at) (e .before .if1 .left) (c .if4 .taken))), omega arith)
 
 returns-5 : tie.Need-returns-5
@@ -67,7 +71,7 @@ unfolding waitingFor
 returns-5 c =
     let u = c .before in
     let e = u .before .before in
-    let a = e .before .before .before .args in
+    let a = start e .args in
     (rw (more-comes e) (sym (short (now (a .text)) (a .at) (e .before .if1 .left) (u .before .if4 .left) false (said-no (u .unended .ensures) (c .if5 .taken)))), omega arith)
 
 returns-6 : tie.Need-returns-6
@@ -75,7 +79,7 @@ unfolding waitingFor
 returns-6 c =
     let u = c .before in
     let e = u .before .before in
-    let a = e .before .before .before .args in
+    let a = start e .args in
     (rw (more-comes e) (sym (short (now (a .text)) (a .at) (e .before .if1 .left) (u .before .if4 .left) true (said-yes (u .unended .ensures) (c .if5 .left)))), omega (arith, u .before .if4 .left))
 
 pub left-spec : {M : Type 1} → statement M

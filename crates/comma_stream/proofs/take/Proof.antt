@@ -36,6 +36,4 @@ returns-3 c =
     (l .ensures .0, (l .ensures .1, rw (l .ensures .0) (taken-few (a .f) (now (a .text)) (length (now (a .samples))))))
 
 pub take-spec : {M : Type 1} → statement M
-take-spec =
-    tie.close
-    (tie.spec (λ c κs. search needs) returns returns-2 along-requires (λ c. search needs) returns-3)
+take-spec = tie.close (tie.spec (λ c κs. search needs) returns returns-2 along-requires (λ c. search needs) returns-3)

@@ -53,11 +53,8 @@ loop-again c =
 
 returns-2 : tie.Need-returns-2 Inv-loop μ-loop
 unfolding unended
-returns-2 c =
-    let l = c .before in
-    sym (ap unended (drop-of-length-le (now (l .before .args .text)) (c .loop-test .left))) ∙ l .loop .inv .1
+returns-2 c = let l = c .before in sym (ap unended (drop-of-length-le _ (c .loop-test .left))) ∙ l .loop .inv .1
 
 pub unended-spec : {M : Type 1} → statement M
 unended-spec =
-    tie.close
-    (tie.spec Inv-loop μ-loop loop-holds shared-slice-read-if1 returns add-i loop-less loop-again returns-2)
+    tie.close (tie.spec Inv-loop μ-loop loop-holds shared-slice-read-if1 returns add-i loop-less loop-again returns-2)

@@ -15,6 +15,10 @@ use Rattle.comma_word.specs.Plain.{byteAt, plainBytes}
 use Rattle.comma_word.proofs.bytes_at.Statement.{statement}
 use Rattle.comma_word.proofs.bytes_at.Tie as tie
 
+-- ways back to earlier places of the function
+abbrev else1 : tie.After-shared-slice-known3 → tie.Else1
+else1 c = c .before .before .before
+
 has : (c : tie.Else1) → let a = c .before .before .before .args in leb (a .at + 7) (length (now (a .s))) ≡ true
 has c = said-yes (c .before .has-room .ensures) (c .if1 .left)
 
@@ -51,10 +55,10 @@ add-if4 : tie.Need-add-if4
 add-if4 c = omega (arith, room (c .before .before))
 
 shared-slice-read-if4 : tie.Need-shared-slice-read-if4
-shared-slice-read-if4 c = omega (arith, room (c .before .before .before))
+shared-slice-read-if4 c = omega (arith, room (else1 c))
 
 is-short-requires : tie.Need-is-short-requires
-is-short-requires c κs = room (c .before .before .before .before)
+is-short-requires c κs = room (else1 (c .before))
 
 -- with none there, and one after the first byte
 module _ (c : tie.After-is-short) where
@@ -72,18 +76,19 @@ module _ (c : tie.After-is-short) where
 
 returns-4 : tie.Need-returns-4
 unfolding plainBytes
-returns-4 c = let l = c .before in rw (has (l .before .before .before .before .before), not-two l, one l, sym (l .is-short .ensures) ∙ c .if5 .taken)
+returns-4 c = let l = c .before in rw (has (else1 (l .before .before)), not-two l, one l, sym (l .is-short .ensures) ∙ c .if5 .taken)
 
 returns-5 : tie.Need-returns-5
 unfolding plainBytes
-returns-5 c = let l = c .before in rw (has (l .before .before .before .before .before), not-two l, one l, sym (l .is-short .ensures) ∙ c .if5 .left)
+returns-5 c = let l = c .before in rw (has (else1 (l .before .before)), not-two l, one l, sym (l .is-short .ensures) ∙ c .if5 .left)
 
 returns-6 : tie.Need-returns-6
 unfolding plainBytes
 returns-6 c =
-    let s = now (c .before .before .before .before .before .before .before .args .s) in
-    let at = c .before .before .before .before .before .before .before .args .at in
-    rw (has (c .before .before .before .before), ne-eqb (byteAt s at 2) point (c .before .before .if2 .left), ne-eqb (byteAt s at 1) point (c .if4 .left))
+    let b = else1 (c .before) in let a = b .before .before .before .args in
+    let s = now (a .s) in
+    let at = a .at in
+    rw (has b, ne-eqb (byteAt s at 2) point (c .before .before .if2 .left), ne-eqb (byteAt s at 1) point (c .if4 .left))
 
 pub bytes-at-spec : {M : Type 1} → statement M
 bytes-at-spec =

@@ -35,5 +35,4 @@ returns-3 c = let b = c .before in rw (has (b .before), ne-eqb _ 5 (b .if2 .left
 
 pub size-at-spec : {M : Type 1} → statement M
 size-at-spec =
-    tie.close
-    (tie.spec (λ c κs. search needs) returns short-size-requires returns-2 long-size-requires returns-3)
+    tie.close (tie.spec (λ c κs. search needs) returns short-size-requires returns-2 long-size-requires returns-3)

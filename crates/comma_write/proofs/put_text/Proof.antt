@@ -40,7 +40,8 @@ module _ (c : tie.In-loop Inv-loop μ-loop) where
   abbrev X : ℤ
   X = getD Samples (loop .loop .i) (pos 0)
 
-  here : Left (now (loop .before .before .args .out)) 0 (textOf Step Samples) (sampleText (loop .loop .time) X ++ textFrom Step (loop .loop .time + Step) (drop (loop .loop .i + 1) Samples)) (loop .loop .out) (loop .loop .at)
+  here : Left (now (loop .before .before .args .out)) 0 (textOf Step Samples) (sampleText (loop .loop .time) X ++
+      textFrom Step (loop .loop .time + Step) (drop (loop .loop .i + 1) Samples)) (loop .loop .out) (loop .loop .at)
   here =
       subst (λ (rest : List ℕ). Left (now (loop .before .before .args .out)) 0 (textOf Step Samples) rest (loop .loop .out) (loop .loop .at))
       (turn (textFrom Step (loop .loop .time)) Samples (loop .loop .i) (c .loop-test .taken) ∙ text-next Step (loop .loop .time) X (drop (loop .loop .i + 1) Samples))
@@ -84,7 +85,9 @@ returns : tie.Need-returns Inv-loop μ-loop
 returns c =
     let l = c .before in
     let a = l .before .before .args in
-    let none : textFrom (a .step) (l .loop .time) (drop (l .loop .i) (a .samples .now)) ≡ [] = ap (textFrom (a .step) (l .loop .time)) (drop-of-length-le (a .samples .now) {i = l .loop .i} (c .loop-test .left)) ∙ text-none (a .step) (l .loop .time) in
+    let none : textFrom (a .step) (l .loop .time) (drop (l .loop .i) (a .samples .now)) ≡ [] =
+    ap (textFrom (a .step) (l .loop .time)) (drop-of-length-le (a .samples .now) {i = l .loop .i}
+    (c .loop-test .left)) ∙ text-none (a .step) (l .loop .time) in
     left-done (subst (λ (rest : List ℕ). Left (now (a .out)) 0 (textOf (a .step) (a .samples .now)) rest (l .loop .out) (l .loop .at)) none (l .loop .inv .1))
 
 pub put-text-spec : {M : Type 1} → statement M

@@ -32,9 +32,6 @@ mul-line-length c = omega arith
 shared-slice-copy-out-line-length : tie.Need-shared-slice-copy-out-line-length Inv-loop μ-loop
 shared-slice-copy-out-line-length c = omega arith
 
-line-length-requires : tie.Need-line-length-requires Inv-loop μ-loop
-line-length-requires c κs = search needs
-
 add-total : tie.Need-add-total Inv-loop μ-loop
 add-total c = omega (arith, c .line-length .ensures .1)
 
@@ -62,11 +59,13 @@ returns : tie.Need-returns Inv-loop μ-loop
 returns c =
     let l = c .before in
     let p = l .before .args .samples .now in
-    let none : length (textFrom (l .before .args .step) (l .loop .time) (drop (l .loop .i) p)) ≡ 0 = ap (λ (xs : List ℤ). length (textFrom (l .before .args .step) (l .loop .time) xs)) (drop-of-length-le p {i = l .loop .i} (omega arith)) ∙ ap length (text-none (l .before .args .step) (l .loop .time)) in
+    let none : length (textFrom (l .before .args .step) (l .loop .time) (drop (l .loop .i) p)) ≡ 0 =
+    ap (λ (xs : List ℤ). length (textFrom (l .before .args .step) (l .loop .time) xs)) (drop-of-length-le p {i =
+    l .loop .i} (omega arith)) ∙ ap length (text-none (l .before .args .step) (l .loop .time)) in
     omega (arith, l .loop .inv .1)
 
 pub text-length-spec : {M : Type 1} → statement M
 text-length-spec =
     tie.close
-    (tie.spec Inv-loop μ-loop loop-holds mul-line-length shared-slice-copy-out-line-length line-length-requires
+    (tie.spec Inv-loop μ-loop loop-holds mul-line-length shared-slice-copy-out-line-length (λ c κs. search needs)
     add-total add-time add-i loop-less loop-again returns)

@@ -27,7 +27,7 @@ returns c =
     sym (lt-leb (10 ^ longest) ((a .n - 1) * a .step) (omega (arith, ap (λ (x : ℕ). x * a .step) none)))
 
 returns-2 : tie.Need-returns-2
-returns-2 c = passed (c .before .args .n - 1) (c .before .args .step) (c .before .pre)
+returns-2 c = passed _ _ (c .before .pre)
 
 pub too-long-spec : {M : Type 1} → statement M
 too-long-spec = tie.close (tie.spec returns (λ c. search needs) (λ c. search needs) returns-2)

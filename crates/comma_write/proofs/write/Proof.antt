@@ -23,6 +23,10 @@ use Rattle.comma_write.proofs.Puts.{bad-step, bad-sample, too-late, no-
 use Rattle.comma_write.proofs.write.Statement.{statement}
 use Rattle.comma_write.proofs.write.Tie as tie
 
+-- ways back to earlier places of the function
+abbrev else1 : tie.After-too-long → tie.Else1
+else1 c = c .before .before .before
+
 -- the step is in range
 module _ (c : tie.Else1) where
   abbrev start : tie.Start
@@ -50,15 +54,15 @@ module _ (c : tie.Else1) where
 good : (c : tie.Else2) → length (Samples (c .before .before)) ≤ firstBad (Samples (c .before .before))
 good c = omega (arith, c .before .first-bad .ensures, c .if2 .left)
 
-late : (c : tie.After-too-long) → let e = c .before .before .before in c .too-long .result ≡ leb (10 ^ longest) (lastTime (Step e) (Samples e))
+late : (c : tie.After-too-long) → let e = else1 c in c .too-long .result ≡ leb (10 ^ longest) (lastTime (Step e) (Samples e))
 late c = c .too-long .ensures
 
-short : (c : tie.Else3) → let e = c .before .before .before .before in leb (10 ^ longest) (lastTime (Step e) (Samples e)) ≡ false
+short : (c : tie.Else3) → let e = else1 (c .before) in leb (10 ^ longest) (lastTime (Step e) (Samples e)) ≡ false
 short c = sym (late (c .before)) ∙ c .if3 .left
 
-number : (c : tie.Else3) → length (Samples (c .before .before .before .before)) ≤ 1000000000000
+number : (c : tie.Else3) → length (Samples (else1 (c .before))) ≤ 1000000000000
 number c =
-    let e = c .before .before .before .before in
+    let e = else1 (c .before) in
     few (length (Samples e)) (Step e) (some e) (leb-false (10 ^ longest) (lastTime (Step e) (Samples e)) (short c))
 
 returns : tie.Need-returns
@@ -77,31 +81,31 @@ too-long-requires c κs = some (c .before .before)
 returns-3 : tie.Need-returns-3
 unfolding laidBy
 returns-3 c =
-    let e = c .before .before .before .before in
+    let e = else1 (c .before) in
     (too-late (Step e) (Samples e) (Out e) (step e) (good (c .before .before)) (sym (late (c .before)) ∙ c .if3 .taken), refl)
 
 text-length-requires : tie.Need-text-length-requires
-text-length-requires c κs = (small (c .before .before .before .before), number c)
+text-length-requires c κs = (small (else1 (c .before)), number c)
 
 returns-4 : tie.Need-returns-4
 unfolding laidBy
 returns-4 c =
     let d = c .before .before in
-    let e = d .before .before .before .before in
+    let e = else1 (d .before) in
     (rw (c .before .text-length .ensures) (no-room (Step e) (Samples e) (Out e) (step e) (good (d .before .before)) (short d) (omega (arith, c .before .text-length .ensures, c .if4 .taken))), refl)
 
 put-text-requires : tie.Need-put-text-requires
 put-text-requires c κs =
     let t = c .before .before in
     let d = t .before in
-    (small (d .before .before .before .before), number d, omega (arith, t .text-length .ensures, c .before .if4 .left))
+    (small (else1 (d .before)), number d, omega (arith, t .text-length .ensures, c .before .if4 .left))
 
 returns-5 : tie.Need-returns-5
 returns-5 c =
     let p = c .before .before in
     let t = p .before .before .before in
     let d = t .before in
-    let e = d .before .before .before .before in (
+    let e = else1 (d .before) in (
       rw (t .text-length .ensures) (all-written (Step e) (Samples e) (Out e) (step e) (good (d .before .before)) (short d) (omega (arith, t .text-length .ensures, p .before .before .if4 .left))),
       rw (t .text-length .ensures) (p .put-text .ensures ∙ laid-front (Out e) (textOf (Step e) (Samples e))),
     )

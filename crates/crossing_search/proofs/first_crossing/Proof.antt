@@ -22,12 +22,9 @@ Inv-loop roll acceleration ramp levels n i₀ i = (ramp < i) × (i ≤ n) × ((k
 abbrev μ-loop : tie.MeasureT-loop
 μ-loop roll acceleration ramp levels n i₀ i = n - i
 
-shorter-requires : tie.Need-shorter-requires Inv-loop μ-loop
-shorter-requires c κs = search needs
-
 -- so many samples both channels have
 long : (c : tie.After-shorter Inv-loop μ-loop) → c .shorter .result ≡ length (moments (c .before .args .roll .now) (c .before .args .acceleration .now))
-long c = c .shorter .ensures ∙ sym (moments-shorter (c .before .args .roll .now) (c .before .args .acceleration .now))
+long c = c .shorter .ensures ∙ sym (moments-shorter _ _)
 
 returns : tie.Need-returns Inv-loop μ-loop
 returns c =
@@ -43,12 +40,9 @@ loop-holds c =
     let g = c .before .before .args in
     (omega arith, omega arith, λ k h. ramp-none (g .ramp) (g .levels) (moments (g .roll .now) (g .acceleration .now)) k (omega arith))
 
-end-requires : tie.Need-end-requires Inv-loop μ-loop
-end-requires c κs = search needs
-
 -- the block is within the samples, and not empty
 within : (c : tie.After-end Inv-loop μ-loop) → (c .before .before .loop .i < c .end .result) × (c .end .result ≤ c .before .before .before .before .shorter .result)
-within c = end-within (c .before .before .loop .i) (c .before .before .before .before .shorter .result) (c .end .ensures) (omega arith)
+within c = end-within _ _ (c .end .ensures) (omega arith)
 
 rise-in-requires : tie.Need-rise-in-requires Inv-loop μ-loop
 rise-in-requires c κs =
@@ -57,10 +51,13 @@ rise-in-requires c κs =
     (omega arith, omega arith, omega arith, omega arith)
 
 -- no crossing stands before what the block's search answers
-none : (c : tie.After-rise-in Inv-loop μ-loop) (k : ℕ) → k < c .rise-in .result → crossesAt (c .before .before .before .before .before .before .args .ramp) (c .before .before .before .before .before .before .args .levels) (moments (c .before .before .before .before .before .before .args .roll .now) (c .before .before .before .before .before .before .args .acceleration .now)) k ≡ false
+none : (c : tie.After-rise-in Inv-loop μ-loop) (k : ℕ) →
+    let a = c .before .before .before .before .before .before .args in
+    k < c .rise-in .result → crossesAt (a .ramp) (a .levels) (moments (a .roll .now) (a .acceleration .now)) k ≡ false
 none c k h =
-    by-order k (c .before .before .before .loop .i) (c .before .before .before .loop .inv .2 k)
-    (λ l. rw (lt-ltb (c .before .before .before .before .before .before .args .ramp) k (omega (arith, c .before .before .before .loop .inv .0))) (c .rise-in .ensures .none k l h))
+    let b = c .before .before .before in
+    by-order k _ (b .loop .inv .2 k)
+    (λ l. rw (lt-ltb (b .before .before .before .args .ramp) k (omega (arith, b .loop .inv .0))) (c .rise-in .ensures .none k l h))
 
 loop-less : tie.Need-loop-less Inv-loop μ-loop
 loop-less c = omega (arith, within (c .before .before))
@@ -72,24 +69,26 @@ loop-again c =
 
 returns-2 : tie.Need-returns-2 Inv-loop μ-loop
 returns-2 c =
-    let g = c .before .before .before .before .args in
+    let b = c .before .before .before in
+    let g = b .before .args in
     let p = moments (g .roll .now) (g .acceleration .now) in
-    let l = long (c .before .before .before) in
+    let l = long b in
     l ∙ sym (first-none (crossesAt (g .ramp) (g .levels) p) _ (length p) (λ k h. c .before .loop .inv .2 k (omega arith)))
 
 returns-3 : tie.Need-returns-3 Inv-loop μ-loop
 returns-3 c =
-    let g = c .before .before .before .before .before .before .before .args in
+    let b = c .before .before .before .before in
+    let g = b .before .before .before .args in
     let p = moments (g .roll .now) (g .acceleration .now) in
     let r = c .before .rise-in .result in
     let w = within (c .before .before) in
     let f = c .before .rise-in .ensures in
-    let l = long (c .before .before .before .before .before .before) in
-    let e : crossesAt (g .ramp) (g .levels) p r ≡ true = rw (lt-ltb (g .ramp) r (omega (arith, f .after, c .before .before .before .before .loop .inv .0))) (f .found (c .if3 .taken)) in
+    let l = long (b .before .before) in
+    let e : crossesAt (g .ramp) (g .levels) p r ≡ true = rw (lt-ltb (g .ramp) r (omega (arith, f .after, b .loop .inv .0))) (f .found (c .if3 .taken)) in
     sym (first-at (crossesAt (g .ramp) (g .levels) p) _ r (length p) (omega (arith, c .if3 .taken)) (none (c .before)) e)
 
 pub first-crossing-spec : {M : Type 1} → statement M
 first-crossing-spec =
     tie.close
-    (tie.spec Inv-loop μ-loop shorter-requires returns add-i loop-holds end-requires rise-in-requires loop-less
-    loop-again returns-2 returns-3)
+    (tie.spec Inv-loop μ-loop (λ c κs. search needs) returns add-i loop-holds (λ c κs. search needs) rise-in-requires
+    loop-less loop-again returns-2 returns-3)

@@ -44,9 +44,6 @@ part-loud-start-2 c = omega arith
 part-loud-end-2 : tie.Need-part-loud-end-2 Inv-loop μ-loop
 part-loud-end-2 c = omega arith
 
-loud-requires : tie.Need-loud-requires Inv-loop μ-loop
-loud-requires c κs = search needs
-
 and-false : (b : Bool) → (b && false) ≡ false
 and-false true = refl
 and-false false = refl
@@ -58,7 +55,9 @@ returns c =
     record {
       after = omega arith;
       within = omega arith;
-      none = λ k h l. rw (quiet-at (g .levels) (g .roll .now) (g .acceleration .now) (g .from) (g .end) k (omega arith) (omega arith) h l q) (and-false (not (above (g .levels) (sampleAt (moments (g .roll .now) (g .acceleration .now)) (k - 1)))));
+      none = λ k h l. rw (quiet-at (g .levels) (g .roll .now) (g .acceleration .now) (g .from) (g .end) k
+          (omega arith) (omega arith) h l q)
+          (and-false (not (above (g .levels) (sampleAt (moments (g .roll .now) (g .acceleration .now)) (k - 1)))));
       found = λ h. absurd (omega arith);
     }
 
@@ -68,17 +67,11 @@ loop-holds c = (omega arith, omega arith, λ k h l. absurd (omega arith))
 sub-moment-at : tie.Need-sub-moment-at Inv-loop μ-loop
 sub-moment-at c = omega arith
 
-moment-at-requires : tie.Need-moment-at-requires Inv-loop μ-loop
-moment-at-requires c κs = search needs
-
-moment-at-requires-2 : tie.Need-moment-at-requires-2 Inv-loop μ-loop
-moment-at-requires-2 c κs = search needs
-
-rises-requires : tie.Need-rises-requires Inv-loop μ-loop
-rises-requires c κs = search needs
-
 -- what the call of `rises` answers
-told : (c : tie.After-rises Inv-loop μ-loop) → c .rises .result ≡ rises (c .before .before .before .before .before .before .before .before .before .args .levels) (sampleAt (moments (c .before .before .before .before .before .before .before .before .before .args .roll .now) (c .before .before .before .before .before .before .before .before .before .args .acceleration .now)) (c .before .before .before .before .loop .i - 1)) (sampleAt (moments (c .before .before .before .before .before .before .before .before .before .args .roll .now) (c .before .before .before .before .before .before .before .before .before .args .acceleration .now)) (c .before .before .before .before .loop .i))
+told : (c : tie.After-rises Inv-loop μ-loop) →
+    let b = c .before .before .before .before in
+    let l = b .loop in let a = b .before .before .before .before .before .args in
+    c .rises .result ≡ rises (a .levels) (sampleAt (moments (a .roll .now) (a .acceleration .now)) (l .i - 1)) (sampleAt (moments (a .roll .now) (a .acceleration .now)) (l .i))
 told c = c .rises .ensures ∙ rw (c .before .before .moment-at .ensures, c .before .moment-at2 .ensures)
 
 returns-2 : tie.Need-returns-2 Inv-loop μ-loop
@@ -104,5 +97,5 @@ pub rise-in-spec : {M : Type 1} → statement M
 rise-in-spec =
     tie.close
     (tie.spec Inv-loop μ-loop mul-loud sub-loud part-loud-start part-loud-end mul-loud-2 sub-loud-2 part-loud-start-2
-    part-loud-end-2 loud-requires returns loop-holds sub-moment-at moment-at-requires moment-at-requires-2
-    rises-requires returns-2 add-i loop-less loop-again returns-3)
+    part-loud-end-2 (λ c κs. search needs) returns loop-holds sub-moment-at (λ c κs. search needs)
+    (λ c κs. search needs) (λ c κs. search needs) returns-2 add-i loop-less loop-again returns-3)

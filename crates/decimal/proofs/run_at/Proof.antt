@@ -31,9 +31,6 @@ stopped : (s : List ℕ) (at i value : ℕ)
     → (value ≡ valueOf (run s at)) × (i ≡ at + length (run s at))
 stopped s at i value (v, e) none = (rw none at v, omega (arith, rw none at e))
 
-last-place-requires : tie.Need-last-place-requires Inv-loop μ-loop
-last-place-requires c κs = search needs
-
 loop-holds : tie.Need-loop-holds Inv-loop μ-loop
 unfolding valueOf
 loop-holds c =
@@ -45,14 +42,12 @@ loop-holds c =
 shared-slice-read-b : tie.Need-shared-slice-read-b Inv-loop μ-loop
 shared-slice-read-b c = omega arith
 
-is-digit-requires : tie.Need-is-digit-requires Inv-loop μ-loop
-is-digit-requires c κs = search needs
-
 returns : tie.Need-returns Inv-loop μ-loop
 returns c =
-    let a = c .before .before .before .before .before .before .before .args in
-    let l = c .before .before .before .before .loop in
-    let other = sym (c .before .is-digit .ensures) ∙ not-true (c .before .is-digit .result) (c .if1 .taken) in
+    let b = c .before .before .before .before in
+    let a = b .before .before .before .args in
+    let l = b .loop in
+    let other = sym (c .before .is-digit .ensures) ∙ not-true _ (c .if1 .taken) in
     stopped (now (a .s)) (a .at) (l .i) (l .value) (l .inv .1 .1) (left-other (now (a .s)) (a .at) (l .i) (omega arith) (omega arith) other)
 
 -- past the test: the loop's values, the byte, that it is a digit, and that the value stays below ten to the digits
@@ -70,7 +65,7 @@ abbrev B : tie.Else1 Inv-loop μ-loop → ℕ
 B c = getD (S c) (L c .loop .i) 0
 
 digit : (c : tie.Else1 Inv-loop μ-loop) → isDigit (B c) ≡ true
-digit c = sym (c .before .is-digit .ensures) ∙ not-false (c .before .is-digit .result) (c .if1 .left)
+digit c = sym (c .before .is-digit .ensures) ∙ not-false _ (c .if1 .left)
 
 below : (c : tie.Else1 Inv-loop μ-loop) → push (L c .loop .value) (B c) < 10 ^ (L c .loop .i + 1 - At c)
 below c =
@@ -113,5 +108,5 @@ returns-2 c =
 pub run-at-spec : {M : Type 1} → statement M
 run-at-spec =
     tie.close
-    (tie.spec Inv-loop μ-loop last-place-requires loop-holds shared-slice-read-b is-digit-requires returns mul-value
-    sub-value cast-value add-value add-i loop-less loop-again returns-2)
+    (tie.spec Inv-loop μ-loop (λ c κs. search needs) loop-holds shared-slice-read-b (λ c κs. search needs) returns
+    mul-value sub-value cast-value add-value add-i loop-less loop-again returns-2)

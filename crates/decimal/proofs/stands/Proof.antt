@@ -7,10 +7,10 @@ use Rattle.decimal.proofs.stands.Statement.{statement}
 use Rattle.decimal.proofs.stands.Tie as tie
 
 returns : tie.Need-returns
-returns c = rw (le-ltb (c .before .args .at) (length (now (c .before .args .s))) (c .if1 .taken))
+returns c = rw (le-ltb _ _ (c .if1 .taken))
 
 returns-2 : tie.Need-returns-2
-returns-2 c = rw (lt-ltb (c .before .before .args .at) (length (now (c .before .before .args .s))) (c .before .if1 .left))
+returns-2 c = rw (lt-ltb _ _ (c .before .if1 .left))
 
 pub stands-spec : {M : Type 1} → statement M
 stands-spec = tie.close (tie.spec returns (λ c. search needs) returns-2)

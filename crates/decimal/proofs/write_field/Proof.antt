@@ -14,26 +14,31 @@ use Rattle.decimal.specs.Field.{fieldText}
 use Rattle.decimal.proofs.write_field.Statement.{statement}
 use Rattle.decimal.proofs.write_field.Tie as tie
 
+-- ways back to earlier places of the function
+abbrev start : tie.After-has-room → tie.Start
+start c = c .before .before .before
+
 returns : tie.Need-returns
 unfolding fieldText
 returns c =
-    let a = c .before .before .before .before .args in
-    let no-room = leb-false _ (length (now (a .out))) (sym (c .before .has-room .ensures) ∙ not-true (c .before .has-room .result) (c .if1 .taken)) in
+    let a = start (c .before) .args in
+    let no-room = leb-false _ (length (now (a .out))) (sym (c .before .has-room .ensures) ∙ not-true _ (c .if1 .taken)) in
     wrote-short (now (a .out)) (a .at) (fieldText (a .v) (a .end)) (omega (arith, length-append (digitsOf (a .v)) (a .end ∷ [])))
 
-room : (c : tie.Else1) → let a = c .before .before .before .before .args in a .at + length (fieldText (a .v) (a .end)) ≤ length (now (a .out))
+room : (c : tie.Else1) → let a = start (c .before) .args in a .at + length (fieldText (a .v) (a .end)) ≤ length (now (a .out))
 unfolding fieldText
 room c =
-    let a = c .before .before .before .before .args in
-    let fits = leb-true _ (length (now (a .out))) (sym (c .before .has-room .ensures) ∙ not-false (c .before .has-room .result) (c .if1 .left)) in
+    let a = start (c .before) .args in
+    let fits = leb-true _ (length (now (a .out))) (sym (c .before .has-room .ensures) ∙ not-false _ (c .if1 .left)) in
     omega (arith, length-append (digitsOf (a .v)) (a .end ∷ []))
 
 returns-2 : tie.Need-returns-2
 unfolding fieldText
 returns-2 c =
     let n = c .before .before .before .before .before .before in
-    let a = n .before .before .before .before .before .before .args in
-    left-last (left-next (digitsOf (a .v)) (a .end ∷ []) (left-all (now (a .out)) (a .at) (fieldText (a .v) (a .end)) (room (n .before .before))) (n .write-number .ensures)) (c .before .before .write-byte .ensures)
+    let a = start (n .before .before .before) .args in
+    left-last (left-next (digitsOf (a .v)) (a .end ∷ []) (left-all (now (a .out)) (a .at) (fieldText (a .v)
+    (a .end)) (room (n .before .before))) (n .write-number .ensures)) (c .before .before .write-byte .ensures)
 
 pub write-field-spec : {M : Type 1} → statement M
 write-field-spec =

@@ -24,6 +24,10 @@ Inv-loop v out₀ at count rest₀ i₀ out rest i =
 abbrev μ-loop : tie.MeasureT-loop
 μ-loop v out₀ at count rest₀ i₀ out rest i = rest
 
+-- ways back to earlier places of the function
+abbrev start : tie.After-has-room Inv-loop μ-loop → tie.Start Inv-loop μ-loop
+start c = c .before .before .before
+
 -- a turn's store, and the last store
 turn : (out : List ℕ) (at rest i b : ℕ) → 10 ≤ rest → i ≡ at + length (digitsOf rest) → i ≤ length out → b ≡ zeroByte + rest % 10
     → laid (set out (i - 1) b) at (digitsOf (rest / 10)) ≡ laid out at (digitsOf rest)
@@ -35,23 +39,19 @@ turn out at rest i b more e room byte =
 last : (out : List ℕ) (at rest b : ℕ) → rest < 10 → at < length out → b ≡ zeroByte + rest % 10 → set out at b ≡ laid out at (digitsOf rest)
 last out at rest b one room byte = rw (digits-one rest one, ← byte, laid-one out at b room)
 
-digits-requires : tie.Need-digits-requires Inv-loop μ-loop
-digits-requires c κs = search needs
-
-has-room-requires : tie.Need-has-room-requires Inv-loop μ-loop
-has-room-requires c κs = search needs
-
 returns : tie.Need-returns Inv-loop μ-loop
 returns c =
-    let a = c .before .before .before .before .args in
+    let a = start (c .before) .args in
     let n = a .at + c .before .before .digits .result in
-    let no-room = leb-false n (length (now (a .out))) (sym (c .before .has-room .ensures) ∙ not-true (c .before .has-room .result) (c .if1 .taken)) in
+    let no-room = leb-false n (length (now (a .out))) (sym (c .before .has-room .ensures) ∙ not-true _ (c .if1 .taken)) in
     wrote-short (now (a .out)) (a .at) (digitsOf (a .v)) (omega arith)
 
-room : (c : tie.Else1 Inv-loop μ-loop) → c .before .before .before .before .args .at + c .before .before .digits .result ≤ length (now (c .before .before .before .before .args .out))
+room : (c : tie.Else1 Inv-loop μ-loop) →
+    let a = start (c .before) .args in
+    a .at + c .before .before .digits .result ≤ length (now (a .out))
 room c =
-    let a = c .before .before .before .before .args in
-    leb-true (a .at + c .before .before .digits .result) (length (now (a .out))) (sym (c .before .has-room .ensures) ∙ not-false (c .before .has-room .result) (c .if1 .left))
+    let a = start (c .before) .args in
+    leb-true _ (length (now (a .out))) (sym (c .before .has-room .ensures) ∙ not-false _ (c .if1 .left))
 
 add-i : tie.Need-add-i Inv-loop μ-loop
 add-i c = omega (arith, room c)
@@ -62,9 +62,6 @@ loop-holds c = let fits = room c in (omega arith, (omega arith, (omega arith, (r
 sub-i : tie.Need-sub-i Inv-loop μ-loop
 sub-i c = omega (arith, digits-some (c .before .loop .rest))
 
-last-digit-requires : tie.Need-last-digit-requires Inv-loop μ-loop
-last-digit-requires c κs = search needs
-
 slice-write-out : tie.Need-slice-write-out Inv-loop μ-loop
 slice-write-out c = omega (arith, digits-some (c .before .before .loop .rest))
 
@@ -73,7 +70,7 @@ loop-less c = omega arith
 
 loop-again : tie.Need-loop-again Inv-loop μ-loop
 loop-again c =
-    let a = c .before .before .before .before .before .before .before .args in
+    let a = start (c .before .before .before .before) .args in
     let l = c .before .before .loop in
     let shorter = length-more (l .rest) (omega arith) in (
       omega arith,
@@ -89,11 +86,8 @@ loop-again c =
       ),
     )
 
-last-digit-requires-2 : tie.Need-last-digit-requires-2 Inv-loop μ-loop
-last-digit-requires-2 c κs = search needs
-
 slice-write-out-2 : tie.Need-slice-write-out-2 Inv-loop μ-loop
-slice-write-out-2 c = omega (arith, digits-some (c .before .before .before .before .before .before .before .args .v))
+slice-write-out-2 c = omega (arith, digits-some (start (c .before .before .before .before) .args .v))
 
 add-result : tie.Need-add-result Inv-loop μ-loop
 add-result c = omega arith
@@ -103,9 +97,10 @@ same-length c = rw length-set (omega arith)
 
 returns-2 : tie.Need-returns-2 Inv-loop μ-loop
 returns-2 c =
-    let a = c .before .before .before .before .before .before .before .args in
+    let b = c .before .before .before .before .before in
+    let a = b .before .before .args in
     let l = c .before .before .loop in
-    let count = c .before .before .before .before .before .digits in
+    let count = b .digits in
     let some = digits-some (a .v) in
     wrote-laid (now (a .out)) (a .at) (digitsOf (a .v)) (set (l .out) (a .at) (c .last-digit2 .result)) (a .at + count .result) (l .inv .0)
     (last (l .out) (a .at) (l .rest) (c .last-digit2 .result) (omega arith) (omega arith) (c .last-digit2 .ensures) ∙ l .inv .1 .1 .1 .1)
@@ -114,5 +109,6 @@ returns-2 c =
 pub write-number-spec : {M : Type 1} → statement M
 write-number-spec =
     tie.close
-    (tie.spec Inv-loop μ-loop digits-requires has-room-requires returns add-i loop-holds sub-i last-digit-requires
-    slice-write-out loop-less loop-again last-digit-requires-2 slice-write-out-2 add-result same-length returns-2)
+    (tie.spec Inv-loop μ-loop (λ c κs. search needs) (λ c κs. search needs) returns add-i loop-holds sub-i
+    (λ c κs. search needs) slice-write-out loop-less loop-again (λ c κs. search needs) slice-write-out-2 add-result
+    same-length returns-2)

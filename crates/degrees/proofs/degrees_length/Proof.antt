@@ -21,7 +21,7 @@ whole : (c : tie.After-digits) → c .digits .result ≡ length (digitsOf (natAb
 whole c = c .digits .ensures .0 ∙ ap (λ n. length (digitsOf (n / 1000))) (size c)
 
 few : (c : tie.After-digits) → c .digits .result ≤ 7
-few c = rw (c .digits .ensures .0) (digits-below 6 (c .before .magnitude .result / 1000) (omega (arith, size c, abs-small (c .before .before .args .x) (c .before .before .fits .x))))
+few c = rw (c .digits .ensures .0) (digits-below 6 _ (omega (arith, size c, abs-small (c .before .before .args .x) (c .before .before .fits .x))))
 
 returns : tie.Need-returns
 returns c =

@@ -9,8 +9,9 @@ use Rattle.degrees.proofs.put_sign.Tie as tie
 
 returns : tie.Need-returns
 returns c =
-    let s = c .before .before .before .before .before .before in
-    rw (sign-below (s .args .x) (rw (toZ-ofZ (s .fits .x)) at (c .before .before .before .before .if1 .taken))) (c .before .before .write-byte .ensures)
+    let b = c .before .before .before .before in
+    let s = b .before .before in
+    rw (sign-below (s .args .x) (rw (toZ-ofZ (s .fits .x)) at (b .if1 .taken))) (c .before .before .write-byte .ensures)
 
 returns-2 : tie.Need-returns-2
 returns-2 c =

@@ -9,10 +9,10 @@ use Rattle.degrees.proofs.sample.Statement.{statement}
 use Rattle.degrees.proofs.sample.Tie as tie
 
 returns : tie.Need-returns
-returns c = rw (lt-leb (c .before .args .size) largestSize (c .if1 .taken))
+returns c = rw (lt-leb _ largestSize (c .if1 .taken))
 
 sub-result : tie.Need-sub-result
-sub-result c = turned-fits (c .before .before .args .size) (c .before .if1 .left)
+sub-result c = turned-fits _ (c .before .if1 .left)
 
 returns-2 : tie.Need-returns-2
 returns-2 c =

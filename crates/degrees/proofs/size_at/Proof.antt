@@ -21,6 +21,10 @@ use Rattle.degrees.proofs.Sizes.{size-bad, size-plain, size-none, size-
 use Rattle.degrees.proofs.size_at.Statement.{statement}
 use Rattle.degrees.proofs.size_at.Tie as tie
 
+-- ways back to earlier places of the function
+abbrev run-at : tie.Else3 → tie.After-run-at
+run-at c = c .before .before .before
+
 -- filled up with zeros, three digits are below 100,000
 cond-below : (n v : ℕ) → v < 1000 → cond (eqb n 1) (v * 100) (cond (eqb n 2) (v * 10) v) < 100000
 cond-below n v h = by-test (eqb n 1) (λ e. rw e (omega arith)) (λ e. rw e (by-test (eqb n 2) (λ f. rw f (omega arith)) (λ f. rw f (omega arith))))
@@ -93,29 +97,30 @@ returns-4 c =
     let d = told r in
     sym (size-many (S d) (At d) (Minus d) (Whole d) (End d) (leads d) (pointed r) (omega (arith, r .run-at .ensures .1, c .if3 .taken)))
 
-few : (c : tie.Else3) → length (Run (c .before .before .before)) ≤ 3
-few c = omega (arith, c .before .before .before .run-at .ensures .1, c .if3 .left)
+few : (c : tie.Else3) → length (Run (run-at c)) ≤ 3
+few c = omega (arith, run-at c .run-at .ensures .1, c .if3 .left)
 
-small : (c : tie.Else3) → c .before .before .before .run-at .result .value < 1000
+small : (c : tie.Else3) → run-at c .run-at .result .value < 1000
 small c =
-    let r = c .before .before .before in
+    let r = run-at c in
     rw (r .run-at .ensures .0)
     (lt-of-lt-of-le (value-below (Run r) (leading-all longest (drop (End (told r) + 1) (S (told r))))) (pow-le-pow-right {n = 10} (omega arith) {j = 3} (few c)))
 
 mul-t13 : tie.Need-mul-t13
-mul-t13 c = omega (arith, leads (told (c .before .before .before)) .small)
+mul-t13 c = omega (arith, leads (told (run-at c)) .small)
 
 filled-requires : tie.Need-filled-requires
 filled-requires c κs = small c
 
 add-t15 : tie.Need-add-t15
 add-t15 c =
-    let d = told (c .before .before .before .before) in
-    omega (arith, leads d .small, c .filled .ensures, cond-below (c .before .before .before .before .run-at .result .end - (End d + 1)) (c .before .before .before .before .run-at .result .value) (small (c .before)))
+    let b = run-at (c .before) in
+    let d = told b in
+    omega (arith, leads d .small, c .filled .ensures, cond-below (b .run-at .result .end - (End d + 1)) (b .run-at .result .value) (small (c .before)))
 
 returns-5 : tie.Need-returns-5
 returns-5 c =
-    let r = c .before .before .before .before in
+    let r = run-at (c .before) in
     let d = told r in
     let some : 1 ≤ length (Run r) = omega (arith, r .run-at .ensures .1, c .before .before .if2 .left) in
     let count : r .run-at .result .end - (End d + 1) ≡ length (Run r) = omega (arith, r .run-at .ensures .1) in

@@ -42,9 +42,7 @@ Whole c = digitsOf (c .magnitude .result / 1000)
 
 parts : (c : tie.After-magnitude) → let a = start (c .before .before) .args in degreesText (a .x) ≡ sign (a .x) ++ (Whole c ++ Tail c)
 unfolding degreesText
-parts c =
-    let s = start (c .before .before) in
-    rw (rw (toZ-ofZ (s .fits .x)) at (c .magnitude .ensures))
+parts c = let s = start (c .before .before) in rw (rw (toZ-ofZ (s .fits .x)) at (c .magnitude .ensures))
 
 -- of the text at this place, so much is left
 abbrev Stands : tie.After-magnitude → List ℕ → List ℕ → ℕ → Type 0
@@ -58,7 +56,7 @@ left1 c =
 returns : tie.Need-returns
 returns c =
     let a = start (c .before) .args in
-    let short = leb-false (a .at + c .before .before .degrees-length .result) (length (now (a .out))) (said-no (c .before .has-room .ensures) (c .if1 .taken)) in
+    let short = leb-false _ (length (now (a .out))) (said-no (c .before .has-room .ensures) (c .if1 .taken)) in
     wrote-short (now (a .out)) (a .at) (degreesText (a .x)) (omega (arith, needed (c .before)))
 
 put-sign-requires : tie.Need-put-sign-requires

@@ -22,23 +22,19 @@ returns c = record { near = λ h l. absurd (omega arith); no-ratio = λ h. refl;
 returns-2 : tie.Need-returns-2 Inv-loop μ-loop
 returns-2 c = record { near = λ h l. equal-near _ _ h (omega arith); no-ratio = λ h. refl; below-one = λ h. refl; bound = lit< tt }
 
-scale-requires : tie.Need-scale-requires Inv-loop μ-loop
-scale-requires c κs = search needs
-
 loop-holds : tie.Need-loop-holds Inv-loop μ-loop
 loop-holds c = starts _ _ _ _ (omega arith) (omega arith) (omega arith) (c .scale .ensures)
 
 mul-square : tie.Need-mul-square Inv-loop μ-loop
 mul-square c = record { fits = square-fits _ _ _ _ _ (c .before .loop .inv) }
 
-pick-requires : tie.Need-pick-requires Inv-loop μ-loop
-pick-requires c κs = search needs
-
 mul-m : tie.Need-mul-m Inv-loop μ-loop
 mul-m c = omega (arith, figure-fits _ _ _ _ _ (c .before .before .loop .inv))
 
 add-m : tie.Need-add-m Inv-loop μ-loop
-add-m c = omega (arith, figure-fits _ _ _ _ _ (c .before .before .loop .inv), square-cut _ _ _ _ _ (c .before .before .loop .inv) .bit)
+add-m c =
+    let l = c .before .before .loop in
+    omega (arith, figure-fits _ _ _ _ _ (l .inv), square-cut _ _ _ _ _ (l .inv) .bit)
 
 add-i : tie.Need-add-i Inv-loop μ-loop
 add-i c = omega arith
@@ -62,5 +58,5 @@ returns-3 c =
 pub log2-spec : {M : Type 1} → statement M
 log2-spec =
     tie.close
-    (tie.spec Inv-loop μ-loop returns returns-2 scale-requires loop-holds mul-square pick-requires mul-m add-m add-i
-    loop-less loop-again returns-3)
+    (tie.spec Inv-loop μ-loop returns returns-2 (λ c κs. search needs) loop-holds mul-square (λ c κs. search needs)
+    mul-m add-m add-i loop-less loop-again returns-3)

@@ -36,10 +36,11 @@ returns c =
 
 returns-2 : tie.Need-returns-2
 returns-2 c =
-    let a = c .before .before .before .args in
-    let y = c .before .before .shift .result in
+    let b = c .before .before in
+    let a = b .before .args in
+    let y = b .shift .result in
     let z = c .before .shift2 .result in
-    let l = shift-less (a .a) (a .b) y z (omega arith) (c .before .shift2 .ensures .0) (c .before .before .shift .ensures .1) in
+    let l = shift-less (a .a) (a .b) y z (omega arith) (c .before .shift2 .ensures .0) (b .shift .ensures .1) in
     rw (
       mod-eq-of-lt {n = a .a * 2 ^ y} {m = 2 ^ 64} (omega arith),
       mod-eq-of-lt {n = a .a * 2 ^ y * 2147483648} {m = 2 ^ 64} (omega arith),

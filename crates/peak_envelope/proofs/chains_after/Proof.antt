@@ -8,13 +8,17 @@ use Rattle.peak_envelope.proofs.chains_after.Statement.{statement}
 use Rattle.peak_envelope.proofs.chains_after.Tie as tie
 
 -- what the test says
-both : (c : tie.After-both) → c .both .result ≡ (gave (c .before .before .before .before .before .before .args .e .stretches) (c .before .before .before .before .before .before .args .h) && high (c .before .before .before .before .before .before .args .n) (c .before .before .before .before .before .before .args .s) (c .before .before .before .before .before .before .args .e .stretches .best))
+both : (c : tie.After-both) →
+    let a = c .before .before .before .before .before .before .args in
+    c .both .result ≡ (gave (a .e .stretches) (a .h) && high (a .n) (a .s) (a .e .stretches .best))
 both c = c .both .ensures ∙ rw (c .before .before .gave .ensures, c .before .high .ensures)
 
 returns : tie.Need-returns
 returns c =
-    rw (sym (both (c .before .before .before)) ∙ c .before .before .if1 .taken)
-    (c .turn .ensures ∙ ap (λ (k : Bool). turned k (c .before .before .before .before .before .before .before .before .before .args .e .chains) (c .before .before .before .before .before .before .before .before .before .args .e .stretches .best)) (c .before .in-chain .ensures))
+    let b = c .before .before in
+    let e = b .before .before .before .before .before .before .before .args .e in
+    rw (sym (both (b .before)) ∙ b .if1 .taken)
+    (c .turn .ensures ∙ ap (λ (k : Bool). turned k (e .chains) (e .stretches .best)) (c .before .in-chain .ensures))
 
 returns-2 : tie.Need-returns-2
 returns-2 c = rw (sym (both (c .before)) ∙ c .if1 .left)

@@ -25,8 +25,9 @@ Inv-loop timed total₀ i₀ next₀ total i next =
 abbrev μ-loop : tie.MeasureT-loop
 μ-loop timed total₀ i₀ next₀ total i next = length timed - i
 
-second-run-requires : tie.Need-second-run-requires Inv-loop μ-loop
-second-run-requires c κs = search needs
+-- ways back to earlier places of the function
+abbrev loop : tie.After-first-run2 Inv-loop μ-loop → tie.At-loop Inv-loop μ-loop
+loop c = c .before .before .before .before .before .before
 
 -- the second run starts within the samples
 within : (c : tie.After-second-run Inv-loop μ-loop) → c .second-run .result ≤ length (c .before .args .timed .now)
@@ -41,25 +42,22 @@ sub-first-run c = within c
 part-first-run-start : tie.Need-part-first-run-start Inv-loop μ-loop
 part-first-run-start c = within c
 
-part-first-run-end : tie.Need-part-first-run-end Inv-loop μ-loop
-part-first-run-end c = search needs
-
-first-run-requires : tie.Need-first-run-requires Inv-loop μ-loop
-first-run-requires c κs = search needs
-
 loop-holds : tie.Need-loop-holds Inv-loop μ-loop
 loop-holds c =
-    let p = c .before .before .before .args .timed .now in
-    let k = c .before .before .second-run .result in
-    let e = c .before .before .second-run .ensures in
+    let b = c .before .before in
+    let p = b .before .args .timed .now in
+    let k = b .second-run .result in
+    let e = b .second-run .ensures in
     let d : (D : ℕ) → due D k p ≡ peaks D p = λ D. ap (λ (j : ℕ). due D j p) e ∙ due-first D p in
-    (within (c .before .before), c .first-run .ensures ∙ ap firstRun (from-place k p), omega arith, omega arith, λ D. zero-add _ ∙ ap length (d D), λ D. zero-add _ ∙ ap sum (d D))
+    (within b, c .first-run .ensures ∙ ap firstRun (from-place k p), omega arith, omega arith, λ D. zero-add _ ∙ ap length (d D), λ D. zero-add _ ∙ ap sum (d D))
 
 add-if1 : tie.Need-add-if1 Inv-loop μ-loop
-add-if1 c = omega (arith, walk-fits (c .before .before .before .before .before .args .timed .now) (c .before .loop .i) (c .before .loop .next) (c .before .loop .inv .1) (c .before .loop .inv .0))
+add-if1 c = let l = c .before .loop in omega (arith, walk-fits _ (l .i) (l .next) (l .inv .1) (l .inv .0))
 
 add-requires : tie.Need-add-requires Inv-loop μ-loop
-add-requires c κs = (omega (arith, c .before .before .loop .inv .2, c .if1 .taken), omega (arith, c .before .before .loop .inv .3, c .if1 .taken))
+add-requires c κs =
+    let i = c .before .before .loop .inv in
+    (omega (arith, i .2, c .if1 .taken), omega (arith, i .3, c .if1 .taken))
 
 add-i : tie.Need-add-i Inv-loop μ-loop
 add-i c = omega (arith, c .before .before .if1 .taken)
@@ -73,23 +71,19 @@ sub-first-run-2 c = omega (arith, c .before .before .if1 .taken)
 part-first-run-start-2 : tie.Need-part-first-run-start-2 Inv-loop μ-loop
 part-first-run-start-2 c = omega (arith, c .before .before .if1 .taken)
 
-part-first-run-end-2 : tie.Need-part-first-run-end-2 Inv-loop μ-loop
-part-first-run-end-2 c = search needs
-
-first-run-requires-2 : tie.Need-first-run-requires-2 Inv-loop μ-loop
-first-run-requires-2 c κs = search needs
-
 loop-less : tie.Need-loop-less Inv-loop μ-loop
-loop-less c = omega (arith, c .before .before .before .before .if1 .taken, walk-holds (c .before .before .before .before .before .before .before .before .before .before .args .timed .now) (c .before .before .before .before .before .before .loop .i) (c .before .before .before .before .before .before .loop .next) (c .before .before .before .before .before .before .loop .inv .1) (c .before .before .before .before .if1 .taken) .0)
+loop-less c =
+    let b = c .before .before .before .before in
+    omega (arith, b .if1 .taken, walk-holds _ _ _ (b .before .before .loop .inv .1) (b .if1 .taken) .0)
 
 loop-again : tie.Need-loop-again Inv-loop μ-loop
 unfolding sum
 loop-again c =
     let p = c .before .before .before .before .before .before .before .before .before .before .args .timed .now in
-    let i = c .before .before .before .before .before .before .loop .i in
-    let r = c .before .before .before .before .before .before .loop .next in
-    let t = c .before .before .before .before .before .before .loop .total in
-    let v = c .before .before .before .before .before .before .loop .inv in
+    let i = loop c .loop .i in
+    let r = loop c .loop .next in
+    let t = loop c .loop .total in
+    let v = loop c .loop .inv in
     let h = c .before .before .before .before .if1 .taken in
     let o = walk-holds p i r (v .1) h .0 in
     let a = c .before .before .before .add .ensures in
@@ -106,14 +100,15 @@ loop-again c =
 returns : tie.Need-returns Inv-loop μ-loop
 unfolding sum
 returns c =
-    let p = c .before .before .before .before .before .before .args .timed .now in
-    let v = c .before .before .loop .inv in
-    let d = walk-ends p (c .before .before .loop .i) (c .before .before .loop .next) (v .1) (omega (arith, c .if1 .left)) in
+    let b = c .before .before in
+    let p = b .before .before .before .before .args .timed .now in
+    let v = b .loop .inv in
+    let d = walk-ends p (b .loop .i) (b .loop .next) (v .1) (omega (arith, c .if1 .left)) in
     (λ D. omega (arith, v .4 D, ap length (d D)), λ D. omega (arith, v .5 D, ap sum (d D)))
 
 pub count-spec : {M : Type 1} → statement M
 count-spec =
     tie.close
-    (tie.spec Inv-loop μ-loop second-run-requires mul-first-run sub-first-run part-first-run-start part-first-run-end
-    first-run-requires loop-holds add-if1 add-requires add-i mul-first-run-2 sub-first-run-2 part-first-run-start-2
-    part-first-run-end-2 first-run-requires-2 loop-less loop-again returns)
+    (tie.spec Inv-loop μ-loop (λ c κs. search needs) mul-first-run sub-first-run part-first-run-start
+    (λ c. search needs) (λ c κs. search needs) loop-holds add-if1 add-requires add-i mul-first-run-2 sub-first-run-2
+    part-first-run-start-2 (λ c. search needs) (λ c κs. search needs) loop-less loop-again returns)

@@ -12,15 +12,21 @@ use Rattle.peak_envelope.proofs.Answered.{finds-refused, finds-bad, fin
 use Rattle.peak_envelope.proofs.find.Statement.{statement}
 use Rattle.peak_envelope.proofs.find.Tie as tie
 
+-- ways back to earlier places of the function
+abbrev start : tie.After-enum-told → tie.Start
+start c = c .before .before .before .before .before
+
 returns : tie.Need-returns
-returns c = finds-refused (c .before .before .before .before .before .before .args .step) (c .before .before .before .before .before .before .args .ramp) (c .before .before .before .before .before .before .args .decorrelation) (c .before .before .before .before .before .before .args .samples .now) (c .before .before .before .before .before .before .args .sizes .now) (c .before .before .before .before .before .before .args .times .now) (c .before .size .given .0 .0) (refused-tested (unlevelled (c .before .before .before .before .before .before .args .step) (c .before .before .before .before .before .before .args .ramp) (c .before .before .before .before .before .before .args .decorrelation)) (c .before .before .before .before .before .before .args .samples .now) (c .before .before .before .before .before .before .args .samples .now) (c .before .size .given .0 .0) (sym (c .before .before .before .judge .ensures) ∙ c .before .size .given .1))
+returns c = finds-refused _ _ _ _ _ _ _ (refused-tested _ _ _ _ (sym (c .before .before .before .judge .ensures) ∙ c .before .size .given .1))
 
 -- past the first tests the record fits
-fit : (c : tie.After-enum-told) → Fitting (unlevelled (c .before .before .before .before .before .args .step) (c .before .before .before .before .before .args .ramp) (c .before .before .before .before .before .args .decorrelation)) (length (c .before .before .before .before .before .args .samples .now)) (length (c .before .before .before .before .before .args .samples .now))
-fit c = fitting (unlevelled (c .before .before .before .before .before .args .step) (c .before .before .before .before .before .args .ramp) (c .before .before .before .before .before .args .decorrelation)) (c .before .before .before .before .before .args .samples .now) (c .before .before .before .before .before .args .samples .now) (sym (c .before .before .judge .ensures) ∙ c .enum-told .given .1)
+fit : (c : tie.After-enum-told) →
+    let a = start c .args in
+    Fitting (unlevelled (a .step) (a .ramp) (a .decorrelation)) (length (a .samples .now)) (length (a .samples .now))
+fit c = fitting _ _ _ (sym (c .before .before .judge .ensures) ∙ c .enum-told .given .1)
 
 returns-2 : tie.Need-returns-2
-returns-2 c = let e = c .before .first-bad .ensures in rw e (finds-bad (c .before .before .before .before .before .before .before .args .step) (c .before .before .before .before .before .before .before .args .ramp) (c .before .before .before .before .before .before .before .args .decorrelation) (c .before .before .before .before .before .before .before .args .samples .now) (c .before .before .before .before .before .before .before .args .sizes .now) (c .before .before .before .before .before .before .before .args .times .now) (fit (c .before .before)) (omega (arith, e, c .if1 .taken)))
+returns-2 c = let e = c .before .first-bad .ensures in rw e (finds-bad _ _ _ _ _ _ (fit (c .before .before)) (omega (arith, e, c .if1 .taken)))
 
 mul-hand-out : tie.Need-mul-hand-out
 mul-hand-out c = omega (arith, fit (c .before .before) .few)
@@ -33,16 +39,18 @@ part-hand-out-start c = omega (arith, fit (c .before .before) .few)
 
 hand-out-requires : tie.Need-hand-out-requires
 hand-out-requires c κs =
-    let a = c .before .before .before .before .before .before .before .before .before .before .args in
-    let f = fit (c .before .before .before .before .before) in
+    let b = c .before .before .before .before .before in
+    let a = start b .args in
+    let f = fit b in
     let i = within-ranges (unlevelled (a .step) (a .ramp) (a .decorrelation)) (f .ranged) in
     (omega (arith, f .most, ap length (from-place (a .ramp) (a .samples .now)), length-drop (a .ramp) (a .samples .now)), i .decorrelation)
 
 returns-3 : tie.Need-returns-3
 returns-3 c =
-    let a = c .before .before .before .before .before .before .before .before .before .before .before .before .before .before .before .args in
-    let e = c .before .before .before .before .before .before .before .before .before .first-bad .ensures in
-    finds-good (c .before .before .before .before .before .before .before .before .before .before .before .before .before .before .before .args .step) (c .before .before .before .before .before .before .before .before .before .before .before .before .before .before .before .args .ramp) (c .before .before .before .before .before .before .before .before .before .before .before .before .before .before .before .args .decorrelation) (c .before .before .before .before .before .before .before .before .before .before .before .before .before .before .before .args .samples .now) (c .before .before .before .before .before .before .before .before .before .before .before .before .before .before .before .args .sizes .now) (c .before .before .before .before .before .before .before .before .before .before .before .before .before .before .before .args .times .now) (fit (c .before .before .before .before .before .before .before .before .before .before)) (omega (arith, e, c .before .before .before .before .before .before .before .before .if1 .left)) (rw (from-place (a .ramp) (a .samples .now)) at (c .before .before .before .before .hand-out .ensures))
+    let b = c .before .before .before .before .before .before .before .before in
+    let a = start (b .before .before) .args in
+    let e = b .before .first-bad .ensures in
+    finds-good _ _ _ _ _ _ (fit (b .before .before)) (omega (arith, e, b .if1 .left)) (rw (from-place (a .ramp) (a .samples .now)) at (c .before .before .before .before .hand-out .ensures))
 
 pub find-spec : {M : Type 1} → statement M
 find-spec =

@@ -12,10 +12,12 @@ returns : tie.Need-returns
 returns c = rw (said-no (c .before .both .ensures) (c .if1 .taken)) (refl, refl)
 
 sub-k : tie.Need-sub-k
-sub-k c = ltb-true 0 (c .before .before .before .before .before .before .before .args .g .opened) (and-true (ltb 0 (c .before .before .before .before .before .before .before .args .g .opened)) (not (eqb (c .before .before .before .before .before .before .before .args .g .opened) (c .before .before .before .before .before .before .before .args .opened))) (said-yes (c .before .before .both .ensures) (c .before .if1 .left)) .0)
+sub-k c = ltb-true 0 _ (and-true _ _ (said-yes (c .before .before .both .ensures) (c .before .if1 .left)) .0)
 
 returns-2 : tie.Need-returns-2
-returns-2 c = rw (said-yes (c .before .before .before .before .before .before .before .before .before .before .before .both .ensures) (c .before .before .before .before .before .before .before .before .before .before .if1 .left)) (c .before .before .before .before .before .before .place .ensures, c .before .before .place2 .ensures)
+returns-2 c =
+    let b = c .before .before .before .before .before .before in let d = b .before .before .before .before in
+    rw (said-yes (d .before .both .ensures) (d .if1 .left)) (b .place .ensures, c .before .before .place2 .ensures)
 
 pub hand-spec : {M : Type 1} → statement M
 hand-spec =

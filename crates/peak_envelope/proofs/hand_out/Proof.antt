@@ -19,11 +19,16 @@ use Rattle.peak_envelope.proofs.hand_out.Tie as tie
 
 -- what is to be handed out
 abbrev Whole : tie.After-pass → List Peak
-Whole c = tops (close (c .before .before .before .before .before .before .args .decorrelation)) (kept (peaks (c .before .before .before .before .before .before .args .step) (c .before .before .before .before .before .before .args .timed .now)))
+Whole c =
+    let a = c .before .before .before .before .before .before .args in
+    tops (close (a .decorrelation)) (kept (peaks (a .step) (a .timed .now)))
 
 -- the peaks' number and sum were found, so both passes hand it out
-whole : (c : tie.After-pass) → chosen (c .before .before .before .count .result .number) (c .before .before .before .count .result .sum) (c .before .before .before .before .before .before .args .step) (c .before .before .before .before .before .before .args .decorrelation) (c .before .before .before .before .before .before .args .timed .now) ≡ Whole c
-whole c = chosen-kept (c .before .before .before .count .result .number) (c .before .before .before .count .result .sum) (c .before .before .before .before .before .before .args .step) (c .before .before .before .before .before .before .args .decorrelation) (c .before .before .before .before .before .before .args .timed .now) (c .before .before .before .count .ensures .0 (c .before .before .before .before .before .before .args .step)) (c .before .before .before .count .ensures .1 (c .before .before .before .before .before .before .args .step))
+whole : (c : tie.After-pass) →
+    let b = c .before .before .before in
+    let r = b .count .result in let a = b .before .before .before .args in
+    chosen (r .number) (r .sum) (a .step) (a .decorrelation) (a .timed .now) ≡ Whole c
+whole c = let e = c .before .before .before .count .ensures in chosen-kept _ _ _ _ _ (e .0 _) (e .1 _)
 
 needed : (c : tie.After-pass) → c .pass .result ≡ length (Whole c)
 needed c = c .pass .ensures .0 ∙ ap length (whole c)
@@ -34,15 +39,17 @@ count-requires c κs = omega (arith, c .before .before .pre .0, div-le-self 1000
 returns : tie.Need-returns
 returns c =
     let d = needed (c .before .before .before .before) in
-    rw d (no-room (Whole (c .before .before .before .before)) _ _ (rw d at (sym (c .before .short .ensures) ∙ c .if1 .taken)))
+    rw d (no-room _ _ _ (rw d at (sym (c .before .short .ensures) ∙ c .if1 .taken)))
 
 returns-2 : tie.Need-returns-2
 returns-2 c =
-    let w = whole (c .before .before .before .before .before .before .before .before .before .before .before) in
-    let d = needed (c .before .before .before .before .before .before .before .before .before .before .before) in
-    let s = c .before .before .before .before .pass2 .ensures .1 ∙ ap (λ (l : List Peak). sets (c .before .before .before .before .before .before .before .before .before .before .before .before .before .before .before .before .before .args .sizes .now) 0 (map sizeOf l)) w in
-    let t = c .before .before .before .before .pass2 .ensures .2 ∙ ap (λ (l : List Peak). sets (c .before .before .before .before .before .before .before .before .before .before .before .before .before .before .before .before .before .args .times .now) 0 (map momentOf l)) w in
-    rw (d, s, t) (all-placed (Whole (c .before .before .before .before .before .before .before .before .before .before .before)) _ _ (rw d at (sym (c .before .before .before .before .before .before .before .before .short .ensures) ∙ c .before .before .before .before .before .before .before .if1 .left)))
+    let e = c .before .before .before .before in let g = e .before .before .before in
+    let b = g .before .before .before .before in let a = b .before .before .before .before .before .before .args in
+    let w = whole b in
+    let d = needed b in
+    let s = e .pass2 .ensures .1 ∙ ap (λ (l : List Peak). sets (a .sizes .now) 0 (map sizeOf l)) w in
+    let t = e .pass2 .ensures .2 ∙ ap (λ (l : List Peak). sets (a .times .now) 0 (map momentOf l)) w in
+    rw (d, s, t) (all-placed (Whole b) _ _ (rw d at (sym (g .before .short .ensures) ∙ g .if1 .left)))
 
 pub hand-out-spec : {M : Type 1} → statement M
 hand-out-spec =

@@ -7,7 +7,9 @@ use Rattle.peak_envelope.proofs.met.Statement.{statement}
 use Rattle.peak_envelope.proofs.met.Tie as tie
 
 returns : tie.Need-returns
-returns c = c .turn .ensures ∙ ap (λ (k : Bool). turned k (c .before .before .args .g) (c .before .before .args .p)) (c .before .in-stretch .ensures)
+returns c =
+    let a = c .before .before .args in
+    c .turn .ensures ∙ ap (λ (k : Bool). turned k (a .g) (a .p)) (c .before .in-stretch .ensures)
 
 pub met-spec : {M : Type 1} → statement M
 met-spec = tie.close (tie.spec (λ c κs. search needs) (λ c κs. search needs) returns)

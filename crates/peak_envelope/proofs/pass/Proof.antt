@@ -21,15 +21,25 @@ Inv-loop step n s decorrelation timed sizes₀ times₀ e₀ i₀ run₀ sizes t
 abbrev μ-loop : tie.MeasureT-loop
 μ-loop step n s decorrelation timed sizes₀ times₀ e₀ i₀ run₀ sizes times e i run = length timed - i
 
-fresh-requires : tie.Need-fresh-requires Inv-loop μ-loop
-fresh-requires c κs = search needs
+-- ways back to earlier places of the function
+abbrev start : tie.After-second-run Inv-loop μ-loop → tie.Start Inv-loop μ-loop
+start c = c .before .before .before .before
 
-second-run-requires : tie.Need-second-run-requires Inv-loop μ-loop
-second-run-requires c κs = search needs
+abbrev start₂ : tie.At-loop Inv-loop μ-loop → tie.Start Inv-loop μ-loop
+start₂ c = start (c .before .before .before)
+
+abbrev loop₂ : tie.After-struct-known3 Inv-loop μ-loop → tie.At-loop Inv-loop μ-loop
+loop₂ c = c .before .before .before .before
+
+abbrev then1 : tie.After-struct-known2 Inv-loop μ-loop → tie.Then1 Inv-loop μ-loop
+then1 c = c .before .before .before .before .before .before .before .before .before
+
+abbrev hand : tie.After-slice-known6 Inv-loop μ-loop → tie.After-hand Inv-loop μ-loop
+hand c = c .before .before .before .before
 
 -- the second run starts within the samples
-within : (c : tie.After-second-run Inv-loop μ-loop) → c .second-run .result ≤ length (c .before .before .before .before .args .timed .now)
-within c = omega (arith, c .second-run .ensures, second-fits (c .before .before .before .before .args .timed .now))
+within : (c : tie.After-second-run Inv-loop μ-loop) → c .second-run .result ≤ length (start c .args .timed .now)
+within c = omega (arith, c .second-run .ensures, second-fits (start c .args .timed .now))
 
 mul-first-run : tie.Need-mul-first-run Inv-loop μ-loop
 mul-first-run c = omega (arith, within c)
@@ -40,89 +50,120 @@ sub-first-run c = within c
 part-first-run-start : tie.Need-part-first-run-start Inv-loop μ-loop
 part-first-run-start c = within c
 
-part-first-run-end : tie.Need-part-first-run-end Inv-loop μ-loop
-part-first-run-end c = search needs
-
-first-run-requires : tie.Need-first-run-requires Inv-loop μ-loop
-first-run-requires c κs = search needs
-
 loop-holds : tie.Need-loop-holds Inv-loop μ-loop
 loop-holds c =
-    let a = c .before .before .before .before .before .before .args in
-    let k = c .before .before .second-run .result in
-    rw (c .before .before .before .fresh .ensures) (passing-starts (a .step) (a .n) (a .s) (a .decorrelation) (a .timed .now) (a .sizes .now) (a .times .now) k (c .first-run .result) (c .before .before .second-run .ensures) (c .first-run .ensures ∙ ap firstRun (from-place k (a .timed .now))))
+    let b = c .before .before in
+    let a = start b .args in
+    let k = b .second-run .result in
+    rw (b .before .fresh .ensures) (passing-starts (a .step) (a .n) (a .s) (a .decorrelation) (a .timed .now)
+    (a .sizes .now) (a .times .now) k (c .first-run .result) (b .second-run .ensures) (c .first-run .ensures ∙
+    ap firstRun (from-place k (a .timed .now))))
 
 add-if1 : tie.Need-add-if1 Inv-loop μ-loop
-add-if1 c = omega (arith, walk-fits (c .before .before .before .before .before .before .before .before .args .timed .now) (c .before .loop .i) (c .before .loop .run) (c .before .loop .inv .here) (c .before .loop .inv .within))
+add-if1 c = let l = c .before .loop in omega (arith, walk-fits _ (l .i) (l .run) (l .inv .here) (l .inv .within))
 
 peak-requires : tie.Need-peak-requires Inv-loop μ-loop
-peak-requires c κs = omega (arith, c .if1 .taken, walk-holds (c .before .before .before .before .before .before .before .before .before .args .timed .now) (c .before .before .loop .i) (c .before .before .loop .run) (c .before .before .loop .inv .here) (c .if1 .taken) .1)
+peak-requires c κs =
+    let b = c .before .before in
+    omega (arith, c .if1 .taken, walk-holds _ (b .loop .i) (b .loop .run) (b .loop .inv .here) (c .if1 .taken) .1)
 
 onward-requires : tie.Need-onward-requires Inv-loop μ-loop
-onward-requires c κs = let d = div-le-self 10000000 (c .before .before .before .before .before .before .before .before .before .before .before .before .args .step) in (omega (arith, c .before .before .before .before .before .loop .inv .fits .0, c .before .before .before .if1 .taken, d), omega (arith, c .before .before .before .before .before .loop .inv .fits .1, c .before .before .before .if1 .taken, d))
+onward-requires c κs =
+    let b = c .before .before .before in let f = b .before .before .loop .inv .fits in
+    let d = div-le-self 10000000 (start₂ (b .before .before) .args .step) in (omega (arith, f .0, b .if1 .taken, d), omega (arith, f .1, b .if1 .taken, d))
 
 add-i : tie.Need-add-i Inv-loop μ-loop
-add-i c = omega (arith, c .before .before .before .before .before .before .before .before .before .if1 .taken, c .before .before .before .before .before .before .before .before .before .before .before .before .before .before .before .before .before .before .pre, div-le-self 10000000 (c .before .before .before .before .before .before .before .before .before .before .before .before .before .before .before .before .before .before .args .step))
+add-i c =
+    let d = then1 c in
+    let b = start₂ (d .before .before) in
+    omega (arith, d .if1 .taken, b .pre, div-le-self 10000000 (b .args .step))
 
 mul-first-run-2 : tie.Need-mul-first-run-2 Inv-loop μ-loop
-mul-first-run-2 c = omega (arith, c .before .before .before .before .before .before .before .before .before .if1 .taken, c .before .before .before .before .before .before .before .before .before .before .before .before .before .before .before .before .before .before .pre, div-le-self 10000000 (c .before .before .before .before .before .before .before .before .before .before .before .before .before .before .before .before .before .before .args .step))
+mul-first-run-2 c =
+    let d = then1 c in
+    let b = start₂ (d .before .before) in
+    omega (arith, d .if1 .taken, b .pre, div-le-self 10000000 (b .args .step))
 
 sub-first-run-2 : tie.Need-sub-first-run-2 Inv-loop μ-loop
-sub-first-run-2 c = omega (arith, c .before .before .before .before .before .before .before .before .before .if1 .taken, c .before .before .before .before .before .before .before .before .before .before .before .before .before .before .before .before .before .before .pre, div-le-self 10000000 (c .before .before .before .before .before .before .before .before .before .before .before .before .before .before .before .before .before .before .args .step))
+sub-first-run-2 c =
+    let d = then1 c in
+    let b = start₂ (d .before .before) in
+    omega (arith, d .if1 .taken, b .pre, div-le-self 10000000 (b .args .step))
 
 part-first-run-start-2 : tie.Need-part-first-run-start-2 Inv-loop μ-loop
-part-first-run-start-2 c = omega (arith, c .before .before .before .before .before .before .before .before .before .if1 .taken, c .before .before .before .before .before .before .before .before .before .before .before .before .before .before .before .before .before .before .pre, div-le-self 10000000 (c .before .before .before .before .before .before .before .before .before .before .before .before .before .before .before .before .before .before .args .step))
-
-part-first-run-end-2 : tie.Need-part-first-run-end-2 Inv-loop μ-loop
-part-first-run-end-2 c = search needs
-
-first-run-requires-2 : tie.Need-first-run-requires-2 Inv-loop μ-loop
-first-run-requires-2 c κs = search needs
+part-first-run-start-2 c =
+    let d = then1 c in
+    let b = start₂ (d .before .before) in
+    omega (arith, d .if1 .taken, b .pre, div-le-self 10000000 (b .args .step))
 
 loop-less : tie.Need-loop-less Inv-loop μ-loop
-loop-less c = omega (arith, c .before .before .before .before .before .before .before .before .before .before .before .if1 .taken, walk-holds (c .before .before .before .before .before .before .before .before .before .before .before .before .before .before .before .before .before .before .before .before .args .timed .now) (c .before .before .before .before .before .before .before .before .before .before .before .before .before .loop .i) (c .before .before .before .before .before .before .before .before .before .before .before .before .before .loop .run) (c .before .before .before .before .before .before .before .before .before .before .before .before .before .loop .inv .here) (c .before .before .before .before .before .before .before .before .before .before .before .if1 .taken) .0)
+loop-less c =
+    let b = then1 (c .before .before) in
+    let d = b .before .before in
+    omega (arith, b .if1 .taken, walk-holds _ _ (d .loop .run) (d .loop .inv .here) (b .if1 .taken) .0)
 
 loop-again : tie.Need-loop-again Inv-loop μ-loop
 loop-again c =
-    let a = c .before .before .before .before .before .before .before .before .before .before .before .before .before .before .before .before .before .before .before .before .args in
-    let i = c .before .before .before .before .before .before .before .before .before .before .before .before .before .loop .i in
-    let r = c .before .before .before .before .before .before .before .before .before .before .before .before .before .loop .run in
-    let e = c .before .before .before .before .before .before .before .before .before .before .before .before .before .loop .e in
-    let ss = c .before .before .before .before .before .before .before .before .before .before .before .before .before .loop .sizes in
-    let ts = c .before .before .before .before .before .before .before .before .before .before .before .before .before .loop .times in
+    let d = c .before .before .before .before .before .before .before in
+    let b = d .before .before .before in
+    let l = b .before .before .before .loop in
+    let a = start₂ (b .before .before .before) .args in
+    let i = l .i in
+    let r = l .run in
+    let e = l .e in
+    let ss = l .sizes in
+    let ts = l .times in
     let f = stepped (a .n) (a .s) (a .decorrelation) e (peakAt (a .step) (i * a .step) r) in
-    let o = c .before .before .before .before .before .before .before .onward in
-    let q : o .result ≡ f = o .ensures .0 ∙ ap (stepped (a .n) (a .s) (a .decorrelation) e) (c .before .before .before .before .before .before .before .before .before .before .peak .ensures) in
-    let hs : o .last .1 .1 .1 .1 .1 .0 ≡ noting (e .chains) (f .chains .opened) (e .chains .best .size) ss = o .ensures .1 ∙ ap (λ (g : Envelope). noting (e .chains) (g .chains .opened) (e .chains .best .size) ss) q in
-    let ht : o .last .1 .1 .1 .1 .1 .1 .0 ≡ noting (e .chains) (f .chains .opened) (e .chains .best .time) ts = o .ensures .2 ∙ ap (λ (g : Envelope). noting (e .chains) (g .chains .opened) (e .chains .best .time) ts) q in
-    rw (q, hs, ht) (passing-on (a .step) (a .n) (a .s) (a .decorrelation) (a .timed .now) (a .sizes .now) (a .times .now) (c .before .before .before .before .before .before .before .before .before .before .before .before .before .loop .inv) (c .before .before .before .before .before .before .before .before .before .before .before .if1 .taken) (c .first-run2 .result) (c .first-run2 .ensures ∙ ap firstRun (from-place (i + r .length) (a .timed .now))))
+    let o = d .onward in
+    let q : o .result ≡ f = o .ensures .0 ∙ ap (stepped (a .n) (a .s) (a .decorrelation) e) (b .peak .ensures) in
+    let hs : o .last .1 .1 .1 .1 .1 .0 ≡ noting (e .chains) (f .chains .opened) (e .chains .best .size) ss =
+    o .ensures .1 ∙ ap (λ (g : Envelope). noting (e .chains) (g .chains .opened) (e .chains .best .size) ss) q in
+    let ht : o .last .1 .1 .1 .1 .1 .1 .0 ≡ noting (e .chains) (f .chains .opened) (e .chains .best .time) ts =
+    o .ensures .2 ∙ ap (λ (g : Envelope). noting (e .chains) (g .chains .opened) (e .chains .best .time) ts) q in
+    rw (q, hs, ht) (passing-on (a .step) (a .n) (a .s) (a .decorrelation) (a .timed .now) (a .sizes .now)
+    (a .times .now) (l .inv) (b .before .if1 .taken) (c .first-run2 .result) (c .first-run2 .ensures ∙
+    ap firstRun (from-place (i + r .length) (a .timed .now))))
 
 add-hand : tie.Need-add-hand Inv-loop μ-loop
-add-hand c = omega (arith, c .before .before .before .before .loop .inv .fits .1, c .before .before .before .before .loop .inv .within, div-le-self 10000000 (c .before .before .before .before .before .before .before .before .before .before .before .args .step))
+add-hand c =
+    let b = loop₂ c in
+    omega (arith, b .loop .inv .fits .1, b .loop .inv .within, div-le-self 10000000 (start₂ b .args .step))
 
 hand-requires : tie.Need-hand-requires Inv-loop μ-loop
-hand-requires c κs = omega (arith, c .before .before .before .before .before .before .loop .inv .fits .1, c .before .before .before .before .before .before .loop .inv .within, div-le-self 10000000 (c .before .before .before .before .before .before .before .before .before .before .before .before .before .args .step))
+hand-requires c κs =
+    let b = loop₂ (c .before .before) in
+    omega (arith, b .loop .inv .fits .1, b .loop .inv .within, div-le-self 10000000 (start₂ b .args .step))
 
 same-length : tie.Need-same-length Inv-loop μ-loop
-same-length c = ap length (c .before .before .before .before .hand .ensures .0) ∙ noting-length (c .before .before .before .before .before .before .before .before .before .before .before .loop .e .chains) (c .before .before .before .before .before .before .before .before .before .before .before .loop .e .chains .opened + 1) (c .before .before .before .before .before .before .before .before .before .before .before .loop .e .chains .best .size) (c .before .before .before .before .before .before .before .before .before .before .before .loop .sizes) ∙ c .before .before .before .before .before .before .before .before .before .before .before .loop .inv .sizes-long
+same-length c =
+    let b = hand c in
+    let l = loop₂ (b .before .before .before) .loop in
+    ap length (b .hand .ensures .0) ∙ noting-length (l .e .chains) (l .e .chains .opened + 1) (l .e .chains .best .size) (l .sizes) ∙ l .inv .sizes-long
 
 same-length-2 : tie.Need-same-length-2 Inv-loop μ-loop
-same-length-2 c = ap length (c .before .before .before .before .hand .ensures .1) ∙ noting-length (c .before .before .before .before .before .before .before .before .before .before .before .loop .e .chains) (c .before .before .before .before .before .before .before .before .before .before .before .loop .e .chains .opened + 1) (c .before .before .before .before .before .before .before .before .before .before .before .loop .e .chains .best .time) (c .before .before .before .before .before .before .before .before .before .before .before .loop .times) ∙ c .before .before .before .before .before .before .before .before .before .before .before .loop .inv .times-long
+same-length-2 c =
+    let b = hand c in
+    let l = loop₂ (b .before .before .before) .loop in
+    ap length (b .hand .ensures .1) ∙ noting-length (l .e .chains) (l .e .chains .opened + 1) (l .e .chains .best .time) (l .times) ∙ l .inv .times-long
 
 returns : tie.Need-returns Inv-loop μ-loop
 returns c =
-    let a = c .before .before .before .before .before .before .before .before .before .before .before .before .before .before .before .before .before .before .args in
-    let v = c .before .before .before .before .before .before .before .before .before .before .before .loop .inv in
-    let h : length (a .timed .now) ≤ c .before .before .before .before .before .before .before .before .before .before .before .loop .i + c .before .before .before .before .before .before .before .before .before .before .before .loop .run .length = omega (arith, c .before .before .before .before .before .before .before .before .before .if1 .left) in (
+    let g = hand c in
+    let e = g .hand .ensures in
+    let b = g .before .before .before .before .before in
+    let d = b .before .before in
+    let a = start₂ d .args in
+    let v = d .loop .inv in
+    let h : length (a .timed .now) ≤ d .loop .i + d .loop .run .length = omega (arith, b .if1 .left) in (
       passing-number (a .step) (a .n) (a .s) (a .decorrelation) (a .timed .now) (a .sizes .now) (a .times .now) v h,
-      c .before .before .before .before .hand .ensures .0 ∙ passing-sizes (a .step) (a .n) (a .s) (a .decorrelation) (a .timed .now) (a .sizes .now) (a .times .now) v h,
-      c .before .before .before .before .hand .ensures .1 ∙ passing-times (a .step) (a .n) (a .s) (a .decorrelation) (a .timed .now) (a .sizes .now) (a .times .now) v h,
+      e .0 ∙ passing-sizes (a .step) (a .n) (a .s) (a .decorrelation) (a .timed .now) (a .sizes .now) (a .times .now) v h,
+      e .1 ∙ passing-times (a .step) (a .n) (a .s) (a .decorrelation) (a .timed .now) (a .sizes .now) (a .times .now) v h,
     )
 
 pub pass-spec : {M : Type 1} → statement M
 pass-spec =
     tie.close
-    (tie.spec Inv-loop μ-loop fresh-requires second-run-requires mul-first-run sub-first-run part-first-run-start
-    part-first-run-end first-run-requires loop-holds add-if1 peak-requires onward-requires add-i mul-first-run-2
-    sub-first-run-2 part-first-run-start-2 part-first-run-end-2 first-run-requires-2 loop-less loop-again add-hand
-    hand-requires same-length same-length-2 returns)
+    (tie.spec Inv-loop μ-loop (λ c κs. search needs) (λ c κs. search needs) mul-first-run sub-first-run
+    part-first-run-start (λ c. search needs) (λ c κs. search needs) loop-holds add-if1 peak-requires onward-requires
+    add-i mul-first-run-2 sub-first-run-2 part-first-run-start-2 (λ c. search needs) (λ c κs. search needs) loop-less
+    loop-again add-hand hand-requires same-length same-length-2 returns)

@@ -11,10 +11,10 @@ add-t4 : tie.Need-add-t4
 add-t4 c = omega (arith, c .before .pre, div-le-self 10000000 (c .before .args .step))
 
 mul-t6 : tie.Need-mul-t6
-mul-t6 c = omega (arith, in-time (c .before .args .i + c .before .args .r .place) (c .before .args .step) (c .before .pre))
+mul-t6 c = omega (arith, in-time _ _ (c .before .pre))
 
 cast-t7 : tie.Need-cast-t7
-cast-t7 c = omega (arith, in-time (c .before .args .i + c .before .args .r .place) (c .before .args .step) (c .before .pre))
+cast-t7 c = omega (arith, in-time _ _ (c .before .pre))
 
 returns : tie.Need-returns
 returns c = ap (λ (t : ℕ). record { below = c .before .args .r .below; size = c .before .args .r .size; time = t }) (omega arith)

@@ -6,7 +6,8 @@ use Rattle.peak_envelope.proofs.place.Statement.{statement}
 use Rattle.peak_envelope.proofs.place.Tie as tie
 
 returns : tie.Need-returns
-returns c = sym (set-out (c .before .args .slice .now) (c .before .args .k) (c .before .args .v) (c .if1 .taken))
+returns c = sym (set-out _ _ _ (c .if1 .taken))
 
 pub place-spec : {M : Type 1} → statement M
-place-spec = tie.close (tie.spec returns (λ c. search needs) (λ c. search needs) (λ c. search needs) (λ c. search needs))
+place-spec = tie.close (tie.spec returns (λ c. search needs) (λ c. search needs) (λ c. search needs)
+    (λ c. search needs))

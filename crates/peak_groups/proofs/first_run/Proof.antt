@@ -14,7 +14,7 @@ use Rattle.peak_groups.proofs.first_run.Statement.{statement}
 use Rattle.peak_groups.proofs.first_run.Tie as tie
 
 returns : tie.Need-returns
-returns c = no-run (c .before .args .samples .now) (c .if1 .taken)
+returns c = no-run _ (c .if1 .taken)
 
 run-on-requires : tie.Need-run-on-requires
 run-on-requires c κs =
@@ -29,4 +29,5 @@ run-on-requires-2 c κs =
     (omega (arith, c .before .before .if1 .left), sym (c .if2 .left) ∙ ap (λ (y : ℤ). ltZ y (pos 0)) (toZ-ofZ f) ∙ side-first x)
 
 pub first-run-spec : {M : Type 1} → statement M
-first-run-spec = tie.close (tie.spec returns (λ c. search needs) run-on-requires (λ c. search needs) run-on-requires-2 (λ c. search needs))
+first-run-spec = tie.close (tie.spec returns (λ c. search needs) run-on-requires (λ c. search needs) run-on-requires-2
+    (λ c. search needs))

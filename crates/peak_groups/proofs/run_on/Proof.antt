@@ -28,11 +28,12 @@ Inv-loop below samples run₀ i₀ run i = (i ≤ length samples) × (run .lengt
 abbrev μ-loop : tie.MeasureT-loop
 μ-loop below samples run₀ i₀ run i = length samples - i
 
-shared-slice-copy-out-magnitude : tie.Need-shared-slice-copy-out-magnitude Inv-loop μ-loop
-shared-slice-copy-out-magnitude c = search needs
+-- ways back to earlier places of the function
+abbrev start : tie.After-longer Inv-loop μ-loop → tie.Start Inv-loop μ-loop
+start c = c .before .before .before .before .before .before .before .before .before
 
-magnitude-requires : tie.Need-magnitude-requires Inv-loop μ-loop
-magnitude-requires c κs = search needs
+abbrev loop : tie.After-longer Inv-loop μ-loop → tie.At-loop Inv-loop μ-loop
+loop c = c .before .before .before .before .before .before
 
 loop-holds : tie.Need-loop-holds Inv-loop μ-loop
 loop-holds c =
@@ -50,18 +51,16 @@ mul-stays c = omega arith
 shared-slice-copy-out-stays : tie.Need-shared-slice-copy-out-stays Inv-loop μ-loop
 shared-slice-copy-out-stays c = omega arith
 
-stays-requires : tie.Need-stays-requires Inv-loop μ-loop
-stays-requires c κs = search needs
-
 returns : tie.Need-returns Inv-loop μ-loop
 returns c =
-    let p = c .before .before .before .before .before .before .before .args .samples .now in
-    let i = c .before .before .before .before .loop .i in
-    let r = c .before .before .before .before .loop .run in
-    let v = c .before .before .before .before .loop .inv in
+    let d = c .before .before .before .before in let a = d .before .before .before .args in
+    let p = a .samples .now in
+    let i = d .loop .i in
+    let r = d .loop .run in
+    let v = d .loop .inv in
     let x = getD p i (pos 0) in
     let f : SFits w32 x = search needs in
-    let z = ap (λ (b : Bool). same b (side b x)) (v .2) ∙ ap (λ (y : ℤ). same (c .before .before .before .before .before .before .before .args .below) (side (c .before .before .before .before .before .before .before .args .below) y)) (sym (toZ-ofZ f)) ∙ sym (c .before .stays .ensures) ∙ not-true _ (c .if1 .taken) in
+    let z = ap (λ (b : Bool). same b (side b x)) (v .2) ∙ ap (λ (y : ℤ). same (a .below) (side (a .below) y)) (sym (toZ-ofZ f)) ∙ sym (c .before .stays .ensures) ∙ not-true _ (c .if1 .taken) in
     sym (turn (ahead r) p i (omega arith) ∙ ahead-off r x (drop (i + 1) p) z) ∙ v .3
 
 mul-longer : tie.Need-mul-longer Inv-loop μ-loop
@@ -81,28 +80,31 @@ loop-less c = omega arith
 
 loop-again : tie.Need-loop-again Inv-loop μ-loop
 loop-again c =
-    let p = c .before .before .before .before .before .before .before .before .before .args .samples .now in
-    let i = c .before .before .before .before .before .before .loop .i in
-    let r = c .before .before .before .before .before .before .loop .run in
-    let v = c .before .before .before .before .before .before .loop .inv in
+    let p = start c .args .samples .now in
+    let i = loop c .loop .i in
+    let r = loop c .loop .run in
+    let v = loop c .loop .inv in
     let x = getD p i (pos 0) in
     let f : SFits w32 x = search needs in
-    let z = ap (λ (b : Bool). same b (side b x)) (v .2) ∙ ap (λ (y : ℤ). same (c .before .before .before .before .before .before .before .before .before .args .below) (side (c .before .before .before .before .before .before .before .before .before .args .below) y)) (sym (toZ-ofZ f)) ∙ sym (c .before .before .before .stays .ensures) ∙ not-false _ (c .before .before .if1 .left) in
+    let z = ap (λ (b : Bool). same b (side b x)) (v .2) ∙ ap (λ (y : ℤ). same (start c .args .below)
+    (side (start c .args .below) y)) (sym (toZ-ofZ f)) ∙ sym (c .before .before .before .stays .ensures) ∙
+    not-false _ (c .before .before .if1 .left) in
     let q : c .longer .result ≡ longer r x = c .longer .ensures ∙ ap (longer r) (toZ-ofZ f) in
     rw q (omega arith, omega (arith, v .1), v .2, sym (turn (ahead r) p i (omega arith) ∙ ahead-on r x (drop (i + 1) p) z) ∙ v .3)
 
 returns-2 : tie.Need-returns-2 Inv-loop μ-loop
 unfolding ahead
 returns-2 c =
+    let l = c .before .loop in
     let p = c .before .before .before .before .args .samples .now in
-    let i = c .before .loop .i in
-    let r = c .before .loop .run in
+    let i = l .i in
+    let r = l .run in
     let e : ahead r (drop i p) ≡ r = ap (ahead r) (drop-of-length-le p {i = i} (omega arith)) in
-    sym e ∙ c .before .loop .inv .3
+    sym e ∙ l .inv .3
 
 pub run-on-spec : {M : Type 1} → statement M
 run-on-spec =
     tie.close
-    (tie.spec Inv-loop μ-loop shared-slice-copy-out-magnitude magnitude-requires loop-holds mul-stays
-    shared-slice-copy-out-stays stays-requires returns mul-longer shared-slice-copy-out-longer longer-requires add-i
-    loop-less loop-again returns-2)
+    (tie.spec Inv-loop μ-loop (λ c. search needs) (λ c κs. search needs) loop-holds mul-stays
+    shared-slice-copy-out-stays (λ c κs. search needs) returns mul-longer shared-slice-copy-out-longer longer-requires
+    add-i loop-less loop-again returns-2)

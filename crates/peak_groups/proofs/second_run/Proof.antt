@@ -23,12 +23,15 @@ part-first-run-start : tie.Need-part-first-run-start
 part-first-run-start c = omega (arith, within c)
 
 -- what is answered
-found : (c : tie.After-struct-known) → c .before .before .before .zeros .result + c .before .first-run .result .length ≡ second (c .before .before .before .before .args .samples .now)
+found : (c : tie.After-struct-known) →
+    let b = c .before .before .before in
+    b .zeros .result + c .before .first-run .result .length ≡ second (b .before .args .samples .now)
 found c =
-    let p = c .before .before .before .before .args .samples .now in
-    let z = c .before .before .before .zeros .ensures in
-    let f = c .before .first-run .ensures ∙ ap firstRun (from-place (c .before .before .before .zeros .result) p) in
-    ap (λ (r : Run). c .before .before .before .zeros .result + r .length) f ∙ ap (λ (k : ℕ). k + firstRun (drop k p) .length) z
+    let b = c .before .before .before in
+    let p = b .before .args .samples .now in
+    let z = b .zeros .ensures in
+    let f = c .before .first-run .ensures ∙ ap firstRun (from-place _ p) in
+    ap (λ (r : Run). b .zeros .result + r .length) f ∙ ap (λ (k : ℕ). k + firstRun (drop k p) .length) z
 
 add-result : tie.Need-add-result
 add-result c = omega (arith, found c, second-fits (c .before .before .before .before .args .samples .now))

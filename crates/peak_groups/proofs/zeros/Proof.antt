@@ -32,9 +32,6 @@ mul-magnitude c = omega arith
 shared-slice-copy-out-magnitude : tie.Need-shared-slice-copy-out-magnitude Inv-loop μ-loop
 shared-slice-copy-out-magnitude c = omega arith
 
-magnitude-requires : tie.Need-magnitude-requires Inv-loop μ-loop
-magnitude-requires c κs = search needs
-
 returns : tie.Need-returns Inv-loop μ-loop
 unfolding zeros
 returns c =
@@ -71,5 +68,5 @@ returns-2 c =
 pub zeros-spec : {M : Type 1} → statement M
 zeros-spec =
     tie.close
-    (tie.spec Inv-loop μ-loop loop-holds mul-magnitude shared-slice-copy-out-magnitude magnitude-requires returns add-i
-    loop-less loop-again returns-2)
+    (tie.spec Inv-loop μ-loop loop-holds mul-magnitude shared-slice-copy-out-magnitude (λ c κs. search needs) returns
+    add-i loop-less loop-again returns-2)

@@ -49,10 +49,11 @@ same-length c = omega arith
 
 returns : tie.Need-returns Inv-loop μ-loop
 returns c =
+    let a = c .before .before .args in
     let l = c .before .loop in
-    let p = now (c .before .before .args .peaks) in
+    let p = now (a .peaks) in
     rw (drop-of-length-le p {i = l .i} (omega arith)) at (l .inv .2)
-    ∙ sets-eq p (now (c .before .before .args .to)) 0 (omega arith)
+    ∙ sets-eq p (now (a .to)) 0 (omega arith)
     ∙ rw zero-add
 
 pub copy-spec : {M : Type 1} → statement M

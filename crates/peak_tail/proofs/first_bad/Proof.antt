@@ -28,13 +28,11 @@ mul-peak-in-range c = omega arith
 shared-slice-read-peak-in-range : tie.Need-shared-slice-read-peak-in-range Inv-loop μ-loop
 shared-slice-read-peak-in-range c = omega arith
 
-peak-in-range-requires : tie.Need-peak-in-range-requires Inv-loop μ-loop
-peak-in-range-requires c κs = search needs
-
 returns : tie.Need-returns Inv-loop μ-loop
 returns c =
-    let p = c .before .before .before .before .before .before .args .peaks .now in
-    let i = c .before .before .before .before .loop .i in
+    let b = c .before .before .before .before in
+    let p = b .before .before .args .peaks .now in
+    let i = b .loop .i in
     let z : peakInRange (getD p i 0) ≡ false = sym (c .before .peak-in-range .ensures) ∙ not-true _ (c .if1 .taken) in
     omega (arith, bad-at p i (omega arith) z)
 
@@ -46,8 +44,9 @@ loop-less c = omega arith
 
 loop-again : tie.Need-loop-again Inv-loop μ-loop
 loop-again c =
-    let p = c .before .before .before .before .before .before .args .peaks .now in
-    let i = c .before .before .before .before .loop .i in
+    let b = c .before .before .before .before in
+    let p = b .before .before .args .peaks .now in
+    let i = b .loop .i in
     let z : peakInRange (getD p i 0) ≡ true = sym (c .before .peak-in-range .ensures) ∙ not-false _ (c .if1 .left) in
     omega (arith, good-at p i (omega arith) z)
 
@@ -61,5 +60,5 @@ returns-2 c =
 pub first-bad-spec : {M : Type 1} → statement M
 first-bad-spec =
     tie.close
-    (tie.spec Inv-loop μ-loop loop-holds mul-peak-in-range shared-slice-read-peak-in-range peak-in-range-requires
+    (tie.spec Inv-loop μ-loop loop-holds mul-peak-in-range shared-slice-read-peak-in-range (λ c κs. search needs)
     returns add-i loop-less loop-again returns-2)

@@ -11,53 +11,61 @@ use Rattle.peak_tail.proofs.Order.{copied-rest, copied-start, inside, r
 use Rattle.peak_tail.proofs.fit.Statement.{statement}
 use Rattle.peak_tail.proofs.fit.Tie as tie
 
+-- ways back to earlier places of the function
+abbrev start : tie.After-tail-outside → tie.Start
+start c = c .before .before .before
+
 returns : tie.Need-returns
 returns c =
-    let a = c .before .before .before .before .args in
+    let a = start (c .before) .args in
     refuses-tail (now (a .peaks)) (a .k) (now (a .sorted)) (sym (c .before .tail-outside .ensures) ∙ c .if1 .taken)
 
 returns-2 : tie.Need-returns-2
 returns-2 c =
     let f = c .before .first-bad in
     let o = c .before .before .before in
-    let a = o .before .before .before .args in
+    let a = start o .args in
     rw (f .ensures)
     (refuses-peak (now (a .peaks)) (a .k) (now (a .sorted)) (sym (o .tail-outside .ensures) ∙ c .before .before .if1 .left) (rw (f .ensures) at (c .if2 .taken)))
 
 returns-3 : tie.Need-returns-3
 returns-3 c =
-    let f = c .before .before .first-bad in
-    let o = c .before .before .before .before in
-    let a = o .before .before .before .args in
-    refuses-room (now (a .peaks)) (a .k) (now (a .sorted)) (sym (o .tail-outside .ensures) ∙ c .before .before .before .if1 .left)
+    let b = c .before .before in
+    let f = b .first-bad in
+    let o = b .before .before in
+    let a = start o .args in
+    refuses-room (now (a .peaks)) (a .k) (now (a .sorted)) (sym (o .tail-outside .ensures) ∙ b .before .if1 .left)
     (rw (f .ensures) at (c .before .if2 .left))
     (c .if3 .taken)
 
 slice-aggregate-sum-of-largest : tie.Need-slice-aggregate-sum-of-largest
 slice-aggregate-sum-of-largest c =
-    let y = c .before .before .before .copy in
-    let a = c .before .before .before .before .before .before .before .before .before .before .before .before .args in
+    let b = c .before .before .before in
+    let y = b .copy in
+    let a = start (b .before .before .before .before .before .before) .args in
     sym (ap length (copied-start (now (a .peaks)) (now (a .sorted)) _ (y .ensures)))
 
 sum-of-largest-requires : tie.Need-sum-of-largest-requires
 sum-of-largest-requires c κs =
-    let y = c .before .before .before .copy in
-    let e = c .before .before .before .before .before .before in
+    let b = c .before .before .before in
+    let y = b .copy in
+    let e = b .before .before .before in
     let f = e .before in
     let o = f .before .before in
-    let a = o .before .before .before .args in
+    let a = start o .args in
     let (long, low, high) = inside (length (now (a .peaks))) (a .k) (sym (o .tail-outside .ensures) ∙ f .before .if1 .left) in
     rw (copied-start (now (a .peaks)) (now (a .sorted)) _ (y .ensures))
     (low, high, omega arith, none-zero (now (a .peaks)) (rw (f .first-bad .ensures) at (e .if2 .left)))
 
 returns-4 : tie.Need-returns-4
 returns-4 c =
+    let b = c .before .before .before .before .before .before in
     let s = c .before .before .sum-of-largest in
-    let y = c .before .before .before .before .before .before .copy in
-    let e = c .before .before .before .before .before .before .before .before in
+    let y = b .copy in
+    let e = b .before .before in
     let f = e .before .before in
     let o = f .before .before in
-    let a = o .before .before .before .args in
+    let a = start o .args in
     sums-up (now (a .peaks)) (a .k) (now (a .sorted)) (sym (o .tail-outside .ensures) ∙ f .before .if1 .left)
     (rw (f .first-bad .ensures) at (e .before .if2 .left))
     (e .if3 .left)

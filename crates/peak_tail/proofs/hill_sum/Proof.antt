@@ -31,9 +31,6 @@ mul-log2 c = omega arith
 shared-slice-read-log2 : tie.Need-shared-slice-read-log2 Inv-loop μ-loop
 shared-slice-read-log2 c = omega arith
 
-log2-requires : tie.Need-log2-requires Inv-loop μ-loop
-log2-requires c κs = search needs
-
 add-sum : tie.Need-add-sum Inv-loop μ-loop
 add-sum c = omega arith
 
@@ -45,8 +42,9 @@ loop-less c = omega arith
 
 loop-again : tie.Need-loop-again Inv-loop μ-loop
 loop-again c =
-    let l = c .before .before .before .loop in
-    let s = c .before .before .before .before .before .before in
+    let b = c .before .before .before in
+    let l = b .loop in
+    let s = b .before .before .before in
     goes-on _ _ _ _ (l .inv) (s .pre .0) (omega arith) (s .pre .4) _ (omega arith) (c .log2 .ensures)
 
 returns : tie.Need-returns Inv-loop μ-loop
@@ -58,4 +56,4 @@ pub hill-sum-spec : {M : Type 1} → statement M
 hill-sum-spec =
     tie.close
     (tie.spec Inv-loop μ-loop sub-last mul-least shared-slice-read-least loop-holds mul-log2 shared-slice-read-log2
-    log2-requires add-sum add-i loop-less loop-again returns)
+    (λ c κs. search needs) add-sum add-i loop-less loop-again returns)

@@ -9,8 +9,9 @@ use Rattle.peak_tail.proofs.sum_of_largest.Tie as tie
 
 hill-sum-requires : tie.Need-hill-sum-requires
 hill-sum-requires c κs =
-    let s = c .before .before .before .sort in
-    let pre = c .before .before .before .before .before .before .pre in (
+    let b = c .before .before .before in
+    let s = b .sort in
+    let pre = b .before .before .before .pre in (
       s .ensures .downwards,
       pre .0,
       omega (arith, s .kept .0),
@@ -19,4 +20,5 @@ hill-sum-requires c κs =
     )
 
 pub sum-of-largest-spec : {M : Type 1} → statement M
-sum-of-largest-spec = tie.close (tie.spec (λ c κs. search needs) hill-sum-requires (λ c. search needs) (λ c. search needs))
+sum-of-largest-spec = tie.close (tie.spec (λ c κs. search needs) hill-sum-requires (λ c. search needs)
+    (λ c. search needs))

@@ -10,10 +10,10 @@ use Rattle.poisson.proofs.upper_row.Statement.{statement}
 use Rattle.poisson.proofs.upper_row.Tie as tie
 
 returns : tie.Need-returns
-returns c = let m = upper-met (c .before .args .n) in rw (← m .before (c .if1 .taken)) m
+returns c = let m = upper-met _ in rw (← m .before (c .if1 .taken)) m
 
 returns-2 : tie.Need-returns-2
-returns-2 c = let m = upper-met (c .before .before .args .n) in rw (← m .past (c .if2 .taken)) m
+returns-2 c = let m = upper-met _ in rw (← m .past (c .if2 .taken)) m
 
 returns-3 : tie.Need-returns-3
 unfolding u upperRows

@@ -25,14 +25,8 @@ loop-holds c = (refl, omega arith)
 add-size : tie.Need-add-size Inv-loop μ-loop
 add-size c = omega arith
 
-size-requires : tie.Need-size-requires Inv-loop μ-loop
-size-requires c κs = search needs
-
 one-requires : tie.Need-one-requires Inv-loop μ-loop
 one-requires c κs = omega arith
-
-enum-known-c : tie.Need-enum-known-c Inv-loop μ-loop
-enum-known-c c = search needs
 
 mul-campaigns : tie.Need-mul-campaigns Inv-loop μ-loop
 mul-campaigns c = omega arith
@@ -40,29 +34,14 @@ mul-campaigns c = omega arith
 array-set-from-campaigns : tie.Need-array-set-from-campaigns Inv-loop μ-loop
 array-set-from-campaigns c = omega arith
 
-enum-known-line : tie.Need-enum-known-line Inv-loop μ-loop
-enum-known-line c = search needs
-
 add-refused : tie.Need-add-refused Inv-loop μ-loop
 add-refused c = omega arith
-
-refused-requires : tie.Need-refused-requires Inv-loop μ-loop
-refused-requires c κs = search needs
 
 same-length : tie.Need-same-length Inv-loop μ-loop
 same-length c = same (c .before .before .before .before .before .before)
 
-returns : tie.Need-returns Inv-loop μ-loop
-returns c = search needs
-
-enum-told : tie.Need-enum-told Inv-loop μ-loop
-enum-told c = search needs
-
 same-length-2 : tie.Need-same-length-2 Inv-loop μ-loop
 same-length-2 c = same (c .before .before .before .before)
-
-returns-2 : tie.Need-returns-2 Inv-loop μ-loop
-returns-2 c = search needs
 
 add-i : tie.Need-add-i Inv-loop μ-loop
 add-i c = omega arith
@@ -73,18 +52,13 @@ loop-less c = omega arith
 loop-again : tie.Need-loop-again Inv-loop μ-loop
 loop-again c = (same (c .before .before .before .before .before), omega arith)
 
-write-report-requires : tie.Need-write-report-requires Inv-loop μ-loop
-write-report-requires c κs = search needs
-
 same-length-3 : tie.Need-same-length-3 Inv-loop μ-loop
 same-length-3 c = c .before .before .loop .inv .0
-
-returns-3 : tie.Need-returns-3 Inv-loop μ-loop
-returns-3 c = search needs
 
 pub all-spec : {M : Type 1} → statement M
 all-spec =
     tie.close
-    (tie.spec Inv-loop μ-loop loop-holds add-size size-requires one-requires enum-known-c mul-campaigns
-    array-set-from-campaigns enum-known-line add-refused refused-requires same-length returns enum-told same-length-2
-    returns-2 add-i loop-less loop-again write-report-requires same-length-3 returns-3)
+    (tie.spec Inv-loop μ-loop loop-holds add-size (λ c κs. search needs) one-requires (λ c. search needs) mul-campaigns
+    array-set-from-campaigns (λ c. search needs) add-refused (λ c κs. search needs) same-length (λ c. search needs)
+    (λ c. search needs) same-length-2 (λ c. search needs) add-i loop-less loop-again (λ c κs. search needs)
+    same-length-3 (λ c. search needs))

@@ -22,9 +22,6 @@ loop-holds c = (refl, omega arith)
 turn-requires : tie.Need-turn-requires Inv-loop μ-loop
 turn-requires c κs = (omega arith, omega arith)
 
-enum-known-t : tie.Need-enum-known-t Inv-loop μ-loop
-enum-known-t c = search needs
-
 loop-less : tie.Need-loop-less Inv-loop μ-loop
 loop-less c = rw (c .before .t .given .1) at (c .before .before .before .before .before .turn .ensures .1)
 
@@ -33,16 +30,10 @@ loop-again c =
     let t = c .before .before .before .before .before in
     (t .turn .kept .1 .0 ∙ t .before .before .before .loop .inv .0, rw (c .before .t .given .1) at (t .turn .ensures .0))
 
-enum-known-reading : tie.Need-enum-known-reading Inv-loop μ-loop
-enum-known-reading c = search needs
-
 same-length : tie.Need-same-length Inv-loop μ-loop
 same-length c =
     let t = c .before .before .before .before .before in
     t .turn .kept .1 .0 ∙ t .before .before .before .loop .inv .0
-
-returns : tie.Need-returns Inv-loop μ-loop
-returns c = search needs
 
 slice-reshare-prefix-read : tie.Need-slice-reshare-prefix-read Inv-loop μ-loop
 slice-reshare-prefix-read c = omega arith
@@ -50,17 +41,12 @@ slice-reshare-prefix-read c = omega arith
 slice-aggregate-read : tie.Need-slice-aggregate-read Inv-loop μ-loop
 slice-aggregate-read c = sym (length-take-le _ _ (omega arith))
 
-read-requires : tie.Need-read-requires Inv-loop μ-loop
-read-requires c κs = search needs
-
 same-length-2 : tie.Need-same-length-2 Inv-loop μ-loop
 same-length-2 c = c .before .before .before .loop .inv .0
-
-returns-2 : tie.Need-returns-2 Inv-loop μ-loop
-returns-2 c = search needs
 
 pub one-spec : {M : Type 1} → statement M
 one-spec =
     tie.close
-    (tie.spec Inv-loop μ-loop loop-holds turn-requires enum-known-t loop-less loop-again enum-known-reading same-length
-    returns slice-reshare-prefix-read slice-aggregate-read read-requires same-length-2 returns-2)
+    (tie.spec Inv-loop μ-loop loop-holds turn-requires (λ c. search needs) loop-less loop-again (λ c. search needs)
+    same-length (λ c. search needs) slice-reshare-prefix-read slice-aggregate-read (λ c κs. search needs) same-length-2
+    (λ c. search needs))

@@ -20,35 +20,19 @@ loop-holds c = (refl, omega arith)
 turn-requires : tie.Need-turn-requires Inv-loop μ-loop
 turn-requires c κs = omega arith
 
-enum-known-after : tie.Need-enum-known-after Inv-loop μ-loop
-enum-known-after c = search needs
-
 same-length : tie.Need-same-length Inv-loop μ-loop
-same-length c = c .before .before .before .turn .kept .1 .0 ∙ c .before .before .before .before .before .before .loop .inv .0
-
-returns : tie.Need-returns Inv-loop μ-loop
-returns c = search needs
-
-show-progress-requires : tie.Need-show-progress-requires Inv-loop μ-loop
-show-progress-requires c κs = search needs
-
-sub-turns : tie.Need-sub-turns Inv-loop μ-loop
-sub-turns c = search needs
-
-loop-less : tie.Need-loop-less Inv-loop μ-loop
-loop-less c = search needs
+same-length c = let b = c .before .before .before in b .turn .kept .1 .0 ∙ b .before .before .before .loop .inv .0
 
 loop-again : tie.Need-loop-again Inv-loop μ-loop
-loop-again c = (c .before .before .before .before .before .before .turn .kept .1 .0 ∙ c .before .before .before .before .before .before .before .before .before .loop .inv .0, rw (c .before .before .after .given .1) at (c .before .before .before .before .before .before .turn .ensures))
+loop-again c =
+    let b = c .before .before .before .before .before .before in
+    (b .turn .kept .1 .0 ∙ b .before .before .before .loop .inv .0, rw (c .before .before .after .given .1) at (b .turn .ensures))
 
 same-length-2 : tie.Need-same-length-2 Inv-loop μ-loop
 same-length-2 c = c .before .loop .inv .0
 
-returns-2 : tie.Need-returns-2 Inv-loop μ-loop
-returns-2 c = search needs
-
 pub serve-spec : {M : Type 1} → statement M
 serve-spec =
     tie.close
-    (tie.spec Inv-loop μ-loop loop-holds turn-requires enum-known-after same-length returns show-progress-requires sub-turns
-    loop-less loop-again same-length-2 returns-2)
+    (tie.spec Inv-loop μ-loop loop-holds turn-requires (λ c. search needs) same-length (λ c. search needs)
+    (λ c κs. search needs) (λ c. search needs) (λ c. search needs) loop-again same-length-2 (λ c. search needs))

@@ -10,4 +10,5 @@ slice-aggregate-seen-in : tie.Need-slice-aggregate-seen-in
 slice-aggregate-seen-in c = sym (length-take-le _ _ (omega arith))
 
 pub look-spec : {M : Type 1} → statement M
-look-spec = tie.close (tie.spec (λ c κs. search needs) slice-aggregate-seen-in (λ c κs. search needs) (λ c. search needs))
+look-spec = tie.close (tie.spec (λ c κs. search needs) slice-aggregate-seen-in (λ c κs. search needs)
+    (λ c. search needs))

@@ -14,12 +14,6 @@ abbrev μ-loop : tie.MeasureT-loop
 loop-holds : tie.Need-loop-holds Inv-loop μ-loop
 loop-holds c = tt
 
-returns : tie.Need-returns Inv-loop μ-loop
-returns c = search needs
-
-returns-2 : tie.Need-returns-2 Inv-loop μ-loop
-returns-2 c = search needs
-
 mul-write-peak : tie.Need-mul-write-peak Inv-loop μ-loop
 mul-write-peak c = omega arith
 
@@ -32,12 +26,6 @@ mul-write-peak-2 c = omega arith
 shared-slice-read-write-peak-2 : tie.Need-shared-slice-read-write-peak-2 Inv-loop μ-loop
 shared-slice-read-write-peak-2 c = omega arith
 
-write-peak-requires : tie.Need-write-peak-requires Inv-loop μ-loop
-write-peak-requires c κs = search needs
-
-returns-3 : tie.Need-returns-3 Inv-loop μ-loop
-returns-3 c = search needs
-
 add-i : tie.Need-add-i Inv-loop μ-loop
 add-i c = omega arith
 
@@ -47,11 +35,9 @@ loop-less c = omega arith
 loop-again : tie.Need-loop-again Inv-loop μ-loop
 loop-again c = tt
 
-returns-4 : tie.Need-returns-4 Inv-loop μ-loop
-returns-4 c = search needs
-
 pub tell-spec : {M : Type 1} → statement M
 tell-spec =
     tie.close
-    (tie.spec Inv-loop μ-loop loop-holds returns returns-2 mul-write-peak shared-slice-read-write-peak mul-write-peak-2
-    shared-slice-read-write-peak-2 write-peak-requires returns-3 add-i loop-less loop-again returns-4)
+    (tie.spec Inv-loop μ-loop loop-holds (λ c. search needs) (λ c. search needs) mul-write-peak
+    shared-slice-read-write-peak mul-write-peak-2 shared-slice-read-write-peak-2 (λ c κs. search needs)
+    (λ c. search needs) add-i loop-less loop-again (λ c. search needs))

@@ -15,35 +15,30 @@ Inv-loop text₀ out₀ sheet₀ kept₀ turns₀ text out sheet kept turns = (l
 abbrev μ-loop : tie.MeasureT-loop
 μ-loop text₀ out₀ sheet₀ kept₀ turns₀ text out sheet kept turns = turns
 
+-- ways back to earlier places of the function
+abbrev loop : tie.After-turn Inv-loop μ-loop → tie.At-loop Inv-loop μ-loop
+loop c = c .before .before .before .before
+
+abbrev turn : tie.After-slice-known4 Inv-loop μ-loop → tie.After-turn Inv-loop μ-loop
+turn c = c .before .before .before .before
+
 loop-holds : tie.Need-loop-holds Inv-loop μ-loop
 loop-holds c = (refl, refl, omega arith)
 
 turn-requires : tie.Need-turn-requires Inv-loop μ-loop
 turn-requires c κs = omega arith
 
-enum-known-t : tie.Need-enum-known-t Inv-loop μ-loop
-enum-known-t c = search needs
-
-enum-known-end : tie.Need-enum-known-end Inv-loop μ-loop
-enum-known-end c = search needs
-
 same-length : tie.Need-same-length Inv-loop μ-loop
-same-length c = c .before .before .before .before .before .before .before .turn .kept .1 .0 ∙ c .before .before .before .before .before .before .before .before .before .before .before .loop .inv .0
+same-length c = let b = turn (c .before .before .before) in b .turn .kept .1 .0 ∙ loop b .loop .inv .0
 
 same-length-2 : tie.Need-same-length-2 Inv-loop μ-loop
-same-length-2 c = c .before .before .before .before .before .before .before .turn .kept .1 .1 .1 .0 ∙ c .before .before .before .before .before .before .before .before .before .before .before .loop .inv .1
-
-returns : tie.Need-returns Inv-loop μ-loop
-returns c = search needs
-
-sub-turns : tie.Need-sub-turns Inv-loop μ-loop
-sub-turns c = search needs
-
-loop-less : tie.Need-loop-less Inv-loop μ-loop
-loop-less c = search needs
+same-length-2 c = let b = turn (c .before .before .before) in b .turn .kept .1 .1 .1 .0 ∙ loop b .loop .inv .1
 
 loop-again : tie.Need-loop-again Inv-loop μ-loop
-loop-again c = (c .before .before .before .before .before .before .before .turn .kept .1 .0 ∙ c .before .before .before .before .before .before .before .before .before .before .before .loop .inv .0, c .before .before .before .before .before .before .before .turn .kept .1 .1 .1 .0 ∙ c .before .before .before .before .before .before .before .before .before .before .before .loop .inv .1, rw (c .before .t .given .1) at (c .before .before .before .before .before .before .before .turn .ensures))
+loop-again c =
+    let b = turn (c .before .before .before) in
+    let i = loop b .loop .inv in
+    (b .turn .kept .1 .0 ∙ i .0, b .turn .kept .1 .1 .1 .0 ∙ i .1, rw (c .before .t .given .1) at (b .turn .ensures))
 
 same-length-3 : tie.Need-same-length-3 Inv-loop μ-loop
 same-length-3 c = c .before .loop .inv .0
@@ -51,11 +46,9 @@ same-length-3 c = c .before .loop .inv .0
 same-length-4 : tie.Need-same-length-4 Inv-loop μ-loop
 same-length-4 c = c .before .loop .inv .1
 
-returns-2 : tie.Need-returns-2 Inv-loop μ-loop
-returns-2 c = search needs
-
 pub serve-spec : {M : Type 1} → statement M
 serve-spec =
     tie.close
-    (tie.spec Inv-loop μ-loop loop-holds turn-requires enum-known-t enum-known-end same-length same-length-2 returns
-    sub-turns loop-less loop-again same-length-3 same-length-4 returns-2)
+    (tie.spec Inv-loop μ-loop loop-holds turn-requires (λ c. search needs) (λ c. search needs) same-length same-length-2
+    (λ c. search needs) (λ c. search needs) (λ c. search needs) loop-again same-length-3 same-length-4
+    (λ c. search needs))

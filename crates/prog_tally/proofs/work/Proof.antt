@@ -13,16 +13,23 @@ use Rattle.prog_tally.proofs.work.Tie as tie
 
 -- the bytes written stand in `out`
 put-fits : (c : tie.After-known-told) → c .before .reading .given .0 .1 .0 ≤ length (c .before .before .before .before .before .run .last .1 .1 .1 .0)
-put-fits c = omega (arith, rw (c .before .reading .given .1) at (c .before .before .before .before .before .run .ensures .1 .1 .0), c .before .before .before .before .before .run .kept .1 .1 .1 .0)
+put-fits c =
+    let r = c .before .before .before .before .before .run in
+    omega (arith, rw (c .before .reading .given .1) at (r .ensures .1 .1 .0), r .kept .1 .1 .1 .0)
 
 -- the bytes left are some of those read, and less than a line
-left-few : (c : tie.After-known-told2) → (c .before .reading2 .given .0 .1 .0 ≤ c .before .before .before .before .before .before .before .before .before .before .before .before .before .before .before .before .args .end) × (c .before .reading2 .given .0 .1 .0 < longestSheetLine)
+left-few : (c : tie.After-known-told2) →
+    let b = c .before .before .before .before .before .before .before .before in
+    let e = b .before .before .before .before .before .before .before .before .args .end in
+    (c .before .reading2 .given .0 .1 .0 ≤ e) × (c .before .reading2 .given .0 .1 .0 < longestSheetLine)
 left-few c =
-    let few = rw (c .before .before .before .before .before .before .before .reading .given .1, c .before .reading2 .given .1) at (c .before .before .before .before .before .before .before .before .before .before .before .run .ensures .1 .1 .1) in
-    (omega (arith, few .0, length-take-le (c .before .before .before .before .before .before .before .before .before .before .before .before .before .before .before .before .args .end) (now (c .before .before .before .before .before .before .before .before .before .before .before .before .before .before .before .before .args .text)) (c .before .before .before .before .before .before .before .before .before .before .before .before .before .before .before .before .pre)), few .1)
+    let b = c .before .before .before .before .before .before .before .before .before .before .before in
+    let d = b .before .before .before .before .before in
+    let few = rw (c .before .before .before .before .before .before .before .reading .given .1, c .before .reading2 .given .1) at (b .run .ensures .1 .1 .1) in
+    (omega (arith, few .0, length-take-le (d .args .end) (now (d .args .text)) (d .pre)), few .1)
 
 slice-aggregate-run : tie.Need-slice-aggregate-run
-slice-aggregate-run c = sym (length-take-le (c .before .before .before .args .end) (now (c .before .before .before .args .text)) (c .before .before .before .pre))
+slice-aggregate-run c = sym (length-take-le _ _ (c .before .before .before .pre))
 
 slice-reshare-prefix-write-all : tie.Need-slice-reshare-prefix-write-all
 slice-reshare-prefix-write-all c = put-fits c

@@ -10,23 +10,31 @@ use borrow.Author.Needs.{needs}
 use Rattle.record_end.proofs.end.Statement.{statement}
 use Rattle.record_end.proofs.end.Tie as tie
 
+-- ways back to earlier places of the function
+abbrev else1 : tie.Else2 → tie.Else1
+else1 c = c .before .before .before
+
 returns : tie.Need-returns
 unfolding ending
 returns c = rw (said-no (c .before .sound .ensures) (c .if1 .taken))
 
 add-if2 : tie.Need-add-if2
-add-if2 c = omega (arith, items-of (kept-from (c .before .before .before .args .r) (said-yes (c .before .before .sound .ensures) (c .before .if1 .left))) .ramp)
+add-if2 c = omega (arith, items-of (kept-from _ (said-yes (c .before .before .sound .ensures) (c .before .if1 .left))) .ramp)
 
 returns-2 : tie.Need-returns-2
 unfolding ending
-returns-2 c = rw (said-yes (c .before .before .before .before .sound .ensures) (c .before .before .before .if1 .left), lt-ltb _ _ (c .if2 .taken))
+returns-2 c =
+    let b = c .before .before .before in
+    rw (said-yes (b .before .sound .ensures) (b .if1 .left), lt-ltb _ _ (c .if2 .taken))
 
 exposure-of-requires : tie.Need-exposure-of-requires
-exposure-of-requires c κs = (said-yes (c .before .before .before .before .sound .ensures) (c .before .before .before .if1 .left), c .if2 .left)
+exposure-of-requires c κs = let b = else1 c in (said-yes (b .before .sound .ensures) (b .if1 .left), c .if2 .left)
 
 returns-3 : tie.Need-returns-3
 unfolding ending
-returns-3 c = rw (said-yes (c .before .before .before .before .before .sound .ensures) (c .before .before .before .before .if1 .left), le-ltb _ _ (c .before .if2 .left), c .exposure-of .ensures)
+returns-3 c =
+    let b = else1 (c .before) in
+    rw (said-yes (b .before .sound .ensures) (b .if1 .left), le-ltb _ _ (c .before .if2 .left), c .exposure-of .ensures)
 
 pub end-spec : {M : Type 1} → statement M
 end-spec = tie.close (tie.spec (λ c κs. search needs) returns add-if2 returns-2 exposure-of-requires returns-3)

@@ -42,11 +42,15 @@ Inv-loop ups roll acceleration gap s₀ low₀ i₀ s low i =
 abbrev μ-loop : tie.MeasureT-loop
 μ-loop ups roll acceleration gap s₀ low₀ i₀ s low i = length roll - i
 
+-- ways back to earlier places of the function
+abbrev start : tie.At-loop Inv-loop μ-loop → tie.Start Inv-loop μ-loop
+start c = c .before .before .before .before
+
+abbrev loop : tie.After-shared-slice-known2 Inv-loop μ-loop → tie.At-loop Inv-loop μ-loop
+loop c = c .before .before .before
+
 gap-of-requires : tie.Need-gap-of-requires Inv-loop μ-loop
 gap-of-requires c κs = c .before .pre .0 .state
-
-below-requires : tie.Need-below-requires Inv-loop μ-loop
-below-requires c κs = search needs
 
 loop-holds : tie.Need-loop-holds Inv-loop μ-loop
 loop-holds c =
@@ -54,33 +58,39 @@ loop-holds c =
     let p = a .pre .0 in
     (p .state, omega arith, p .good, omega (arith, p .room), c .below .ensures, a .pre .1, c .before .gap-of .ensures, refl, refl)
 
-moment-at-requires : tie.Need-moment-at-requires Inv-loop μ-loop
-moment-at-requires c κs = search needs
-
 shared-slice-read-up : tie.Need-shared-slice-read-up Inv-loop μ-loop
 shared-slice-read-up c =
-    let a = c .before .before .before .before .before .before .before in
+    let a = start (loop c) in
     omega (arith, ap length (a .pre .2) ∙ marks-many (a .args .r .items .levels) (a .args .roll .now) (a .args .acceleration .now) (a .pre .0 .equal))
 
 -- what was noted of the sample
-noted : (c : tie.After-shared-slice-known2 Inv-loop μ-loop) → getD (c .before .before .before .before .before .before .before .args .ups .now) (c .before .before .before .loop .i) false ≡ above (c .before .before .before .loop .s .items .levels) (c .before .moment-at .result)
+noted : (c : tie.After-shared-slice-known2 Inv-loop μ-loop) →
+    let b = loop c in
+    getD (start b .args .ups .now) (b .loop .i) false ≡ above (b .loop .s .items .levels) (c .before .moment-at .result)
 noted c =
-    let a = c .before .before .before .before .before .before .before in
+    let b = loop c in
+    let a = start b in
     let xs = a .args .roll .now in
     let ys = a .args .acceleration .now in
-    let l = c .before .before .before .loop in
-    ap (λ (us : List Bool). getD us (l .i) false) (a .pre .2) ∙ marks-at (a .args .r .items .levels) xs ys (l .i) ∙ ap (λ (v : Levels). above v (sampleAt (moments xs ys) (l .i))) (sym (l .inv .7)) ∙ ap (above (l .s .items .levels)) (sym (c .before .moment-at .ensures))
-
-both-requires : tie.Need-both-requires Inv-loop μ-loop
-both-requires c κs = search needs
+    let l = b .loop in
+    ap (λ (us : List Bool). getD us (l .i) false) (a .pre .2) ∙ marks-at (a .args .r .items .levels) xs ys (l .i) ∙
+    ap (λ (v : Levels). above v (sampleAt (moments xs ys) (l .i))) (sym (l .inv .7)) ∙
+    ap (above (l .s .items .levels)) (sym (c .before .moment-at .ensures))
 
 step-requires : tie.Need-step-requires Inv-loop μ-loop
 step-requires c κs =
-    let s = c .before .before .before .before .loop .s in
-    let v = c .before .before .before .before .loop .inv in
+    let l = loop (c .before) .loop in
+    let s = l .s in
+    let v = l .inv in
     let x = c .before .before .moment-at .result in
-    let low = c .before .before .before .before .loop .low in
-    (v .0, omega (arith, v .3), c .both .ensures ∙ ap (λ (y : Bool). low && y) (noted (c .before)) ∙ ap (λ (y : Bool). y && above (s .items .levels) x) (v .4) ∙ and-assoc (ltb (s .items .ramp) (s .n)) (not (above (s .items .levels) (s .last))) (above (s .items .levels) x), v .6)
+    let low = l .low in (
+      v .0,
+      omega (arith, v .3),
+      c .both .ensures ∙ ap (λ (y : Bool). low && y) (noted (c .before)) ∙
+          ap (λ (y : Bool). y && above (s .items .levels) x) (v .4) ∙ and-assoc (ltb (s .items .ramp) (s .n))
+          (not (above (s .items .levels) (s .last))) (above (s .items .levels) x),
+      v .6,
+    )
 
 add-i : tie.Need-add-i Inv-loop μ-loop
 add-i c = omega arith
@@ -91,8 +101,8 @@ loop-less c = omega arith
 loop-again : tie.Need-loop-again Inv-loop μ-loop
 unfolding AllInRange
 loop-again c =
-    let b = c .before .before .before .before .before in
-    let a = b .before .before .before .before in
+    let b = loop (c .before .before) in
+    let a = start b in
     let p = moments (a .args .roll .now) (a .args .acceleration .now) in
     let k : length p ≡ length (a .args .roll .now) = moments-length (a .args .roll .now) (a .args .acceleration .now) (a .pre .0 .equal) in
     let i = b .loop .i in
@@ -105,18 +115,33 @@ loop-again c =
     let g : AllInRange (x ∷ drop (i + 1) p) = rw (← turn AllInRange p i (omega arith)) (v .2) in
     let after = stepped-timed s x (v .5) in
     let l = ap not u ∙ sym (stepped-low s x after) in
-    rw (l, e) (stepped-sound s x (v .0) (g .0) (omega (arith, v .3)), omega arith, g .1, omega (arith, v .3, stepped-n s x, stepped-most s x), refl, after, gap-stays s x (v .6), stepped-levels s x ∙ v .7, sym (turn (foldl stepped s) p i (omega arith)) ∙ v .8)
+    rw (l, e) (
+      stepped-sound s x (v .0) (g .0) (omega (arith, v .3)),
+      omega arith,
+      g .1,
+      omega (
+        arith,
+        v .3,
+        stepped-n s x,
+        stepped-most s x,
+      ),
+      refl,
+      after,
+      gap-stays s x (v .6),
+      stepped-levels s x ∙ v .7,
+      sym (turn (foldl stepped s) p i (omega arith)) ∙ v .8,
+    )
 
 returns : tie.Need-returns Inv-loop μ-loop
 returns c =
-    let a = c .before .before .before .before .before in
+    let a = start (c .before) in
     let p = moments (a .args .roll .now) (a .args .acceleration .now) in
     let k : length p ≡ length (a .args .roll .now) = moments-length (a .args .roll .now) (a .args .acceleration .now) (a .pre .0 .equal) in
     let e : drop (c .before .loop .i) p ≡ [] = drop-of-length-le p {i = c .before .loop .i} (omega arith) in
-    sym (ap (foldl stepped (c .before .loop .s)) e) ∙ c .before .loop .inv .8
+    sym (ap (foldl stepped _) e) ∙ c .before .loop .inv .8
 
 pub along-spec : {M : Type 1} → statement M
 along-spec =
     tie.close
-    (tie.spec Inv-loop μ-loop gap-of-requires below-requires loop-holds moment-at-requires shared-slice-read-up
-    both-requires step-requires add-i loop-less loop-again returns)
+    (tie.spec Inv-loop μ-loop gap-of-requires (λ c κs. search needs) loop-holds (λ c κs. search needs)
+    shared-slice-read-up (λ c κs. search needs) step-requires add-i loop-less loop-again returns)

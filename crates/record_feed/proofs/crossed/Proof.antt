@@ -11,10 +11,12 @@ far-requires c κs =
     (c .pre .2, e .within, e .timed)
 
 counted-requires : tie.Need-counted-requires
-counted-requires c κs = (c .before .before .pre .0, c .before .before .pre .1, sym (c .before .far .ensures) ∙ c .if1 .taken, c .before .before .pre .2)
+counted-requires c κs =
+    let p = c .before .before .pre in
+    (p .0, p .1, sym (c .before .far .ensures) ∙ c .if1 .taken, p .2)
 
 joining-requires : tie.Need-joining-requires
-joining-requires c κs = (c .before .before .pre .0, c .before .before .pre .1, sym (c .before .far .ensures) ∙ c .if1 .left)
+joining-requires c κs = let p = c .before .before .pre in (p .0, p .1, sym (c .before .far .ensures) ∙ c .if1 .left)
 
 returns : tie.Need-returns
 returns c = c .counted .ensures

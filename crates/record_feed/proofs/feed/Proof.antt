@@ -21,25 +21,30 @@ held : (c : tie.Else1) → sound (c .before .before .args .r) ≡ true
 held c = sym (c .before .sound .ensures) ∙ not-false _ (c .if1 .left)
 
 facts : (c : tie.Else1) → Kept (c .before .before .args .r)
-facts c = kept-from (c .before .before .args .r) (held c)
+facts c = kept-from _ (held c)
 
 returns-2 : tie.Need-returns-2
 returns-2 c = sym (fed-unequal _ _ _ (held (c .before)) (c .if2 .taken))
 
 -- the room for samples
-most : (c : tie.After-most-samples) → c .most-samples .result ≡ mostSamples (c .before .before .before .before .args .r .items .step) (c .before .before .before .before .args .r .items .ramp)
+most : (c : tie.After-most-samples) →
+    let i = c .before .before .before .before .args .r .items in
+    c .most-samples .result ≡ mostSamples (i .step) (i .ramp)
 most c = c .most-samples .ensures ∙ most-of (facts (c .before .before))
 
 sub-room : tie.Need-sub-room
 sub-room c = omega (arith, most (c .before), facts (c .before .before .before) .length)
 
 pass-requires : tie.Need-pass-requires
-pass-requires c κs = (held (c .before .before .before .before), c .before .before .before .if2 .left, omega (arith, most (c .before .before), facts (c .before .before .before .before) .length))
+pass-requires c κs =
+    let b = c .before .before .before in
+    (held (b .before), b .if2 .left, omega (arith, most (c .before .before), facts (b .before) .length))
 
 returns-4 : tie.Need-returns-4
 returns-4 c =
-    let k = facts (c .before .before .before .before .before) in
-    c .fault .ensures ∙ sym (fed-full _ _ _ (held (c .before .before .before .before .before)) (c .before .before .before .before .if2 .left) (omega (arith, most (c .before .before .before), k .length)))
+    let b = c .before .before .before in
+    let k = facts (b .before .before) in
+    c .fault .ensures ∙ sym (fed-full _ _ _ (held (b .before .before)) (b .before .if2 .left) (omega (arith, most b, k .length)))
 
 pub feed-spec : {M : Type 1} → statement M
 feed-spec =

@@ -7,13 +7,13 @@ use Rattle.record_feed.proofs.gap_of.Statement.{statement}
 use Rattle.record_feed.proofs.gap_of.Tie as tie
 
 sub-result : tie.Need-sub-result
-sub-result c = items-of (kept-from (c .before .args .r) (c .before .pre)) .step-low
+sub-result c = items-of (kept-from _ (c .before .pre)) .step-low
 
 add-result : tie.Need-add-result
-add-result c = let k = items-of (kept-from (c .before .before .args .r) (c .before .before .pre)) in omega (arith, k .step-high, k .decorrelation)
+add-result c = let k = items-of (kept-from _ (c .before .before .pre)) in omega (arith, k .step-high, k .decorrelation)
 
 div-result : tie.Need-div-result
-div-result c = omega (arith, items-of (kept-from (c .before .before .before .args .r) (c .before .before .before .pre)) .step-low)
+div-result c = omega (arith, items-of (kept-from _ (c .before .before .before .pre)) .step-low)
 
 returns : tie.Need-returns
 returns c =

@@ -11,7 +11,9 @@ add-t4 : tie.Need-add-t4
 add-t4 c = let k = kept-from (c .before .before .args .r) (c .before .before .pre .0) in omega (arith, k .length, small k)
 
 add-t5 : tie.Need-add-t5
-add-t5 c = let k = kept-from (c .before .before .before .args .r) (c .before .before .before .pre .0) in omega (arith, k .length, small k, crossings-below k)
+add-t5 c =
+    let b = c .before .before .before in
+    let k = kept-from (b .args .r) (b .pre .0) in omega (arith, k .length, small k, crossings-below k)
 
 returns : tie.Need-returns
 returns c =

@@ -12,11 +12,17 @@ use Rattle.sample_channels.proofs.Marks.{marks-front, marks-many}
 use Rattle.record_feed.proofs.run.Statement.{statement}
 use Rattle.record_feed.proofs.run.Tie as tie
 
+-- ways back to earlier places of the function
+abbrev start : tie.After-ups3 → tie.Start
+start c = c .before .before .before .before
+
 -- all of the acceleration is handed on
 all : (c : tie.Start) → take (length (c .args .roll .now)) (c .args .acceleration .now) ≡ c .args .acceleration .now
 all c = take-all (length (c .args .roll .now)) (c .args .acceleration .now) (omega (arith, c .pre .0 .equal))
 
-noted : (c : tie.After-mark) → take (length (c .before .before .args .roll .now)) (c .mark .last .1 .1 .1 .0) ≡ map (above (c .before .before .args .r .items .levels)) (moments (c .before .before .args .roll .now) (c .before .before .args .acceleration .now))
+noted : (c : tie.After-mark) →
+    let a = c .before .before .args in
+    take (length (a .roll .now)) (c .mark .last .1 .1 .1 .0) ≡ map (above (a .r .items .levels)) (moments (a .roll .now) (a .acceleration .now))
 noted c =
     let a = c .before .before in
     let g = a .args in
@@ -24,18 +30,20 @@ noted c =
 
 slice-aggregate-along : tie.Need-slice-aggregate-along
 slice-aggregate-along c =
-    let a = c .before .before .before .before in
+    let a = start c in
     let g = a .args in
     sym (ap length (noted (c .before .before)) ∙ marks-many (g .r .items .levels) (g .roll .now) (g .acceleration .now) (a .pre .0 .equal))
 
 slice-aggregate-along-2 : tie.Need-slice-aggregate-along-2
-slice-aggregate-along-2 c = rw (all (c .before .before .before .before .before)) (c .before .before .before .before .before .pre .0 .equal)
+slice-aggregate-along-2 c = let b = start (c .before) in rw (all b) (b .pre .0 .equal)
 
 along-requires : tie.Need-along-requires
-along-requires c κs = let a = c .before .before .before .before .before in rw (all a) (a .pre .0, a .pre .1, noted (c .before .before .before))
+along-requires c κs =
+    let b = c .before .before .before in
+    let a = b .before .before in rw (all a) (a .pre .0, a .pre .1, noted b)
 
 returns : tie.Need-returns
-returns c = rw (all (c .before .before .before .before .before .before)) at (c .along .ensures)
+returns c = rw (all (start (c .before .before))) at (c .along .ensures)
 
 pub run-spec : {M : Type 1} → statement M
 run-spec =

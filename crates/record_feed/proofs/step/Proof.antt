@@ -9,7 +9,9 @@ use Rattle.record_feed.proofs.step.Statement.{statement}
 use Rattle.record_feed.proofs.step.Tie as tie
 
 crossed-requires : tie.Need-crossed-requires
-crossed-requires c κs = (c .before .pre .0, crosses-after (c .before .args .r) (c .before .args .x) (sym (c .before .pre .2) ∙ c .if1 .taken), c .before .pre .3)
+crossed-requires c κs =
+    let p = c .before .pre in
+    (p .0, crosses-after (c .before .args .r) (c .before .args .x) (sym (p .2) ∙ c .if1 .taken), p .3)
 
 moved-requires : tie.Need-moved-requires
 moved-requires c κs = let k = kept-from (c .before .args .r) (c .before .pre .0) in omega (arith, small k)

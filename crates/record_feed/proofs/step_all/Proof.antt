@@ -24,27 +24,29 @@ moved-requires c κs = let a = c .before .before .before in omega (arith, a .pre
 
 returns-2 : tie.Need-returns-2
 returns-2 c =
-    let a = c .before .before .before .before .before in
+    let b = c .before .before .before .before in
+    let a = b .before in
     let r = a .args .r in
     let xs = a .args .roll .now in
     let ys = a .args .acceleration .now in
     let p = moments xs ys in
     let k : length p ≡ length xs = moments-length xs ys (a .pre .0 .equal) in
-    let j = c .before .before .before .before .leading .result in
-    let l = c .before .before .before .before .leading .ensures in
+    let j = b .leading .result in
+    let l = b .leading .ensures in
     c .before .moved .ensures ∙ ap (moved r j) (c .before .before .moment-at .ensures) ∙ sym (led r p j (omega arith) (omega arith) (omega arith)) ∙ ap (foldl stepped r) (take-all j p (omega arith))
 
 run-requires-2 : tie.Need-run-requires-2
 run-requires-2 c κs =
-    let a = c .before .before .before .before .before .before .before in
+    let d = c .before .before .before in let b = d .before .before .before in
+    let a = b .before in
     let r = a .args .r in
     let xs = a .args .roll .now in
     let ys = a .args .acceleration .now in
     let p = moments xs ys in
     let k : length p ≡ length xs = moments-length xs ys (a .pre .0 .equal) in
-    let j = c .before .before .before .before .before .before .leading .result in
-    let l = c .before .before .before .before .before .before .leading .ensures in
-    let s = c .before .before .before .moved .ensures ∙ ap (moved r j) (c .before .before .before .before .moment-at .ensures) in
+    let j = b .leading .result in
+    let l = b .leading .ensures in
+    let s = d .moved .ensures ∙ ap (moved r j) (d .before .moment-at .ensures) in
     let e = take-all (length xs - j) (drop j xs) (omega (arith, length-drop j xs)) in
     let f = take-all (length ys - j) (drop j ys) (omega (arith, length-drop j ys)) in
     let i : r .n + j ≤ r .items .ramp + 1 = omega arith in
@@ -61,15 +63,16 @@ run-requires-2 c κs =
 
 returns-3 : tie.Need-returns-3
 returns-3 c =
-    let a = c .before .before .before .before .before .before .before .before in
+    let b = c .before .before .before .before in let d = b .before .before .before in
+    let a = d .before in
     let r = a .args .r in
     let xs = a .args .roll .now in
     let ys = a .args .acceleration .now in
     let p = moments xs ys in
     let k : length p ≡ length xs = moments-length xs ys (a .pre .0 .equal) in
-    let j = c .before .before .before .before .before .before .before .leading .result in
-    let l = c .before .before .before .before .before .before .before .leading .ensures in
-    let s = c .before .before .before .before .moved .ensures ∙ ap (moved r j) (c .before .before .before .before .before .moment-at .ensures) in
+    let j = d .leading .result in
+    let l = d .leading .ensures in
+    let s = b .moved .ensures ∙ ap (moved r j) (b .before .moment-at .ensures) in
     let e = take-all (length xs - j) (drop j xs) (omega (arith, length-drop j xs)) in
     let f = take-all (length ys - j) (drop j ys) (omega (arith, length-drop j ys)) in
     c .run2 .ensures ∙ rw (s, e, f, moments-drop j xs ys) (led-on r p j (omega arith) (omega arith) (omega arith))

@@ -21,4 +21,5 @@ returns-2 c =
     ap (λ (w : Walk). noting w (g .times .now)) (c .passed .ensures) ∙ sym (rw n at q)
 
 pub advance-spec : {M : Type 1} → statement M
-advance-spec = tie.close (tie.spec (λ c κs. search needs) (λ c. search needs) (λ c. search needs) (λ c κs. search needs) returns-2)
+advance-spec = tie.close (tie.spec (λ c κs. search needs) (λ c. search needs) (λ c. search needs) (λ c κs. search needs)
+    returns-2)

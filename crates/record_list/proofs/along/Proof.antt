@@ -42,14 +42,15 @@ loop-less c = omega arith
 
 loop-again : tie.Need-loop-again Inv-loop μ-loop
 loop-again c =
-    let g = c .before .before .before .before .before .before .before .before .before .args in
+    let b = c .before .before .before .before .before .before in
+    let g = b .before .before .before .args in
     let f = marked (g .step) (g .decorrelation) in
-    let i = c .before .before .before .before .before .before .loop .i in
-    let v = c .before .before .before .before .before .before .loop .v in
-    let ts = c .before .before .before .before .before .before .loop .times in
-    let inv = c .before .before .before .before .before .before .loop .inv in
+    let i = b .loop .i in
+    let v = b .loop .v in
+    let ts = b .loop .times in
+    let inv = b .loop .inv in
     let up = getD (g .ups .now) i false in
-    let e : noting (c .before .before .stepped .result) (c .before .before .stepped .last .1 .1 .1 .1 .0) ≡ f (noting v ts) up = c .before .before .stepped .ensures in
+    let e : noting _ _ ≡ f (noting v ts) up = c .before .before .stepped .ensures in
     let k : length (g .ups .now) - i ≡ suc (length (g .ups .now) - (i + 1)) = omega arith in
     let r : Ready (g .step) (g .decorrelation) v (suc (length (g .ups .now) - (i + 1))) = rw k at (inv .1) in
     let turn : drop i (g .ups .now) ≡ up ∷ drop (i + 1) (g .ups .now) = rw (add-one, drop-cons (g .ups .now) i false (omega arith)) in (
@@ -66,7 +67,7 @@ returns : tie.Need-returns Inv-loop μ-loop
 returns c =
     let g = c .before .before .before .before .args in
     let e : drop (c .before .loop .i) (g .ups .now) ≡ [] = drop-of-length-le (g .ups .now) {i = c .before .loop .i} (omega arith) in
-    sym (ap (foldl (marked (g .step) (g .decorrelation)) (noting (c .before .loop .v) (c .before .loop .times))) e) ∙ c .before .loop .inv .3
+    sym (ap (foldl (marked (g .step) (g .decorrelation)) _) e) ∙ c .before .loop .inv .3
 
 pub along-spec : {M : Type 1} → statement M
 along-spec =

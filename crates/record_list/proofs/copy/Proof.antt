@@ -40,12 +40,18 @@ loop-less c = omega arith
 
 loop-again : tie.Need-loop-again Inv-loop μ-loop
 loop-again c =
-    let g = c .before .before .before .args in
-    let i = c .before .before .loop .i in
-    let ts = c .before .before .loop .times in
-    let inv = c .before .before .loop .inv in
-    let x = getD (g .kept .now) i 0 in
-    (omega arith, length-set ts i x ∙ inv .1, rw add-one (ap (λ (l : List ℕ). set l i x) (inv .2) ∙ ap (λ (k : ℕ). set (paste (g .times .now) 0 (g .kept .now) i) k x) (sym (zero-add i)) ∙ paste-suc (g .times .now) 0 (g .kept .now) i 0 (omega arith) (omega arith)))
+    let b = c .before .before in
+    let g = b .before .args in
+    let i = b .loop .i in
+    let ts = b .loop .times in
+    let inv = b .loop .inv in
+    let x = getD (g .kept .now) i 0 in (
+      omega arith,
+      length-set ts i x ∙ inv .1,
+      rw add-one (ap (λ (l : List ℕ). set l i x) (inv .2) ∙
+          ap (λ (k : ℕ). set (paste (g .times .now) 0 (g .kept .now) i) k x) (sym (zero-add i)) ∙
+          paste-suc (g .times .now) 0 (g .kept .now) i 0 (omega arith) (omega arith)),
+    )
 
 same-length : tie.Need-same-length Inv-loop μ-loop
 same-length c = c .before .loop .inv .1
@@ -53,7 +59,7 @@ same-length c = c .before .loop .inv .1
 returns : tie.Need-returns Inv-loop μ-loop
 returns c =
     let e : c .before .loop .i ≡ c .before .before .args .k = omega arith in
-    c .before .loop .inv .2 ∙ ap (paste (c .before .before .args .times .now) 0 (c .before .before .args .kept .now)) e
+    c .before .loop .inv .2 ∙ ap (paste _ 0 _) e
 
 pub copy-spec : {M : Type 1} → statement M
 copy-spec =

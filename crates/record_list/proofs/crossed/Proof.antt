@@ -8,13 +8,18 @@ use Rattle.record_list.proofs.crossed.Tie as tie
 
 returns : tie.Need-returns
 unfolding stepped
-returns c = rw (c .before .before .before .before .before .before .before .before .before .before .pre .1, sym (c .before .before .before .before .before .before .before .before .starts .ensures) ∙ c .before .before .before .before .before .before .before .if1 .taken, c .before .before .before .before .before .put .ensures)
+returns c =
+    let b = c .before .before .before .before .before in let d = b .before .before in
+    rw (d .before .before .before .pre .1, sym (d .before .starts .ensures) ∙ d .if1 .taken, b .put .ensures)
 
 returns-2 : tie.Need-returns-2
 unfolding stepped
-returns-2 c = rw (c .before .before .before .before .before .pre .1, sym (c .before .before .before .starts .ensures) ∙ c .before .before .if1 .left)
+returns-2 c =
+    let b = c .before .before in
+    rw (b .before .before .before .pre .1, sym (b .before .starts .ensures) ∙ b .if1 .left)
 
 pub crossed-spec : {M : Type 1} → statement M
 crossed-spec =
     tie.close
-    (tie.spec (λ c κs. search needs) (λ c κs. search needs) (λ c. search needs) (λ c. search needs) (λ c. search needs) (λ c. search needs) returns (λ c. search needs) (λ c. search needs) returns-2)
+    (tie.spec (λ c κs. search needs) (λ c κs. search needs) (λ c. search needs) (λ c. search needs) (λ c. search needs)
+    (λ c. search needs) returns (λ c. search needs) (λ c. search needs) returns-2)

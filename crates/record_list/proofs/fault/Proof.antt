@@ -8,10 +8,12 @@ use Rattle.record_list.proofs.fault.Statement.{statement}
 use Rattle.record_list.proofs.fault.Tie as tie
 
 returns : tie.Need-returns
-returns c = λ h.
-    let e = sym (c .before .before .before .look-over .ensures) ∙ c .before .look .given .1 in
-    let l = looked-bad _ _ (c .before .look .given .0 .0) e in
-    ap Refused (sym (l .1) ∙ equally-long _ _ (c .before .before .before .before .pre) h)
+returns c =
+    let b = c .before .before .before in
+    λ h.
+    let e = sym (b .look-over .ensures) ∙ c .before .look .given .1 in
+    let l = looked-bad _ _ _ e in
+    ap Refused (sym (l .1) ∙ equally-long _ _ (b .before .pre) h)
 
 returns-2 : tie.Need-returns-2
 returns-2 c = λ h. absurd (true≢false (sym h ∙ looked-good _ _ (sym (c .before .before .look-over .ensures) ∙ c .enum-told .given .1)))

@@ -19,11 +19,12 @@ returns : tie.Need-returns
 returns c = (looked-bad _ _ (c .enum-told .given .0 .0) (sym (c .before .before .look-over .ensures) ∙ c .enum-told .given .1) .0, refl)
 
 walk-all-requires : tie.Need-walk-all-requires
-walk-all-requires c κs = (c .before .before .before .before .before .pre .0, c .before .before .before .before .before .pre .1)
+walk-all-requires c κs = let p = c .before .before .before .before .before .pre in (p .0, p .1)
 
 returns-2 : tie.Need-returns-2
 returns-2 c =
-    let a = c .before .before .before .before .before .before .before .before in
+    let b = c .before .before .before .before in
+    let a = b .before .before .before .before in
     let g = a .args in
     let p = moments (g .roll .now) (g .acceleration .now) in
     let ts = countedTimes (unramped (g .step) (g .levels) (g .decorrelation)) p in
@@ -32,7 +33,7 @@ returns-2 c =
     let e = c .before .before .walk-all .ensures in
     let n = ap (λ (s : Noting). s .walk .count) e ∙ walked-count (g .step) (g .levels) (g .decorrelation) p (g .times .now) in
     let t = ap (λ (s : Noting). s .times) e ∙ walked-times (g .step) (g .levels) (g .decorrelation) p (g .times .now) l in
-    (looked-good (g .roll .now) (g .acceleration .now) (sym (c .before .before .before .before .before .before .look-over .ensures) ∙ c .before .before .before .before .enum-told2 .given .1), rw (t, n) (writes-times ts (g .times .now) l))
+    (looked-good (g .roll .now) (g .acceleration .now) (sym (b .before .before .look-over .ensures) ∙ b .enum-told2 .given .1), rw (t, n) (writes-times ts (g .times .now) l))
 
 pub list-at-once-spec : {M : Type 1} → statement M
 list-at-once-spec =

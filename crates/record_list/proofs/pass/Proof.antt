@@ -29,20 +29,24 @@ Inv-loop step levels decorrelation roll acceleration times₀ w₀ i₀ times w 
 abbrev μ-loop : tie.MeasureT-loop
 μ-loop step levels decorrelation roll acceleration times₀ w₀ i₀ times w i = length roll - i
 
-start-requires : tie.Need-start-requires Inv-loop μ-loop
-start-requires c κs = search needs
+-- ways back to earlier places of the function
+abbrev start : tie.At-loop Inv-loop μ-loop → tie.Start Inv-loop μ-loop
+start c = c .before .before .before
+
+abbrev start₂ : tie.After-end Inv-loop μ-loop → tie.Start Inv-loop μ-loop
+start₂ c = start (c .before .before)
+
+abbrev end : tie.After-ends-of2 Inv-loop μ-loop → tie.After-end Inv-loop μ-loop
+end c = c .before .before .before .before
 
 loop-holds : tie.Need-loop-holds Inv-loop μ-loop
 loop-holds c =
     let g = c .before .before .args in
     rw (c .start .ensures) (begins (g .step) (g .levels) (g .decorrelation) (g .roll .now) (g .acceleration .now) (g .times .now) (c .before .before .pre .0), zero-add _, zero-add _)
 
-end-requires : tie.Need-end-requires Inv-loop μ-loop
-end-requires c κs = search needs
-
 -- the block is within the samples, and not empty
-within : (c : tie.After-end Inv-loop μ-loop) → (c .before .before .loop .i < c .end .result) × (c .end .result ≤ length (c .before .before .before .before .before .args .roll .now))
-within c = end-within (c .before .before .loop .i) (length (c .before .before .before .before .before .args .roll .now)) (c .end .ensures) (omega arith)
+within : (c : tie.After-end Inv-loop μ-loop) → (c .before .before .loop .i < c .end .result) × (c .end .result ≤ length (start₂ c .args .roll .now))
+within c = end-within _ _ (c .end .ensures) (omega arith)
 
 mul-rolls : tie.Need-mul-rolls Inv-loop μ-loop
 mul-rolls c = omega (arith, within c)
@@ -57,67 +61,73 @@ part-rolls-end : tie.Need-part-rolls-end Inv-loop μ-loop
 part-rolls-end c = omega (arith, within c)
 
 mul-accelerations : tie.Need-mul-accelerations Inv-loop μ-loop
-mul-accelerations c = omega (arith, within (c .before), c .before .before .before .before .before .before .pre .1)
+mul-accelerations c = omega (arith, within (c .before), start₂ (c .before) .pre .1)
 
 sub-accelerations : tie.Need-sub-accelerations Inv-loop μ-loop
-sub-accelerations c = omega (arith, within (c .before), c .before .before .before .before .before .before .pre .1)
+sub-accelerations c = omega (arith, within (c .before), start₂ (c .before) .pre .1)
 
 part-accelerations-start : tie.Need-part-accelerations-start Inv-loop μ-loop
-part-accelerations-start c = omega (arith, within (c .before), c .before .before .before .before .before .before .pre .1)
+part-accelerations-start c = omega (arith, within (c .before), start₂ (c .before) .pre .1)
 
 part-accelerations-end : tie.Need-part-accelerations-end Inv-loop μ-loop
-part-accelerations-end c = omega (arith, within (c .before), c .before .before .before .before .before .before .pre .1)
-
-ends-of-requires : tie.Need-ends-of-requires Inv-loop μ-loop
-ends-of-requires c κs = search needs
-
-ends-of-requires-2 : tie.Need-ends-of-requires-2 Inv-loop μ-loop
-ends-of-requires-2 c κs = search needs
-
-outside-requires : tie.Need-outside-requires Inv-loop μ-loop
-outside-requires c κs = search needs
+part-accelerations-end c = omega (arith, within (c .before), start₂ (c .before) .pre .1)
 
 -- the ends of a block say whether a sample of it is bad
-told : (c : tie.After-outside Inv-loop μ-loop) → c .outside .result ≡ anyBad (take (c .before .before .before .before .before .end .result - c .before .before .before .before .before .before .before .loop .i) (drop (c .before .before .before .before .before .before .before .loop .i) (c .before .before .before .before .before .before .before .before .before .before .args .roll .now))) (take (c .before .before .before .before .before .end .result - c .before .before .before .before .before .before .before .loop .i) (drop (c .before .before .before .before .before .before .before .loop .i) (c .before .before .before .before .before .before .before .before .before .before .args .acceleration .now)))
-told c = c .outside .ensures ∙ ends-tell _ _ (c .before .before .ends-of .result) (c .before .ends-of2 .result) (c .before .before .ends-of .ensures) (c .before .ends-of2 .ensures)
+told : (c : tie.After-outside Inv-loop μ-loop) →
+    let d = end (c .before) in
+    let e = d .end in let b = d .before .before in let a = start b .args in
+    c .outside .result ≡ anyBad (take (e .result - b .loop .i) (drop (b .loop .i) (a .roll .now))) (take (e .result - b .loop .i) (drop (b .loop .i) (a .acceleration .now)))
+told c = c .outside .ensures ∙ ends-tell _ _ _ _ (c .before .before .ends-of .ensures) (c .before .ends-of2 .ensures)
 
 same-length : tie.Need-same-length Inv-loop μ-loop
 same-length c = c .before .before .before .before .before .before .before .before .loop .inv .0 .same
 
 returns : tie.Need-returns Inv-loop μ-loop
 returns c =
-    let a = c .before .before .before .before .before .before .before .before .before .before .before in
-    let v = c .before .before .before .before .before .before .before .before .loop .inv in
-    let w = within (c .before .before .before .before .before .before) in
-    block-bad (a .args .roll .now) (a .args .acceleration .now) (a .pre .1) (c .before .before .before .before .before .before .before .before .loop .i) (c .before .before .before .before .before .before .end .result) (omega arith) (w .1) (v .1) (v .2) (sym (told (c .before)) ∙ c .if1 .taken)
-
-past-requires : tie.Need-past-requires Inv-loop μ-loop
-past-requires c κs = search needs
+    let b = end (c .before .before) in
+    let a = start₂ b in
+    let v = b .before .before .loop .inv in
+    let w = within b in
+    block-bad (a .args .roll .now) (a .args .acceleration .now) (a .pre .1) _ _ (omega arith) (w .1) (v .1) (v .2) (sym (told (c .before)) ∙ c .if1 .taken)
 
 advance-requires : tie.Need-advance-requires Inv-loop μ-loop
 advance-requires c κs =
-    let a = c .before .before .before .before .before .before .before .before .before .before .before .before .before in
-    let l = c .before .before .before .before .before .before .before .before .before .before .loop in
-    let e = c .before .before .before .before .before .before .before .before .end .result in
-    let w = within (c .before .before .before .before .before .before .before .before) in
+    let d = c .before .before .before .before in let b = end d in
+    let a = start₂ b in
+    let l = b .before .before .loop in
+    let e = b .end .result in
+    let w = within b in
     let k = block-length (a .args .roll .now) (l .i) e (omega arith) (w .1) in
-    let q = ends-say (a .args .levels) _ _ (c .before .before .before .before .before .ends-of .result) (c .before .before .before .before .ends-of2 .result) (c .before .before .before .before .before .ends-of .ensures) (c .before .before .before .before .ends-of2 .ensures) in
-    (ready-less (omega (arith, k)) (l .inv .0 .ready), block-equal (a .args .roll .now) (a .args .acceleration .now) (a .pre .1) (l .i) e (omega arith) (w .1), omega (arith, end-near (l .i) (length (a .args .roll .now)) (c .before .before .before .before .before .before .before .before .end .ensures)), c .before .past .ensures ∙ q, omega arith)
+    let q = ends-say (a .args .levels) _ _ _ _ (d .before .ends-of .ensures) (d .ends-of2 .ensures) in (
+      ready-less (omega (arith, k)) (l .inv .0 .ready),
+      block-equal (a .args .roll .now) (a .args .acceleration .now)
+          (a .pre .1) (l .i) e (omega arith) (w .1),
+      omega (
+        arith,
+        end-near (l .i) (length (a .args .roll .now))
+            (b .end .ensures),
+      ),
+      c .before .past .ensures ∙ q,
+      omega arith,
+    )
 
 loop-less : tie.Need-loop-less Inv-loop μ-loop
-loop-less c = omega (arith, within (c .before .before .before .before .before .before .before .before .before .before .before))
+loop-less c = omega (arith, within (end (c .before .before .before .before .before .before .before)))
 
 loop-again : tie.Need-loop-again Inv-loop μ-loop
 loop-again c =
-    let g = c .before .before .before .before .before .before .before .before .before .before .before .before .before .before .before .before .args in
+    let k = c .before .before .before .before .before in
+    let b = end (k .before .before) in let d = b .before .before in
+    let m = start d in
+    let g = m .args in
     let xs = g .roll .now in
     let ys = g .acceleration .now in
-    let same = c .before .before .before .before .before .before .before .before .before .before .before .before .before .before .before .before .pre .1 in
-    let i = c .before .before .before .before .before .before .before .before .before .before .before .before .before .loop .i in
-    let inv = c .before .before .before .before .before .before .before .before .before .before .before .before .before .loop .inv in
-    let e = c .before .before .before .before .before .before .before .before .before .before .before .end .result in
-    let h = within (c .before .before .before .before .before .before .before .before .before .before .before) in
-    let good = none-bad _ _ (sym (told (c .before .before .before .before .before .before)) ∙ c .before .before .before .before .before .if1 .left) in (
+    let same = m .pre .1 in
+    let i = d .loop .i in
+    let inv = d .loop .inv in
+    let e = b .end .result in
+    let h = within b in
+    let good = none-bad _ _ (sym (told (k .before)) ∙ k .if1 .left) in (
       goes-on same (inv .0) e (omega arith) (h .1) (c .before .before .advance .ensures),
       good-on xs i e (omega arith) (h .1) (inv .1) (good .0),
       good-on ys i e (omega arith) (omega (arith, h .1, same)) (inv .2) (good .1),
@@ -129,20 +139,29 @@ same-length-2 c = c .before .loop .inv .0 .same
 returns-2 : tie.Need-returns-2 Inv-loop μ-loop
 unfolding firstBad
 returns-2 c =
-    let a = c .before .before .before .before in
+    let a = start (c .before) in
     let g = a .args in
     let xs = g .roll .now in
     let ys = g .acceleration .now in
     let l = c .before .loop in
     let p : drop (l .i) xs ≡ [] = drop-of-length-le xs {i = l .i} (omega arith) in
     let q : drop (l .i) ys ≡ [] = drop-of-length-le ys {i = l .i} (omega (arith, a .pre .1)) in
-    let d = arrives (a .pre .1) (l .inv .0) (omega arith) in
-    (all-good xs ys (omega (arith, l .inv .0 .within, l .inv .1, ap firstBad p)) (omega (arith, l .inv .0 .within, l .inv .2, ap firstBad q, a .pre .1)), ap (λ (s : Noting). s .walk .count) d, ap (λ (s : Noting). s .times) d)
+    let d = arrives (a .pre .1) (l .inv .0) (omega arith) in (
+      all-good xs ys (omega (arith, l .inv .0 .within, l .inv .1, ap firstBad p)) (omega (
+        arith,
+        l .inv .0 .within,
+        l .inv .2,
+        ap firstBad q,
+        a .pre .1,
+      )),
+      ap (λ (s : Noting). s .walk .count) d,
+      ap (λ (s : Noting). s .times) d,
+    )
 
 pub pass-spec : {M : Type 1} → statement M
 pass-spec =
     tie.close
-    (tie.spec Inv-loop μ-loop start-requires loop-holds end-requires mul-rolls sub-rolls part-rolls-start part-rolls-end
-    mul-accelerations sub-accelerations part-accelerations-start part-accelerations-end ends-of-requires
-    ends-of-requires-2 outside-requires same-length returns past-requires advance-requires loop-less loop-again
-    same-length-2 returns-2)
+    (tie.spec Inv-loop μ-loop (λ c κs. search needs) loop-holds (λ c κs. search needs) mul-rolls sub-rolls
+    part-rolls-start part-rolls-end mul-accelerations sub-accelerations part-accelerations-start part-accelerations-end
+    (λ c κs. search needs) (λ c κs. search needs) (λ c κs. search needs) same-length returns (λ c κs. search needs)
+    advance-requires loop-less loop-again same-length-2 returns-2)

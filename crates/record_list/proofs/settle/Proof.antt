@@ -8,14 +8,17 @@ use Rattle.record_list.proofs.settle.Tie as tie
 
 write-requires : tie.Need-write-requires
 write-requires c κs =
-    let h = rw (c .before .before .found .given .1) at (c .before .before .before .before .before .before .pre .2) in
-    (c .before .before .before .before .before .before .pre .0, c .before .before .before .before .before .before .pre .1, h .passes .0, heard-count (c .before .before .before .before .before .before .args .step) (c .before .before .before .before .before .before .args .levels) (c .before .before .before .before .before .before .args .decorrelation) (c .before .before .before .before .before .before .args .roll .now) (c .before .before .before .before .before .before .args .acceleration .now) h, heard-times (c .before .before .before .before .before .before .args .step) (c .before .before .before .before .before .before .args .levels) (c .before .before .before .before .before .before .args .decorrelation) (c .before .before .before .before .before .before .args .roll .now) (c .before .before .before .before .before .before .args .acceleration .now) h)
+    let p = c .before .before .before .before .before .before .pre in
+    let h = rw (c .before .before .found .given .1) at (p .2) in
+    (p .0, p .1, h .passes .0, heard-count _ _ _ _ _ h, heard-times _ _ _ _ _ h)
 
 returns : tie.Need-returns
 returns c = let h = rw (c .enum-told .given .1) at (c .before .before .before .before .pre .2) in (h .passes, refl)
 
 returns-2 : tie.Need-returns-2
-returns-2 c = let h = rw (c .before .before .before .before .before .found .given .1) at (c .before .before .before .before .before .before .before .before .before .pre .2) in (h .passes .0, c .before .before .write .ensures)
+returns-2 c =
+    let b = c .before .before .before .before .before in
+    let h = rw (b .found .given .1) at (b .before .before .before .before .pre .2) in (h .passes .0, c .before .before .write .ensures)
 
 pub settle-spec : {M : Type 1} → statement M
 settle-spec =

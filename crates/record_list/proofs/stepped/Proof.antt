@@ -9,8 +9,8 @@ use Rattle.record_list.proofs.stepped.Statement.{statement}
 use Rattle.record_list.proofs.stepped.Tie as tie
 
 -- the sample before was at most the level, and this one is above it
-crosses : (c : tie.Then1) → (c .before .before .before .args .w .below ≡ true) × (c .before .before .before .args .up ≡ true)
-crosses c = and-true (c .before .before .before .args .w .below) (c .before .before .before .args .up) (sym (c .before .both .ensures) ∙ c .if1 .taken)
+crosses : (c : tie.Then1) → let a = c .before .before .before .args in (a .w .below ≡ true) × (a .up ≡ true)
+crosses c = and-true (c .before .before .before .args .w .below) _ (sym (c .before .both .ensures) ∙ c .if1 .taken)
 
 crossed-requires : tie.Need-crossed-requires
 crossed-requires c κs = (c .before .before .before .before .pre, crosses (c .before) .0)
@@ -25,4 +25,5 @@ returns-2 c = rw (sym (c .before .before .both .ensures) ∙ c .before .if1 .lef
 
 pub stepped-spec : {M : Type 1} → statement M
 stepped-spec =
-    tie.close (tie.spec (λ c κs. search needs) crossed-requires (λ c. search needs) returns (λ c. search needs) returns-2)
+    tie.close
+    (tie.spec (λ c κs. search needs) crossed-requires (λ c. search needs) returns (λ c. search needs) returns-2)

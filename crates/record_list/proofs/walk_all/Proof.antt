@@ -17,18 +17,17 @@ Inv-loop step levels decorrelation roll acceleration times₀ w₀ i₀ times w 
 abbrev μ-loop : tie.MeasureT-loop
 μ-loop step levels decorrelation roll acceleration times₀ w₀ i₀ times w i = length roll - i
 
-start-requires : tie.Need-start-requires Inv-loop μ-loop
-start-requires c κs = search needs
+-- ways back to earlier places of the function
+abbrev start : tie.After-end Inv-loop μ-loop → tie.Start Inv-loop μ-loop
+start c = c .before .before .before .before .before
 
 loop-holds : tie.Need-loop-holds Inv-loop μ-loop
-loop-holds c = let g = c .before .before .args in rw (c .start .ensures) (begins (g .step) (g .levels) (g .decorrelation) (g .roll .now) (g .acceleration .now) (g .times .now) (c .before .before .pre .0))
-
-end-requires : tie.Need-end-requires Inv-loop μ-loop
-end-requires c κs = search needs
+loop-holds c = let g = c .before .before .args in rw (c .start .ensures) (begins (g .step) (g .levels)
+    (g .decorrelation) (g .roll .now) (g .acceleration .now) (g .times .now) (c .before .before .pre .0))
 
 -- the block is within the samples, and not empty
-within : (c : tie.After-end Inv-loop μ-loop) → (c .before .before .loop .i < c .end .result) × (c .end .result ≤ length (c .before .before .before .before .before .args .roll .now))
-within c = end-within (c .before .before .loop .i) (length (c .before .before .before .before .before .args .roll .now)) (c .end .ensures) (omega arith)
+within : (c : tie.After-end Inv-loop μ-loop) → (c .before .before .loop .i < c .end .result) × (c .end .result ≤ length (start c .args .roll .now))
+within c = end-within _ _ (c .end .ensures) (omega arith)
 
 mul-walk-block : tie.Need-mul-walk-block Inv-loop μ-loop
 mul-walk-block c = omega (arith, within c)
@@ -43,33 +42,44 @@ part-walk-block-end : tie.Need-part-walk-block-end Inv-loop μ-loop
 part-walk-block-end c = omega (arith, within c)
 
 mul-walk-block-2 : tie.Need-mul-walk-block-2 Inv-loop μ-loop
-mul-walk-block-2 c = omega (arith, within (c .before), c .before .before .before .before .before .before .pre .1)
+mul-walk-block-2 c = omega (arith, within (c .before), start (c .before) .pre .1)
 
 sub-walk-block-2 : tie.Need-sub-walk-block-2 Inv-loop μ-loop
-sub-walk-block-2 c = omega (arith, within (c .before), c .before .before .before .before .before .before .pre .1)
+sub-walk-block-2 c = omega (arith, within (c .before), start (c .before) .pre .1)
 
 part-walk-block-start-2 : tie.Need-part-walk-block-start-2 Inv-loop μ-loop
-part-walk-block-start-2 c = omega (arith, within (c .before), c .before .before .before .before .before .before .pre .1)
+part-walk-block-start-2 c = omega (arith, within (c .before), start (c .before) .pre .1)
 
 part-walk-block-end-2 : tie.Need-part-walk-block-end-2 Inv-loop μ-loop
-part-walk-block-end-2 c = omega (arith, within (c .before), c .before .before .before .before .before .before .pre .1)
+part-walk-block-end-2 c = omega (arith, within (c .before), start (c .before) .pre .1)
 
 walk-block-requires : tie.Need-walk-block-requires Inv-loop μ-loop
 walk-block-requires c κs =
-    let a = c .before .before .before .before .before .before .before .before in
-    let l = c .before .before .before .before .before .loop in
-    let e = c .before .before .before .end in
-    let w = within (c .before .before .before) in
-    let k = block-length (a .args .roll .now) (l .i) (e .result) (omega arith) (w .1) in
-    (ready-less (omega arith) (l .inv .ready), block-equal (a .args .roll .now) (a .args .acceleration .now) (a .pre .1) (l .i) (e .result) (omega arith) (w .1), omega (arith, k, end-near (l .i) (length (a .args .roll .now)) (e .ensures)))
+    let b = c .before .before .before in
+    let a = start b in
+    let l = b .before .before .loop in
+    let e = b .end in
+    let w = within b in
+    let k = block-length (a .args .roll .now) (l .i) (e .result) (omega arith) (w .1) in (
+      ready-less (omega arith) (l .inv .ready),
+      block-equal (a .args .roll .now) (a .args .acceleration .now)
+          (a .pre .1) (l .i) (e .result) (omega arith) (w .1),
+      omega (
+        arith,
+        k,
+        end-near (l .i)
+            (length (a .args .roll .now)) (e .ensures),
+      ),
+    )
 
 loop-less : tie.Need-loop-less Inv-loop μ-loop
 loop-less c = omega (arith, within (c .before .before .before .before .before .before))
 
 loop-again : tie.Need-loop-again Inv-loop μ-loop
 loop-again c =
-    let w = within (c .before .before .before .before .before .before) in
-    goes-on (c .before .before .before .before .before .before .before .before .before .before .before .pre .1) (c .before .before .before .before .before .before .before .before .loop .inv) (c .before .before .before .before .before .before .end .result) (omega arith) (w .1) (c .before .before .walk-block .ensures)
+    let b = c .before .before .before .before .before .before in
+    let w = within b in
+    goes-on (start b .pre .1) (b .before .before .loop .inv) _ (omega arith) (w .1) (c .before .before .walk-block .ensures)
 
 same-length : tie.Need-same-length Inv-loop μ-loop
 same-length c = c .before .loop .inv .same
@@ -80,6 +90,6 @@ returns c = arrives (c .before .before .before .before .pre .1) (c .before .loop
 pub walk-all-spec : {M : Type 1} → statement M
 walk-all-spec =
     tie.close
-    (tie.spec Inv-loop μ-loop start-requires loop-holds end-requires mul-walk-block sub-walk-block part-walk-block-start
-    part-walk-block-end mul-walk-block-2 sub-walk-block-2 part-walk-block-start-2 part-walk-block-end-2
-    walk-block-requires loop-less loop-again same-length returns)
+    (tie.spec Inv-loop μ-loop (λ c κs. search needs) loop-holds (λ c κs. search needs) mul-walk-block sub-walk-block
+    part-walk-block-start part-walk-block-end mul-walk-block-2 sub-walk-block-2 part-walk-block-start-2
+    part-walk-block-end-2 walk-block-requires loop-less loop-again same-length returns)

@@ -13,16 +13,24 @@ use Rattle.record_list.proofs.Steps.{noted-marks}
 use Rattle.record_list.proofs.walk_block.Statement.{statement}
 use Rattle.record_list.proofs.walk_block.Tie as tie
 
+-- ways back to earlier places of the function
+abbrev start : tie.After-mark → tie.Start
+start c = c .before .before .before
+
 -- what was noted of the block's samples
-noted : (c : tie.After-mark) → take (length (c .before .before .before .args .roll .now)) (c .mark .last .1 .1 .1 .0) ≡ map (above (c .before .before .before .args .levels)) (moments (c .before .before .before .args .roll .now) (c .before .before .before .args .acceleration .now))
+noted : (c : tie.After-mark) →
+    let a = start c .args in
+    take (length (a .roll .now)) (c .mark .last .1 .1 .1 .0) ≡ map (above (a .levels)) (moments (a .roll .now) (a .acceleration .now))
 noted c =
-    let a = c .before .before .before in
+    let a = start c in
     let g = a .args in
     ap (take (length (g .roll .now))) (c .mark .ensures) ∙ marks-front (g .levels) (g .roll .now) (g .acceleration .now) (replicate 64 false) (a .pre .1) (omega arith)
 
-as-many : (c : tie.After-mark) → length (c .before .before .before .args .roll .now) ≡ length (take (length (c .before .before .before .args .roll .now)) (c .mark .last .1 .1 .1 .0))
+as-many : (c : tie.After-mark) →
+    let r = start c .args .roll in
+    length (r .now) ≡ length (take (length (r .now)) (c .mark .last .1 .1 .1 .0))
 as-many c =
-    let a = c .before .before .before in
+    let a = start c in
     let g = a .args in
     sym (ap length (noted c) ∙ marks-many (g .levels) (g .roll .now) (g .acceleration .now) (a .pre .1))
 
@@ -30,13 +38,14 @@ slice-aggregate-along : tie.Need-slice-aggregate-along
 slice-aggregate-along c = as-many (c .before .before)
 
 along-requires : tie.Need-along-requires
-along-requires c κs = rw (as-many (c .before .before .before)) at (c .before .before .before .before .before .before .pre .0)
+along-requires c κs = let b = c .before .before .before in rw (as-many b) at (start b .pre .0)
 
 returns : tie.Need-returns
 returns c =
-    let g = c .before .before .before .before .before .before .before .before .before .args in
+    let b = c .before .before .before .before .before .before in
+    let g = start b .args in
     let p = moments (g .roll .now) (g .acceleration .now) in
-    c .before .before .along .ensures ∙ ap (foldl (marked (g .step) (g .decorrelation)) (noting (g .w) (g .times .now))) (noted (c .before .before .before .before .before .before))
+    c .before .before .along .ensures ∙ ap (foldl (marked (g .step) (g .decorrelation)) (noting (g .w) (g .times .now))) (noted b)
     ∙ sym (noted-marks (g .step) (g .levels) (g .decorrelation) (noting (g .w) (g .times .now)) p)
 
 pub walk-block-spec : {M : Type 1} → statement M

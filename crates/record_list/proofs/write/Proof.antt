@@ -11,20 +11,23 @@ use Rattle.record_list.proofs.write.Statement.{statement}
 use Rattle.record_list.proofs.write.Tie as tie
 
 returns : tie.Need-returns
-returns c = let n = c .before .before .before .pre .3 in rw n (writes-room (countedTimes (unramped (c .before .before .before .args .step) (c .before .before .before .args .levels) (c .before .before .before .args .decorrelation)) (moments (c .before .before .before .args .roll .now) (c .before .before .before .args .acceleration .now))) (c .before .before .before .args .times .now) (omega arith))
+returns c = let n = c .before .before .before .pre .3 in rw n (writes-room _ _ (omega arith))
 
 returns-2 : tie.Need-returns-2
 returns-2 c =
-    let n = c .before .before .before .before .before .before .before .before .pre .3 in
-    rw (c .before .before .copy .ensures, zero-add, c .before .before .before .before .before .before .before .before .pre .4 (omega arith), n) (writes-times (countedTimes (unramped (c .before .before .before .before .before .before .before .before .args .step) (c .before .before .before .before .before .before .before .before .args .levels) (c .before .before .before .before .before .before .before .before .args .decorrelation)) (moments (c .before .before .before .before .before .before .before .before .args .roll .now) (c .before .before .before .before .before .before .before .before .args .acceleration .now))) (c .before .before .before .before .before .before .before .before .args .times .now) (omega arith))
+    let p = c .before .before .before .before .before .before .before .before .pre in
+    let n = p .3 in
+    rw (c .before .before .copy .ensures, zero-add, p .4 (omega arith), n) (writes-times _ _ (omega arith))
 
 returns-3 : tie.Need-returns-3
 returns-3 c =
-    let a = c .before .before .before .before .before .before .before .before in
+    let b = c .before .before in
+    let a = b .before .before .before .before .before .before in
     let g = a .args in
-    rw (a .pre .3) (writes-passed (g .step) (g .levels) (g .decorrelation) (g .roll .now) (g .acceleration .now) (g .times .now) _ (c .before .before .pass .result) (a .pre .2) (omega arith) (c .before .before .pass .ensures))
+    rw (a .pre .3) (writes-passed (g .step) (g .levels) (g .decorrelation) (g .roll .now) (g .acceleration .now) (g .times .now) _ (b .pass .result) (a .pre .2) (omega arith) (b .pass .ensures))
 
 pub write-spec : {M : Type 1} → statement M
 write-spec =
     tie.close
-    (tie.spec returns (λ c κs. search needs) (λ c. search needs) returns-2 (λ c κs. search needs) (λ c. search needs) returns-3)
+    (tie.spec returns (λ c κs. search needs) (λ c. search needs) returns-2 (λ c κs. search needs) (λ c. search needs)
+    returns-3)

@@ -8,10 +8,11 @@ use Rattle.record_state.proofs.both_zero.Tie as tie
 
 returns : tie.Need-returns
 returns c =
-    let x = c .before .before .before .before .before .args .x in
+    let b = c .before .before .before in
+    let x = b .before .before .args .x in
     let roll : SFits w32 (x .roll) = search needs in
     let acceleration : SFits w32 (x .acceleration) = search needs in
-    rw (c .both .ensures, c .before .before .before .magnitude .ensures, c .before .magnitude2 .ensures, toZ-ofZ roll, toZ-ofZ acceleration)
+    rw (c .both .ensures, b .magnitude .ensures, c .before .magnitude2 .ensures, toZ-ofZ roll, toZ-ofZ acceleration)
 
 pub both-zero-spec : {M : Type 1} → statement M
 both-zero-spec = tie.close (tie.spec (λ c κs. search needs) (λ c κs. search needs) (λ c κs. search needs) returns)

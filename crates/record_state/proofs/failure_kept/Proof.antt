@@ -4,9 +4,12 @@ use Rattle.record_state.proofs.failure_kept.Statement.{statement}
 use Rattle.record_state.proofs.failure_kept.Tie as tie
 
 returns : tie.Need-returns
-returns c = rw (c .both4 .ensures, c .before .both3 .ensures, c .before .before .both2 .ensures, c .before .before .before .both .ensures, c .before .before .before .before .before .before .before .before .spans .ensures)
+returns c =
+    let b = c .before .before in
+    rw (c .both4 .ensures, c .before .both3 .ensures, b .both2 .ensures, b .before .both .ensures, b .before .before .before .before .before .before .spans .ensures)
 
 pub failure-kept-spec : {M : Type 1} → statement M
 failure-kept-spec =
     tie.close
-    (tie.spec (λ c κs. search needs) (λ c κs. search needs) (λ c κs. search needs) (λ c κs. search needs) (λ c κs. search needs) returns)
+    (tie.spec (λ c κs. search needs) (λ c κs. search needs) (λ c κs. search needs) (λ c κs. search needs)
+    (λ c κs. search needs) returns)

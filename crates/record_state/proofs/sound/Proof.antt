@@ -16,11 +16,12 @@ returns c = rw (← c .before .item-outside .ensures, ne-eqb _ _ (c .if1 .taken)
 returns-2 : tie.Need-returns-2
 unfolding sound
 returns-2 c =
-    let r = c .before .before .before .before .before .before .before .before .before .before .args .r in
-    let z = sym (c .before .before .before .before .before .before .before .before .before .item-outside .ensures) ∙ c .before .before .before .before .before .before .before .before .if1 .left in
+    let b = c .before .before .before .before .before .before in let d = b .before .before in
+    let r = d .before .before .args .r in
+    let z = sym (d .before .item-outside .ensures) ∙ d .if1 .left in
     let e : itemsKept r ≡ true = eq-eqb _ 0 z in
     let m = most-in-range (r .items) z in
-    rw (e, c .both3 .ensures, c .before .both2 .ensures, c .before .before .both .ensures, c .before .before .before .figures-kept .ensures, c .before .before .before .before .before .before .most-samples .ensures, m, c .before .before .before .before .before .before .before .last-kept .ensures)
+    rw (e, c .both3 .ensures, c .before .both2 .ensures, c .before .before .both .ensures, c .before .before .before .figures-kept .ensures, b .most-samples .ensures, m, b .before .last-kept .ensures)
 
 pub sound-spec : {M : Type 1} → statement M
 sound-spec =

@@ -14,30 +14,38 @@ use Rattle.record_whole.proofs.judge.Statement.{statement}
 use Rattle.record_whole.proofs.judge.Tie as tie
 
 returns : tie.Need-returns
-returns c = let e = c .before .item-outside .ensures in rw e (sized-item (c .before .before .args .items) (c .before .before .args .roll .now) (c .before .before .args .acceleration .now) (λ z. c .if1 .taken (e ∙ z)))
+returns c = let e = c .before .item-outside .ensures in rw e (sized-item _ _ _ (λ z. c .if1 .taken (e ∙ z)))
 
 -- past the first test the items are in range
 ranged : (c : tie.Else1) → itemOutside (c .before .before .args .items) ≡ 0
 ranged c = sym (c .before .item-outside .ensures) ∙ c .if1 .left
 
 returns-2 : tie.Need-returns-2
-returns-2 c = sized-unequal (c .before .before .before .args .items) (c .before .before .before .args .roll .now) (c .before .before .before .args .acceleration .now) (ranged (c .before)) (c .if2 .taken)
+returns-2 c = sized-unequal _ _ _ (ranged (c .before)) (c .if2 .taken)
 
 add-both : tie.Need-add-both
-add-both c = omega (arith, within-ranges (c .before .before .before .before .before .args .items) (ranged (c .before .before .before)) .ramp)
+add-both c = omega (arith, within-ranges _ (ranged (c .before .before .before)) .ramp)
 
-most : (c : tie.After-most-samples) → c .most-samples .result ≡ mostSamples (c .before .before .before .before .args .items .step) (c .before .before .before .before .args .items .ramp)
-most c = c .most-samples .ensures ∙ most-in-range (c .before .before .before .before .args .items) (ranged (c .before .before))
+most : (c : tie.After-most-samples) →
+    let i = c .before .before .before .before .args .items in
+    c .most-samples .result ≡ mostSamples (i .step) (i .ramp)
+most c = c .most-samples .ensures ∙ most-in-range _ (ranged (c .before .before))
 
 -- what the test of the length says
-tested : (c : tie.After-both) → c .both .result ≡ (leb (length (c .before .before .before .before .before .before .args .roll .now)) (mostSamples (c .before .before .before .before .before .before .args .items .step) (c .before .before .before .before .before .before .args .items .ramp)) && leb (c .before .before .before .before .before .before .args .items .ramp + 2) (length (c .before .before .before .before .before .before .args .roll .now)))
+tested : (c : tie.After-both) →
+    let a = c .before .before .before .before .before .before .args in
+    c .both .result ≡ (leb (length (a .roll .now)) (mostSamples (a .items .step) (a .items .ramp)) && leb (a .items .ramp + 2) (length (a .roll .now)))
 tested c = rw (c .both .ensures, most (c .before .before))
 
 returns-3 : tie.Need-returns-3
-returns-3 c = sized-fits (c .before .before .before .before .before .before .before .args .items) (c .before .before .before .before .before .before .before .args .roll .now) (c .before .before .before .before .before .before .before .args .acceleration .now) (ranged (c .before .before .before .before .before)) (c .before .before .before .before .if2 .left) (sym (tested (c .before)) ∙ c .if3 .taken)
+returns-3 c =
+    let b = c .before .before .before .before in
+    sized-fits _ _ _ (ranged (b .before)) (b .if2 .left) (sym (tested (c .before)) ∙ c .if3 .taken)
 
 returns-4 : tie.Need-returns-4
-returns-4 c = c .fault .ensures ∙ rw (most (c .before .before .before .before)) (sized-fault (c .before .before .before .before .before .before .before .before .args .items) (c .before .before .before .before .before .before .before .before .args .roll .now) (c .before .before .before .before .before .before .before .before .args .acceleration .now) (ranged (c .before .before .before .before .before .before)) (c .before .before .before .before .before .if2 .left) (sym (tested (c .before .before)) ∙ c .before .if3 .left))
+returns-4 c =
+    let b = c .before .before .before .before in
+    c .fault .ensures ∙ rw (most b) (sized-fault _ _ _ (ranged (b .before .before)) (b .before .if2 .left) (sym (tested (c .before .before)) ∙ c .before .if3 .left))
 
 pub judge-spec : {M : Type 1} → statement M
 judge-spec =

@@ -12,29 +12,26 @@ Inv-loop text₀ out₀ sheets₀ text out sheets = (length text ≡ length text
 abbrev μ-loop : tie.MeasureT-loop
 μ-loop text₀ out₀ sheets₀ text out sheets = sheets
 
+-- ways back to earlier places of the function
+abbrev loop : tie.After-next Inv-loop μ-loop → tie.At-loop Inv-loop μ-loop
+loop c = c .before .before .before .before
+
+abbrev next : tie.After-slice-known4 Inv-loop μ-loop → tie.After-next Inv-loop μ-loop
+next c = c .before .before .before .before
+
 loop-holds : tie.Need-loop-holds Inv-loop μ-loop
 loop-holds c = (refl, refl)
 
-next-requires : tie.Need-next-requires Inv-loop μ-loop
-next-requires c κs = search needs
-
 same-length : tie.Need-same-length Inv-loop μ-loop
-same-length c = c .before .before .before .before .before .next .kept .0 ∙ c .before .before .before .before .before .before .before .before .before .loop .inv .0
+same-length c = let b = next (c .before) in b .next .kept .0 ∙ loop b .loop .inv .0
 
 same-length-2 : tie.Need-same-length-2 Inv-loop μ-loop
-same-length-2 c = c .before .before .before .before .before .next .kept .1 .0 ∙ c .before .before .before .before .before .before .before .before .before .loop .inv .1
-
-returns : tie.Need-returns Inv-loop μ-loop
-returns c = search needs
-
-sub-sheets : tie.Need-sub-sheets Inv-loop μ-loop
-sub-sheets c = search needs
-
-loop-less : tie.Need-loop-less Inv-loop μ-loop
-loop-less c = search needs
+same-length-2 c = let b = next (c .before) in b .next .kept .1 .0 ∙ loop b .loop .inv .1
 
 loop-again : tie.Need-loop-again Inv-loop μ-loop
-loop-again c = (c .before .before .before .before .before .next .kept .0 ∙ c .before .before .before .before .before .before .before .before .before .loop .inv .0, c .before .before .before .before .before .next .kept .1 .0 ∙ c .before .before .before .before .before .before .before .before .before .loop .inv .1)
+loop-again c =
+    let b = next (c .before) in let i = loop b .loop .inv in
+    (b .next .kept .0 ∙ i .0, b .next .kept .1 .0 ∙ i .1)
 
 same-length-3 : tie.Need-same-length-3 Inv-loop μ-loop
 same-length-3 c = c .before .loop .inv .0
@@ -42,11 +39,8 @@ same-length-3 c = c .before .loop .inv .0
 same-length-4 : tie.Need-same-length-4 Inv-loop μ-loop
 same-length-4 c = c .before .loop .inv .1
 
-returns-2 : tie.Need-returns-2 Inv-loop μ-loop
-returns-2 c = search needs
-
 pub all-spec : {M : Type 1} → statement M
 all-spec =
     tie.close
-    (tie.spec Inv-loop μ-loop loop-holds next-requires same-length same-length-2 returns sub-sheets loop-less loop-again
-    same-length-3 same-length-4 returns-2)
+    (tie.spec Inv-loop μ-loop loop-holds (λ c κs. search needs) same-length same-length-2 (λ c. search needs)
+    (λ c. search needs) (λ c. search needs) loop-again same-length-3 same-length-4 (λ c. search needs))

@@ -8,7 +8,7 @@ use Rattle.run_batch.proofs.next.Statement.{statement}
 use Rattle.run_batch.proofs.next.Tie as tie
 
 slice-aggregate-read-full : tie.Need-slice-aggregate-read-full
-slice-aggregate-read-full c = sym (length-take-le (c .before .before .before .before .read-head .result .size) (now (c .before .before .before .before .before .before .before .args .text)) (omega arith))
+slice-aggregate-read-full c = sym (length-take-le _ _ (omega arith))
 
 slice-aggregate-one : tie.Need-slice-aggregate-one
 slice-aggregate-one c = sym (length-take-le _ _ (omega arith))

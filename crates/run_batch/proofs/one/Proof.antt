@@ -8,10 +8,12 @@ use Rattle.run_batch.proofs.one.Statement.{statement}
 use Rattle.run_batch.proofs.one.Tie as tie
 
 slice-aggregate-piece : tie.Need-slice-aggregate-piece
-slice-aggregate-piece c = sym (length-take-le (c .before .before .before .before .before .args .cut) (now (c .before .before .before .before .before .args .text)) (omega arith))
+slice-aggregate-piece c = sym (length-take-le _ _ (omega arith))
 
 sub-from : tie.Need-sub-from
-sub-from c = omega (arith, rw (c .before .first .given .1) at (c .before .before .before .before .before .piece .ensures), length-take-le (c .before .before .before .before .before .before .before .before .before .before .before .before .args .cut) (now (c .before .before .before .before .before .before .before .before .before .before .before .before .args .text)) (omega arith))
+sub-from c =
+    let a = c .before .before .before .before .before .before .before .before .before .before .before .before .args in
+    omega (arith, rw (c .before .first .given .1) at (c .before .before .before .before .before .piece .ensures), length-take-le (a .cut) (now (a .text)) (omega arith))
 
 slice-aggregate-piece-2 : tie.Need-slice-aggregate-piece-2
 slice-aggregate-piece-2 c = sym (length-take-le _ _ (omega arith))

@@ -10,7 +10,9 @@ use Rattle.run_batch.proofs.piece.Statement.{statement}
 use Rattle.run_batch.proofs.piece.Tie as tie
 
 put-fits : (c : tie.After-known-told) → c .before .reading .given .0 .1 .0 ≤ length (c .before .before .before .before .before .run .last .1 .1 .1 .0)
-put-fits c = omega (arith, rw (c .before .reading .given .1) at (c .before .before .before .before .before .run .ensures .1 .1 .0), c .before .before .before .before .before .run .kept .1 .1 .1 .0)
+put-fits c =
+    let r = c .before .before .before .before .before .run in
+    omega (arith, rw (c .before .reading .given .1) at (r .ensures .1 .1 .0), r .kept .1 .1 .1 .0)
 
 slice-reshare-prefix-write-all : tie.Need-slice-reshare-prefix-write-all
 slice-reshare-prefix-write-all c = put-fits c
@@ -19,7 +21,9 @@ slice-aggregate-write-all : tie.Need-slice-aggregate-write-all
 slice-aggregate-write-all c = sym (length-take-le _ _ (put-fits (c .before)))
 
 returns : tie.Need-returns
-returns c = (rw (c .before .before .before .reading .given .1) at (c .before .before .before .before .before .before .before .run .ensures .1 .1 .1)) .0
+returns c =
+    let b = c .before .before .before in
+    (rw (b .reading .given .1) at (b .before .before .before .before .run .ensures .1 .1 .1)) .0
 
 pub piece-spec : {M : Type 1} → statement M
 piece-spec =

@@ -30,12 +30,6 @@ mul-x c = omega arith
 shared-slice-copy-out-x : tie.Need-shared-slice-copy-out-x Inv-loop μ-loop
 shared-slice-copy-out-x c = omega arith
 
-chosen-requires : tie.Need-chosen-requires Inv-loop μ-loop
-chosen-requires c κs = search needs
-
-chosen-requires-2 : tie.Need-chosen-requires-2 Inv-loop μ-loop
-chosen-requires-2 c κs = search needs
-
 add-i : tie.Need-add-i Inv-loop μ-loop
 add-i c = omega arith
 
@@ -68,5 +62,5 @@ returns c =
 pub ends-of-spec : {M : Type 1} → statement M
 ends-of-spec =
     tie.close
-    (tie.spec Inv-loop μ-loop loop-holds mul-x shared-slice-copy-out-x chosen-requires chosen-requires-2 add-i loop-less
-    loop-again returns)
+    (tie.spec Inv-loop μ-loop loop-holds mul-x shared-slice-copy-out-x (λ c κs. search needs) (λ c κs. search needs)
+    add-i loop-less loop-again returns)

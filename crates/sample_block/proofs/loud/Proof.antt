@@ -7,8 +7,9 @@ use Rattle.sample_block.proofs.loud.Tie as tie
 
 returns : tie.Need-returns
 returns c =
-    let a = c .before .before .args .level in
-    let xs = c .before .before .args .samples .now in
+    let b = c .before .before .args in
+    let a = b .level in
+    let xs = b .samples .now in
     c .past .ensures ∙ rw (c .before .ends-of .ensures .0, c .before .ends-of .ensures .1) (ends-say a xs)
 
 pub loud-spec : {M : Type 1} → statement M

@@ -5,15 +5,18 @@ use Rattle.sample_channels.specs.Channels.{anyBad, looked}
 use Rattle.sample_channels.proofs.look_over.Statement.{statement}
 use Rattle.sample_channels.proofs.look_over.Tie as tie
 
-tested : (c : tie.After-either) → c .either .result ≡ anyBad (c .before .before .before .args .roll .now) (c .before .before .before .args .acceleration .now)
+tested : (c : tie.After-either) →
+    let a = c .before .before .before .args in
+    c .either .result ≡ anyBad (a .roll .now) (a .acceleration .now)
 tested c = rw (c .either .ensures, c .before .before .first-bad .ensures, c .before .first-bad2 .ensures)
 
 returns : tie.Need-returns
 unfolding looked
 returns c =
-    let p = c .before .before .before .before .first-bad .ensures in
-    let q = c .before .before .before .first-bad2 .ensures in
-    rw (sym (tested (c .before .before)) ∙ c .before .if1 .taken, c .bad-of .ensures, p, q)
+    let b = c .before .before in
+    let p = b .before .before .first-bad .ensures in
+    let q = b .before .first-bad2 .ensures in
+    rw (sym (tested b) ∙ c .before .if1 .taken, c .bad-of .ensures, p, q)
 
 returns-2 : tie.Need-returns-2
 unfolding looked

@@ -22,20 +22,8 @@ Inv-loop levels roll acceleration ups₀ n i₀ ups i =
 abbrev μ-loop : tie.MeasureT-loop
 μ-loop levels roll acceleration ups₀ n i₀ ups i = n - i
 
-fewer-requires : tie.Need-fewer-requires Inv-loop μ-loop
-fewer-requires c κs = search needs
-
-fewer-requires-2 : tie.Need-fewer-requires-2 Inv-loop μ-loop
-fewer-requires-2 c κs = search needs
-
 loop-holds : tie.Need-loop-holds Inv-loop μ-loop
 loop-holds c = (omega arith, refl, refl)
-
-seen-requires : tie.Need-seen-requires Inv-loop μ-loop
-seen-requires c κs = search needs
-
-above-requires : tie.Need-above-requires Inv-loop μ-loop
-above-requires c κs = search needs
 
 slice-write-ups : tie.Need-slice-write-ups Inv-loop μ-loop
 slice-write-ups c = omega arith
@@ -76,5 +64,5 @@ returns c =
 pub mark-spec : {M : Type 1} → statement M
 mark-spec =
     tie.close
-    (tie.spec Inv-loop μ-loop fewer-requires fewer-requires-2 loop-holds seen-requires above-requires slice-write-ups
-    add-i loop-less loop-again same-length returns)
+    (tie.spec Inv-loop μ-loop (λ c κs. search needs) (λ c κs. search needs) loop-holds (λ c κs. search needs)
+    (λ c κs. search needs) slice-write-ups add-i loop-less loop-again same-length returns)

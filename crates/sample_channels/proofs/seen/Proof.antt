@@ -19,5 +19,4 @@ returns c =
     rw (toZ-ofZ roll, toZ-ofZ acceleration) (sym (moments-at (a .roll .now) (a .acceleration .now) (a .i) (p .0) (p .1)))
 
 pub seen-spec : {M : Type 1} → statement M
-seen-spec =
-    tie.close (tie.spec (λ c. search needs) (λ c. search needs) (λ c. search needs) (λ c. search needs) returns)
+seen-spec = tie.close (tie.spec (λ c. search needs) (λ c. search needs) (λ c. search needs) (λ c. search needs) returns)

@@ -6,7 +6,20 @@ use Rattle.sample_items.proofs.item_outside.Tie as tie
 
 returns : tie.Need-returns
 unfolding itemOutside
-returns c = rw (c .pick5 .ensures, c .before .between5 .ensures, c .before .before .pick4 .ensures, c .before .before .before .between4 .ensures, c .before .before .before .before .pick3 .ensures, c .before .before .before .before .before .between3 .ensures, c .before .before .before .before .before .before .pick2 .ensures, c .before .before .before .before .before .before .before .between2 .ensures, c .before .before .before .before .before .before .before .before .pick .ensures, c .before .before .before .before .before .before .before .before .before .between .ensures)
+returns c =
+    let d = c .before .before in let b = d .before .before .before in let e = b .before .before in
+    rw (
+      c .pick5 .ensures,
+      c .before .between5 .ensures,
+      d .pick4 .ensures,
+      d .before .between4 .ensures,
+      d .before .before .pick3 .ensures,
+      b .between3 .ensures,
+      b .before .pick2 .ensures,
+      e .between2 .ensures,
+      e .before .pick .ensures,
+      e .before .before .between .ensures,
+    )
 
 pub item-outside-spec : {M : Type 1} → statement M
 item-outside-spec =

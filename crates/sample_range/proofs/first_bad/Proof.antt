@@ -23,12 +23,9 @@ abbrev μ-loop : tie.MeasureT-loop
 loop-holds : tie.Need-loop-holds Inv-loop μ-loop
 loop-holds c = (omega arith, zero-add _)
 
-end-requires : tie.Need-end-requires Inv-loop μ-loop
-end-requires c κs = search needs
-
 -- the block is within the samples, and not empty
 within : (c : tie.After-end Inv-loop μ-loop) → (c .before .before .loop .i < c .end .result) × (c .end .result ≤ length (c .before .before .before .args .samples .now))
-within c = end-within (c .before .before .loop .i) (length (c .before .before .before .args .samples .now)) (c .end .ensures) (omega arith)
+within c = end-within _ _ (c .end .ensures) (omega arith)
 
 mul-part : tie.Need-mul-part Inv-loop μ-loop
 mul-part c = omega (arith, within c)
@@ -42,32 +39,28 @@ part-part-start c = omega (arith, within c)
 part-part-end : tie.Need-part-part-end Inv-loop μ-loop
 part-part-end c = omega (arith, within c)
 
-ends-of-requires : tie.Need-ends-of-requires Inv-loop μ-loop
-ends-of-requires c κs = search needs
-
-outside-requires : tie.Need-outside-requires Inv-loop μ-loop
-outside-requires c κs = search needs
-
-first-of-requires : tie.Need-first-of-requires Inv-loop μ-loop
-first-of-requires c κs = search needs
-
 -- the ends say whether a sample of the block is past the limit
-told : (c : tie.After-outside Inv-loop μ-loop) → c .outside .result ≡ anyAbove sampleLimit (take (c .before .before .before .end .result - c .before .before .before .before .before .loop .i) (drop (c .before .before .before .before .before .loop .i) (c .before .before .before .before .before .before .args .samples .now)))
+told : (c : tie.After-outside Inv-loop μ-loop) →
+    let b = c .before .before .before .before .before in
+    c .outside .result ≡ anyAbove sampleLimit (take (c .before .before .before .end .result - b .loop .i) (drop (b .loop .i) (b .before .args .samples .now)))
 told c = c .outside .ensures ∙ rw (c .before .ends-of .ensures .0, c .before .ends-of .ensures .1) (ends-bad _)
 
 -- the first bad sample of a block past the limit is that of all
-here : (c : tie.After-first-of Inv-loop μ-loop) → (c .before .before .before .before .before .before .before .loop .i + c .first-of .result ≡ firstBad (c .before .before .before .before .before .before .before .before .args .samples .now)) × (c .first-of .result < c .before .before .before .before .before .end .result - c .before .before .before .before .before .before .before .loop .i)
+here : (c : tie.After-first-of Inv-loop μ-loop) →
+    let b = c .before .before .before .before .before in let d = b .before .before in
+    (d .loop .i + c .first-of .result ≡ firstBad (d .before .args .samples .now)) × (c .first-of .result < b .end .result - d .loop .i)
 here c =
-    let p = c .before .before .before .before .before .before .before .before .args .samples .now in
-    let i = c .before .before .before .before .before .before .before .loop .i in
-    let e = c .before .before .before .before .before .end .result in
-    let w = within (c .before .before .before .before .before) in
+    let b = c .before .before .before .before .before in let d = b .before .before in
+    let p = d .before .args .samples .now in
+    let i = d .loop .i in
+    let e = b .end .result in
+    let w = within b in
     let block = take (e - i) (drop i p) in
     let l = block-length p i e (omega arith) (omega arith) in
     let h = loud-bad block (sym (told (c .before .before)) ∙ c .before .if1 .taken) in
     let f = ap firstBad (block-cut p i e (omega arith) (omega arith)) ∙ bad-left block (drop e p) h in
     let g = c .first-of .ensures in
-    let v = c .before .before .before .before .before .before .before .loop .inv .1 in
+    let v = d .loop .inv .1 in
     (omega arith, omega arith)
 
 add-result : tie.Need-add-result Inv-loop μ-loop
@@ -81,15 +74,16 @@ loop-less c = omega (arith, within (c .before .before .before .before))
 
 loop-again : tie.Need-loop-again Inv-loop μ-loop
 loop-again c =
-    let p = c .before .before .before .before .before .before .before .args .samples .now in
-    let i = c .before .before .before .before .before .before .loop .i in
-    let e = c .before .before .before .before .end .result in
-    let w = within (c .before .before .before .before) in
+    let b = c .before .before .before .before in let d = b .before .before in
+    let p = d .before .args .samples .now in
+    let i = d .loop .i in
+    let e = b .end .result in
+    let w = within b in
     let block = take (e - i) (drop i p) in
     let l = block-length p i e (omega arith) (omega arith) in
     let g = quiet-good block (sym (told (c .before)) ∙ c .if1 .left) in
     let f = ap firstBad (block-cut p i e (omega arith) (omega arith)) ∙ bad-append block (drop e p) g in
-    let v = c .before .before .before .before .before .before .loop .inv .1 in
+    let v = d .loop .inv .1 in
     (omega arith, omega arith)
 
 returns-2 : tie.Need-returns-2 Inv-loop μ-loop
@@ -102,5 +96,6 @@ returns-2 c =
 pub first-bad-spec : {M : Type 1} → statement M
 first-bad-spec =
     tie.close
-    (tie.spec Inv-loop μ-loop loop-holds end-requires mul-part sub-part part-part-start part-part-end ends-of-requires
-    outside-requires first-of-requires add-result returns loop-less loop-again returns-2)
+    (tie.spec Inv-loop μ-loop loop-holds (λ c κs. search needs) mul-part sub-part part-part-start part-part-end
+    (λ c κs. search needs) (λ c κs. search needs) (λ c κs. search needs) add-result returns loop-less loop-again
+    returns-2)

@@ -33,13 +33,11 @@ mul-in-range c = omega arith
 shared-slice-copy-out-in-range : tie.Need-shared-slice-copy-out-in-range Inv-loop μ-loop
 shared-slice-copy-out-in-range c = omega arith
 
-in-range-requires : tie.Need-in-range-requires Inv-loop μ-loop
-in-range-requires c κs = search needs
-
 returns : tie.Need-returns Inv-loop μ-loop
 returns c =
-    let p = c .before .before .before .before .before .args .block .now in
-    let i = c .before .before .before .before .loop .i in
+    let b = c .before .before .before .before in
+    let p = b .before .args .block .now in
+    let i = b .loop .i in
     let f : SFits w32 (getD p i (pos 0)) = search needs in
     let z : sampleInRange (getD p i (pos 0)) ≡ false = ap sampleInRange (sym (toZ-ofZ f)) ∙ sym (c .before .in-range .ensures) ∙ not-true _ (c .if1 .taken) in
     omega (arith, turn firstBad p i (omega arith) ∙ bad-out (getD p i (pos 0)) (drop (i + 1) p) z)
@@ -52,8 +50,9 @@ loop-less c = omega arith
 
 loop-again : tie.Need-loop-again Inv-loop μ-loop
 loop-again c =
-    let p = c .before .before .before .before .before .args .block .now in
-    let i = c .before .before .before .before .loop .i in
+    let b = c .before .before .before .before in
+    let p = b .before .args .block .now in
+    let i = b .loop .i in
     let f : SFits w32 (getD p i (pos 0)) = search needs in
     let z : sampleInRange (getD p i (pos 0)) ≡ true = ap sampleInRange (sym (toZ-ofZ f)) ∙ sym (c .before .in-range .ensures) ∙ not-false _ (c .if1 .left) in
     omega (arith, turn firstBad p i (omega arith) ∙ bad-in (getD p i (pos 0)) (drop (i + 1) p) z)
@@ -68,5 +67,5 @@ returns-2 c =
 pub first-of-spec : {M : Type 1} → statement M
 first-of-spec =
     tie.close
-    (tie.spec Inv-loop μ-loop loop-holds mul-in-range shared-slice-copy-out-in-range in-range-requires returns add-i
-    loop-less loop-again returns-2)
+    (tie.spec Inv-loop μ-loop loop-holds mul-in-range shared-slice-copy-out-in-range (λ c κs. search needs) returns
+    add-i loop-less loop-again returns-2)

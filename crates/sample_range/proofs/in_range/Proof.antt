@@ -23,9 +23,7 @@ between (pos n) = refl
 between (negsuc n) = down n (leb n 999999) refl
 
 returns : tie.Need-returns
-returns c =
-    let x = toZ-ofZ (c .before .fits .x) in
-    c .both .ensures ∙ rw x (between (c .before .args .x))
+returns c = let x = toZ-ofZ (c .before .fits .x) in c .both .ensures ∙ rw x (between (c .before .args .x))
 
 pub in-range-spec : {M : Type 1} → statement M
 in-range-spec = tie.close (tie.spec (λ c κs. search needs) returns)

@@ -22,8 +22,8 @@ narrow-tells a m l = go (ltb a m) refl
 returns : tie.Need-returns
 returns c =
     rw (c .before .narrow .ensures)
-    (narrow-tells (c .before .before .args .level) (c .magnitude .result) (omega arith)
-    ∙ ap (ltb (c .before .before .args .level)) (c .magnitude .ensures ∙ ap natAbs (toZ-ofZ (c .before .before .fits .x))))
+    (narrow-tells _ (c .magnitude .result) (omega arith)
+    ∙ ap (ltb _) (c .magnitude .ensures ∙ ap natAbs (toZ-ofZ (c .before .before .fits .x))))
 
 pub above-spec : {M : Type 1} → statement M
 above-spec = tie.close (tie.spec (λ c κs. search needs) (λ c κs. search needs) returns)

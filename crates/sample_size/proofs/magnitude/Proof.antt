@@ -44,7 +44,7 @@ fits x f = subst (SFits w32) (sym (at64 x f)) f
 
 -- what the test gives, at the number that the machine reads
 low : (c : tie.Then1) → Below (Read (c .before .args .x))
-low c = below (Read (c .before .args .x)) (fits (c .before .args .x) (c .before .fits .x)) (c .if1 .taken)
+low c = below _ (fits (c .before .args .x) (c .before .fits .x)) (c .if1 .taken)
 
 sub-result : tie.Need-sub-result
 unfolding Below
@@ -55,14 +55,14 @@ unfolding Below
 cast-result c = subst (λ (v : ℤ). T (nonNeg v) × Fits w32 (natAbs v)) (sym (toZ-ofZ (low c .0))) (low c .1, low c .2)
 
 cast-result-2 : tie.Need-cast-result-2
-cast-result-2 c = above (Read (c .before .args .x)) (fits (c .before .args .x) (c .before .fits .x)) (c .if1 .left)
+cast-result-2 c = above _ (fits (c .before .args .x) (c .before .fits .x)) (c .if1 .left)
 
 returns : tie.Need-returns
 unfolding Below
-returns c = ap natAbs (toZ-ofZ (low c .0)) ∙ low c .3 ∙ ap natAbs (at64 (c .before .args .x) (c .before .fits .x))
+returns c = ap natAbs (toZ-ofZ (low c .0)) ∙ low c .3 ∙ ap natAbs (at64 _ (c .before .fits .x))
 
 returns-2 : tie.Need-returns-2
-returns-2 c = ap natAbs (at64 (c .before .args .x) (c .before .fits .x))
+returns-2 c = ap natAbs (at64 _ (c .before .fits .x))
 
 pub magnitude-spec : {M : Type 1} → statement M
 magnitude-spec = tie.close (tie.spec cast-wide sub-result cast-result cast-result-2 returns returns-2)

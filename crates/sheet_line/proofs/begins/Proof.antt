@@ -28,22 +28,14 @@ Inv-loop text word i₀ i = (i ≤ length word) × (begins (drop i word) (drop i
 abbrev μ-loop : tie.MeasureT-loop
 μ-loop text word i₀ i = length word - i
 
-loop-holds : tie.Need-loop-holds Inv-loop μ-loop
-loop-holds c = search needs
-
 returns : tie.Need-returns Inv-loop μ-loop
 unfolding begins
 returns c =
-    let a = c .before .before .before .args in
-    let i = c .before .before .loop .i in
+    let b = c .before .before in
+    let a = b .before .args in
+    let i = b .loop .i in
     let more : i < length (now (a .word)) = omega arith in
-    sym (rw (drop-of-length-le (now (a .text)) (c .if1 .taken), drop-cons (now (a .word)) i 0 more) at (sym (c .before .before .loop .inv .1)))
-
-shared-slice-read-if2 : tie.Need-shared-slice-read-if2 Inv-loop μ-loop
-shared-slice-read-if2 c = search needs
-
-shared-slice-read-if2-2 : tie.Need-shared-slice-read-if2-2 Inv-loop μ-loop
-shared-slice-read-if2-2 c = search needs
+    sym (rw (drop-of-length-le (now (a .text)) (c .if1 .taken), drop-cons (now (a .word)) i 0 more) at (sym (b .loop .inv .1)))
 
 returns-2 : tie.Need-returns-2 Inv-loop μ-loop
 returns-2 c =
@@ -51,12 +43,6 @@ returns-2 c =
     let a = b .before .args in
     let i = b .loop .i in
     sym (sym (b .loop .inv .1) ∙ rw (turn (now (a .text)) (now (a .word)) i (omega arith) (omega arith), ne-eqb _ _ (c .if2 .taken)))
-
-add-i : tie.Need-add-i Inv-loop μ-loop
-add-i c = search needs
-
-loop-less : tie.Need-loop-less Inv-loop μ-loop
-loop-less c = search needs
 
 loop-again : tie.Need-loop-again Inv-loop μ-loop
 loop-again c =
@@ -75,5 +61,5 @@ returns-3 c =
 pub begins-spec : {M : Type 1} → statement M
 begins-spec =
     tie.close
-    (tie.spec Inv-loop μ-loop loop-holds returns shared-slice-read-if2 shared-slice-read-if2-2 returns-2 add-i loop-less
-    loop-again returns-3)
+    (tie.spec Inv-loop μ-loop (λ c. search needs) returns (λ c. search needs) (λ c. search needs) returns-2
+    (λ c. search needs) (λ c. search needs) loop-again returns-3)

@@ -11,7 +11,7 @@ use Rattle.sheet_line.proofs.ended.Tie as tie
 
 returns : tie.Need-returns
 unfolding endsHere
-returns c = rw (drop-of-length-le (now (c .before .args .s)) (c .if1 .taken))
+returns c = rw (drop-of-length-le _ (c .if1 .taken))
 
 returns-2 : tie.Need-returns-2
 unfolding endsHere

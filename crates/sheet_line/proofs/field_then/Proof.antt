@@ -23,7 +23,7 @@ returns : tie.Need-returns
 unfolding fieldThen endedBy startsWith
 returns c =
     let f = c .before .before in
-    rw (reads (f .before .before) ∙ f .field .given .1, drop-of-length-le (text (f .before .before)) (c .if1 .taken))
+    rw (reads (f .before .before) ∙ f .field .given .1, drop-of-length-le _ (c .if1 .taken))
 
 returns-2 : tie.Need-returns-2
 unfolding fieldThen endedBy startsWith

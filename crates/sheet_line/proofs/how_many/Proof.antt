@@ -34,18 +34,6 @@ abbrev μ-loop : tie.MeasureT-loop
 loop-holds : tie.Need-loop-holds Inv-loop μ-loop
 loop-holds c = (omega arith, omega arith, zero-add _)
 
-shared-slice-read-if1 : tie.Need-shared-slice-read-if1 Inv-loop μ-loop
-shared-slice-read-if1 c = search needs
-
-add-count : tie.Need-add-count Inv-loop μ-loop
-add-count c = search needs
-
-add-i : tie.Need-add-i Inv-loop μ-loop
-add-i c = search needs
-
-loop-less : tie.Need-loop-less Inv-loop μ-loop
-loop-less c = search needs
-
 loop-again : tie.Need-loop-again Inv-loop μ-loop
 loop-again c =
     let l = c .before .before .before in
@@ -59,9 +47,10 @@ returns : tie.Need-returns Inv-loop μ-loop
 unfolding howMany
 returns c =
     let l = c .before in
-    sym (add-zero (l .loop .count)) ∙ (rw (drop-of-length-le (now (l .before .args .text)) (c .loop-test .left)) at (l .loop .inv .2))
+    sym (add-zero (l .loop .count)) ∙ (rw (drop-of-length-le _ (c .loop-test .left)) at (l .loop .inv .2))
 
 pub how-many-spec : {M : Type 1} → statement M
 how-many-spec =
     tie.close
-    (tie.spec Inv-loop μ-loop loop-holds shared-slice-read-if1 add-count add-i loop-less loop-again returns)
+    (tie.spec Inv-loop μ-loop loop-holds (λ c. search needs) (λ c. search needs) (λ c. search needs) (λ c. search needs)
+    loop-again returns)

@@ -15,10 +15,10 @@ returns : tie.Need-returns
 returns c = rw (List·getD-eq-default (now (c .before .args .text)) 0 {n = length (now (c .before .args .text)) - 1} (omega arith), and-false)
 
 returns-2 : tie.Need-returns-2
-returns-2 c = rw (lt-leb (length (now (c .before .before .args .text))) longestSheetLine (c .if2 .taken))
+returns-2 c = rw (lt-leb _ longestSheetLine (c .if2 .taken))
 
 returns-3 : tie.Need-returns-3
-returns-3 c = rw (le-leb (length (now (c .before .before .before .args .text))) longestSheetLine (c .before .if2 .left))
+returns-3 c = rw (le-leb _ longestSheetLine (c .before .if2 .left))
 
 pub is-line-spec : {M : Type 1} → statement M
 is-line-spec = tie.close (tie.spec returns returns-2 (λ c. search needs) (λ c. search needs) returns-3)

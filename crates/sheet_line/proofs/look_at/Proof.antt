@@ -24,7 +24,7 @@ within c =
     read-only (now (start n .args .text)) (start n .args .at) (c .f .given .0 .0) (c .f .given .0 .1 .0) (reads n ∙ c .f .given .1) .within
 
 add-t16 : tie.Need-add-t16
-add-t16 c = omega (arith, within (c .before .before .before), start (c .before .before .before .before .before) .pre .0)
+add-t16 c = let b = c .before .before .before in omega (arith, within b, start (b .before .before) .pre .0)
 
 add-t18 : tie.Need-add-t18
 add-t18 c =

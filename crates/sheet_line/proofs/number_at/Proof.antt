@@ -21,7 +21,7 @@ fault-at-requires : tie.Need-fault-at-requires
 fault-at-requires c κs =
     let a = c .before .before .before .before .args in
     let r = c .before .before .run-at in
-    no-number (now (a .s)) (a .at) (r .result .end) (r .ensures .1) (sym (c .before .ended .ensures) ∙ not-true (c .before .ended .result) (c .if1 .taken))
+    no-number (now (a .s)) (a .at) (r .result .end) (r .ensures .1) (sym (c .before .ended .ensures) ∙ not-true _ (c .if1 .taken))
 
 -- past the first test the field ends after the run, and the run alone decides
 module _ (c : tie.Else1) where

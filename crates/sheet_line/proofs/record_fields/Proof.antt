@@ -6,21 +6,19 @@ use Rattle.sheet_line.proofs.record_fields.Statement.{statement}
 use Rattle.sheet_line.proofs.record_fields.Tie as tie
 
 returns : tie.Need-returns
-returns c =
-    let l = c .before .before in
-    by-number (l .before .before .args .due) (now (l .before .before .args .text)) (l .look-at .ensures .0) (c .if1 .taken)
+returns c = let l = c .before .before in by-number _ _ (l .look-at .ensures .0) (c .if1 .taken)
 
 returns-2 : tie.Need-returns-2
 returns-2 c =
     let m = c .before .before in
     let l = m .before .before .before in
-    by-flag (l .before .before .args .due) (now (l .before .before .args .text)) (l .look-at .ensures .0) (m .before .if1 .left) (l .look-at .ensures .1 .0) (m .look-at2 .ensures .0) (c .if2 .taken)
+    by-flag _ _ (l .look-at .ensures .0) (m .before .if1 .left) (l .look-at .ensures .1 .0) (m .look-at2 .ensures .0) (c .if2 .taken)
 
 returns-3 : tie.Need-returns-3
 returns-3 c =
     let m = c .before .before .before in
     let l = m .before .before .before in
-    by-exposure (l .before .before .args .due) (now (l .before .before .args .text)) (l .look-at .ensures .0) (m .before .if1 .left) (l .look-at .ensures .1 .0) (m .look-at2 .ensures .0)
+    by-exposure _ _ (l .look-at .ensures .0) (m .before .if1 .left) (l .look-at .ensures .1 .0) (m .look-at2 .ensures .0)
     (c .before .if2 .left) (m .look-at2 .ensures .1 .0) (c .look-at3 .ensures .0)
 
 pub record-fields-spec : {M : Type 1} → statement M

@@ -89,7 +89,8 @@ unfolding recordLine
 returns-4 c =
     let m = c .before in
     let s = m .before .before in
-    rw (within (line-of (first-of s)), first (first-of s), second s, ← m .before .field-then3 .ensures) (c .bad-record4 .ensures ∙ sym (other-field (m .before .field-then3 .result) _ _ (m .match3 .keys2)))
+    rw (within (line-of (first-of s)), first (first-of s), second s, ← m .before .field-then3 .ensures)
+    (c .bad-record4 .ensures ∙ sym (other-field (m .before .field-then3 .result) _ _ (m .match3 .keys2)))
 
 add-both : tie.Need-add-both
 add-both c =
@@ -112,11 +113,12 @@ add-outcome c =
 returns-6 : tie.Need-returns-6
 unfolding recordLine
 returns-6 c =
-    let b = c .before .before .before .before in
+    let d = c .before .before .before in
+    let b = d .before in
     let t = fields-of b in
     let s = second-of t in
     let f = first-of s in
-    rw (within (line-of f), first f, second s, third t, said-yes (sym (tests b)) (c .before .before .before .if2 .left))
+    rw (within (line-of f), first f, second s, third t, said-yes (sym (tests b)) (d .if2 .left))
     (c .outcome .ensures ∙ ap (outcome (lineAfter (start (line-of f) .args .c))) (c .before .tell .ensures))
 
 pub record-line-spec : {M : Type 1} → statement M

@@ -26,7 +26,9 @@ worded c = said-yes (c .before .begins .ensures) (c .if2 .left)
 abbrev word-at : tie.After-known-told → tie.Else2
 word-at c = c .before .before .before .before
 
-number : (c : tie.After-known-told) → fieldThen lineFeed (now (c .before .before .before .before .before .before .before .before .before .before .args .text)) (length standardStart) ≡ Number (c .before .q .given .0 .0) (c .before .q .given .0 .1 .0)
+number : (c : tie.After-known-told) → fieldThen lineFeed
+    (now (c .before .before .before .before .before .before .before .before .before .before .args .text))
+    (length standardStart) ≡ Number (c .before .q .given .0 .0) (c .before .q .given .0 .1 .0)
 number c = sym (c .before .before .before .field-then .ensures) ∙ c .before .q .given .1
 
 returns : tie.Need-returns

@@ -62,7 +62,10 @@ module _ (c : tie.Else4) where
   Failed = c .before .before .before .before .before .stands2 .result
 
   flag : standsAt (Text (known tabbed)) (End (known tabbed) + 1) (zeroByte + cond Failed 1 0) ≡ true
-  flag = flag-stands (Text (known tabbed)) (End (known tabbed) + 1) (c .before .before .before .before .before .stands2 .ensures) (sym (c .before .before .before .either .ensures) ∙ not-false _ (c .before .before .if3 .left)) (c .before .before .before .before .stands3 .ensures)
+  flag = flag-stands (Text (known tabbed)) (End (known tabbed) + 1)
+      (c .before .before .before .before .before .stands2 .ensures)
+      (sym (c .before .before .before .either .ensures) ∙ not-false _ (c .before .before .if3 .left))
+      (c .before .before .before .before .stands3 .ensures)
 
   second : standsAt (Text (known tabbed)) (End (known tabbed) + 2) tab ≡ true
   second = said-yes (c .before .stands4 .ensures) (c .if4 .left)
@@ -100,10 +103,11 @@ add-stands-3 c = omega (arith, inside (c .before))
 returns-4 : tie.Need-returns-4
 unfolding EntryAt
 returns-4 c =
-    let e = c .before .before .before .before in
+    let b = c .before .before in
+    let e = b .before .before in
     let k = known e in
     let (one, zero) = neither _ _ (sym (c .before .either .ensures) ∙ not-true _ (c .if3 .taken)) in
-    no-flag (Text k) (begin k .args .at) (begin k .args .due) (N k) (End k) (number k) (sym (c .before .before .before .stands2 .ensures) ∙ one) (sym (c .before .before .stands3 .ensures) ∙ zero)
+    no-flag (Text k) (begin k .args .at) (begin k .args .due) (N k) (End k) (number k) (sym (b .before .stands2 .ensures) ∙ one) (sym (b .stands3 .ensures) ∙ zero)
 
 add-stands-4 : tie.Need-add-stands-4
 add-stands-4 c = omega (arith, inside (c .before .before .before .before))
@@ -131,10 +135,7 @@ returns-7 c =
     no-feed (Text k) (begin k .args .at) (begin k .args .due) (N k) (End k) (number k) (Feed t) (exposure t) (said-no (c .before .stands5 .ensures) (c .if5 .taken))
 
 add-t11 : tie.Need-add-t11
-add-t11 c =
-    let t = c .before .before in
-    let k = known (tabbed (flagged t)) in
-    omega (arith, exposure t .within)
+add-t11 c = let t = c .before .before in let k = known (tabbed (flagged t)) in omega (arith, exposure t .within)
 
 returns-8 : tie.Need-returns-8
 unfolding EntryAt
@@ -142,7 +143,9 @@ returns-8 c =
     let t = c .before .before in
     let e = tabbed (flagged t) in
     let k = known e in
-    entry-here (Text k) (begin k .args .at) (begin k .args .due) (N k) (End k) (number k) (Feed t) (exposure t) (Failed (flagged t)) (due e) (first e) (flag (flagged t)) (second (flagged t)) (said-yes (c .before .stands5 .ensures) (c .if5 .left))
+    entry-here (Text k) (begin k .args .at) (begin k .args .due) (N k) (End k) (number k) (Feed t) (exposure t)
+    (Failed (flagged t)) (due e) (first e) (flag (flagged t)) (second (flagged t))
+    (said-yes (c .before .stands5 .ensures) (c .if5 .left))
 
 pub entry-at-spec : {M : Type 1} → statement M
 entry-at-spec =

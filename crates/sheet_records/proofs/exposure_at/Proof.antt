@@ -15,6 +15,10 @@ use Rattle.sheet_records.proofs.Exposures.{few, no-digits, no-number, r
 use Rattle.sheet_records.proofs.exposure_at.Statement.{statement}
 use Rattle.sheet_records.proofs.exposure_at.Tie as tie
 
+-- ways back to earlier places of the function
+abbrev digits-end : tie.Else2 → tie.After-digits-end
+digits-end c = c .before .before .before
+
 module _ (c : tie.After-digits-end) where
   abbrev Text : List ℕ
   Text = now (c .before .before .args .text)
@@ -23,7 +27,7 @@ module _ (c : tie.After-digits-end) where
   At = c .before .before .args .at
 
 -- the first digit is not 0
-other : (c : tie.Else2) → let d = c .before .before .before in standsAt (Text d) (At d) zeroByte ≡ false
+other : (c : tie.Else2) → let d = digits-end c in standsAt (Text d) (At d) zeroByte ≡ false
 other c = sym (c .before .stands .ensures) ∙ c .if2 .left
 
 -- what more than seven digits read as
@@ -49,19 +53,19 @@ unfolding ExposureAt
 returns-2 c = let d = c .before .before .before in zero-first (Text d) (At d) (sym (c .before .stands .ensures) ∙ c .if2 .taken)
 
 sub-if3 : tie.Need-sub-if3
-sub-if3 c = let d = c .before .before .before in omega (arith, d .digits-end .ensures)
+sub-if3 c = let d = digits-end c in omega (arith, d .digits-end .ensures)
 
 returns-3 : tie.Need-returns-3
 unfolding ExposureAt
 returns-3 c =
     let e = c .before in
-    let d = e .before .before .before in
+    let d = digits-end e in
     few (Text d) (At d) (other e) (d .digits-end .result) (d .digits-end .ensures) (e .before .before .if1 .left) (omega (arith, d .digits-end .ensures, c .if3 .taken))
 
 returns-4 : tie.Need-returns-4
 unfolding ExposureAt
 returns-4 c =
-    let d = c .before .before .before .before .before .before .before in
+    let d = digits-end (c .before .before .before .before) in
     no-number (Text d) (At d) (sym (c .before .before .leading-at .ensures) ∙ c .enum-told .given .1)
 
 returns-5 : tie.Need-returns-5

@@ -45,46 +45,19 @@ module _ (c : tie.After-judge-one Inv-loop μ-loop) where
   says : c .judge-one .result ≡ judgedOne (loop .loop .i) (loop .loop .failures) (exposureIn X)
   says = c .judge-one .ensures ∙ ap (λ (o : Outcome). judgedOne (loop .loop .i) (loop .loop .failures) (o .exposure)) is
 
-both-requires : tie.Need-both-requires Inv-loop μ-loop
-both-requires c κs = search needs
-
 returns : tie.Need-returns Inv-loop μ-loop
-returns c = bad-standard (c .before .before .args .q) (now (c .before .before .args .records)) (said-no (c .before .both .ensures) (c .if1 .taken))
+returns c = bad-standard _ _ (said-no (c .before .both .ensures) (c .if1 .taken))
 
 loop-holds : tie.Need-loop-holds Inv-loop μ-loop
-loop-holds c = start (c .before .before .args .q) (now (c .before .before .args .records)) (said-yes (c .before .both .ensures) (c .if1 .left))
-
-mul-outcome : tie.Need-mul-outcome Inv-loop μ-loop
-mul-outcome c = search needs
-
-shared-slice-copy-out-outcome : tie.Need-shared-slice-copy-out-outcome Inv-loop μ-loop
-shared-slice-copy-out-outcome c = search needs
-
-outcome-requires : tie.Need-outcome-requires Inv-loop μ-loop
-outcome-requires c κs = search needs
-
-judge-one-requires : tie.Need-judge-one-requires Inv-loop μ-loop
-judge-one-requires c κs = search needs
-
-enum-known-r : tie.Need-enum-known-r Inv-loop μ-loop
-enum-known-r c = search needs
+loop-holds c = start _ _ (said-yes (c .before .both .ensures) (c .if1 .left))
 
 returns-2 : tie.Need-returns-2 Inv-loop μ-loop
 returns-2 c =
     let j = c .before .before .before in
-    decides (loop j .loop .inv) (inside j) (c .before .r .given .0 .0) (sym (says j) ∙ c .before .r .given .1)
-
-enum-told : tie.Need-enum-told Inv-loop μ-loop
-enum-told c = search needs
+    decides (loop j .loop .inv) (inside j) _ (sym (says j) ∙ c .before .r .given .1)
 
 add-pick : tie.Need-add-pick Inv-loop μ-loop
 add-pick c = omega (arith, few-failures (loop (c .before .before) .loop .inv))
-
-pick-requires : tie.Need-pick-requires Inv-loop μ-loop
-pick-requires c κs = search needs
-
-add-i : tie.Need-add-i Inv-loop μ-loop
-add-i c = search needs
 
 loop-less : tie.Need-loop-less Inv-loop μ-loop
 loop-less c = omega arith
@@ -101,6 +74,6 @@ returns-3 c = ended (c .before .loop .inv) (c .loop-test .left)
 pub judge-spec : {M : Type 1} → statement M
 judge-spec =
     tie.close
-    (tie.spec Inv-loop μ-loop both-requires returns loop-holds mul-outcome shared-slice-copy-out-outcome
-    outcome-requires judge-one-requires enum-known-r returns-2 enum-told add-pick pick-requires add-i loop-less
-    loop-again returns-3)
+    (tie.spec Inv-loop μ-loop (λ c κs. search needs) returns loop-holds (λ c. search needs) (λ c. search needs)
+    (λ c κs. search needs) (λ c κs. search needs) (λ c. search needs) returns-2 (λ c. search needs) add-pick
+    (λ c κs. search needs) (λ c. search needs) loop-less loop-again returns-3)

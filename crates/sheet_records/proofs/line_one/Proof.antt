@@ -38,7 +38,7 @@ module _ (c : tie.After-known-told) where
 
 returns : tie.Need-returns
 unfolding HeadOf
-returns c = no-word (Text (c .before)) (said-no (c .before .begins .ensures) (c .if1 .taken))
+returns c = no-word _ (said-no (c .before .begins .ensures) (c .if1 .taken))
 
 returns-2 : tie.Need-returns-2
 unfolding HeadOf

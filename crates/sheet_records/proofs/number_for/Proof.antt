@@ -26,13 +26,13 @@ turned-fits : (n : ℕ) → n ≤ longestTime → SFits w32 (pos 0 -ℤ toZ w32 
 turned-fits n h = subst (SFits w32) (sym (turned n h)) (negated-fits n h)
 
 sub-result : tie.Need-sub-result
-sub-result c = turned-fits (c .before .args .exposure) (c .before .pre)
+sub-result c = turned-fits _ (c .before .pre)
 
 returns : tie.Need-returns
 returns c = let n = c .before .args .exposure in rw (c .if1 .taken) (toZ-ofZ (turned-fits n (c .before .pre)) ∙ turned n (c .before .pre))
 
 returns-2 : tie.Need-returns-2
-returns-2 c = rw (c .if1 .left) (plain (c .before .args .exposure) (c .before .pre))
+returns-2 c = rw (c .if1 .left) (plain _ (c .before .pre))
 
 pub number-for-spec : {M : Type 1} → statement M
 number-for-spec = tie.close (tie.spec (λ c. search needs) sub-result returns returns-2)

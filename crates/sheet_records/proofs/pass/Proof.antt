@@ -64,24 +64,12 @@ module _ (c : tie.After-known-told2 Inv-loop μ-loop) where
 taken : (c : tie.Else2 Inv-loop μ-loop) → let k = c .before .before in takenAfter (loop k .loop .count) (loop k .loop .failures) ≡ true
 taken c = said-yes (c .before .takes .ensures) (c .if2 .left)
 
-line-one-requires : tie.Need-line-one-requires Inv-loop μ-loop
-line-one-requires c κs = search needs
-
-enum-known-q : tie.Need-enum-known-q Inv-loop μ-loop
-enum-known-q c = search needs
-
-enum-told : tie.Need-enum-told Inv-loop μ-loop
-enum-told c = search needs
-
 returns : tie.Need-returns Inv-loop μ-loop
 unfolding Passes
 returns c =
     let s = c .before .before .before .before in
     let text = now (s .args .text) in
     no-head text (subst (HeadOf text) (c .enum-told .given .1) (c .before .before .line-one .ensures))
-
-both-requires : tie.Need-both-requires Inv-loop μ-loop
-both-requires c κs = search needs
 
 returns-2 : tie.Need-returns-2 Inv-loop μ-loop
 unfolding Passes
@@ -93,24 +81,13 @@ loop-holds c = let k = c .before .before in start (Text k) (Q k) (Next k) (stand
 add-entry-at : tie.Need-add-entry-at Inv-loop μ-loop
 add-entry-at c = omega (arith, few (c .before .loop .inv))
 
-entry-at-requires : tie.Need-entry-at-requires Inv-loop μ-loop
-entry-at-requires c κs = search needs
-
-enum-known-failed : tie.Need-enum-known-failed Inv-loop μ-loop
-enum-known-failed c = search needs
-
-enum-told-2 : tie.Need-enum-told-2 Inv-loop μ-loop
-enum-told-2 c = search needs
-
 returns-3 : tie.Need-returns-3 Inv-loop μ-loop
 unfolding Passes
 returns-3 c =
-    let l = c .before .before .before .before in
+    let b = c .before .before in
+    let l = b .before .before in
     let text = Text (l .before .before .before) in
-    other-line (l .loop .inv) (c .before .before .before .loop-test .taken) (subst (EntryAt text (l .loop .at) (l .loop .count + 1)) (c .enum-told2 .given .1) (c .before .before .entry-at .ensures))
-
-takes-requires : tie.Need-takes-requires Inv-loop μ-loop
-takes-requires c κs = search needs
+    other-line (l .loop .inv) (b .before .loop-test .taken) (subst (EntryAt text (l .loop .at) (l .loop .count + 1)) (c .enum-told2 .given .1) (b .entry-at .ensures))
 
 returns-4 : tie.Need-returns-4 Inv-loop μ-loop
 unfolding Passes
@@ -121,16 +98,11 @@ returns-4 c =
 add-pick : tie.Need-add-pick Inv-loop μ-loop
 add-pick c = let k = c .before .before in omega (arith, few-failures (loop k .loop .inv))
 
-pick-requires : tie.Need-pick-requires Inv-loop μ-loop
-pick-requires c κs = search needs
-
 add-count : tie.Need-add-count Inv-loop μ-loop
 add-count c = let k = c .before .before .before in omega (arith, few (loop k .loop .inv))
 
 loop-less : tie.Need-loop-less Inv-loop μ-loop
-loop-less c =
-    let k = c .before .before .before in
-    omega (arith, further k .0, further k .1)
+loop-less c = let k = c .before .before .before in omega (arith, further k .0, further k .1)
 
 loop-again : tie.Need-loop-again Inv-loop μ-loop
 loop-again c =
@@ -145,6 +117,7 @@ returns-5 c = ended (c .before .loop .inv) (c .loop-test .left)
 pub pass-spec : {M : Type 1} → statement M
 pass-spec =
     tie.close
-    (tie.spec Inv-loop μ-loop line-one-requires enum-known-q enum-told returns both-requires returns-2 loop-holds
-    add-entry-at entry-at-requires enum-known-failed enum-told-2 returns-3 takes-requires returns-4 add-pick
-    pick-requires add-count loop-less loop-again returns-5)
+    (tie.spec Inv-loop μ-loop (λ c κs. search needs) (λ c. search needs) (λ c. search needs) returns
+    (λ c κs. search needs) returns-2 loop-holds add-entry-at (λ c κs. search needs) (λ c. search needs)
+    (λ c. search needs) returns-3 (λ c κs. search needs) returns-4 add-pick (λ c κs. search needs) add-count loop-less
+    loop-again returns-5)

@@ -21,6 +21,10 @@ Inv-loop text begin places₀ at₀ count₀ width₀ limit₀ places at count w
 abbrev μ-loop : tie.MeasureT-loop
 μ-loop text begin places₀ at₀ count₀ width₀ limit₀ places at count width limit = length text - at
 
+-- ways back to earlier places of the function
+abbrev loop₂ : tie.After-places Inv-loop μ-loop → tie.At-loop Inv-loop μ-loop
+loop₂ c = c .before .before .before .before .before .before
+
 -- the record that is due
 module _ (c : tie.In-loop Inv-loop μ-loop) where
   abbrev Next : Type 0
@@ -49,29 +53,20 @@ record-at-requires c κs = (here c .stands .inside, omega (arith, here c .stands
 number-for-requires : tie.Need-number-for-requires Inv-loop μ-loop
 number-for-requires c κs = omega (arith, exposure c, here (loop c) .short)
 
-put-requires : tie.Need-put-requires Inv-loop μ-loop
-put-requires c κs = search needs
-
 add-count : tie.Need-add-count Inv-loop μ-loop
-add-count c = omega (arith, few (c .before .before .before .before .before .before .loop .inv))
+add-count c = omega (arith, few (loop₂ c .loop .inv))
 
 add-pick : tie.Need-add-pick Inv-loop μ-loop
-add-pick c = omega (arith, few (c .before .before .before .before .before .before .loop .inv))
+add-pick c = omega (arith, few (loop₂ c .loop .inv))
 
 add-pick-2 : tie.Need-add-pick-2 Inv-loop μ-loop
-add-pick-2 c = let p = c .before .before .before .before .before .before .loop .inv in omega (arith, few p, p .wide .few)
-
-pick-requires : tie.Need-pick-requires Inv-loop μ-loop
-pick-requires c κs = search needs
+add-pick-2 c = let p = loop₂ c .loop .inv in omega (arith, few p, p .wide .few)
 
 add-pick-3 : tie.Need-add-pick-3 Inv-loop μ-loop
-add-pick-3 c = omega (arith, few (c .before .before .before .before .before .before .before .loop .inv))
+add-pick-3 c = omega (arith, few (loop₂ (c .before) .loop .inv))
 
 mul-pick : tie.Need-mul-pick Inv-loop μ-loop
-mul-pick c = let p = c .before .before .before .before .before .before .before .loop .inv in omega (arith, few p, wide-room (p .wide))
-
-pick-requires-2 : tie.Need-pick-requires-2 Inv-loop μ-loop
-pick-requires-2 c κs = search needs
+mul-pick c = let p = loop₂ (c .before) .loop .inv in omega (arith, few p, wide-room (p .wide))
 
 loop-less : tie.Need-loop-less Inv-loop μ-loop
 loop-less c =
@@ -87,9 +82,13 @@ loop-again c =
     let l = loop r .before .loop in
     let d = here (loop r) in
     let f : SFits w32 (v .number-for .result) = search needs in
-    let x : v .number-for .result ≡ signed (d .failed) (d .exposure) = v .number-for .ensures ∙ ap (λ (b : Bool). signed b (r .record-at .result .exposure)) (failed r) ∙ ap (signed (d .failed)) (exposure r) in
+    let x : v .number-for .result ≡ signed (d .failed) (d .exposure) = v .number-for .ensures ∙
+    ap (λ (b : Bool). signed b (r .record-at .result .exposure)) (failed r) ∙ ap (signed (d .failed))
+    (exposure r) in
     let stored = p .put .ensures ∙ ap (set (l .places) (l .count)) (toZ-ofZ f ∙ x) in
-    rw (c .pick2 .ensures, c .before .pick .ensures) (put-on (l .inv) d stored (ap (λ (n : ℕ). drop n (now (loop r .before .before .before .args .text))) (r .record-at .ensures .1 .1) ∙ d .stands .after))
+    rw (c .pick2 .ensures, c .before .pick .ensures) (put-on (l .inv) d stored
+    (ap (λ (n : ℕ). drop n (now (loop r .before .before .before .args .text))) (r .record-at .ensures .1 .1) ∙
+    d .stands .after))
 
 same-length : tie.Need-same-length Inv-loop μ-loop
 same-length c = c .before .loop .inv .size
@@ -100,5 +99,6 @@ returns c = put-done (c .before .loop .inv) (c .loop-test .left)
 pub put-all-spec : {M : Type 1} → statement M
 put-all-spec =
     tie.close
-    (tie.spec Inv-loop μ-loop loop-holds record-at-requires number-for-requires put-requires add-count add-pick
-    add-pick-2 pick-requires add-pick-3 mul-pick pick-requires-2 loop-less loop-again same-length returns)
+    (tie.spec Inv-loop μ-loop loop-holds record-at-requires number-for-requires (λ c κs. search needs) add-count
+    add-pick add-pick-2 (λ c κs. search needs) add-pick-3 mul-pick (λ c κs. search needs) loop-less loop-again
+    same-length returns)

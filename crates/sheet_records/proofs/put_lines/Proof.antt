@@ -83,7 +83,9 @@ returns : tie.Need-returns Inv-loop μ-loop
 returns c =
     let l = c .before in
     let a = l .before .before .args in
-    let none : linesFrom (l .loop .i + 1) (drop (l .loop .i) (a .records .now)) ≡ [] = ap (linesFrom (l .loop .i + 1)) (drop-of-length-le (a .records .now) {i = l .loop .i} (c .loop-test .left)) ∙ lines-none (l .loop .i + 1) in
+    let none : linesFrom (l .loop .i + 1) (drop (l .loop .i) (a .records .now)) ≡ [] =
+    ap (linesFrom (l .loop .i + 1)) (drop-of-length-le (a .records .now) {i = l .loop .i} (c .loop-test .left))
+    ∙ lines-none (l .loop .i + 1) in
     left-wrote (subst (λ (rest : List ℕ). Left (now (a .out)) (a .at) (linesFrom 1 (a .records .now)) rest (l .loop .out) (l .loop .place)) none (l .loop .inv .1))
 
 pub put-lines-spec : {M : Type 1} → statement M

@@ -23,9 +23,6 @@ Inv-loop q records total₀ i₀ total i =
 abbrev μ-loop : tie.MeasureT-loop
 μ-loop q records total₀ i₀ total i = length records - i
 
-digits-requires : tie.Need-digits-requires Inv-loop μ-loop
-digits-requires c κs = search needs
-
 add-total : tie.Need-add-total Inv-loop μ-loop
 add-total c = omega (arith, c .digits .ensures .1)
 
@@ -42,9 +39,6 @@ mul-line-length c = omega arith
 
 shared-slice-copy-out-line-length : tie.Need-shared-slice-copy-out-line-length Inv-loop μ-loop
 shared-slice-copy-out-line-length c = omega arith
-
-line-length-requires : tie.Need-line-length-requires Inv-loop μ-loop
-line-length-requires c κs = search needs
 
 add-total-2 : tie.Need-add-total-2 Inv-loop μ-loop
 add-total-2 c = omega (arith, c .line-length .ensures .1)
@@ -69,11 +63,13 @@ returns : tie.Need-returns Inv-loop μ-loop
 returns c =
     let l = c .before in
     let p = l .before .before .args .records .now in
-    let none : length (linesFrom (l .loop .i + 1) (drop (l .loop .i) p)) ≡ 0 = ap (λ (xs : List ℤ). length (linesFrom (l .loop .i + 1) xs)) (drop-of-length-le p {i = l .loop .i} (omega arith)) ∙ ap length (lines-none (l .loop .i + 1)) in
+    let none : length (linesFrom (l .loop .i + 1) (drop (l .loop .i) p)) ≡ 0 = ap (λ (xs : List ℤ). length
+    (linesFrom (l .loop .i + 1) xs)) (drop-of-length-le p {i = l .loop .i} (omega arith)) ∙
+    ap length (lines-none (l .loop .i + 1)) in
     omega (arith, l .loop .inv .1)
 
 pub sheet-length-spec : {M : Type 1} → statement M
 sheet-length-spec =
     tie.close
-    (tie.spec Inv-loop μ-loop digits-requires add-total loop-holds add-line-length mul-line-length
-    shared-slice-copy-out-line-length line-length-requires add-total-2 add-i loop-less loop-again returns)
+    (tie.spec Inv-loop μ-loop (λ c κs. search needs) add-total loop-holds add-line-length mul-line-length
+    shared-slice-copy-out-line-length (λ c κs. search needs) add-total-2 add-i loop-less loop-again returns)

@@ -58,8 +58,9 @@ put-sheet-requires c κs =
 returns-2 : tie.Need-returns-2
 unfolding laidBy
 returns-2 c =
-    let s = c .before .before .before .before .before in
-    (at-fault (s .args .q) (now (s .args .records)) (now (s .args .out)) (c .before .r .given .0 .0) (sym (c .before .r .given .1) ∙ c .before .before .before .judge .ensures), refl)
+    let b = c .before .before .before in
+    let s = b .before .before in
+    (at-fault (s .args .q) (now (s .args .records)) (now (s .args .out)) _ (sym (c .before .r .given .1) ∙ b .judge .ensures), refl)
 
 returns-3 : tie.Need-returns-3
 returns-3 c =

@@ -6,10 +6,12 @@ use Rattle.sheet_reply.proofs.censored.Statement.{statement}
 use Rattle.sheet_reply.proofs.censored.Tie as tie
 
 returns : tie.Need-returns
-returns c = absurd (count-not-refused (c .before .before .before .args .c) (c .before .before .before .pre) (c .before .before .censored .ensures) (c .enum-told .given .1))
+returns c = absurd (count-not-refused _ (c .before .before .before .pre) (c .before .before .censored .ensures) (c .enum-told .given .1))
 
 returns-2 : tie.Need-returns-2
-returns-2 c = has-count (c .before .before .before .before .args .c) (c .before .before .before .before .pre) (c .before .before .before .censored .ensures) (c .before .n .given .1)
+returns-2 c =
+    let b = c .before .before .before in
+    has-count _ (b .before .pre) (b .censored .ensures) (c .before .n .given .1)
 
 pub censored-spec : {M : Type 1} → statement M
 censored-spec = tie.close (tie.spec (λ c κs. search needs) (λ c. search needs) (λ c. search needs) returns returns-2)

@@ -9,10 +9,12 @@ use Rattle.sheet_reply.proofs.letter.Statement.{statement}
 use Rattle.sheet_reply.proofs.letter.Tie as tie
 
 given : (c : tie.After-known-told) → c .before .v .given .0 .0 ≡ verdictOf (c .before .before .before .before .args .c)
-given c = has-verdict (c .before .before .before .before .args .c) (c .before .before .before .before .pre) (c .before .before .before .judge .result) (c .before .before .before .judge .ensures) (c .before .v .given .1)
+given c =
+    let b = c .before .before .before in
+    has-verdict _ (b .before .pre) _ (b .judge .ensures) (c .before .v .given .1)
 
 returns : tie.Need-returns
-returns c = absurd (not-refused (c .before .before .before .args .c) (c .before .before .before .pre) (c .before .before .judge .result) (c .before .before .judge .ensures) (c .enum-told .given .1))
+returns c = absurd (not-refused _ (c .before .before .before .pre) _ (c .before .before .judge .ensures) (c .enum-told .given .1))
 
 returns-2 : tie.Need-returns-2
 unfolding letterFor

@@ -23,7 +23,7 @@ both c = rw (eq-eqb (start c .args .number) malformedNumber (c .if1 .taken))
 
 alone : (c : tie.Else1) → let a = c .before .before .args in reasonText (a .number) (a .column) ≡ fieldText (a .number) lineFeed
 unfolding reasonText
-alone c = rw (ne-eqb (c .before .before .args .number) malformedNumber (c .if1 .left))
+alone c = rw (ne-eqb _ malformedNumber (c .if1 .left))
 
 -- of the reason so much is left, and the lent bytes are these
 abbrev Stands : tie.Then1 → List ℕ → List ℕ → ℕ → Type 0
@@ -34,7 +34,7 @@ left0 c = record { front = []; parts = sym (both c); place = sym (add-zero (star
 
 left1 : (c : tie.After-write-field) → let t = c .before .before in
     Stands t (fieldText (start t .args .column) lineFeed) (c .write-field .last .1 .1 .0) (c .write-field .result)
-left1 c = left-next (fieldText (start (c .before .before) .args .number) tab) _ (left0 (c .before .before)) (c .write-field .ensures)
+left1 c = left-next _ _ (left0 (c .before .before)) (c .write-field .ensures)
 
 returns : tie.Need-returns
 returns c = left-last (left1 (c .before .before .before .before .before .before)) (c .before .before .write-field2 .ensures)

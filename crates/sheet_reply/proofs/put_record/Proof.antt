@@ -88,7 +88,9 @@ left5 : (c : tie.After-write-byte) → let l = letter-of (first-of (second-of (t
 left5 c = left-next (letter-of (first-of (second-of (third-of (fourth-of c)))) .letter .result ∷ []) _ (left4 (fourth-of c)) (c .write-byte .ensures)
 
 returns : tie.Need-returns
-returns c = let a = c .before .before .before .args in rw (empty (a .c) (c .if1 .taken)) (wrote-none (now (a .out)) (a .at) (omega (arith, rw (empty (a .c) (c .if1 .taken)) at (c .before .before .before .pre .1))))
+returns c =
+    let b = c .before .before .before in
+    let a = b .args in rw (empty (a .c) (c .if1 .taken)) (wrote-none (now (a .out)) (a .at) (omega (arith, rw (empty (a .c) (c .if1 .taken)) at (b .pre .1))))
 
 returns-2 : tie.Need-returns-2
 returns-2 c =

@@ -35,7 +35,8 @@ left1 c = left-next refusedWord _ (left-all _ _ (refusedText (start c .args .lin
 left2 : (c : tie.After-write-field) → Stands (word-of c) (Why (word-of c)) (c .write-field .last .1 .1 .0) (c .write-field .result)
 left2 c = left-next (fieldText (start (word-of c) .args .line) tab) _ (left1 (word-of c)) (c .write-field .ensures)
 
-left3 : (c : tie.After-write-field) {n : ℕ} → n ≡ numberOf (start (word-of c) .args .r) → Stands (word-of c) (reasonText n (start (word-of c) .args .column)) (c .write-field .last .1 .1 .0) (c .write-field .result)
+left3 : (c : tie.After-write-field) {n : ℕ} → n ≡ numberOf (start (word-of c) .args .r) → Stands (word-of c)
+    (reasonText n (start (word-of c) .args .column)) (c .write-field .last .1 .1 .0) (c .write-field .result)
 left3 c e = rw e (left2 c)
 
 put-reason-requires : tie.Need-put-reason-requires

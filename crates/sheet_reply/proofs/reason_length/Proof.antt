@@ -12,14 +12,14 @@ returns : tie.Need-returns
 unfolding reasonText fieldText
 returns c =
     let t = c .before .before in
-    rw (eq-eqb (t .before .args .number) malformedNumber (t .if1 .taken))
+    rw (eq-eqb _ malformedNumber (t .if1 .taken))
     (simp length-append (omega (arith, c .before .digits .ensures .0, c .digits2 .ensures .0)), omega (arith, c .before .digits .ensures .1, c .digits2 .ensures .1))
 
 returns-2 : tie.Need-returns-2
 unfolding reasonText fieldText
 returns-2 c =
     let t = c .before in
-    rw (ne-eqb (t .before .args .number) malformedNumber (t .if1 .left)) (simp length-append (omega (arith, c .digits3 .ensures .0)), omega (arith, c .digits3 .ensures .1))
+    rw (ne-eqb _ malformedNumber (t .if1 .left)) (simp length-append (omega (arith, c .digits3 .ensures .0)), omega (arith, c .digits3 .ensures .1))
 
 pub reason-length-spec : {M : Type 1} → statement M
 reason-length-spec =

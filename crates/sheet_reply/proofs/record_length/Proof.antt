@@ -16,7 +16,17 @@ returns c = rw (eq-eqb _ _ (c .if1 .taken))
 
 returns-2 : tie.Need-returns-2
 unfolding recordText figures fieldText
-returns-2 c = rw (ne-eqb _ _ (c .before .before .before .before .before .if1 .left)) (simp length-append (omega (arith, c .before .before .before .before .digits .ensures .0, c .before .before .before .digits2 .ensures .0, c .before .digits3 .ensures .0, ap (λ n. length (digitsOf n)) (c .before .before .censored .ensures), c .digits4 .ensures .0)))
+returns-2 c =
+    let b = c .before .before .before in
+    rw (ne-eqb _ _ (b .before .before .if1 .left)) (simp length-append (omega (
+      arith,
+      b .before .digits .ensures .0,
+      b .digits2 .ensures .0,
+      c .before .digits3 .ensures .0,
+      ap (λ n. length (digitsOf n))
+          (c .before .before .censored .ensures),
+      c .digits4 .ensures .0,
+    )))
 
 pub record-length-spec : {M : Type 1} → statement M
 record-length-spec =

@@ -35,7 +35,7 @@ put-refused-requires c κs = fits (c .before)
 returns-2 : tie.Need-returns-2
 returns-2 c =
     let e = c .before .before .before .before in
-    upto _ _ (refusedText (start (e .before) .args .line) (start (e .before) .args .column) (start (e .before) .args .r)) (fits e) (c .before .before .put-refused .ensures)
+    upto _ _ _ (fits e) (c .before .before .put-refused .ensures)
 
 pub write-refused-spec : {M : Type 1} → statement M
 write-refused-spec =

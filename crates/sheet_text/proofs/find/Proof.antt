@@ -15,15 +15,19 @@ use borrow.Author.Needs.{needs}
 use Rattle.sheet_text.proofs.find.Statement.{statement}
 use Rattle.sheet_text.proofs.find.Tie as tie
 
+-- ways back to earlier places of the function
+abbrev line-end : tie.After-line → tie.After-line-end
+line-end c = c .before .before .before .before .before
+
 -- what is handed over: the part from `at` to the end that was found
 abbrev Rest : tie.After-line-end → List ℕ
-Rest c = drop (c .before .before .args .at) (now (c .before .before .args .text))
+Rest c = let a = c .before .before .args in drop (a .at) (now (a .text))
 
 end-is : (c : tie.After-line-end) → c .line-end .result ≡ c .before .before .args .at + cut longestSheetLine (Rest c)
 end-is c = c .line-end .ensures
 
 first : (c : tie.After-line-end) → take (c .line-end .result - c .before .before .args .at) (Rest c) ≡ firstLine (Rest c)
-first c = part-first (now (c .before .before .args .text)) (c .before .before .args .at) (c .line-end .result) (end-is c)
+first c = part-first _ _ (c .line-end .result) (end-is c)
 
 within : (c : tie.After-line-end) → c .line-end .result ≤ length (now (c .before .before .args .text))
 within c = end-within _ _ (c .line-end .result) (end-is c) (omega arith)
@@ -34,8 +38,10 @@ waits-is c = rw (← first (c .before .before)) (sym (c .waits .ensures))
 abbrev waits-at : tie.After-line → tie.After-waits
 waits-at c = c .before .before .before
 
-step-is : (c : tie.After-line) → stepping (c .before .before .before .before .before .before .before .args .s) (firstLine (Rest (c .before .before .before .before .before))) ≡ c .line .result
-step-is c = rw (← first (c .before .before .before .before .before)) (sym (c .line .ensures))
+step-is : (c : tie.After-line) →
+    let b = line-end c in
+    stepping (b .before .before .args .s) (firstLine (Rest b)) ≡ c .line .result
+step-is c = rw (← first (line-end c)) (sym (c .line .ensures))
 
 part-waits-end : tie.Need-part-waits-end
 part-waits-end c = within c
@@ -44,7 +50,7 @@ returns : tie.Need-returns
 unfolding found
 returns c =
     let e = c .before .before .before in
-    rw (waits-is (c .before) ∙ c .if1 .taken, part-length (now (e .before .before .args .text)) (e .before .before .args .at) (e .line-end .result) (end-is e))
+    rw (waits-is (c .before) ∙ c .if1 .taken, part-length _ _ (e .line-end .result) (end-is e))
 
 part-line-end : tie.Need-part-line-end
 part-line-end c = within (c .before .before .before)
@@ -53,8 +59,8 @@ returns-2 : tie.Need-returns-2
 unfolding found
 returns-2 c =
     let l = c .before .before .before in
-    let e = l .before .before .before .before .before in
-    rw (waits-is (waits-at l) ∙ l .before .before .if1 .left, step-is l ∙ c .before .t .given .1, ← part-end (now (e .before .before .args .text)) (e .before .before .args .at) (e .line-end .result) (end-is e))
+    let e = line-end l in
+    rw (waits-is (waits-at l) ∙ l .before .before .if1 .left, step-is l ∙ c .before .t .given .1, ← part-end _ _ (e .line-end .result) (end-is e))
 
 returns-3 : tie.Need-returns-3
 unfolding found

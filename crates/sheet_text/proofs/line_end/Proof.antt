@@ -19,35 +19,20 @@ Inv-loop text at stop i₀ i = (at ≤ i) × (i ≤ stop) × (reached text at i 
 abbrev μ-loop : tie.MeasureT-loop
 μ-loop text at stop i₀ i = stop - i
 
-furthest-requires : tie.Need-furthest-requires Inv-loop μ-loop
-furthest-requires c κs = search needs
-
 loop-holds : tie.Need-loop-holds Inv-loop μ-loop
-loop-holds c = (omega arith, omega arith, reached-start (now (c .before .before .args .text)) (c .before .before .args .at))
-
-shared-slice-read-if1 : tie.Need-shared-slice-read-if1 Inv-loop μ-loop
-shared-slice-read-if1 c = search needs
-
-add-result : tie.Need-add-result Inv-loop μ-loop
-add-result c = search needs
+loop-holds c = (omega arith, omega arith, reached-start _ _)
 
 returns : tie.Need-returns Inv-loop μ-loop
-returns c = let b = c .before .before .before in sym (reached-found (now (c .before .before .before .before .before .before .args .text)) (c .before .before .before .before .before .before .args .at) (b .loop .i) (omega arith) (omega arith) (eq-eqb _ _ (c .if1 .taken))) ∙ b .loop .inv .2
-
-add-i : tie.Need-add-i Inv-loop μ-loop
-add-i c = search needs
-
-loop-less : tie.Need-loop-less Inv-loop μ-loop
-loop-less c = search needs
+returns c = let b = c .before .before .before in sym (reached-found _ _ (b .loop .i) (omega arith) (omega arith) (eq-eqb _ _ (c .if1 .taken))) ∙ b .loop .inv .2
 
 loop-again : tie.Need-loop-again Inv-loop μ-loop
-loop-again c = let b = c .before .before .before in (omega arith, omega arith, sym (reached-on (now (c .before .before .before .before .before .before .args .text)) (c .before .before .before .before .before .before .args .at) (b .loop .i) (omega arith) (omega arith) (ne-eqb _ _ (c .if1 .left))) ∙ b .loop .inv .2)
+loop-again c = let b = c .before .before .before in (omega arith, omega arith, sym (reached-on _ _ (b .loop .i) (omega arith) (omega arith) (ne-eqb _ _ (c .if1 .left))) ∙ b .loop .inv .2)
 
 returns-2 : tie.Need-returns-2 Inv-loop μ-loop
-returns-2 c = sym (reached-end (now (c .before .before .before .before .args .text)) (c .before .before .before .before .args .at) (c .before .loop .i) (omega arith)) ∙ c .before .loop .inv .2
+returns-2 c = sym (reached-end _ _ _ (omega arith)) ∙ c .before .loop .inv .2
 
 pub line-end-spec : {M : Type 1} → statement M
 line-end-spec =
     tie.close
-    (tie.spec Inv-loop μ-loop furthest-requires loop-holds shared-slice-read-if1 add-result returns add-i loop-less
-    loop-again returns-2)
+    (tie.spec Inv-loop μ-loop (λ c κs. search needs) loop-holds (λ c. search needs) (λ c. search needs) returns
+    (λ c. search needs) (λ c. search needs) loop-again returns-2)

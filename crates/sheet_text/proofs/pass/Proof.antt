@@ -23,6 +23,10 @@ Inv-loop text more out₀ sheet₀ at₀ put₀ out sheet at put = Running more 
 abbrev μ-loop : tie.MeasureT-loop
 μ-loop text more out₀ sheet₀ at₀ put₀ out sheet at put = length text - at
 
+-- ways back to earlier places of the function
+abbrev find : tie.After-known-told Inv-loop μ-loop → tie.After-find Inv-loop μ-loop
+find c = c .before .before .before
+
 -- the places on the way back: the loop, and before it the start
 abbrev Loop : Type 0
 Loop = tie.At-loop Inv-loop μ-loop
@@ -41,42 +45,31 @@ found-is : (c : tie.After-find Inv-loop μ-loop) → let l = loop-of c in
     found (start l .args .more) (now (start l .args .text)) (l .loop .at) (l .loop .sheet) ≡ c .find .result
 found-is c = sym (c .find .ensures)
 
-taken : (c : tie.After-known-told Inv-loop μ-loop) → let l = loop-of (c .before .before .before) in
+taken : (c : tie.After-known-told Inv-loop μ-loop) → let l = loop-of (find c) in
     found (start l .args .more) (now (start l .args .text)) (l .loop .at) (l .loop .sheet) ≡ Taken (c .before .t .given .0 .0) (c .before .t .given .0 .1 .0)
-taken c = found-is (c .before .before .before) ∙ c .before .t .given .1
+taken c = found-is (find c) ∙ c .before .t .given .1
 
-took : (c : tie.After-known-told Inv-loop μ-loop) → let l = loop-of (c .before .before .before) in
+took : (c : tie.After-known-told Inv-loop μ-loop) → let l = loop-of (find c) in
     Took (start l .args .more) (now (start l .args .text)) (l .loop .at) (l .loop .sheet) (c .before .t .given .0 .0) (c .before .t .given .0 .1 .0)
-took c = found-taken _ _ _ _ (inside (c .before .before .before .before)) (loop-of (c .before .before .before) .loop .inv .along .sound) (taken c)
+took c = let b = find c in found-taken _ _ _ _ (inside (b .before)) (loop-of b .loop .inv .along .sound) (taken c)
 
 loop-holds : tie.Need-loop-holds Inv-loop μ-loop
 loop-holds c =
     let s = c .before .before in
     running-start (s .args .more) (now (s .args .text)) (s .args .s) (now (s .args .out)) (s .pre)
 
-find-requires : tie.Need-find-requires Inv-loop μ-loop
-find-requires c κs = search needs
-
-enum-known-t : tie.Need-enum-known-t Inv-loop μ-loop
-enum-known-t c = search needs
-
 put-sheet-requires : tie.Need-put-sheet-requires Inv-loop μ-loop
 put-sheet-requires c κs =
     let t = c .before in
-    line-few (loop-of (t .before .before .before) .loop .inv) (inside (t .before .before .before .before)) (taken t)
+    line-few (loop-of (find t) .loop .inv) (inside (t .before .before .before .before)) (taken t)
 
 loop-less : tie.Need-loop-less Inv-loop μ-loop
-loop-less c =
-    let t = took (c .before .before .before .before) in
-    omega (arith, t .further, t .within)
+loop-less c = let t = took (c .before .before .before .before) in omega (arith, t .further, t .within)
 
 loop-again : tie.Need-loop-again Inv-loop μ-loop
 loop-again c =
     let t = c .before .before .before .before in
-    running-next (loop-of (t .before .before .before) .loop .inv) (inside (t .before .before .before .before)) (taken t) (c .before .before .put-sheet .ensures)
-
-enum-known-left : tie.Need-enum-known-left Inv-loop μ-loop
-enum-known-left c = search needs
+    running-next (loop-of (find t) .loop .inv) (inside (t .before .before .before .before)) (taken t) (c .before .before .put-sheet .ensures)
 
 same-length : tie.Need-same-length Inv-loop μ-loop
 same-length c = loop-of (c .before .before .before) .loop .inv .size
@@ -87,14 +80,12 @@ returns c =
     let w = found-waits _ _ _ _ (inside (f .before)) (found-is f ∙ c .before .left .given .1) in
     running-end (loop-of f .loop .inv) (w .0) (omega arith) (w .1, w .2) (none-written _ _)
 
-enum-known-line : tie.Need-enum-known-line Inv-loop μ-loop
-enum-known-line c = search needs
-
 put-end-requires : tie.Need-put-end-requires Inv-loop μ-loop
 put-end-requires c κs =
+    let g = c .before .before .line .given in
     let f = c .before .before .before .before in
-    let b = found-bad _ _ _ _ (inside (f .before)) (loop-of f .loop .inv .along .sound) (found-is f ∙ c .before .before .line .given .1) in
-    omega (arith, few-so-far (loop-of f .loop .inv), refused-few (c .before .before .line .given .0 .0) (c .before .before .line .given .0 .1 .0) (c .before .before .line .given .0 .1 .1 .0) (b .1) (b .2))
+    let b = found-bad _ _ _ _ (inside (f .before)) (loop-of f .loop .inv .along .sound) (found-is f ∙ g .1) in
+    omega (arith, few-so-far (loop-of f .loop .inv), refused-few (g .0 .0) (g .0 .1 .0) (g .0 .1 .1 .0) (b .1) (b .2))
 
 same-length-2 : tie.Need-same-length-2 Inv-loop μ-loop
 same-length-2 c = c .before .before .put-end .kept .1 .0 ∙ loop-of (c .before .before .before .before .before .before .before) .loop .inv .size
@@ -105,9 +96,6 @@ returns-2 c =
     let f = l .before .before in
     let b = found-bad _ _ _ _ (inside (f .before)) (loop-of f .loop .inv .along .sound) (found-is f ∙ l .line .given .1) in
     running-end (loop-of f .loop .inv) (b .0) (refused-few _ _ _ (b .1) (b .2)) (omega arith, omega arith) (c .before .before .put-end .ensures)
-
-last-requires : tie.Need-last-requires Inv-loop μ-loop
-last-requires c κs = search needs
 
 put-end-requires-2 : tie.Need-put-end-requires-2 Inv-loop μ-loop
 put-end-requires-2 c κs =
@@ -128,6 +116,6 @@ returns-3 c =
 pub pass-spec : {M : Type 1} → statement M
 pass-spec =
     tie.close
-    (tie.spec Inv-loop μ-loop loop-holds find-requires enum-known-t put-sheet-requires loop-less loop-again
-    enum-known-left same-length returns enum-known-line put-end-requires same-length-2 returns-2 last-requires
-    put-end-requires-2 same-length-3 returns-3)
+    (tie.spec Inv-loop μ-loop loop-holds (λ c κs. search needs) (λ c. search needs) put-sheet-requires loop-less
+    loop-again (λ c. search needs) same-length returns (λ c. search needs) put-end-requires same-length-2 returns-2
+    (λ c κs. search needs) put-end-requires-2 same-length-3 returns-3)

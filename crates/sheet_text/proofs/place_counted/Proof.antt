@@ -14,4 +14,5 @@ returns-2 c = rw (c .before .before .w2 .given .1, c .carried .ensures)
 
 pub place-counted-spec : {M : Type 1} → statement M
 place-counted-spec =
-    tie.close (tie.spec (λ c. search needs) (λ c. search needs) (λ c κs. search needs) add-result (λ c. search needs) returns-2)
+    tie.close
+    (tie.spec (λ c. search needs) (λ c. search needs) (λ c κs. search needs) add-result (λ c. search needs) returns-2)

@@ -28,7 +28,7 @@ place-counted-requires c κs =
     omega (arith, place w, ap (λ e. length (endText e)) (end-of w .end .given .1), start (end-of w) .pre)
 
 returns : tie.Need-returns
-returns c = rw (c .enum-told .given .1) (none-written (now (c .before .before .before .args .out)) (c .before .before .before .args .at))
+returns c = rw (c .enum-told .given .1) (none-written _ _)
 
 returns-2 : tie.Need-returns-2
 returns-2 c =
@@ -36,10 +36,10 @@ returns-2 c =
     rw (end-of w .end .given .1) (c .place-counted .ensures ∙ place w, w .write-refused .ensures .1)
 
 returns-3 : tie.Need-returns-3
-returns-3 c = rw (c .enum-told2 .given .1) (none-written (now (c .before .before .before .args .out)) (c .before .before .before .args .at))
+returns-3 c = rw (c .enum-told2 .given .1) (none-written _ _)
 
 pub put-end-spec : {M : Type 1} → statement M
 put-end-spec =
     tie.close
-    (tie.spec (λ c. search needs) (λ c. search needs) (λ c κs. search needs) place-counted-requires (λ c. search needs) returns
-    (λ c. search needs) returns-2 returns-3)
+    (tie.spec (λ c. search needs) (λ c. search needs) (λ c κs. search needs) place-counted-requires (λ c. search needs)
+    returns (λ c. search needs) returns-2 returns-3)

@@ -27,7 +27,7 @@ place c =
     counted-writing (now (start s .args .out)) (start s .args .at) _ (rw (rw (s .s .given .1) at (start s .pre .0)) at (c .write-record .ensures .0))
 
 returns : tie.Need-returns
-returns c = rw (c .enum-told .given .1) (none-written (now (c .before .before .before .args .out)) (c .before .before .before .args .at))
+returns c = rw (c .enum-told .given .1) (none-written _ _)
 
 place-counted-requires : tie.Need-place-counted-requires
 place-counted-requires c κs =
@@ -44,5 +44,5 @@ returns-2 c =
 pub put-sheet-spec : {M : Type 1} → statement M
 put-sheet-spec =
     tie.close
-    (tie.spec (λ c. search needs) (λ c. search needs) returns (λ c κs. search needs) place-counted-requires (λ c. search needs)
-    returns-2)
+    (tie.spec (λ c. search needs) (λ c. search needs) returns (λ c κs. search needs) place-counted-requires
+    (λ c. search needs) returns-2)

@@ -41,21 +41,12 @@ found-is : (c : tie.After-find Inv-loop μ-loop) → let l = c .before .before i
     found (start l .args .more) (now (start l .args .text)) (l .loop .at) (l .loop .sheet) ≡ c .find .result
 found-is c = sym (c .find .ensures)
 
-sound-requires : tie.Need-sound-requires Inv-loop μ-loop
-sound-requires c κs = search needs
-
 returns : tie.Need-returns Inv-loop μ-loop
 unfolding readingEnd
 returns c = rw (said-no (c .before .sound .ensures) (c .if1 .taken))
 
 loop-holds : tie.Need-loop-holds Inv-loop μ-loop
-loop-holds c = (_, along-start (c .before .before .before .args .more) (now (c .before .before .before .args .text)) (c .before .before .before .args .s) (said-yes (c .before .sound .ensures) (c .if1 .left)))
-
-find-requires : tie.Need-find-requires Inv-loop μ-loop
-find-requires c κs = search needs
-
-enum-known-t : tie.Need-enum-known-t Inv-loop μ-loop
-enum-known-t c = search needs
+loop-holds c = (_, along-start _ _ _ (said-yes (c .before .sound .ensures) (c .if1 .left)))
 
 loop-less : tie.Need-loop-less Inv-loop μ-loop
 loop-less c =
@@ -68,9 +59,6 @@ loop-again c =
     let f = c .before .before .before in
     (_, along-next (f .before .before .loop .inv .1) (inside (f .before)) (found-is f ∙ c .before .t .given .1))
 
-enum-known-left : tie.Need-enum-known-left Inv-loop μ-loop
-enum-known-left c = search needs
-
 returns-2 : tie.Need-returns-2 Inv-loop μ-loop
 unfolding readingEnd
 returns-2 c =
@@ -78,18 +66,12 @@ returns-2 c =
     let l = f .before .before in
     rw (from-sound l) (whole-end (l .loop .inv .1) (found-waits _ _ _ _ (inside (f .before)) (found-is f ∙ c .before .left .given .1) .0))
 
-enum-known-line : tie.Need-enum-known-line Inv-loop μ-loop
-enum-known-line c = search needs
-
 returns-3 : tie.Need-returns-3 Inv-loop μ-loop
 unfolding readingEnd
 returns-3 c =
     let f = c .before .before .before in
     let l = f .before .before in
     rw (from-sound l) (whole-end (l .loop .inv .1) (found-bad _ _ _ _ (inside (f .before)) (l .loop .inv .1 .sound) (found-is f ∙ c .before .line .given .1) .0))
-
-last-requires : tie.Need-last-requires Inv-loop μ-loop
-last-requires c κs = search needs
 
 returns-4 : tie.Need-returns-4 Inv-loop μ-loop
 unfolding readingEnd
@@ -100,5 +82,5 @@ returns-4 c =
 pub read-spec : {M : Type 1} → statement M
 read-spec =
     tie.close
-    (tie.spec Inv-loop μ-loop sound-requires returns loop-holds find-requires enum-known-t loop-less loop-again
-    enum-known-left returns-2 enum-known-line returns-3 last-requires returns-4)
+    (tie.spec Inv-loop μ-loop (λ c κs. search needs) returns loop-holds (λ c κs. search needs) (λ c. search needs)
+    loop-less loop-again (λ c. search needs) returns-2 (λ c. search needs) returns-3 (λ c κs. search needs) returns-4)

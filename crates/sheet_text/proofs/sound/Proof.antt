@@ -7,4 +7,5 @@ returns-2 : tie.Need-returns-2
 returns-2 c = rw (c .before .before .s .given .1) (c .sound .ensures)
 
 pub sound-spec : {M : Type 1} → statement M
-sound-spec = tie.close (tie.spec (λ c. search needs) (λ c. search needs) (λ c κs. search needs) (λ c. search needs) returns-2)
+sound-spec = tie.close (tie.spec (λ c. search needs) (λ c. search needs) (λ c κs. search needs) (λ c. search needs)
+    returns-2)

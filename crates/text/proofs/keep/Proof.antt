@@ -47,9 +47,6 @@ Inv-loop bytes₀ from count i₀ bytes i = Moved from bytes₀ bytes i × (i �
 abbrev μ-loop : tie.MeasureT-loop
 μ-loop bytes₀ from count i₀ bytes i = count - i
 
-has-room-requires : tie.Need-has-room-requires Inv-loop μ-loop
-has-room-requires c κs = search needs
-
 returns : tie.Need-returns Inv-loop μ-loop
 unfolding kept
 returns c = rw (said-no (c .before .has-room .ensures) (c .if1 .taken))
@@ -73,7 +70,7 @@ loop-less : tie.Need-loop-less Inv-loop μ-loop
 loop-less c = omega arith
 
 loop-again : tie.Need-loop-again Inv-loop μ-loop
-loop-again c = (moved-on _ _ _ _ (c .before .before .loop .inv .0) (omega arith), omega arith, c .before .before .loop .inv .2)
+loop-again c = let i = c .before .before .loop .inv in (moved-on _ _ _ _ (i .0) (omega arith), omega arith, i .2)
 
 same-length : tie.Need-same-length Inv-loop μ-loop
 same-length c = c .before .loop .inv .0 .size
@@ -87,5 +84,5 @@ returns-2 c =
 pub keep-spec : {M : Type 1} → statement M
 keep-spec =
     tie.close
-    (tie.spec Inv-loop μ-loop has-room-requires returns loop-holds add-bytes slice-read-bytes slice-write-bytes add-i
-    loop-less loop-again same-length returns-2)
+    (tie.spec Inv-loop μ-loop (λ c κs. search needs) returns loop-holds add-bytes slice-read-bytes slice-write-bytes
+    add-i loop-less loop-again same-length returns-2)

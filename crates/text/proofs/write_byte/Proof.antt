@@ -11,9 +11,7 @@ use Rattle.text.proofs.write_byte.Statement.{statement}
 use Rattle.text.proofs.write_byte.Tie as tie
 
 returns : tie.Need-returns
-returns c =
-    let a = c .before .args in
-    wrote-short (now (a .out)) (a .at) (a .b ∷ []) (omega arith)
+returns c = let a = c .before .args in wrote-short (now (a .out)) (a .at) (a .b ∷ []) (omega arith)
 
 returns-2 : tie.Need-returns-2
 returns-2 c =

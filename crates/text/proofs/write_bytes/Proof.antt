@@ -21,28 +21,23 @@ Inv-loop bytes out₀ at i₀ out i =
 abbrev μ-loop : tie.MeasureT-loop
 μ-loop bytes out₀ at i₀ out i = i
 
-has-room-requires : tie.Need-has-room-requires Inv-loop μ-loop
-has-room-requires c κs = search needs
+-- ways back to earlier places of the function
+abbrev start : tie.After-has-room Inv-loop μ-loop → tie.Start Inv-loop μ-loop
+start c = c .before .before .before
 
 returns : tie.Need-returns Inv-loop μ-loop
 returns c =
-    let a = c .before .before .before .before .args in
+    let a = start (c .before) .args in
     let n = a .at + length (now (a .bytes)) in
     wrote-short (now (a .out)) (a .at) (now (a .bytes))
-    (leb-false n (length (now (a .out))) (sym (c .before .has-room .ensures) ∙ not-true (c .before .has-room .result) (c .if1 .taken)))
+    (leb-false n (length (now (a .out))) (sym (c .before .has-room .ensures) ∙ not-true _ (c .if1 .taken)))
 
 loop-holds : tie.Need-loop-holds Inv-loop μ-loop
 loop-holds c =
-    let a = c .before .before .before .before .args in
+    let a = start (c .before) .args in
     let n = a .at + length (now (a .bytes)) in
-    let room = leb-true n (length (now (a .out))) (sym (c .before .has-room .ensures) ∙ not-false (c .before .has-room .result) (c .if1 .left)) in
+    let room = leb-true n (length (now (a .out))) (sym (c .before .has-room .ensures) ∙ not-false _ (c .if1 .left)) in
     (room, (omega arith, (refl, rw take-length)))
-
-sub-i : tie.Need-sub-i Inv-loop μ-loop
-sub-i c = search needs
-
-shared-slice-read-out : tie.Need-shared-slice-read-out Inv-loop μ-loop
-shared-slice-read-out c = search needs
 
 add-out : tie.Need-add-out Inv-loop μ-loop
 add-out c = omega arith
@@ -50,13 +45,10 @@ add-out c = omega arith
 slice-write-out : tie.Need-slice-write-out Inv-loop μ-loop
 slice-write-out c = omega arith
 
-loop-less : tie.Need-loop-less Inv-loop μ-loop
-loop-less c = search needs
-
 loop-again : tie.Need-loop-again Inv-loop μ-loop
 loop-again c =
     let l = c .before .before .loop in
-    let a = c .before .before .before .before .before .before .before .args in (
+    let a = start (c .before .before .before .before) .args in (
       omega arith,
       (
         omega arith,
@@ -70,12 +62,9 @@ loop-again c =
 add-result : tie.Need-add-result Inv-loop μ-loop
 add-result c = omega arith
 
-same-length : tie.Need-same-length Inv-loop μ-loop
-same-length c = search needs
-
 returns-2 : tie.Need-returns-2 Inv-loop μ-loop
 returns-2 c =
-    let a = c .before .before .before .before .before .before .args in
+    let a = start (c .before .before .before) .args in
     let l = c .before .loop in
     let none : l .i ≡ 0 = omega arith in
     wrote-laid (now (a .out)) (a .at) (now (a .bytes)) (l .out) (a .at + length (now (a .bytes))) (l .inv .0)
@@ -85,5 +74,5 @@ returns-2 c =
 pub write-bytes-spec : {M : Type 1} → statement M
 write-bytes-spec =
     tie.close
-    (tie.spec Inv-loop μ-loop has-room-requires returns loop-holds sub-i shared-slice-read-out add-out slice-write-out
-    loop-less loop-again add-result same-length returns-2)
+    (tie.spec Inv-loop μ-loop (λ c κs. search needs) returns loop-holds (λ c. search needs) (λ c. search needs) add-out
+    slice-write-out (λ c. search needs) loop-again add-result (λ c. search needs) returns-2)

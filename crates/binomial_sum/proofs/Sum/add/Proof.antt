@@ -11,6 +11,10 @@ use borrow.Author.Needs.{needs}
 use Rattle.binomial_sum.proofs.Sum.add.Statement.{statement}
 use Rattle.binomial_sum.proofs.Sum.add.Tie as tie
 
+-- ways back to earlier places of the function
+abbrev else2 : tie.After-struct-known4 → tie.Else2
+else2 c = c .before .before .before .before .before
+
 returns : tie.Need-returns
 unfolding adding
 returns c = rw (said-no (c .before .sound .ensures) (c .if1 .taken))
@@ -20,26 +24,42 @@ unfolding adding
 returns-2 c = rw (said-yes (c .before .before .before .sound .ensures) (c .before .before .if1 .left), said-no (c .before .sound2 .ensures) (c .if2 .taken))
 
 add-if3 : tie.Need-add-if3
-add-if3 c = omega (arith, items-of (kept.kept-from (c .before .before .before .before .before .args .r) (said-yes (c .before .before .sound2 .ensures) (c .before .if2 .left))) .ramp)
+add-if3 c = omega (arith, items-of (kept.kept-from _ (said-yes (c .before .before .sound2 .ensures) (c .before .if2 .left))) .ramp)
 
 returns-3 : tie.Need-returns-3
 unfolding adding
-returns-3 c = rw (said-yes (c .before .before .before .before .before .before .sound .ensures) (c .before .before .before .before .before .if1 .left), said-yes (c .before .before .before .before .sound2 .ensures) (c .before .before .before .if2 .left), lt-ltb _ _ (c .if3 .taken))
+returns-3 c =
+    let b = c .before .before .before in
+    rw (said-yes (b .before .before .before .sound .ensures) (b .before .before .if1 .left), said-yes (b .before .sound2 .ensures) (b .if2 .left), lt-ltb _ _ (c .if3 .taken))
 
 returns-4 : tie.Need-returns-4
 unfolding adding
-returns-4 c = rw (said-yes (c .before .before .before .before .before .before .before .before .before .sound .ensures) (c .before .before .before .before .before .before .before .before .if1 .left), said-yes (c .before .before .before .before .before .before .before .sound2 .ensures) (c .before .before .before .before .before .before .if2 .left), le-ltb _ _ (c .before .before .before .if3 .left), ne-eqb _ _ (c .if4 .taken))
+returns-4 c =
+    let b = else2 (c .before) in
+    rw (
+      said-yes (b .before .before .before .sound .ensures) (b .before .before .if1 .left),
+      said-yes (b .before .sound2 .ensures) (b .if2 .left),
+      le-ltb _ _ (c .before .before .before .if3 .left),
+      ne-eqb _ _ (c .if4 .taken),
+    )
 
 take-requires : tie.Need-take-requires
 take-requires c κs =
-    let a = c .before .before .before .before .before .before .before .before .before .before .before .args in
-    let b = brings (a .r) (said-yes (c .before .before .before .before .before .before .before .before .sound2 .ensures) (c .before .before .before .before .before .before .before .if2 .left)) (le-ltb _ _ (c .before .before .before .before .if3 .left)) in
-    (kept-from (a .self) (holds (said-yes (c .before .before .before .before .before .before .before .before .before .before .sound .ensures) (c .before .before .before .before .before .before .before .before .before .if1 .left))), omega (arith, b .groups, b .few), b .few)
+    let d = else2 (c .before .before) in let e = d .before .before in
+    let a = e .before .before .args in
+    let b = brings (a .r) (said-yes (d .before .sound2 .ensures) (d .if2 .left)) (le-ltb _ _ (c .before .before .before .before .if3 .left)) in
+    (kept-from (a .self) (holds (said-yes (e .before .sound .ensures) (e .if1 .left))), omega (arith, b .groups, b .few), b .few)
 
 returns-5 : tie.Need-returns-5
 unfolding adding
 returns-5 c =
-    rw (said-yes (c .before .before .before .before .before .before .before .before .before .before .before .sound .ensures) (c .before .before .before .before .before .before .before .before .before .before .if1 .left), said-yes (c .before .before .before .before .before .before .before .before .before .sound2 .ensures) (c .before .before .before .before .before .before .before .before .if2 .left), le-ltb _ _ (c .before .before .before .before .before .if3 .left), eq-eqb _ _ (c .before .before .if4 .left))
+    let b = else2 (c .before .before .before) in
+    rw (
+      said-yes (b .before .before .before .sound .ensures) (b .before .before .if1 .left),
+      said-yes (b .before .sound2 .ensures) (b .if2 .left),
+      le-ltb _ _ (c .before .before .before .before .before .if3 .left),
+      eq-eqb _ _ (c .before .before .if4 .left),
+    )
     (c .take .ensures)
 
 pub add-spec : {M : Type 1} → statement M

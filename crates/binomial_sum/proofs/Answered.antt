@@ -1,14 +1,14 @@
 -- What an answer tells of the question, and back: a record that was added met every test on the way, and one that meets
 -- them all is added. So what is handed out keeps the relations, and a sum grown by adding is never refused with 8.
 -- Assumes nothing.
-use mathlib.Core.Path.{_≡_, ap, refl, sym}
+use mathlib.Core.Path.{_≡_, ap, sym}
 use mathlib.Core.Bool.{Bool, cond, false, not, true, _||_}
 use Prim.Native.Nat.{ℕ, _+_, _≤_}
 use native.Mathlib.Omega.{arith}
 use borrow.Author.Tests.{eq-eqb, eqb-true, le-ltb, ltb-false, not-false}
 use lib.Dec.{T, eqb, leb→le, ltb}
 use lib.Ieee.Fits.{and-l, and-r}
-use Rattle.truth.proofs.Laws.{holds, is-true, true≢false}
+use Rattle.truth.proofs.Laws.{holds, impossible, is-true, neither, past}
 use Rattle.sample_items.specs.Limits.{stepInRange}
 use Rattle.refusal.specs.declared.Refusal.{Refusal}
 use Rattle.refusal.specs.declared.Refusal.the-variants.{BrokenState, Item, SumFull, TooShort}
@@ -24,17 +24,8 @@ use Rattle.binomial_sum.specs.State.{empty, grown, mostFailures, mostSam
 use Rattle.binomial_sum.proofs.Relations.{brings, kept-from, sound-from}
 
 -- a refusal is no answer
-never : {t : Sum} (r : Refusal) → ¬ (Refused r ≡ Taken t)
-never r e = let z : _≡_ {A = ℕ} 0 1 = cc in absurd (omega arith)
-
--- past one test of a list of refusals
-past : (b : Bool) (f : Refusal) (a : SumAnswer) {t : Sum} → cond b (Refused f) a ≡ Taken t → (b ≡ false) × (a ≡ Taken t)
-past true f a e = absurd (never f e)
-past false f a e = (refl, e)
-
-neither : (a b : Bool) → (a || b) ≡ false → (a ≡ false) × (b ≡ false)
-neither true b e = absurd (true≢false e)
-neither false b e = (refl, e)
+never : {r : Refusal} {t : Sum} → ¬ (Refused r ≡ Taken t)
+never e = impossible (cc)
 
 -- what adding a record that is taken has met, and what comes out
 pub record Added (s : Sum) (r : Record) (t : Sum) : Type 0 where
@@ -49,14 +40,11 @@ pub record Added (s : Sum) (r : Record) (t : Sum) : Type 0 where
 pub added-from : (s : Sum) (r : Record) (t : Sum) → adding s r ≡ Taken t → Added s r t
 unfolding adding
 added-from s r t e =
-    let last = taken s (r .groups) (timed r) in
-    let third = cond (not (eqb (r .items .step) (s .step))) (Refused (Item 1)) last in
-    let second = cond (tooShort r) (Refused TooShort) third in
-    let o = past (not (sound s)) BrokenState (cond (not (reading.sound r)) (Refused BrokenState) second) e in
-    let p = past (not (reading.sound r)) BrokenState second (o .1) in
-    let q = past (tooShort r) TooShort third (p .1) in
-    let u = past (not (eqb (r .items .step) (s .step))) (Item 1) last (q .1) in
-    let v = past (wouldPass s (r .groups) (timed r)) SumFull (Taken (grown s (r .groups) (timed r))) (u .1) in
+    let o = past (not (sound s)) never e in
+    let p = past (not (reading.sound r)) never (o .1) in
+    let q = past (tooShort r) never (p .1) in
+    let u = past (not (eqb (r .items .step) (s .step))) never (q .1) in
+    let v = past (wouldPass s (r .groups) (timed r)) never (u .1) in
     let w = neither (ltb mostFailures (s .failures + r .groups)) (ltb mostSamples (s .samples + timed r)) (v .0) in
     record {
       sum = holds {b = sound s} (not-false _ (o .0));
@@ -79,7 +67,7 @@ opened-from D t e = go (stepInRange D) e
   where
     go : (b : Bool) → cond b (Taken (empty D)) (Refused (Item 1)) ≡ Taken t → T b × (t ≡ empty D)
     go true e = (tt, cc)
-    go false e = absurd (never (Item 1) e)
+    go false e = absurd (never e)
 
 empty-kept : (D : ℕ) → T (stepInRange D) → Kept (empty D)
 empty-kept D t =

@@ -1,7 +1,7 @@
 -- What was seen of a whole table are the figures of its relations: the test of every place, how many places each bureau
 -- has, and the lowest free one. Each by induction along the table, for any start. Assumes nothing.
 use mathlib.Core.Path.{_≡_, refl, sym, ap, _∙_}
-use mathlib.Core.Bool.{Bool, cond, false, true, _&&_}
+use mathlib.Core.Bool.{Bool, and-assoc, cond, false, true, _&&_}
 use mathlib.Core.List.{List, [], _∷_}
 use Prim.Native.Nat.{ℕ, suc, _+_, _≤_, _<_}
 use native.Mathlib.Nat.{add-suc, add-zero, suc-add, zero-add}
@@ -19,10 +19,6 @@ use Rattle.bureau_survey.specs.Survey.{counted, looked, surveyed, unseen
 capped : ℕ → ℕ → List Place → ℕ
 capped b c [] = c
 capped b c (p ∷ ps) = capped b (counted c b p) ps
-
-and-assoc : (a b c : Bool) → ((a && b) && c) ≡ (a && (b && c))
-and-assoc true b c = refl
-and-assoc false b c = refl
 
 and-true : (a : Bool) → (a && true) ≡ a
 and-true true = refl

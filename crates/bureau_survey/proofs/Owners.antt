@@ -1,6 +1,6 @@
 -- What is seen after a place, by its owner. Assumes nothing.
 use mathlib.Core.Path.{_≡_, refl, ap}
-use mathlib.Core.Bool.{Bool, cond, false, true, _&&_, _||_}
+use mathlib.Core.Bool.{Bool, cond, false, or-false, true, _&&_, _||_}
 use Prim.Native.Nat.{ℕ}
 use lib.Dec.{eqb}
 use borrow.Author.Tests.{ne-eqb}
@@ -13,10 +13,6 @@ use Rattle.bureau_survey.specs.Survey.{more, surveyed}
 or-true : (b : Bool) → (b || true) ≡ true
 or-true true = refl
 or-true false = refl
-
-or-false : (b : Bool) → (b || false) ≡ b
-or-false true = refl
-or-false false = refl
 
 and-false : (b : Bool) → (b && false) ≡ false
 and-false true = refl

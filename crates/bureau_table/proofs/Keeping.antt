@@ -13,7 +13,7 @@ use lib.Seq.{getD-set-other}
 use borrow.Author.Tests.{eqb-true}
 use Rattle.refusal.specs.declared.Refusal.{Refusal}
 use Rattle.truth.proofs.Cases.{by-test}
-use Rattle.truth.proofs.Laws.{is-true}
+use Rattle.truth.proofs.Laws.{impossible, is-true}
 use Rattle.campaign_state.specs.declared.CampaignAnswer.the-variants as campaigned
 use Rattle.campaign_state.specs.declared.Campaign.{Campaign}
 use Rattle.campaign_state.specs.Answers.{opened}
@@ -72,16 +72,12 @@ module _ (t : List Place) (b : ℕ) where
       let g = kept-from t k in
       kept-to _ (set-kept t i free g (o .inside) refl (omega (arith, g .first)) (omega (arith, g .second)))
 
--- two numbers that are not equal, from two cases of an answer that are
-pub no : _≡_ {A = ℕ} 0 1 → ⊥
-no e = omega arith
-
 leaves : {t : List Place} {b : ℕ} {a : Ask} {d : Done} (r : Refusal) → d .answer ≡ Refused r → Made t b a d → d .table ≡ t
 leaves r e (refuses a s) = refl
-leaves r e (places q m) = absurd (no (cc))
+leaves r e (places q m) = impossible (cc)
 leaves r e (reads i w x s o) = refl
-leaves r e (enters i f d o s) = absurd (no (cc))
-leaves r e (frees i o) = absurd (no (cc))
+leaves r e (enters i f d o s) = impossible (cc)
+leaves r e (frees i o) = impossible (cc)
 
 module _ {t : List Place} {b : ℕ} (j : ℕ) (n : ¬ (at t j .owner ≡ b)) (n₀ : ¬ (at t j .owner ≡ 0)) where
   others : {a : Ask} {d : Done} → Made t b a d → at (d .table) j ≡ at t j

@@ -13,7 +13,7 @@ use lib.Seq.{getD-set-other, getD-set-same}
 use borrow.Author.Tests.{eqb-false, eqb-true}
 use Rattle.refusal.specs.declared.Refusal.{Refusal}
 use Rattle.truth.proofs.Cases.{by-test}
-use Rattle.truth.proofs.Laws.{true≢false}
+use Rattle.truth.proofs.Laws.{neither, true≢false}
 use Rattle.record_end.specs.declared.Outcome.{Outcome}
 use Rattle.campaign_state.specs.declared.CampaignAnswer.the-variants as campaigned
 use Rattle.campaign_state.specs.declared.Campaign.{Campaign}
@@ -119,10 +119,6 @@ module _ (i b q : ℕ) (bureau : isBureau b ≡ true) where
         by-test (eqb j i)
         (λ h. let z : true ≡ false = rw h at f in absurd (true≢false z))
         (λ h. rw h (stays k (elsewhere j _ (eqb-false j i h)) refl))
-
-  neither : (x y : Bool) → (x || y) ≡ false → (x ≡ false) × (y ≡ false)
-  neither true y e = absurd (true≢false e)
-  neither false y e = (refl, e)
 
   lives : (cs : List Call) (t : List Place) (os : List Outcome) → Holds t os → freedAt i t cs ≡ false → Holds (after t cs) (os ++ entriesAt i t cs)
   unfolding after entriesAt freedAt

@@ -7,6 +7,7 @@ use mathlib.Core.List.{List}
 use Prim.Native.Nat.{ℕ, _<_}
 use lib.ListN.{length, set}
 use borrow.Author.Tests.{eq-eqb, lt-leb, lt-ltb}
+use Rattle.truth.proofs.Laws.{impossible}
 use Rattle.campaign_state.specs.State.{empty, standardInRange}
 use Rattle.bureau_table.specs.declared.TableAnswer.the-variants.{Freed, Placed}
 use Rattle.bureau_table.specs.declared.Ask.the-variants.{On, Take}
@@ -19,10 +20,10 @@ use Rattle.bureau_table.specs.Taken.{Room, TakenAt}
 use Rattle.bureau_table.proofs.Places.{all-at, lowest-free, none-lower}
 use Rattle.bureau_table.proofs.Relations.{free-is, kept-from}
 use Rattle.bureau_table.proofs.Cases.{Made, Own, called-made, frees, places, rates, reads, refuses, verdict}
-use Rattle.bureau_table.proofs.Keeping.{no, place-found}
+use Rattle.bureau_table.proofs.Keeping.{place-found}
 
 taken : {t : List Place} {b q : ℕ} {d : Done} (i : ℕ) → d .answer ≡ Placed i → Made t b (Take q) d → TakenAt t b q i d
-taken i e (refuses a r) = absurd (no (cc))
+taken i e (refuses a r) = impossible (cc)
 taken {t} {b} i e (places q m) =
     let h : lowestFree t ≡ i = cc in
     let k = kept-from t (m .kept) in
@@ -36,9 +37,9 @@ taken {t} {b} i e (places q m) =
     })
 
 freed : {t : List Place} {b i : ℕ} {d : Done} → d .answer ≡ Freed → Made t b (On i GiveBack) d → d .table ≡ set t i free
-freed e (refuses a r) = absurd (no (cc))
-freed e (reads i w x (verdict v) o) = absurd (no (cc))
-freed e (reads i w x (rates some r) o) = absurd (no (cc))
+freed e (refuses a r) = impossible (cc)
+freed e (reads i w x (verdict v) o) = impossible (cc)
+freed e (reads i w x (rates some r) o) = impossible (cc)
 freed e (frees i o) = refl
 
 -- ---- the theorems

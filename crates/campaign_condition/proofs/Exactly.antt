@@ -4,9 +4,8 @@ use Prim.Native.Nat.{ℕ}
 use mathlib.Core.Path.{_≡_, refl, sym, _∙_}
 use mathlib.Core.Bool.{Bool, false, true, _||_}
 use mathlib.Core.List.{List, [], _∷_}
-use native.Mathlib.Omega.{arith}
 use Rattle.truth.proofs.Cases.{by-test}
-use Rattle.truth.proofs.Laws.{and-true, true≢false}
+use Rattle.truth.proofs.Laws.{and-true, impossible, true≢false}
 use Rattle.campaign_state.specs.declared.Campaign.{Campaign}
 use Rattle.campaign_verdict.specs.Answers.{judging}
 use Rattle.campaign_verdict.specs.declared.Judged.{Judged}
@@ -58,13 +57,13 @@ none-rejected (c ∷ cs) (next a rest) (another o) = none-rejected cs rest o
 
 -- ---- the three standings
 rejected≢accepted : ¬ (Rejected ≡ Accepted)
-rejected≢accepted e = let z : _≡_ {A = ℕ} 0 1 = cc in omega arith
+rejected≢accepted e = impossible (cc)
 
 rejected≢open : ¬ (Rejected ≡ Open)
-rejected≢open e = let z : _≡_ {A = ℕ} 0 1 = cc in omega arith
+rejected≢open e = impossible (cc)
 
 accepted≢open : ¬ (Accepted ≡ Open)
-accepted≢open e = let z : _≡_ {A = ℕ} 0 1 = cc in omega arith
+accepted≢open e = impossible (cc)
 
 module _ (cs : List Campaign) where
   pub rejected-if : One rejected cs → standing cs ≡ Rejected

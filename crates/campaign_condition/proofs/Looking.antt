@@ -2,7 +2,7 @@
 -- campaign more keeps that, and at the end all is seen. Assumes nothing.
 use Prim.Native.Nat.{ℕ, _+_, _≤_}
 use mathlib.Core.Path.{_≡_, refl, sym, _∙_}
-use mathlib.Core.Bool.{Bool, cond, false, true, _&&_, _||_}
+use mathlib.Core.Bool.{Bool, and-assoc, cond, false, or-assoc, true, _&&_, _||_}
 use mathlib.Core.List.{List, [], _∷_}
 use native.Mathlib.Omega.{arith}
 use lib.Dec.{eqb}
@@ -27,14 +27,6 @@ lower-or : (s : Bool) (b n left : ℕ) → 1 ≤ n → cond (eqb (cond (eqb b 0)
 lower-or true b n left h = by-test (eqb b 0) (λ e. rw e) (λ e. rw (e, e))
 lower-or false b n left h = by-test (eqb b 0) (λ e. rw (e, ne-eqb n 0 (omega arith))) (λ e. rw (e, e))
 
-pub or-left : (a b c : Bool) → ((a || b) || c) ≡ (a || (b || c))
-or-left true b c = refl
-or-left false b c = refl
-
-pub and-left : (a b c : Bool) → ((a && b) && c) ≡ (a && (b && c))
-and-left true b c = refl
-and-left false b c = refl
-
 module _ {cs : List Campaign} {i broken : ℕ} {one all : Bool} where
   pub on : {rest : List Campaign} (c : Campaign) (later : List Campaign) → rest ≡ c ∷ later → Along cs rest i broken one all
       → Along cs later (i + 1) (lower broken (i + 1) c) (one || rejected c) (all && accepted c)
@@ -42,8 +34,8 @@ module _ {cs : List Campaign} {i broken : ℕ} {one all : Bool} where
   on c later e a =
       record {
         lowest = lower-or (sound c) broken (i + 1) (brokenFrom (i + 1 + 1) later) (omega arith) ∙ rw e at (a .lowest);
-        rejects = or-left one (rejected c) (oneRejected later) ∙ rw e at (a .rejects);
-        accepts = and-left all (accepted c) (allAccepted later) ∙ rw e at (a .accepts);
+        rejects = or-assoc one (rejected c) (oneRejected later) ∙ rw e at (a .rejects);
+        accepts = and-assoc all (accepted c) (allAccepted later) ∙ rw e at (a .accepts);
       }
 
   pub ended : {rest : List Campaign} → rest ≡ [] → Along cs rest i broken one all → record { broken = broken; rejected = one; accepted = all } ≡ seenOf cs

@@ -3,12 +3,12 @@
 -- lowest. Assumes nothing.
 use Prim.Native.Nat.{ℕ, _+_, _≤_}
 use mathlib.Core.Path.{_≡_, refl, sym, _∙_}
-use mathlib.Core.Bool.{Bool, false, true, _&&_, _||_}
+use mathlib.Core.Bool.{Bool, and-assoc, false, or-assoc, true, _&&_, _||_}
 use mathlib.Core.List.{List, [], _∷_, _++_}
 use native.Mathlib.Omega.{arith}
 use lib.ListN.{length}
 use Rattle.truth.proofs.Cases.{by-test}
-use Rattle.truth.proofs.Laws.{and-true, true≢false}
+use Rattle.truth.proofs.Laws.{and-true, impossible, true≢false}
 use Rattle.campaign_state.specs.declared.Campaign.{Campaign}
 use Rattle.campaign_state.specs.State.{sound}
 use Rattle.campaign_verdict.specs.Answers.{judging}
@@ -21,7 +21,6 @@ use Rattle.campaign_verdict.proofs.Only.{given, gives}
 use Rattle.campaign_condition.specs.Standing.{accepted, acceptance, allAccepted, holdsIn, oneRejected, rejected, rejection, standing}
 use Rattle.campaign_condition.specs.Answers.{brokenFrom, lowestBroken}
 use Rattle.campaign_condition.specs.declared.Standing.the-variants.{Accepted, Open, Rejected}
-use Rattle.campaign_condition.proofs.Looking.{and-left, or-left}
 use Rattle.campaign_condition.proofs.Whole.{whole-next}
 
 -- ---- one campaign, by document 01's tests
@@ -65,22 +64,22 @@ module _ (c : Campaign) where
 one-among : (before : List Campaign) (rest : List Campaign) → oneRejected (before ++ rest) ≡ (oneRejected before || oneRejected rest)
 unfolding oneRejected
 one-among [] rest = refl
-one-among (b ∷ before) rest = rw (one-among before rest) (sym (or-left (rejected b) (oneRejected before) (oneRejected rest)))
+one-among (b ∷ before) rest = rw (one-among before rest) (sym (or-assoc (rejected b) (oneRejected before) (oneRejected rest)))
 
 all-among : (before : List Campaign) (rest : List Campaign) → allAccepted (before ++ rest) ≡ (allAccepted before && allAccepted rest)
 unfolding allAccepted
 all-among [] rest = refl
-all-among (b ∷ before) rest = rw (all-among before rest) (sym (and-left (accepted b) (allAccepted before) (allAccepted rest)))
+all-among (b ∷ before) rest = rw (all-among before rest) (sym (and-assoc (accepted b) (allAccepted before) (allAccepted rest)))
 
 accepted-all : (cs : List Campaign) → standing cs ≡ Accepted → allAccepted cs ≡ true
 unfolding standing
 accepted-all cs e =
     by-test (oneRejected cs)
-    (λ o. let z : Rejected ≡ Accepted = rw o at e in let n : _≡_ {A = ℕ} 0 1 = cc in absurd (omega arith))
+    (λ o. let z : Rejected ≡ Accepted = rw o at e in impossible (cc))
     (λ o.
     by-test (allAccepted cs)
     (λ a. a)
-    (λ a. let z : Open ≡ Accepted = rw (o, a) at e in let n : _≡_ {A = ℕ} 0 1 = cc in absurd (omega arith)))
+    (λ a. let z : Open ≡ Accepted = rw (o, a) at e in impossible (cc)))
 
 module _ (before : List Campaign) (c : Campaign) (after : List Campaign) where
   pub one-rejects : rejected c ≡ true → standing (before ++ (c ∷ after)) ≡ Rejected

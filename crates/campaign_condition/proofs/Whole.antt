@@ -9,7 +9,7 @@ use lib.Dec.{eqb, leb}
 use lib.ListN.{drop, getD, length, take}
 use borrow.Author.Tests.{eqb-true, leb-true}
 use Rattle.truth.proofs.Cases.{by-test}
-use Rattle.truth.proofs.Laws.{and-true}
+use Rattle.truth.proofs.Laws.{and-true, impossible}
 use Rattle.refusal.specs.declared.Refusal.{Refusal}
 use Rattle.campaign_state.specs.declared.Campaign.{Campaign}
 use Rattle.campaign_state.specs.State.{empty, sound}
@@ -43,7 +43,7 @@ pub record Stood (number : ℕ) (cs : List Campaign) (s : Standing) : Type 0 whe
   pub is : s ≡ standing cs
 
 never : {s : Standing} {r : Refusal} → ¬ (Refused r ≡ Given s)
-never e = let z : _≡_ {A = ℕ} 0 1 = cc in absurd (omega arith)
+never e = impossible (cc)
 
 pub stood : (number : ℕ) (cs : List Campaign) (s : Standing) → judging number cs ≡ Given s → Stood number cs s
 unfolding judging

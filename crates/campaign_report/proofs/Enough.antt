@@ -10,7 +10,7 @@ use lib.Dec.{eqb, ltb}
 use lib.ListN.{length, length-append}
 use borrow.Author.Tests.{eqb-false}
 use Rattle.truth.proofs.Cases.{by-test}
-use Rattle.truth.proofs.Laws.{holds}
+use Rattle.truth.proofs.Laws.{holds, impossible}
 use Rattle.text.specs.declared.Writing.the-variants.{Bytes, Refused as Declined}
 use Rattle.decimal.proofs.Text.{digits-below}
 use Rattle.campaign_state.specs.declared.Campaign.{Campaign}
@@ -83,7 +83,7 @@ unfolding writingReport reportText
 enough number cs out n all e = go (judging number cs) refl e
   where
     never : {r : Refusal} → ¬ (Declined r ≡ Bytes n)
-    never f = let z : _≡_ {A = ℕ} 0 1 = cc in absurd (omega arith)
+    never f = impossible (cc)
 
     go : (a : ConditionAnswer) → judging number cs ≡ a → afterJudging a (length (reportText cs)) (length out) ≡ Bytes n → n ≤ 40 + 28 * number
     go (Refused r) is e = absurd (never e)

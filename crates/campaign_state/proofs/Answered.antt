@@ -2,13 +2,12 @@
 use mathlib.Core.Path.{_≡_, refl}
 use mathlib.Core.Bool.{Bool, cond, false, not, true}
 use Prim.Native.Nat.{ℕ, _≤_}
-use native.Mathlib.Omega.{arith}
 use lib.Dec.{T, eqb}
 use borrow.Author.Tests.{eqb-false, leb-true, not-false}
 use Rattle.refusal.specs.declared.Refusal.{Refusal}
 use Rattle.refusal.specs.declared.Refusal.the-variants.{BrokenState, CampaignFull, Item, RowsUsedUp}
 use Rattle.sample_items.specs.Limits.{longestTime}
-use Rattle.truth.proofs.Laws.{and-true, holds}
+use Rattle.truth.proofs.Laws.{and-true, holds, impossible, past}
 use Rattle.record_end.specs.declared.Outcome.{Outcome}
 use Rattle.campaign_state.specs.declared.CampaignAnswer.{CampaignAnswer}
 use Rattle.campaign_state.specs.declared.CampaignAnswer.the-variants.{Refused, Taken}
@@ -17,13 +16,8 @@ use Rattle.campaign_state.specs.Answers.{entering, opened, outcomeKept, 
 use Rattle.campaign_state.specs.State.{empty, entered, mostRecords, sound, standardInRange}
 
 -- a refusal is no answer
-never : {d : Campaign} (r : Refusal) → ¬ (Refused r ≡ Taken d)
-never r e = let z : _≡_ {A = ℕ} 0 1 = cc in absurd (omega arith)
-
--- past one test of a list of refusals
-past : (b : Bool) (r : Refusal) (a : CampaignAnswer) {d : Campaign} → cond b (Refused r) a ≡ Taken d → (b ≡ false) × (a ≡ Taken d)
-past true r a e = absurd (never r e)
-past false r a e = (refl, e)
+never : {r : Refusal} {d : Campaign} → ¬ (Refused r ≡ Taken d)
+never e = impossible (cc)
 
 -- 5 and 6 were not given
 pub record Room (c : Campaign) (f : Bool) (t : ℕ) (d : Campaign) : Type 0 where
@@ -33,8 +27,8 @@ pub record Room (c : Campaign) (f : Bool) (t : ℕ) (d : Campaign) : Type 0 wher
 
 pub taken-room : (c : Campaign) (f : Bool) (t : ℕ) (d : Campaign) → taken c f t ≡ Taken d → Room c f t d
 taken-room c f t d e =
-    let p = past (eqb (c .records) mostRecords) CampaignFull (cond (eqb (c .failures) 64) (Refused RowsUsedUp) (Taken (entered c f t))) e in
-    let q = past (eqb (c .failures) 64) RowsUsedUp (Taken (entered c f t)) (p .1) in
+    let p = past (eqb (c .records) mostRecords) never e in
+    let q = past (eqb (c .failures) 64) never (p .1) in
     record { records = eqb-false _ _ (p .0); failures = eqb-false _ _ (q .0); after = cc }
 
 pub record Entered (c : Campaign) (o : Outcome) (d : Campaign) : Type 0 where
@@ -46,9 +40,8 @@ pub record Entered (c : Campaign) (o : Outcome) (d : Campaign) : Type 0 where
 pub entered-from : (c : Campaign) (o : Outcome) (d : Campaign) → entering c o ≡ Taken d → Entered c o d
 unfolding entering
 entered-from c o d e =
-    let enters = taken c (o .failed) (o .exposure) in
-    let p = past (not (sound c)) BrokenState (cond (not (outcomeKept o)) (Refused BrokenState) enters) e in
-    let q = past (not (outcomeKept o)) BrokenState enters (p .1) in
+    let p = past (not (sound c)) never e in
+    let q = past (not (outcomeKept o)) never (p .1) in
     let k = and-true _ _ (not-false _ (q .0)) in
     record {
       sound = holds {b = sound c} (not-false _ (p .0));
@@ -62,4 +55,4 @@ opened-from q d e = go (standardInRange q) e
   where
     go : (b : Bool) → cond b (Taken (empty q)) (Refused (Item 5)) ≡ Taken d → T b × (d ≡ empty q)
     go true e = (tt, cc)
-    go false e = absurd (never (Item 5) e)
+    go false e = absurd (never e)

@@ -2,7 +2,7 @@
 use Prim.Native.Nat.{ℕ}
 use mathlib.Core.Path.{_≡_}
 use mathlib.Core.Bool.{true}
-use native.Mathlib.Omega.{arith}
+use Rattle.truth.proofs.Laws.{impossible}
 use Rattle.refusal.specs.declared.Refusal.{Refusal}
 use Rattle.campaign_state.specs.declared.Campaign.{Campaign}
 use Rattle.campaign_verdict.specs.declared.Counted.{Counted}
@@ -16,10 +16,10 @@ use Rattle.campaign_verdict.proofs.Only.{only}
 use Rattle.campaign_state.specs.State.{censored, sound}
 
 never-given : {w : Verdict} {r : Refusal} → ¬ (judged.Given w ≡ judged.Refused r)
-never-given e = let z : _≡_ {A = ℕ} 0 1 = cc in absurd (omega arith)
+never-given e = impossible (cc)
 
 never-counted : {n : ℕ} {r : Refusal} → ¬ (counted.Count n ≡ counted.Refused r)
-never-counted e = let z : _≡_ {A = ℕ} 0 1 = cc in absurd (omega arith)
+never-counted e = impossible (cc)
 
 same-verdict : {w v : Verdict} → judged.Given w ≡ judged.Given v → v ≡ w
 same-verdict e = cc

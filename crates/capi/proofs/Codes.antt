@@ -8,6 +8,7 @@ use native.Mathlib.Omega.{arith}
 use borrow.Author.Tests.{eq-eqb, ltb-true, ne-eqb}
 use lib.IntN.{ℤ, pos, negsuc, natAbs, _-ℤ_}
 use lib.Signed.{ltZ}
+use Rattle.truth.proofs.Laws.{impossible}
 use Rattle.capi.specs.Numbers.{codeOf, highestCode, sampleOf}
 
 pub code-negative : (x : ℤ) → ltZ x (pos 0) ≡ true → (1 ≤ natAbs x + natAbs x) × (natAbs x + natAbs x - 1 ≡ codeOf x)
@@ -18,7 +19,7 @@ code-negative (negsuc n) t = (omega arith, omega arith)
 pub code-other : (x : ℤ) → ltZ x (pos 0) ≡ false → natAbs x + natAbs x ≡ codeOf x
 unfolding codeOf
 code-other (pos n) t = refl
-code-other (negsuc n) t = let z : true ≡ false = t in let e : _≡_ {A = ℕ} 0 1 = cc in absurd (omega arith)
+code-other (negsuc n) t = let z : true ≡ false = t in impossible (cc)
 
 pub below-zero : (n : ℕ) → negsuc 0 -ℤ pos n ≡ negsuc n
 below-zero zero = refl

@@ -2,11 +2,14 @@
 -- promise says that they are the value of a definition at what was handed in. Assumes nothing.
 use Prim.Native.Nat.{ℕ}
 use mathlib.Core.Path.{_≡_, ap}
-use mathlib.Core.Bool.{Bool}
+use mathlib.Core.Bool.{Bool, cond}
 use mathlib.Core.List.{List, []}
+use lib.Dec.{eqb}
+use lib.ListN.{length}
 use Rattle.truth.proofs.Unique.{settled}
 use Rattle.refusal.specs.Numbers.{numberOf, valueOf}
 use Rattle.refusal.specs.declared.Refusal.{Refusal}
+use Rattle.refusal.specs.declared.Refusal.the-variants.{BrokenState}
 use Rattle.record_state.specs.declared.RecordAnswer.{RecordAnswer}
 use Rattle.record_state.specs.declared.Record.{Record}
 use Rattle.record_end.specs.declared.Ended.{Ended}
@@ -14,7 +17,7 @@ use Rattle.campaign_state.specs.declared.CampaignAnswer.{CampaignAnswer}
 use Rattle.campaign_state.specs.declared.Campaign.{Campaign}
 use Rattle.text.specs.declared.Writing.{Writing}
 use Rattle.capi.specs.Numbers.{campaignOf, flag, recordOf}
-use Rattle.capi.specs.Told.{Told, campaignKept, channelIn, placed, recordKept, resultKept, told, writeTold}
+use Rattle.capi.specs.Told.{Told, campaignKept, channelIn, inPlaces, placed, recordKept, resultKept, told, writeTold}
 
 pub record-of-unique : (s : List ℕ) (x y : Record) → x ≡ recordOf s → y ≡ recordOf s → x ≡ y
 record-of-unique s x y = settled
@@ -39,6 +42,14 @@ tell-writing-unique w x y = settled
 
 pub channel-in-unique : (a : RecordAnswer) (x y : ℕ) → x ≡ channelIn a → y ≡ channelIn a → x ≡ y
 channel-in-unique a x y = settled
+
+pub keep-unique : (numbers s : List ℕ) (x y : Told) → x ≡ inPlaces (length numbers) s (told 0 0 numbers)
+    → y ≡ inPlaces (length numbers) s (told 0 0 numbers) → x ≡ y
+keep-unique numbers s x y = settled
+
+pub for-places-unique : (f : Refusal) (places lent : ℕ) (x y : Refusal) → x ≡ cond (eqb lent places) f BrokenState
+    → y ≡ cond (eqb lent places) f BrokenState → x ≡ y
+for-places-unique f places lent x y = settled
 
 pub keep-record-unique : (a : RecordAnswer) (s : List ℕ) (x y : Told) → x ≡ recordKept a s → y ≡ recordKept a s → x ≡ y
 keep-record-unique a s x y = settled

@@ -3,12 +3,17 @@
 // told: its number is answered, and what goes with it is written to `carried`. Any numbers are taken: those that are
 // no state are read as one that every entry refuses by 8.
 ghost use mathlib.Core.Path.{_≡_};
+ghost use mathlib.Core.Bool.{cond};
 ghost use mathlib.Core.List.{[]};
 ghost use Prim.Native.Nat.{_≤_};
+ghost use lib.Dec.{eqb};
+ghost use lib.ListN.{length};
+ghost use Rattle.refusal.specs.declared.Refusal.the-variants.{BrokenState};
 ghost use Rattle.refusal.specs.Numbers.{numberOf, valueOf};
 ghost use Rattle.capi.specs.Numbers.{codeOf, sampleOf, highestCode, noRecord, recordOf, ofRecord, ofResult};
 ghost use Rattle.capi.specs.Numbers.{noCampaign, campaignOf, ofCampaign, flag};
-ghost use Rattle.capi.specs.Told.{told, placed, channelIn, recordKept, resultKept, campaignKept, writeTold};
+ghost use Rattle.capi.specs.Told.{told, placed, inPlaces, channelIn, recordKept, resultKept};
+ghost use Rattle.capi.specs.Told.{campaignKept, writeTold};
 use campaign_state::Campaign;
 use record_end::Ended;
 use record_end::Result;
@@ -235,20 +240,42 @@ pub fn tell_writing(w: Writing, carried: &mut u64) -> u64
     }
 }
 
+// The numbers of an answer that was taken, in `state`; or refusal 8 for an array of another length.
+pub fn keep(numbers: &[u64], state: &mut [u64], carried: &mut u64) -> u64
+    ensures { λ n. ⌜ told n (now (carried .exit)) (now (state .exit))
+        ≡ inPlaces (length (now (numbers .entry))) (now (state .entry)) (told 0 0 (now (numbers .entry))) ⌝ }
+{
+    if state.len() != numbers.len() {
+        return refuse(Refusal::BrokenState, carried);
+    }
+    put(numbers, state);
+    give(0, carried)
+}
+
+// The refusal of an answer that has so many numbers, or 8 where the array lent for them has another length.
+pub fn for_places(f: Refusal, places: usize, lent: usize) -> Refusal
+    ensures { λ r. ⌜ r ≡ cond (eqb lent places) f BrokenState ⌝ }
+{
+    if lent == places {
+        f
+    } else {
+        Refusal::BrokenState
+    }
+}
+
 // The record of an answer in `state`; or refusal 8 for an array of another length, else the answer's.
 pub fn keep_record(a: record_state::RecordAnswer, state: &mut [u64], carried: &mut u64) -> u64
     ensures { λ n. ⌜ told n (now (carried .exit)) (now (state .exit)) ≡ recordKept a (now (state .entry)) ⌝ }
 {
-    if state.len() != RECORD_NUMBERS {
-        return refuse(Refusal::BrokenState, carried);
-    }
     match a {
         record_state::RecordAnswer::Taken(s) => {
             let numbers = of_record(s);
-            put(&numbers, state);
-            give(0, carried)
+            keep(&numbers, state, carried)
         }
-        record_state::RecordAnswer::Refused(f) => refuse(f, carried),
+        record_state::RecordAnswer::Refused(f) => refuse(
+            for_places(f, RECORD_NUMBERS, state.len()),
+            carried,
+        ),
     }
 }
 
@@ -266,16 +293,12 @@ pub fn channel_in(a: record_state::RecordAnswer) -> u64
 pub fn keep_result(a: Ended, result: &mut [u64], carried: &mut u64) -> u64
     ensures { λ n. ⌜ told n (now (carried .exit)) (now (result .exit)) ≡ resultKept a (now (result .entry)) ⌝ }
 {
-    if result.len() != RESULT_NUMBERS {
-        return refuse(Refusal::BrokenState, carried);
-    }
     match a {
         Ended::Given(x) => {
             let numbers = of_result(x);
-            put(&numbers, result);
-            give(0, carried)
+            keep(&numbers, result, carried)
         }
-        Ended::Refused(f) => refuse(f, carried),
+        Ended::Refused(f) => refuse(for_places(f, RESULT_NUMBERS, result.len()), carried),
     }
 }
 
@@ -283,15 +306,14 @@ pub fn keep_result(a: Ended, result: &mut [u64], carried: &mut u64) -> u64
 pub fn keep_campaign(a: campaign_state::CampaignAnswer, state: &mut [u64], carried: &mut u64) -> u64
     ensures { λ n. ⌜ told n (now (carried .exit)) (now (state .exit)) ≡ campaignKept a (now (state .entry)) ⌝ }
 {
-    if state.len() != CAMPAIGN_NUMBERS {
-        return refuse(Refusal::BrokenState, carried);
-    }
     match a {
         campaign_state::CampaignAnswer::Taken(s) => {
             let numbers = of_campaign(s);
-            put(&numbers, state);
-            give(0, carried)
+            keep(&numbers, state, carried)
         }
-        campaign_state::CampaignAnswer::Refused(f) => refuse(f, carried),
+        campaign_state::CampaignAnswer::Refused(f) => refuse(
+            for_places(f, CAMPAIGN_NUMBERS, state.len()),
+            carried,
+        ),
     }
 }

@@ -55,16 +55,15 @@ fn of_bounds(b: Bounds) -> [u64; 4]
 fn keep_sum(a: binomial_sum::SumAnswer, state: &mut [u64], carried: &mut u64) -> u64
     ensures { λ n. ⌜ told n (now (carried .exit)) (now (state .exit)) ≡ sumKept a (now (state .entry)) ⌝ }
 {
-    if state.len() != SUM_NUMBERS {
-        return capi::refuse(Refusal::BrokenState, carried);
-    }
     match a {
         binomial_sum::SumAnswer::Taken(s) => {
             let numbers = of_sum(s);
-            capi::put(&numbers, state);
-            capi::give(0, carried)
+            capi::keep(&numbers, state, carried)
         }
-        binomial_sum::SumAnswer::Refused(f) => capi::refuse(f, carried),
+        binomial_sum::SumAnswer::Refused(f) => capi::refuse(
+            capi::for_places(f, SUM_NUMBERS, state.len()),
+            carried,
+        ),
     }
 }
 

@@ -10,6 +10,7 @@ use lib.Dec.{eqb}
 use lib.ListN.{length, getD, drop}
 use lib.Seq.{drop-drop, getD-drop}
 use borrow.Author.Tests.{eq-eqb, ne-eqb}
+use Rattle.truth.proofs.Laws.{impossible}
 use Rattle.truth.proofs.Cases.{by-test}
 use Rattle.decimal.specs.Decimal.{isNumber}
 use Rattle.decimal.specs.Field.{lineFeed}
@@ -70,7 +71,7 @@ pub record LineRead (s : List ℕ) (at time : ℕ) (b : Bool) (n next : ℕ) : T
 
 module _ (s : List ℕ) (at time : ℕ) where
   never : {b : Bool} {n next : ℕ} → ¬ (Wrong ≡ Says b n next)
-  never e = let z : _≡_ {A = ℕ} 0 1 = cc in absurd (omega arith)
+  never e = impossible (cc)
 
   pub line-read : (b : Bool) (n next : ℕ) → lineAt s at time ≡ Says b n next → LineRead s at time b n next
   unfolding lineAt

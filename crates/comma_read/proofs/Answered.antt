@@ -10,6 +10,7 @@ use lib.IntN.{ℤ}
 use lib.ListN.{length}
 use lib.Seq.{sets, sets-eq}
 use borrow.Author.Tests.{le-ltb, lt-ltb, ltb-true, ltb-false}
+use Rattle.truth.proofs.Laws.{impossible}
 use Rattle.truth.proofs.Cases.{by-test}
 use Rattle.refusal.specs.declared.Refusal.{Refusal}
 use Rattle.refusal.specs.declared.Refusal.the-variants.{Item, Sample, Room, CommaLine}
@@ -64,7 +65,7 @@ pub record FoundRight (D : ℕ) (lines : List (List ℕ)) (n s : ℕ) : Type 0 w
 
 module _ (D : ℕ) (lines : List (List ℕ)) where
   apart : {n m s : ℕ} → ¬ (Wrong n ≡ Right m s)
-  apart e = let z : _≡_ {A = ℕ} 0 1 = cc in absurd (omega arith)
+  apart e = impossible (cc)
 
   pub found-wrong : (n : ℕ) → surveyed D lines ≡ Wrong n → FoundWrong D lines n
   unfolding surveyed
@@ -157,4 +158,4 @@ samples-read D lines places n e =
     (λ s. absurd (never (rw s at e)))
   where
     never : {r : Refusal} → ¬ (Refused r ≡ Samples n)
-    never f = let z : _≡_ {A = ℕ} 0 1 = cc in absurd (omega arith)
+    never f = impossible (cc)

@@ -10,7 +10,7 @@ use borrow.Author.Tests.{ltb-true, ltb-false, le-ltb, eqb-true, not-false}
 use Rattle.sample_channels.specs.declared.Levels.{Levels}
 use Rattle.sample_channels.specs.declared.Moment.{Moment}
 use Rattle.crossing_places.specs.Reading.{sampleAt, rises, crossesAt, passing, crossings, firstOf}
-use Rattle.truth.proofs.Laws.{true≢false, and-true}
+use Rattle.truth.proofs.Laws.{and-true, impossible, true≢false}
 
 -- no crossing stands in the ramp, nor at its first timed sample
 pub ramp-none : (R : ℕ) (a : Levels) (xs : List Moment) (k : ℕ) → k ≤ R → crossesAt R a xs k ≡ false
@@ -56,7 +56,7 @@ module _ (f : ℕ → Bool) where
   -- the first of the numbers from k on that pass is one that passes
   pub head-passes : (k n c : ℕ) (cs : List ℕ) → passing f k n ≡ c ∷ cs → (f c ≡ true) × (c < k + n)
   unfolding passing
-  head-passes k zero c cs e = let z : _≡_ {A = ℕ} 0 1 = cc in absurd (omega arith)
+  head-passes k zero c cs e = impossible (cc)
   head-passes k (suc n) c cs e = go (f k) refl e (head-passes (k + 1) n c cs)
     where
       go : (b : Bool) → f k ≡ b → cond b (k ∷ passing f (k + 1) n) (passing f (k + 1) n) ≡ c ∷ cs → (passing f (k + 1) n ≡ c ∷ cs → (f c ≡ true) × (c < k + 1 + n)) → (f c ≡ true) × (c < k + suc n)

@@ -10,7 +10,7 @@ use lib.Dec.{eqb, leb, ltb}
 use lib.Seq.{getD-drop}
 use borrow.Author.Tests.{lt-leb, lt-ltb, le-ltb, ltb-true, ne-eqb}
 use Rattle.truth.proofs.Cases.{by-test, by-order}
-use Rattle.truth.proofs.Laws.{and-true}
+use Rattle.truth.proofs.Laws.{and-true, impossible}
 use Rattle.decimal.specs.Decimal.{zeroByte, longest, isDigit, allDigits, leadingDigits, isNumber, valueOf}
 use Rattle.decimal.specs.Leading.{standsAt, leading, afterLeading, leadingAt}
 use Rattle.decimal.specs.declared.Lead.the-variants.{Number, Nothing}
@@ -103,7 +103,7 @@ module _ (s : List ℕ) (at : ℕ) where
   Digits = leading (drop at s)
 
   never : {v end : ℕ} → ¬ (Nothing ≡ Number v end)
-  never e = let z : _≡_ {A = ℕ} 0 1 = cc in absurd (omega arith)
+  never e = impossible (cc)
 
   -- the digits stand in the text
   inside : 1 ≤ length Digits → at + length Digits ≤ length s

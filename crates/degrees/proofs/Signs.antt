@@ -14,7 +14,7 @@ use lib.Signed.{ltZ}
 use mir.Syntax.{w32}
 use mir.Val.{SFits}
 use Rattle.truth.proofs.Cases.{by-test}
-use Rattle.truth.proofs.Laws.{true≢false}
+use Rattle.truth.proofs.Laws.{impossible, true≢false}
 use Rattle.decimal.specs.Decimal.{digitsOf}
 use Rattle.degrees.specs.declared.Degrees.the-variants.{Says, Bad}
 use Rattle.degrees.specs.Degrees.{minus, below, signLength, unsigned, size, isDegrees, degreesLength, degreesAt, sizeAt, sign, degreesText}
@@ -64,7 +64,7 @@ pub record ReadsAs (s : List ℕ) (at : ℕ) (b : Bool) (n next : ℕ) : Type 0 
 
 module _ (s : List ℕ) (at : ℕ) where
   never : {b : Bool} {n next : ℕ} → ¬ (Bad ≡ Says b n next)
-  never e = let z : _≡_ {A = ℕ} 0 1 = cc in absurd (omega arith)
+  never e = impossible (cc)
 
   pub degrees-read : (b : Bool) (n next : ℕ) → degreesAt s at ≡ Says b n next → ReadsAs s at b n next
   unfolding degreesAt

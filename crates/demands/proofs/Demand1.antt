@@ -19,6 +19,7 @@ use borrow.Author.Tests.{eqb-false, le-leb, ltb-false}
 use lib.Dec.{eqb, ltb}
 use lib.IntN.{ℤ}
 use lib.ListN.{length}
+use Rattle.truth.proofs.Laws.{impossible}
 use Rattle.refusal.specs.declared.Refusal.{Refusal}
 use Rattle.refusal.specs.declared.Refusal.the-variants.{BrokenState, CampaignFull, Item, Room, RowsUsedUp, TooLong, TooShort, Unequal}
 use Rattle.poisson.specs.Rows.{rows}
@@ -236,10 +237,6 @@ module _ (r s : Refusal) where
   own-count : counting.Refused r ≡ counting.Refused s → r ≡ s
   own-count e = cc
 
--- two numbers that are not equal, from two cases of an answer that are
-pub no : _≡_ {A = ℕ} 0 1 → ⊥
-no e = omega arith
-
 some : (n : ℕ) → ¬ (n ≡ 0) → 1 ≤ n
 some n h = omega arith
 
@@ -262,27 +259,27 @@ demand-1 =
     record {
       open-record =
           λ items.
-          decided Refused (Taken (stateOf items [])) own-record (λ r e. no (cc)) (itemTests items []) (opened items)
+          decided Refused (Taken (stateOf items [])) own-record (λ r e. impossible (cc)) (itemTests items []) (opened items)
           (swapped (eqb (itemOutside items) 0) _ _ ∙ first-item Refused [] (Taken (stateOf items []))
           (stepInRange (items .step)) (rampInRange (items .ramp)) (levelInRange (items .levels .roll))
           (decorrelationInRange (items .decorrelation)) (levelInRange (items .levels .acceleration))
           (itemOutside items) refl);
-      open-campaign = λ q. decided campaigned.Refused (campaigned.Taken (empty q)) own-campaign (λ r e. no (cc)) _ (campaigns.opened q) (swapped (standardInRange q) _ _);
-      feed = λ r xs ys. decided Refused (Taken (foldl stepped r (moments xs ys))) own-record (λ f e. no (cc)) _ (fed r xs ys) refl;
-      end = λ r. decided ended.Refused (ended.Given (resultOf r)) own-result (λ f e. no (cc)) _ (ending r) refl;
-      enter = λ c o. decided campaigned.Refused (campaigned.Taken (entered c (o .failed) (o .exposure))) own-campaign (λ r e. no (cc)) _ (entering c o) refl;
+      open-campaign = λ q. decided campaigned.Refused (campaigned.Taken (empty q)) own-campaign (λ r e. impossible (cc)) _ (campaigns.opened q) (swapped (standardInRange q) _ _);
+      feed = λ r xs ys. decided Refused (Taken (foldl stepped r (moments xs ys))) own-record (λ f e. impossible (cc)) _ (fed r xs ys) refl;
+      end = λ r. decided ended.Refused (ended.Given (resultOf r)) own-result (λ f e. impossible (cc)) _ (ending r) refl;
+      enter = λ c o. decided campaigned.Refused (campaigned.Taken (entered c (o .failed) (o .exposure))) own-campaign (λ r e. impossible (cc)) _ (entering c o) refl;
       list =
           λ items xs ys places.
-          decided listing.Refused (listing.Times (length (counted items (moments xs ys)))) own-list (λ r e. no (cc)) _ (listed items xs ys places)
+          decided listing.Refused (listing.Times (length (counted items (moments xs ys)))) own-list (λ r e. impossible (cc)) _ (listed items xs ys places)
           (first-item listing.Refused (listTests items xs ys places)
           (listing.Times (length (counted items (moments xs ys)))) (stepInRange (items .step))
           (rampInRange (items .ramp)) (levelInRange (items .levels .roll)) (decorrelationInRange
           (items .decorrelation)) (levelInRange (items .levels .acceleration)) (itemOutside items) refl);
       kept = λ items xs ys before after r p. p .leaves;
-      verdict = λ c. decided judging.Refused (judging.Given (verdictOf c)) own-verdict (λ r e. no (cc)) _ (verdicts.judging c) (swapped (campaigning.sound c) _ _);
-      rates = λ c. decided rating.Refused (rating.Given (not (eqb (c .records) 0)) (ratesOf c)) own-rates (λ r e. no (cc)) _ (verdicts.rating c) (swapped (campaigning.sound c) _ _);
+      verdict = λ c. decided judging.Refused (judging.Given (verdictOf c)) own-verdict (λ r e. impossible (cc)) _ (verdicts.judging c) (swapped (campaigning.sound c) _ _);
+      rates = λ c. decided rating.Refused (rating.Given (not (eqb (c .records) 0)) (ratesOf c)) own-rates (λ r e. impossible (cc)) _ (verdicts.rating c) (swapped (campaigning.sound c) _ _);
       sheet = cut-anywhere;
-      sheet-record = λ c f t g. decided campaigned.Refused (campaigned.Taken (entered c f t)) own-campaign (λ r e. no (cc)) _ (telling c f t) (tells c f t g);
+      sheet-record = λ c f t g. decided campaigned.Refused (campaigned.Taken (entered c f t)) own-campaign (λ r e. impossible (cc)) _ (telling c f t) (tells c f t g);
       sheet-line = result-line;
-      censored = λ c. decided counting.Refused (counting.Count (censored c)) own-count (λ r e. no (cc)) _ (verdicts.counting c) (swapped (campaigning.sound c) _ _);
+      censored = λ c. decided counting.Refused (counting.Count (censored c)) own-count (λ r e. impossible (cc)) _ (verdicts.counting c) (swapped (campaigning.sound c) _ _);
     }

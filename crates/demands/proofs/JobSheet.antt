@@ -14,7 +14,7 @@ use native.Mathlib.Omega.{arith}
 use lib.Dec.{eqb, leb}
 use lib.ListN.{length, drop, length-append, take}
 use Rattle.truth.proofs.Cases.{by-test}
-use Rattle.truth.proofs.Laws.{true≢false}
+use Rattle.truth.proofs.Laws.{impossible, true≢false}
 use Rattle.refusal.specs.declared.Refusal.{Refusal}
 use Rattle.refusal.specs.declared.Refusal.the-variants.{BrokenState, CampaignFull, Item, Line, Room, RowsUsedUp, TooLong, TooShort}
 use Rattle.refusal.specs.Numbers.{numberOf}
@@ -150,10 +150,6 @@ pub record JobSheet : Type 0 where
   pub refused-left : (line column : ℕ) (r : Refusal) (out : List ℕ) (at n : ℕ) → let text = refusedText line column r in
       writingReply out at text ≡ Upto n → written out at text ≡ take at out ++ (text ++ drop n out)
 
--- ---- the proof
-no : _≡_ {A = ℕ} 0 1 → ⊥
-no e = omega arith
-
 -- the line at which the reading stands
 abbrev lineAt : Sheet → ℕ
 lineAt Fresh = 1
@@ -238,8 +234,8 @@ leads-end (on {before} {s} {text} {line} {ts} {t} l y n) lines =
 fresh-none : {before : List (List ℕ)} {s : Sheet} {text : List ℕ} → Leads before s text → s ≡ Fresh
     → (before ≡ []) × (text ≡ [])
 fresh-none start e = (refl, refl)
-fresh-none (on l (standard q few) n) e = absurd (no (cc))
-fresh-none (on l (record-of c flag exposure f few) n) e = absurd (no (cc))
+fresh-none (on l (standard q few) n) e = impossible (cc)
+fresh-none (on l (record-of c flag exposure f few) n) e = impossible (cc)
 
 -- ---- how it ends
 module _ (all : List (List ℕ)) where
@@ -303,7 +299,7 @@ same-stop e = (cc, cc)
 
 is-nine : (lines : List (List ℕ)) (n k : ℕ) {a : Account} → Ends lines a → a .end ≡ Stopped n k (Line n)
     → Malformed lines n
-is-nine lines n k (clean text c l) e = absurd (no (cc))
+is-nine lines n k (clean text c l) e = impossible (cc)
 is-nine lines n k (absent a) e = let same = same-stop e .0 in rw (← same) (no-line a)
 is-nine lines n k (malformed before s text line after a l bad) e =
     let same = same-stop e .0 in
@@ -374,14 +370,14 @@ module _ (out : List ℕ) (at : ℕ) (text : List ℕ) where
 
   writing-kept : (r : Refusal) → writingReply out at text ≡ Refused r → written out at text ≡ out
   unfolding writingReply written
-  writing-kept r e = by-test (fits out at text) (λ f. absurd (no (cc (rw f at e)))) (λ f. rw f)
+  writing-kept r e = by-test (fits out at text) (λ f. impossible (cc (rw f at e))) (λ f. rw f)
 
   writing-left : (n : ℕ) → writingReply out at text ≡ Upto n → written out at text ≡ take at out ++ (text ++ drop n out)
   unfolding writingReply written laid
   writing-left n e =
       by-test (fits out at text)
       (λ f. let same : at + length text ≡ n = cc (rw f at e) in rw (f, ← same))
-      (λ f. absurd (no (cc (rw f at e))))
+      (λ f. impossible (cc (rw f at e)))
 
 module _ (c : Campaign) (out : List ℕ) (at : ℕ) where
   record-tests : recordWriting c out at
@@ -396,7 +392,7 @@ module _ (c : Campaign) (out : List ℕ) (at : ℕ) where
   record-leaves : (n : ℕ) → recordWriting c out at ≡ Upto n → recordLeft c out at ≡ take at out ++ (recordText c ++ drop n out)
   unfolding recordWriting recordLeft
   record-leaves n e =
-      by-test (sound c) (λ g. rw g (writing-left out at (recordText c) n (rw g at e))) (λ g. absurd (no (cc (rw g at e))))
+      by-test (sound c) (λ g. rw g (writing-left out at (recordText c) n (rw g at e))) (λ g. impossible (cc (rw g at e)))
 
 -- ---- a text run
 own-run : (r q : Refusal) → Declined r ≡ Declined q → r ≡ q
@@ -418,7 +414,7 @@ module _ (more : Bool) (text : List ℕ) (s : Sheet) (out : List ℕ) where
   run-keeps : (r : Refusal) → running more text s out ≡ Declined r → runLeft more text s out ≡ out
   unfolding running runLeft written
   run-keeps r e =
-      by-test (soundSheet s) (λ g. by-test room (λ f. absurd (no (cc (rw (g, f) at e)))) (λ f. rw (g, zero-add, f))) (λ g. rw g)
+      by-test (soundSheet s) (λ g. by-test room (λ f. impossible (cc (rw (g, f) at e))) (λ f. rw (g, zero-add, f))) (λ g. rw g)
 
   run-leaves : (e : Reading) (n : ℕ) → running more text s out ≡ Came e n → runLeft more text s out ≡ account .text ++ drop n out
   unfolding running runLeft written laid
@@ -427,8 +423,8 @@ module _ (more : Bool) (text : List ℕ) (s : Sheet) (out : List ℕ) where
       (λ g.
       by-test room
       (λ f. let same : length (account .text) ≡ n = cc (rw (g, f) at e) in rw (g, zero-add, f, ← same))
-      (λ f. absurd (no (cc (rw (g, f) at e)))))
-      (λ g. absurd (no (cc (rw g at e))))
+      (λ f. impossible (cc (rw (g, f) at e))))
+      (λ g. impossible (cc (rw g at e)))
 
 pub job-sheet : JobSheet
 unfolding meaning readingEnd
@@ -456,15 +452,15 @@ job-sheet =
       read-whole = λ text. refl;
       run = λ more text s out.
           decided Declined (Came (readingSheet more (linesOf text) s .end) (length (readingSheet more (linesOf text) s .text)))
-          own-run (λ r e. no (cc)) _ (running more text s out) (run-tests more text s out);
+          own-run (λ r e. impossible (cc)) _ (running more text s out) (run-tests more text s out);
       run-kept = run-keeps;
       run-left = run-leaves;
       record-written = λ c out at.
-          decided Refused (Upto (at + length (recordText c))) own-written (λ r e. no (cc)) _ (recordWriting c out at) (record-tests c out at);
+          decided Refused (Upto (at + length (recordText c))) own-written (λ r e. impossible (cc)) _ (recordWriting c out at) (record-tests c out at);
       record-kept = record-keeps;
       record-left = record-leaves;
       refused-written = λ line column r out at. let text = refusedText line column r in
-          decided Refused (Upto (at + length text)) own-written (λ q e. no (cc)) _ (writingReply out at text) (writing-tests out at text);
+          decided Refused (Upto (at + length text)) own-written (λ q e. impossible (cc)) _ (writingReply out at text) (writing-tests out at text);
       refused-kept = λ line column r out at q e. writing-kept out at (refusedText line column r) q e;
       refused-left = λ line column r out at n e. writing-left out at (refusedText line column r) n e;
     }

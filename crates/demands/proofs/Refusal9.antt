@@ -10,6 +10,7 @@ use mathlib.Core.Logic.{_⊎_, inl, inr}
 use Prim.Native.Nat.{ℕ, _+_, _^_, _≤_, _<_}
 use native.Mathlib.Omega.{arith}
 use lib.Dec.{eqb, ltb}
+use Rattle.truth.proofs.Laws.{impossible}
 use Rattle.refusal.specs.declared.Refusal.{Refusal}
 use Rattle.refusal.specs.declared.Refusal.the-variants.{CampaignFull, Item, Line, RowsUsedUp, TooLong, TooShort}
 use Rattle.refusal.specs.Numbers.{numberOf}
@@ -60,10 +61,6 @@ pub record Refusal9 : Type 0 where
       → Decides (Stop (c .records + 2) 0) (tellTests c exposure) (Next (Open (entered c (eqb flag 1) exposure)))
       (stepping (Open c) (entryText (c .records + 1) flag exposure))
 
--- ---- the proof
-no : _≡_ {A = ℕ} 0 1 → ⊥
-no e = omega arith
-
 own : (n k : ℕ) (r s : Refusal) → Stop n k r ≡ Stop n k s → r ≡ s
 own n k r s e = cc
 
@@ -108,7 +105,7 @@ module _ (c : Campaign) (kept : sound c ≡ true) where
         ∙ outcome-decides (c .records + 2) (tellTests c exposure) (entered c (eqb flag 1) exposure))
 
     told-decides : Decides (Stop (c .records + 2) 0) (tellTests c exposure) (Next (Open (entered c (eqb flag 1) exposure))) (stepping (Open c) (entryText (c .records + 1) flag exposure))
-    told-decides = decided (Stop (c .records + 2) 0) (Next (Open (entered c (eqb flag 1) exposure))) (own (c .records + 2) 0) (λ r e. no (cc)) (tellTests c exposure) _ told-is
+    told-decides = decided (Stop (c .records + 2) 0) (Next (Open (entered c (eqb flag 1) exposure))) (own (c .records + 2) 0) (λ r e. impossible (cc)) (tellTests c exposure) _ told-is
 
     not-nine : ¬ Nine (c .records + 2) (stepping (Open c) (entryText (c .records + 1) flag exposure))
     unfolding decide
@@ -153,7 +150,7 @@ module _ (q : ℕ) (s : q < 10 ^ longest) where
       go false = refl
 
   standard-decides : Decides (Stop 1 0) (standardTests q) (Next (Open (empty q))) (stepping Fresh (headText q))
-  standard-decides = decided (Stop 1 0) (Next (Open (empty q))) (own 1 0) (λ r e. no (cc)) (standardTests q) _ standard-is
+  standard-decides = decided (Stop 1 0) (Next (Open (empty q))) (own 1 0) (λ r e. impossible (cc)) (standardTests q) _ standard-is
 
   standard-not-nine : ¬ Nine 1 (stepping Fresh (headText q))
   unfolding decide

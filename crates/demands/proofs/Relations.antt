@@ -16,7 +16,7 @@ use lib.Dec.{T, eqb, leb, ltb}
 use lib.IntN.{ℤ, natAbs}
 use lib.ListN.{length}
 use Rattle.truth.proofs.Cases.{by-test}
-use Rattle.truth.proofs.Laws.{and-true, both-true, holds, is-true, true≢false}
+use Rattle.truth.proofs.Laws.{and-true, both-true, holds, impossible, is-true, true≢false}
 use Rattle.refusal.specs.declared.Refusal.{Refusal}
 use Rattle.refusal.specs.declared.Refusal.the-variants.{Acceleration, BrokenState, CampaignFull, Item, RowsUsedUp}
 use Rattle.refusal.specs.declared.Refusal.the-variants.{Sample, SumFull, TooLong, TooShort, Unequal}
@@ -61,7 +61,6 @@ use Rattle.bureau_table.specs.Calls.{called}
 use Rattle.bureau_table.specs.Table.{allKept, at, free, isBureau, jobs, kept, placeKept}
 use Rattle.bureau_table.proofs.Places.{all-at}
 use Rattle.bureau_table.proofs.Relations as table-facts
-use Rattle.demands.proofs.Demand1.{no}
 
 -- ---- the statement
 -- a number from low to high
@@ -407,28 +406,28 @@ table-says t = (from, to)
 fed-else : (a b c d : Bool) (p q : ℕ) (t : Record)
     → ¬ (cond a (recorded.Refused Unequal) (cond b (recorded.Refused (cond d (Sample p) (Acceleration q))) (cond c (recorded.Refused TooLong) (recorded.Taken t)))
     ≡ recorded.Refused BrokenState)
-fed-else true b c d p q t e = no (cc)
-fed-else false true c true p q t e = no (cc)
-fed-else false true c false p q t e = no (cc)
-fed-else false false true d p q t e = no (cc)
-fed-else false false false d p q t e = no (cc)
+fed-else true b c d p q t e = impossible (cc)
+fed-else false true c true p q t e = impossible (cc)
+fed-else false true c false p q t e = impossible (cc)
+fed-else false false true d p q t e = impossible (cc)
+fed-else false false false d p q t e = impossible (cc)
 
 end-else : (a : Bool) (x : Result) → ¬ (cond a (ended.Refused TooShort) (ended.Given x) ≡ ended.Refused BrokenState)
-end-else true x e = no (cc)
-end-else false x e = no (cc)
+end-else true x e = impossible (cc)
+end-else false x e = impossible (cc)
 
 enter-else : (a b : Bool) (c : Campaign)
     → ¬ (cond a (campaigned.Refused CampaignFull) (cond b (campaigned.Refused RowsUsedUp) (campaigned.Taken c)) ≡ campaigned.Refused BrokenState)
-enter-else true b c e = no (cc)
-enter-else false true c e = no (cc)
-enter-else false false c e = no (cc)
+enter-else true b c e = impossible (cc)
+enter-else false true c e = impossible (cc)
+enter-else false false c e = impossible (cc)
 
 add-else : (a b c : Bool) (s : Sum)
     → ¬ (cond a (summed.Refused TooShort) (cond b (summed.Refused (Item 1)) (cond c (summed.Refused SumFull) (summed.Taken s))) ≡ summed.Refused BrokenState)
-add-else true b c s e = no (cc)
-add-else false true c s e = no (cc)
-add-else false false true s e = no (cc)
-add-else false false false s e = no (cc)
+add-else true b c s e = impossible (cc)
+add-else false true c s e = impossible (cc)
+add-else false false true s e = impossible (cc)
+add-else false false false s e = impossible (cc)
 
 -- two tests of 8 one after the other are one
 two : {A : Type 0} (a b : Bool) (x y : A) → cond (not a) x (cond (not b) x y) ≡ cond (not (a && b)) x y
@@ -453,13 +452,13 @@ relations-8 =
           (enter-else (eqb (c .records) 100000) (eqb (c .failures) 64) (campaigning.entered c (o .failed) (o .exposure))) in
           exactly-8 campaigned.Refused b (entering c o) (both-say (campaign-says c) (within-says 1 10000000 (o .exposure))) (f .0) (f .1);
       verdict = λ c.
-          let f = first-only judging.Refused (campaigning.sound c) (verdicts.judging c) (judging.Given (verdictOf c)) (turned (campaigning.sound c) _ _) (λ e. no (cc)) in
+          let f = first-only judging.Refused (campaigning.sound c) (verdicts.judging c) (judging.Given (verdictOf c)) (turned (campaigning.sound c) _ _) (λ e. impossible (cc)) in
           exactly-8 judging.Refused (campaigning.sound c) (verdicts.judging c) (campaign-says c) (f .0) (f .1);
       rates = λ c.
-          let f = first-only rating.Refused (campaigning.sound c) (verdicts.rating c) (rating.Given (not (eqb (c .records) 0)) (ratesOf c)) (turned (campaigning.sound c) _ _) (λ e. no (cc)) in
+          let f = first-only rating.Refused (campaigning.sound c) (verdicts.rating c) (rating.Given (not (eqb (c .records) 0)) (ratesOf c)) (turned (campaigning.sound c) _ _) (λ e. impossible (cc)) in
           exactly-8 rating.Refused (campaigning.sound c) (verdicts.rating c) (campaign-says c) (f .0) (f .1);
       censored = λ c.
-          let f = first-only counting.Refused (campaigning.sound c) (verdicts.counting c) (counting.Count (campaigning.censored c)) (turned (campaigning.sound c) _ _) (λ e. no (cc)) in
+          let f = first-only counting.Refused (campaigning.sound c) (verdicts.counting c) (counting.Count (campaigning.censored c)) (turned (campaigning.sound c) _ _) (λ e. impossible (cc)) in
           exactly-8 counting.Refused (campaigning.sound c) (verdicts.counting c) (campaign-says c) (f .0) (f .1);
       add = λ s r.
           let b = summing.sound s && recording.sound r in
@@ -468,10 +467,10 @@ relations-8 =
           (summing.grown s (r .groups) (summing.timed r))) in
           exactly-8 summed.Refused b (adding s r) (both-say (sum-says s) (record-says r)) (f .0) (f .1);
       bounds = λ s.
-          let f = first-only bounded.Refused (summing.sound s) (spreads.bounding s) (bounded.Given (spreads.recorded s) (boundsOf s)) (turned (summing.sound s) _ _) (λ e. no (cc)) in
+          let f = first-only bounded.Refused (summing.sound s) (spreads.bounding s) (bounded.Given (spreads.recorded s) (boundsOf s)) (turned (summing.sound s) _ _) (λ e. impossible (cc)) in
           exactly-8 bounded.Refused (summing.sound s) (spreads.bounding s) (sum-says s) (f .0) (f .1);
       sum-rates = λ s.
-          let f = first-only rating.Refused (summing.sound s) (spreads.rating s) (rating.Given (spreads.recorded s) (sumRates s)) (turned (summing.sound s) _ _) (λ e. no (cc)) in
+          let f = first-only rating.Refused (summing.sound s) (spreads.rating s) (rating.Given (spreads.recorded s) (sumRates s)) (turned (summing.sound s) _ _) (λ e. impossible (cc)) in
           exactly-8 rating.Refused (summing.sound s) (spreads.rating s) (sum-says s) (f .0) (f .1);
       table = table-says;
       call = λ t b a n. go t b a (kept t) refl n;

@@ -11,6 +11,7 @@ use lib.IntN.{ℤ, pos, negsuc}
 use lib.ListN.{length, drop, take}
 use lib.Seq.{take-append-seam}
 use borrow.Author.Tests.{leb-false, ltb-false}
+use Rattle.truth.proofs.Laws.{impossible}
 use Rattle.truth.proofs.Cases.{by-test}
 use Rattle.refusal.specs.declared.Refusal.{Refusal}
 use Rattle.refusal.specs.declared.Refusal.the-variants.{CommaLine, Item, Room, Sample, TooLong}
@@ -133,9 +134,6 @@ module _ (r s : Refusal) where
   own-write : Declined r ≡ Declined s → r ≡ s
   own-write e = cc
 
-no : _≡_ {A = ℕ} 0 1 → ⊥
-no e = omega arith
-
 -- what was written keeps the tests, and is the text
 pub record Wrote (D : ℕ) (xs : List ℤ) (n : ℕ) : Type 0 where
   pub step : stepInRange D ≡ true
@@ -149,20 +147,20 @@ wrote D xs out n e =
     by-test (stepInRange D)
     (λ a.
     by-test (ltb (firstBad xs) (length xs))
-    (λ b. absurd (no (cc (rw (a, b) at e))))
+    (λ b. impossible (cc (rw (a, b) at e)))
     (λ b.
     by-test (leb (10 ^ longest) (lastTime D xs))
-    (λ c. absurd (no (cc (rw (a, b, c) at e))))
+    (λ c. impossible (cc (rw (a, b, c) at e)))
     (λ c.
     by-test (ltb (length out) (length (textOf D xs)))
-    (λ d. absurd (no (cc (rw (a, b, c, d) at e))))
+    (λ d. impossible (cc (rw (a, b, c, d) at e)))
     (λ d. record {
       step = a;
       good = omega (arith, bad-within xs, ltb-false (firstBad xs) (length xs) b);
       short = leb-false (10 ^ longest) (lastTime D xs) c;
       bytes = cc (rw (a, b, c, d) at e);
     }))))
-    (λ a. absurd (no (cc (rw a at e))))
+    (λ a. impossible (cc (rw a at e)))
 
 written-back : (D : ℕ) (xs : List ℤ) (out : List ℕ) (n places : ℕ) → writingComma D xs out ≡ Bytes n → length xs ≤ places
     → let text = take n (laidBy (Bytes n) (textOf D xs) out) in
@@ -190,8 +188,8 @@ pub request-1 : Request1
 unfolding decide readingLines writingComma filledBy laidBy
 request-1 =
     record {
-      read = λ D text places. decided Refused (Samples (length (linesOf text))) own-read (λ r e. no (cc)) (readTests D (linesOf text) places) (readingComma D text places) refl;
-      write = λ D xs out. decided Declined (Bytes (length (textOf D xs))) own-write (λ r e. no (cc)) (writeTests D xs (length out)) (writingComma D xs out) refl;
+      read = λ D text places. decided Refused (Samples (length (linesOf text))) own-read (λ r e. impossible (cc)) (readTests D (linesOf text) places) (readingComma D text places) refl;
+      write = λ D xs out. decided Declined (Bytes (length (textOf D xs))) own-write (λ r e. impossible (cc)) (writeTests D xs (length out)) (writingComma D xs out) refl;
       samples-kept = λ r xs slice. refl;
       bytes-kept = λ r text out. refl;
       forms = computed-forms;

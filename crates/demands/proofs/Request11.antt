@@ -13,6 +13,7 @@ use Prim.Native.Nat.{ℕ, _+_, _≤_}
 use lib.Dec.{eqb, ltb}
 use lib.IntN.{ℤ}
 use lib.ListN.{length, drop}
+use Rattle.truth.proofs.Laws.{impossible}
 use Rattle.refusal.specs.declared.Refusal.{Refusal}
 use Rattle.refusal.specs.declared.Refusal.the-variants.{Item, Room, Sample, TooLong, TooShort}
 use Rattle.sample_items.specs.Limits.{itemOutside, stepInRange, rampInRange, decorrelationInRange, mostSamples}
@@ -36,7 +37,7 @@ use Rattle.peak_envelope.specs.declared.PeaksFound.{PeaksFound}
 use Rattle.peak_envelope.specs.declared.PeaksFound.the-variants.{Peaks, Refused}
 use Rattle.peak_envelope.specs.Answers.{FindsTo, found, itemAsked, momentOf, placed, sizeOf, written}
 use Rattle.peak_envelope.proofs.Unique.{find-unique}
-use Rattle.demands.proofs.Demand1.{Decides, Test, _gives_, decide, decided, no}
+use Rattle.demands.proofs.Demand1.{Decides, Test, _gives_, decide, decided}
 
 -- ---- the statement
 abbrev pub envelopeTests : ℕ → ℕ → ℕ → List ℤ → ℕ → ℕ → List Test
@@ -98,7 +99,7 @@ pub request-11 : Request11
 unfolding decide found placed written peaks
 request-11 =
     record {
-      order = λ D R τ xs sizes times. decided Refused (Peaks (length (handed D R τ xs))) (λ r s e. cc) (λ r e. no (cc)) (envelopeTests D R τ xs sizes times) (found D R τ xs sizes times) refl;
+      order = λ D R τ xs sizes times. decided Refused (Peaks (length (handed D R τ xs))) (λ r s e. cc) (λ r e. impossible (cc)) (envelopeTests D R τ xs sizes times) (found D R τ xs sizes times) refl;
       no-level = level-in-range;
       stays = λ D R τ xs sizes times s t f p. (p .sizes-left, p .times-left);
       given = λ D R τ xs sizes times s t k p. (p .sizes-left, p .times-left);

@@ -12,6 +12,7 @@ use native.Mathlib.Omega.{arith}
 use borrow.Author.Tests.{eq-eqb, ne-eqb}
 use lib.Dec.{eqb, ltb}
 use lib.ListN.{length}
+use Rattle.truth.proofs.Laws.{impossible}
 use Rattle.truth.proofs.Cases.{by-test}
 use Rattle.refusal.specs.declared.Refusal.{Refusal}
 use Rattle.refusal.specs.declared.Refusal.the-variants.{Room, Situation, Situations}
@@ -133,9 +134,6 @@ module _ (r s : Refusal) where
   own-writing : Declined r ≡ Declined s → r ≡ s
   own-writing e = cc
 
-no : _≡_ {A = ℕ} 0 1 → ⊥
-no e = omega arith
-
 abbrev ranked : Standing → ℕ
 ranked Accepted = 0
 ranked Rejected = 1
@@ -177,12 +175,12 @@ total-letters : (cs : List Campaign) (s : Standing) → standing cs ≡ s → To
 total-letters cs Accepted e =
     record {
       A = record { only-if = λ z. only-accepted cs e; when = λ a. refl };
-      R = record { only-if = λ z. absurd (omega arith); when = λ o. absurd (no (ap ranked (sym e ∙ rejected-if cs o))) };
+      R = record { only-if = λ z. absurd (omega arith); when = λ o. impossible (ap ranked (sym e ∙ rejected-if cs o)) };
       O = record { only-if = λ z. absurd (omega arith); when = λ n. absurd (n .1 (only-accepted cs e)) };
     }
 total-letters cs Rejected e =
     record {
-      A = record { only-if = λ z. absurd (omega arith); when = λ a. absurd (no (ap ranked (sym (accepted-if cs a) ∙ e))) };
+      A = record { only-if = λ z. absurd (omega arith); when = λ a. impossible (ap ranked (sym (accepted-if cs a) ∙ e)) };
       R = record { only-if = λ z. only-rejected cs e; when = λ o. refl };
       O = record { only-if = λ z. absurd (omega arith); when = λ n. absurd (n .0 (only-rejected cs e)) };
     }
@@ -219,9 +217,9 @@ pub request-13 : Request13
 unfolding laidBy
 request-13 =
     record {
-      judge = λ number cs. decided Refused (Given (standing cs)) own (λ r e. no (cc)) (tests number cs []) (judging number cs) (judging-decides number cs);
+      judge = λ number cs. decided Refused (Given (standing cs)) own (λ r e. impossible (cc)) (tests number cs []) (judging number cs) (judging-decides number cs);
       write = λ number cs out.
-          decided Declined (Bytes (length (reportText cs))) own-writing (λ r e. no (cc)) (writeTests number cs (length out)) (writingReport number cs out) (writing-decides number cs out);
+          decided Declined (Bytes (length (reportText cs))) own-writing (λ r e. impossible (cc)) (writeTests number cs (length out)) (writingReport number cs out) (writing-decides number cs out);
       lowest = lowest-named;
       bytes-kept = λ r text out. refl;
       rejecting = rejected-rejects;

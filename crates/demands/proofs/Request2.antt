@@ -13,7 +13,7 @@ use lib.IntN.{ℤ, negsuc}
 use lib.ListN.{length, take}
 use lib.Seq.{take-append-seam}
 use Rattle.truth.proofs.Cases.{by-test}
-use Rattle.truth.proofs.Laws.{is-true}
+use Rattle.truth.proofs.Laws.{impossible, is-true}
 use Rattle.poisson.specs.Rows.{rows}
 use Rattle.refusal.specs.declared.Refusal.{Refusal}
 use Rattle.refusal.specs.declared.Refusal.the-variants.{CampaignFull, Item, Room, RowsUsedUp, TooLong, TooShort}
@@ -92,9 +92,6 @@ module _ (r s : Refusal) where
   own-sheet : Bad 0 0 r ≡ Bad 0 0 s → r ≡ s
   own-sheet e = cc
 
-no : _≡_ {A = ℕ} 0 1 → ⊥
-no e = omega arith
-
 -- what the records' tests decide is what is judged of them, from a campaign of so many records and failures
 module _ (needed room : ℕ) where
   abbrev last : List Test
@@ -152,12 +149,12 @@ pub request-2 : Request2
 unfolding laidBy filledBy resuming campaignOf
 request-2 =
     record {
-      write = λ q xs out. decided Declined (Bytes (length (sheetText q xs))) own (λ r e. no (cc)) (writeTests q xs (length out)) (writingSheet q xs out) (written-decides q xs out);
+      write = λ q xs out. decided Declined (Bytes (length (sheetText q xs))) own (λ r e. impossible (cc)) (writeTests q xs (length out)) (writingSheet q xs out) (written-decides q xs out);
       enough = λ q xs out n e. let w = wrote q xs out n e in omega (arith, w .bytes, enough q xs (w .end) (w .clean));
       least = (refl, refl);
       refused-sheet = λ text places line column r e. rw e;
       clean-sheet = λ text places c e.
-          decided (Bad 0 0) (Records (c .standard) (c .records)) own-sheet (λ r z. no (cc)) _ (resuming text places) (rooms text places c e);
+          decided (Bad 0 0) (Records (c .standard) (c .records)) own-sheet (λ r z. impossible (cc)) _ (resuming text places) (rooms text places c e);
       bytes-kept = λ r text out. refl;
       records-kept = λ line column r xs slice. refl;
       back = λ q xs out n e.

@@ -13,7 +13,7 @@ use native.Mathlib.Omega.{arith}
 use borrow.Author.Tests.{ne-eqb}
 use lib.Dec.{eqb}
 use lib.ListN.{length}
-use Rattle.truth.proofs.Laws.{is-true}
+use Rattle.truth.proofs.Laws.{impossible, is-true}
 use Rattle.refusal.specs.declared.Refusal.{Refusal}
 use Rattle.refusal.specs.declared.Refusal.the-variants.{BrokenState, Item, SumFull, TooShort}
 use Rattle.sample_items.specs.declared.Items.{Items}
@@ -41,7 +41,7 @@ use Rattle.binomial_bounds.specs.HalfWidth.{HalfWidth, firstFrom, halfWidth}
 use Rattle.binomial_bounds.specs.declared.Bounded.the-variants as bounded
 use Rattle.binomial_bounds.proofs.HalfWidth.{all-failures, half-width, least-unique, no-failure}
 use Rattle.binomial_bounds.proofs.Order.{ordered}
-use Rattle.demands.proofs.Demand1.{Decides, Test, _gives_, decide, decided, no}
+use Rattle.demands.proofs.Demand1.{Decides, Test, _gives_, decide, decided}
 
 -- ---- the statement
 -- 8 for the sum and for the record, 4, 1 with item 1 for another step, 11
@@ -126,10 +126,10 @@ pub request-7 : Request7
 unfolding decide adding bounding rating
 request-7 =
     record {
-      opening = λ D. decided Refused (Taken (empty D)) own (λ r e. no (cc)) _ (opened D) (swapped (stepInRange D) _ _);
-      add = λ s r. decided Refused (Taken (grown s (r .groups) (timed r))) own (λ f e. no (cc)) (addTests s r) (adding s r) refl;
-      bounds = λ s. decided bounded.Refused (bounded.Given (recorded s) (boundsOf s)) own-bounds (λ r e. no (cc)) (brokenTest s) (bounding s) (swapped (sound s) _ _);
-      rates = λ s. decided rated.Refused (rated.Given (recorded s) (ratesOf s)) own-rates (λ r e. no (cc)) (brokenTest s) (rating s) (swapped (sound s) _ _);
+      opening = λ D. decided Refused (Taken (empty D)) own (λ r e. impossible (cc)) _ (opened D) (swapped (stepInRange D) _ _);
+      add = λ s r. decided Refused (Taken (grown s (r .groups) (timed r))) own (λ f e. impossible (cc)) (addTests s r) (adding s r) refl;
+      bounds = λ s. decided bounded.Refused (bounded.Given (recorded s) (boundsOf s)) own-bounds (λ r e. impossible (cc)) (brokenTest s) (bounding s) (swapped (sound s) _ _);
+      rates = λ s. decided rated.Refused (rated.Given (recorded s) (ratesOf s)) own-rates (λ r e. impossible (cc)) (brokenTest s) (rating s) (swapped (sound s) _ _);
       opened-sound = λ D s e. is-true (sound s) (answered.opened-sound D s e);
       added-sound = λ s r t e. is-true (sound t) (answered.adding-sound s r t e);
       totals = grown-by-adding;

@@ -6,7 +6,7 @@
 -- nothing.
 use Prim.Native.Nat.{ℕ, zero, suc, _-_, _≤_, _<_, min}
 use mathlib.Core.Path.{_≡_, refl, sym}
-use mathlib.Core.Bool.{Bool, true, false, cond, not, _&&_, _||_}
+use mathlib.Core.Bool.{Bool, cond, false, not, or-false, true, _&&_, _||_}
 use mathlib.Core.List.{List, [], _∷_, map}
 use mathlib.Core.Logic.{_⊎_, inl, inr}
 use native.Mathlib.Omega.{arith}
@@ -113,10 +113,6 @@ module _ (R : ℕ) (a : Levels) (xs ys : List ℤ) (i : ℕ) (l : i < length xs)
   crossing c =
       rw (lt-ltb R i (c .timed), sample (i - 1) (omega arith), sample i (omega arith), c .roll-before, c .acceleration-before)
       (or-true (above (a .roll) (at xs i)) (above (a .acceleration) (at ys i)) (c .one))
-
-or-false : (b : Bool) → (b || false) ≡ b
-or-false true = refl
-or-false false = refl
 
 quiet : (a : Levels) (xs : List ℤ) (k : ℕ) → channels.above a (sampleAt (moments xs (zeros xs)) k) ≡ above (a .roll) (at xs k)
 unfolding moments

@@ -8,10 +8,10 @@ use mathlib.Core.Path.{_≡_, refl}
 use mathlib.Core.Bool.{Bool, cond, false, not, true, _&&_}
 use mathlib.Core.List.{List, [], _∷_}
 use Prim.Native.Nat.{ℕ, _≤_, _<_}
-use native.Mathlib.Omega.{arith}
 use lib.Dec.{eqb, leb, ltb}
 use lib.ListN.{length, set}
 use borrow.Author.Tests.{eqb-true}
+use Rattle.truth.proofs.Laws.{impossible}
 use Rattle.refusal.specs.declared.Refusal.{Refusal}
 use Rattle.refusal.specs.declared.Refusal.the-variants.{BrokenState, BureauFull, CampaignFull, Item, NoBureau, NotItsOwn, RowsUsedUp}
 use Rattle.poisson.specs.Rows.{rows}
@@ -135,9 +135,6 @@ pub record Request9 : Type 0 where
 own : (r s : Refusal) → Refused r ≡ Refused s → r ≡ s
 own r s e = cc
 
-no : _≡_ {A = ℕ} 0 1 → ⊥
-no e = omega arith
-
 -- document 01's refusals of an entry, as the bench hands them on
 handed-on : (b : ℕ) (c d : Campaign) (l m n : Bool)
     → entry b c (cond l (campaigned.Refused BrokenState) (cond m (campaigned.Refused CampaignFull) (cond n (campaigned.Refused RowsUsedUp) (campaigned.Taken d)))) .answer
@@ -195,11 +192,11 @@ module _ (t : List Place) (b : ℕ) where
   order : Order t b
   order =
       record {
-        take = λ q. decided Refused _ own (λ r e. no (cc)) _ _ (take-is q);
-        enter = λ i o. decided Refused _ own (λ r e. no (cc)) _ _ (work-is i (Enter o) _ _ (enter-is i o));
-        verdict = λ i. decided Refused _ own (λ r e. no (cc)) _ _ (work-is i Judge _ _ (verdict-is i));
-        rates = λ i. decided Refused _ own (λ r e. no (cc)) _ _ (work-is i Rate _ _ (rates-is i));
-        give-back = λ i. decided Refused _ own (λ r e. no (cc)) _ _ (work-is i GiveBack _ _ (λ s. given-is i));
+        take = λ q. decided Refused _ own (λ r e. impossible (cc)) _ _ (take-is q);
+        enter = λ i o. decided Refused _ own (λ r e. impossible (cc)) _ _ (work-is i (Enter o) _ _ (enter-is i o));
+        verdict = λ i. decided Refused _ own (λ r e. impossible (cc)) _ _ (work-is i Judge _ _ (verdict-is i));
+        rates = λ i. decided Refused _ own (λ r e. impossible (cc)) _ _ (work-is i Rate _ _ (rates-is i));
+        give-back = λ i. decided Refused _ own (λ r e. impossible (cc)) _ _ (work-is i GiveBack _ _ (λ s. given-is i));
       }
 
 each-call : (t : List Place) (b : ℕ) → EachCall t b

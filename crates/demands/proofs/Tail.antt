@@ -10,6 +10,7 @@ use native.Mathlib.Nat.{le-trans}
 use native.Mathlib.Omega.{arith}
 use lib.Dec.{lit≤, ltb}
 use lib.ListN.{getD, length}
+use Rattle.truth.proofs.Laws.{impossible}
 use Rattle.refusal.specs.declared.Refusal.{Refusal}
 use Rattle.refusal.specs.declared.Refusal.the-variants.{Peak, Room, Tail}
 use Rattle.logarithm.specs.Logarithm.{ExactFigure, Logarithm, Near}
@@ -24,7 +25,7 @@ use Rattle.peak_tail.specs.Fitting.{FitsTo, Summed, firstBad, fitted, tailOutsi
 use Rattle.peak_tail.specs.Hill.{ExactSum, HillSum, NearSum, kth, plus, start}
 use Rattle.peak_tail.proofs.Slack.{exact-sum, hill-slack}
 use Rattle.peak_tail.proofs.Unique.{fit-unique}
-use Rattle.demands.proofs.Demand1.{Decides, Test, _gives_, decide, decided, no}
+use Rattle.demands.proofs.Demand1.{Decides, Test, _gives_, decide, decided}
 
 abbrev pub tailTests : List ℕ → ℕ → ℕ → List Test
 tailTests peaks k places =
@@ -96,7 +97,7 @@ pub tail-fitted : TailFitted
 unfolding decide fitted
 tail-fitted =
     record {
-      order = λ peaks k places sum. decided Refused (Sum sum) (λ r s e. cc) (λ r e. no (cc)) (tailTests peaks k places) (fitted peaks k places sum) refl;
+      order = λ peaks k places sum. decided Refused (Sum sum) (λ r s e. cc) (λ r e. impossible (cc)) (tailTests peaks k places) (fitted peaks k places sum) refl;
       kept = λ peaks k before after r p. p .leaves;
       summed = λ peaks k before after s p. p .leaves;
       figure = figure;

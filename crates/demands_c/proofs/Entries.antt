@@ -20,7 +20,7 @@ use lib.IntN.{ℤ}
 use lib.ListN.{drop, length}
 use borrow.Author.Tests.{eq-eqb, le-leb, le-ltb, lt-ltb, ne-eqb}
 use Rattle.truth.proofs.Cases.{by-test}
-use Rattle.truth.proofs.Laws.{true≢false}
+use Rattle.truth.proofs.Laws.{impossible, true≢false}
 use Rattle.refusal.specs.Numbers.{numberOf}
 use Rattle.refusal.specs.declared.Refusal.{Refusal}
 use Rattle.refusal.specs.declared.Refusal.the-variants.{BrokenState, BureauFull, CampaignFull, Item, Line, Room}
@@ -859,13 +859,13 @@ module _ (peaks : List ℕ) (k : ℕ) (before : List ℕ) (n c : ℕ) (after : L
   fit-refused : (a : Fitted) (r : Refusal) → a ≡ fitted.Refused r → telling.told n c after ≡ fitTold a after
       → Leaves peaks k before a after
       → left n c after ≡ refusal before r
-  fit-refused (fitted.Sum s) r e t l = let z : _≡_ {A = ℕ} 0 1 = cc in absurd (omega arith)
+  fit-refused (fitted.Sum s) r e t l = impossible (cc)
   fit-refused (fitted.Refused f) r e t l = let g : f ≡ r = cc in ap array t ∙ rw (l, g)
 
   fit-taken : (a : Fitted) (s : ℕ) → a ≡ fitted.Sum s → telling.told n c after ≡ fitTold a after → left n c after
       ≡ taken c after
   fit-taken (fitted.Sum u) s e t = ap (λ (m : ℕ). left m c after) (ap (λ (x : Told). x .number) t)
-  fit-taken (fitted.Refused f) s e t = let z : _≡_ {A = ℕ} 0 1 = cc in absurd (omega arith)
+  fit-taken (fitted.Refused f) s e t = impossible (cc)
 
   fits : FitTold peaks k before n c after → Tells (tailTests peaks k (length before)) before c after (left n c after)
   fits h =

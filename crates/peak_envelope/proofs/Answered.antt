@@ -10,6 +10,7 @@ use lib.Seq.{sets, sets-eq}
 use lib.Dec.{eqb, ltb}
 use lib.IntN.{ℤ}
 use borrow.Author.Tests.{eq-eqb, le-leb, lt-ltb, le-ltb, ltb-false}
+use Rattle.truth.proofs.Laws.{impossible, neither}
 use Rattle.refusal.specs.declared.Refusal.{Refusal}
 use Rattle.refusal.specs.declared.Refusal.the-variants.{Item, Sample, TooLong, TooShort, Room}
 use Rattle.sample_items.specs.Limits.{mostSamples}
@@ -31,11 +32,6 @@ use Rattle.peak_envelope.specs.Answers.{sizeOf, momentOf, unlevelled, it
 pub chosen-kept : (n s D τ : ℕ) (xs : List ℤ) → n ≡ length (peaks D xs) → s ≡ sum (peaks D xs) → chosen n s D τ xs ≡ tops (close τ) (kept (peaks D xs))
 unfolding chosen
 chosen-kept n s D τ xs p q = rw (p, q)
-
--- ---- peaks handed out
-neither : (a b : Bool) → (a || b) ≡ false → (a ≡ false) × (b ≡ false)
-neither true b e = absurd (true≢false e)
-neither false b e = (refl, e)
 
 module _ (l : List Peak) (sizes times : List ℕ) where
   pub no-room : short (length sizes) (length times) (length l) ≡ true → HandsOut l sizes times (Refused (Room (length l))) sizes times
@@ -85,7 +81,7 @@ module _ (D R τ : ℕ) (xs : List ℤ) (sizes times : List ℕ) where
       go true true l s e = cc
       go true false true s e = cc
       go true false false true e = cc
-      go true false false false e = let z : _≡_ {A = ℕ} 0 1 = cc in absurd (omega arith)
+      go true false false false e = impossible (cc)
 
   module _ (f : Fitting (unlevelled D R τ) (length xs) (length xs)) where
     pub finds-bad : firstBad xs < length xs → FindsTo D R τ xs sizes times (Refused (Sample (firstBad xs))) sizes times

@@ -7,7 +7,7 @@ use borrow.Author.Tests.{le-ltb, lt-ltb, ltb-false}
 use lib.Dec.{ltb}
 use lib.ListN.{drop, length, take}
 use lib.Seq.{drop-append-seam, take-append-seam}
-use Rattle.truth.proofs.Laws.{true≢false}
+use Rattle.truth.proofs.Laws.{neither}
 use Rattle.refusal.specs.declared.Refusal.the-variants.{Tail, Peak, Room}
 use Rattle.peak_tail.specs.declared.Fitted.the-variants.{Sum, Refused}
 use Rattle.peak_tail.specs.Fitting.{FitsTo, Summed, firstBad, fitted, longestList, tailOutside}
@@ -31,15 +31,11 @@ module _ (peaks : List ℕ) (k : ℕ) (before : List ℕ) where
       unfolding fitted
       sums-up h {s} x = record { sum = s; answers = rw (t, le-ltb _ _ good, le-ltb _ _ h); leaves = x }
 
-or-false : (a b : Bool) → (a || b) ≡ false → (a ≡ false) × (b ≡ false)
-or-false true b e = absurd (true≢false e)
-or-false false b e = (refl, e)
-
 -- what is left once 16 is passed
 pub inside : (n k : ℕ) → tailOutside n k ≡ false → (n ≤ longestList) × (2 ≤ k) × (k ≤ n)
 inside n k e =
-    let (long, rest) = or-false (ltb longestList n) (ltb k 2 || ltb n k) e in
-    let (low, high) = or-false (ltb k 2) (ltb n k) rest in
+    let (long, rest) = neither (ltb longestList n) (ltb k 2 || ltb n k) e in
+    let (low, high) = neither (ltb k 2) (ltb n k) rest in
     (ltb-false _ _ long, ltb-false _ _ low, ltb-false _ _ high)
 
 -- the copy before it is sorted: the peaks, and the rest as it stood

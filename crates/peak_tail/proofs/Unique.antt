@@ -4,9 +4,9 @@ use mathlib.Core.Path.{_≡_, refl, ap, sym, _∙_}
 use mathlib.Core.Bool.{Bool, true, false, cond}
 use mathlib.Core.List.{List}
 use Prim.Native.Nat.{ℕ}
-use native.Mathlib.Omega.{arith}
 use lib.Dec.{ltb}
 use lib.ListN.{length}
+use Rattle.truth.proofs.Laws.{impossible}
 use Rattle.refusal.specs.declared.Refusal.{Refusal}
 use Rattle.logarithm.proofs.Unique.{near-unique}
 use Rattle.sorting.proofs.Unique.{sort-unique}
@@ -26,7 +26,7 @@ refusal-settled : (a b c : Bool) (f g h r : Refusal) (s t : ℕ)
 refusal-settled true b c f g h r s t e = e
 refusal-settled false true c f g h r s t e = e
 refusal-settled false false true f g h r s t e = e
-refusal-settled false false false f g h r s t e = let z : _≡_ {A = ℕ} 0 1 = cc in absurd (omega arith)
+refusal-settled false false false f g h r s t e = impossible (cc)
 
 module _ (peaks : List ℕ) (k : ℕ) (before : List ℕ) where
   settled : (r : Refusal) (s t : ℕ) → fitted peaks k (length before) s ≡ Refused r → fitted peaks k (length before) t ≡ Refused r
@@ -38,9 +38,9 @@ module _ (peaks : List ℕ) (k : ℕ) (before : List ℕ) where
       let e : f ≡ g = cc (q .answers, settled f (p .sum) (q .sum) (sym (p .answers))) in
       (ap Refused e, p .leaves ∙ sym (q .leaves))
   fit-unique (Refused f) (Sum n) s t p q =
-      let z : _≡_ {A = ℕ} 0 1 = cc (q .answers, settled f (p .sum) (q .sum) (sym (p .answers))) in absurd (omega arith)
+      impossible (cc (q .answers, settled f (p .sum) (q .sum) (sym (p .answers))))
   fit-unique (Sum m) (Refused g) s t p q =
-      let z : _≡_ {A = ℕ} 0 1 = cc (p .answers, settled g (q .sum) (p .sum) (sym (q .answers))) in absurd (omega arith)
+      impossible (cc (p .answers, settled g (q .sum) (p .sum) (sym (q .answers))))
   fit-unique (Sum m) (Sum n) s t p q =
       let x = p .leaves in
       let y = q .leaves in

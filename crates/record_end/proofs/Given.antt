@@ -3,8 +3,8 @@
 use mathlib.Core.Path.{_≡_, refl}
 use mathlib.Core.Bool.{Bool, cond, false, not, true}
 use Prim.Native.Nat.{ℕ, _≤_}
-use native.Mathlib.Omega.{arith}
 use borrow.Author.Tests.{not-false}
+use Rattle.truth.proofs.Laws.{impossible, past}
 use Rattle.refusal.specs.declared.Refusal.{Refusal}
 use Rattle.refusal.specs.declared.Refusal.the-variants.{BrokenState, TooShort}
 use Rattle.record_state.proofs.Times.{first-time, whole-time}
@@ -24,10 +24,8 @@ exposure-bounds r s l = go (failed r) (first-time r s)
     go true f = f refl
     go false f = whole-time r s l
 
--- past one test of a list of refusals
-past : (b : Bool) (f : Refusal) (a : Ended) {x : Result} → cond b (Refused f) a ≡ Given x → (b ≡ false) × (a ≡ Given x)
-past true f a e = let z : _≡_ {A = ℕ} 0 1 = cc in absurd (omega arith)
-past false f a e = (refl, e)
+never : {r : Refusal} {x : Result} → ¬ (Refused r ≡ Given x)
+never e = impossible (cc)
 
 pub record Comes (r : Record) (x : Result) : Type 0 where
   pub sound : sound r ≡ true
@@ -37,8 +35,8 @@ pub record Comes (r : Record) (x : Result) : Type 0 where
 pub given : (r : Record) (x : Result) → ending r ≡ Given x → Comes r x
 unfolding ending
 given r x e =
-    let p = past (not (sound r)) BrokenState (cond (tooShort r) (Refused TooShort) (Given (resultOf r))) e in
-    let q = past (tooShort r) TooShort (Given (resultOf r)) (p .1) in
+    let p = past (not (sound r)) never e in
+    let q = past (tooShort r) never (p .1) in
     record { sound = not-false _ (p .0); long = q .0; is = cc }
 
 pub given-bounds : (r : Record) (x : Result) → ending r ≡ Given x → (1 ≤ x .exposure) × (x .exposure ≤ longestTime)

@@ -3,11 +3,11 @@ use Prim.Native.Nat.{ℕ, _+_, _≤_, _<_}
 use mathlib.Core.Path.{_≡_, refl}
 use mathlib.Core.Bool.{Bool, true, false, cond, not}
 use mathlib.Core.List.{List, foldl}
-use native.Mathlib.Omega.{arith}
 use lib.ListN.{length}
 use lib.Dec.{eqb, leb, ltb}
 use lib.IntN.{ℤ}
 use borrow.Author.Tests.{eqb-true, eq-eqb, ne-eqb, ltb-false, lt-ltb, le-ltb}
+use Rattle.truth.proofs.Laws.{impossible}
 use Rattle.refusal.specs.declared.Refusal.{Refusal}
 use Rattle.refusal.specs.declared.Refusal.the-variants.{Sample, TooLong, BrokenState, Unequal, Acceleration}
 use Rattle.sample_channels.specs.Channels.{moments, anyBad, badSample}
@@ -56,10 +56,10 @@ pub record Meets (r : Record) (xs ys : List ℤ) (t : Record) : Type 0 where
 only-taken : (a d b c : Bool) (f : Refusal) (s t : Record) → cond (not a) (Refused BrokenState) (cond (not d) (Refused Unequal) (cond b (Refused f) (cond c (Refused TooLong) (Taken s)))) ≡ Taken t
     → (a ≡ true) × (d ≡ true) × (b ≡ false) × (c ≡ false) × (s ≡ t)
 only-taken true true false false f s t e = (refl, refl, refl, refl, cc)
-only-taken true true false true f s t e = let z : _≡_ {A = ℕ} 0 1 = cc in absurd (omega arith)
-only-taken true true true c f s t e = let z : _≡_ {A = ℕ} 0 1 = cc in absurd (omega arith)
-only-taken true false b c f s t e = let z : _≡_ {A = ℕ} 0 1 = cc in absurd (omega arith)
-only-taken false d b c f s t e = let z : _≡_ {A = ℕ} 0 1 = cc in absurd (omega arith)
+only-taken true true false true f s t e = impossible (cc)
+only-taken true true true c f s t e = impossible (cc)
+only-taken true false b c f s t e = impossible (cc)
+only-taken false d b c f s t e = impossible (cc)
 
 pub taken : (r : Record) (xs ys : List ℤ) (t : Record) → fed r xs ys ≡ Taken t → Meets r xs ys t
 unfolding fed
@@ -79,14 +79,14 @@ taken r xs ys t e =
 
 -- a sound state is never answered by refusal 8: the bad sample that is named is no broken state
 named : (b : Bool) (p q : ℕ) → Refused (cond b (Sample p) (Acceleration q)) ≡ Refused BrokenState → ⊥
-named true p q e = let z : _≡_ {A = ℕ} 0 1 = cc in omega arith
-named false p q e = let z : _≡_ {A = ℕ} 0 1 = cc in omega arith
+named true p q e = impossible (cc)
+named false p q e = impossible (cc)
 
 never : (d b c k : Bool) (p q : ℕ) (s : Record) → cond (not d) (Refused Unequal) (cond b (Refused (cond k (Sample p) (Acceleration q))) (cond c (Refused TooLong) (Taken s))) ≡ Refused BrokenState → ⊥
-never false b c k p q s e = let z : _≡_ {A = ℕ} 0 1 = cc in omega arith
+never false b c k p q s e = impossible (cc)
 never true true c k p q s e = named k p q e
-never true false true k p q s e = let z : _≡_ {A = ℕ} 0 1 = cc in omega arith
-never true false false k p q s e = let z : _≡_ {A = ℕ} 0 1 = cc in omega arith
+never true false true k p q s e = impossible (cc)
+never true false false k p q s e = impossible (cc)
 
 pub not-broken : (r : Record) (xs ys : List ℤ) → sound r ≡ true → fed r xs ys ≡ Refused BrokenState → ⊥
 unfolding fed

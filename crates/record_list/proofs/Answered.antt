@@ -8,6 +8,7 @@ use lib.ListN.{length, drop, length-map}
 use lib.Dec.{eqb, ltb}
 use lib.IntN.{ℤ}
 use borrow.Author.Tests.{eq-eqb, lt-ltb, le-ltb}
+use Rattle.truth.proofs.Laws.{impossible}
 use Rattle.refusal.specs.declared.Refusal.{Refusal}
 use Rattle.refusal.specs.declared.Refusal.the-variants.{Item, TooLong, TooShort, Room, Unequal}
 use Rattle.sample_channels.specs.Channels.{moments, anyBad, badSample}
@@ -63,7 +64,7 @@ module _ (items : Items) (xs ys : List ℤ) (slice : List ℕ) where
       go true true true l s e = cc
       go true true false true s e = cc
       go true true false false true e = cc
-      go true true false false false e = let z : _≡_ {A = ℕ} 0 1 = cc in absurd (omega arith)
+      go true true false false false e = impossible (cc)
 
   -- the number of times that is answered
   pub times-number : {k : ℕ} → Times k ≡ listed items xs ys (length slice) → k ≡ length (counted items (moments xs ys))
@@ -79,12 +80,12 @@ module _ (items : Items) (xs ys : List ℤ) (slice : List ℕ) where
           (cond b (Refused g) (cond l (Refused TooLong) (cond s (Refused TooShort) (cond r (Refused (Room n))
           (Times n))))))
           → k ≡ n
-      go false m b l s r g n e = let z : _≡_ {A = ℕ} 0 1 = cc in absurd (omega arith)
-      go true false b l s r g n e = let z : _≡_ {A = ℕ} 0 1 = cc in absurd (omega arith)
-      go true true true l s r g n e = let z : _≡_ {A = ℕ} 0 1 = cc in absurd (omega arith)
-      go true true false true s r g n e = let z : _≡_ {A = ℕ} 0 1 = cc in absurd (omega arith)
-      go true true false false true r g n e = let z : _≡_ {A = ℕ} 0 1 = cc in absurd (omega arith)
-      go true true false false false true g n e = let z : _≡_ {A = ℕ} 0 1 = cc in absurd (omega arith)
+      go false m b l s r g n e = impossible (cc)
+      go true false b l s r g n e = impossible (cc)
+      go true true true l s r g n e = impossible (cc)
+      go true true false true s r g n e = impossible (cc)
+      go true true false false true r g n e = impossible (cc)
+      go true true false false false true g n e = impossible (cc)
       go true true false false false false g n e = cc
 
   module _ (f : Fitting items (length xs) (length ys)) where

@@ -3,7 +3,7 @@
 -- nothing.
 use Prim.Native.Nat.{ℕ, _+_, _-_, _*_}
 use mathlib.Core.Path.{_≡_, refl, sym, ap, _∙_}
-use mathlib.Core.Bool.{Bool, true, false, cond, not, _&&_}
+use mathlib.Core.Bool.{Bool, and-assoc, cond, false, not, true, _&&_}
 use mathlib.Core.List.{List, [], _∷_, map, foldl}
 use native.Mathlib.Numerals.{add-one}
 use native.Mathlib.Nat.{add-zero}
@@ -25,10 +25,6 @@ use Rattle.record_list.specs.Walk.{start, stepped, Noting, noting, noted
 pub record Adds (s : Noting) (w : Walk) (ts times : List ℕ) : Type 0 where
   pub slice : s .times ≡ sets ts (w .count) times
   pub counted : s .walk .count ≡ w .count + length times
-
-and-assoc : (a b c : Bool) → ((a && b) && c) ≡ (a && (b && c))
-and-assoc true b c = refl
-and-assoc false b c = refl
 
 module _ (D : ℕ) (a : Levels) (τ : ℕ) where
   -- a turn: whether the sample crosses the level, and whether a crossing is due

@@ -7,6 +7,7 @@ use mathlib.Core.Logic.{inl}
 use native.Mathlib.Omega.{arith}
 use lib.Dec.{eqb}
 use borrow.Author.Tests.{eqb-true}
+use Rattle.truth.proofs.Laws.{impossible}
 use Rattle.refusal.specs.declared.Refusal.the-variants.{Item}
 use Rattle.crossing_sets.specs.Walk.{walk}
 use Rattle.crossing_sets.specs.Groups.{groups}
@@ -21,7 +22,7 @@ use Rattle.record_state.proofs.Relations.{kept-sound}
 
 only-taken : (b : Bool) (i : ℕ) (r s : Record) → cond b (Taken r) (Refused (Item i)) ≡ Taken s → (b ≡ true) × (r ≡ s)
 only-taken true i r s e = (refl, cc)
-only-taken false i r s e = let z : _≡_ {A = ℕ} 0 1 = cc in absurd (omega arith)
+only-taken false i r s e = impossible (cc)
 
 pub opened-taken : (items : Items) (s : Record) → opened items ≡ Taken s → (itemOutside items ≡ 0) × (stateOf items [] ≡ s)
 unfolding opened

@@ -4,14 +4,13 @@ use Prim.Native.Nat.{ℕ, _+_, _≤_, _<_}
 use mathlib.Core.Path.{_≡_, refl}
 use mathlib.Core.Bool.{Bool, true, false, cond, not, _&&_}
 use mathlib.Core.List.{List}
-use native.Mathlib.Omega.{arith}
 use lib.ListN.{length}
 use lib.Dec.{ltb, leb, eqb}
 use lib.IntN.{ℤ}
 use borrow.Author.Tests.{leb-true, leb-false, eqb-true, ltb-false, le-leb, lt-ltb, eq-eqb, ne-eqb}
 use Rattle.refusal.specs.declared.Refusal.{Refusal}
 use Rattle.refusal.specs.declared.Refusal.the-variants.{Item, TooLong, TooShort, Unequal}
-use Rattle.truth.proofs.Laws.{and-true, both-true}
+use Rattle.truth.proofs.Laws.{and-true, both-true, impossible}
 use Rattle.sample_items.specs.declared.Items.{Items}
 use Rattle.sample_channels.specs.Channels.{anyBad, badSample}
 use Rattle.sample_items.specs.Limits.{itemOutside, mostSamples}
@@ -66,7 +65,7 @@ module _ (items : Items) (xs ys : List ℤ) where
   refused-tested f = go (inSize items (length xs) (length ys))
     where
       go : (b : Bool) → cond b Fits (tested items xs ys) ≡ Refused f → tested items xs ys ≡ Refused f
-      go true e = let z : _≡_ {A = ℕ} 0 1 = cc in absurd (omega arith)
+      go true e = impossible (cc)
       go false e = e
 
   -- a record that passes all tests is in size
@@ -82,11 +81,11 @@ module _ (items : Items) (xs ys : List ℤ) where
       go true true false false false q r e = both-true (le-leb (length xs) (mostSamples (items .step) (items .ramp))
           (ltb-false (mostSamples (items .step) (items .ramp)) (length xs) q)) (le-leb (items .ramp + 2) (length xs)
           (ltb-false (length xs) (items .ramp + 2) r))
-      go true true false false true q r e = let z : _≡_ {A = ℕ} 0 1 = cc in absurd (omega arith)
-      go true true false true s q r e = let z : _≡_ {A = ℕ} 0 1 = cc in absurd (omega arith)
-      go true true true l s q r e = let z : _≡_ {A = ℕ} 0 1 = cc in absurd (omega arith)
-      go true false b l s q r e = let z : _≡_ {A = ℕ} 0 1 = cc in absurd (omega arith)
-      go false m b l s q r e = let z : _≡_ {A = ℕ} 0 1 = cc in absurd (omega arith)
+      go true true false false true q r e = impossible (cc)
+      go true true false true s q r e = impossible (cc)
+      go true true true l s q r e = impossible (cc)
+      go true false b l s q r e = impossible (cc)
+      go false m b l s q r e = impossible (cc)
 
   in-size : inSize items (length xs) (length ys) ≡ true → Fitting items (length xs) (length ys)
   in-size e =

@@ -1,7 +1,7 @@
 -- Where no sample is above the level, the first is not, none of the others, and the one at a place is not. Assumes
 -- nothing.
 use Prim.Native.Nat.{ℕ, zero, suc, _+_, _-_, _≤_, _<_}
-use mathlib.Core.Path.{_≡_, refl, sym, ap, _∙_}
+use mathlib.Core.Path.{_≡_, sym, ap, _∙_}
 use mathlib.Core.Bool.{Bool, true, false, _||_}
 use mathlib.Core.List.{List, [], _∷_}
 use native.Mathlib.Omega.{arith}
@@ -9,13 +9,9 @@ use lib.ListN.{length, getD, take, drop}
 use lib.Seq.{getD-take, getD-drop}
 use lib.IntN.{ℤ, pos}
 use Rattle.sample_size.specs.Above.{above}
-use Rattle.truth.proofs.Laws.{true≢false}
+use Rattle.truth.proofs.Laws.{neither}
 use Rattle.sample_block.specs.Block.{anyAbove}
 use Rattle.sample_block.proofs.Cut.{block-length}
-
-neither : (b c : Bool) → (b || c) ≡ false → (b ≡ false) × (c ≡ false)
-neither true c e = absurd (true≢false e)
-neither false c e = (refl, e)
 
 pub first-quiet : (a : ℕ) (x : ℤ) (xs : List ℤ) → anyAbove a (x ∷ xs) ≡ false → (above a x ≡ false) × (anyAbove a xs ≡ false)
 unfolding anyAbove

@@ -1,13 +1,13 @@
 -- Where no sample of either channel is above its level, no moment is; and the ends of both channels' blocks say so.
 -- Assumes nothing.
 use Prim.Native.Nat.{ℕ, _-_, _≤_, _<_}
-use mathlib.Core.Path.{_≡_, refl}
+use mathlib.Core.Path.{_≡_}
 use mathlib.Core.Bool.{Bool, true, false, _||_}
 use mathlib.Core.List.{List, _∷_}
 use native.Mathlib.Omega.{arith}
 use lib.ListN.{length, getD, take, drop}
 use lib.IntN.{ℤ}
-use Rattle.truth.proofs.Laws.{true≢false}
+use Rattle.truth.proofs.Laws.{neither}
 use Rattle.sample_block.specs.declared.Ends.{Ends}
 use Rattle.sample_block.specs.Block as one-channel
 use Rattle.sample_block.proofs.Quiet as one
@@ -15,10 +15,6 @@ use Rattle.sample_block.proofs.Sides as sides
 use Rattle.sample_channels.specs.declared.Levels.{Levels}
 use Rattle.sample_channels.specs.Channels.{moment, still, above, moments, pastEnds, anyAbove}
 use Rattle.sample_channels.proofs.Moments.{moments-at}
-
-pub neither : (b c : Bool) → (b || c) ≡ false → (b ≡ false) × (c ≡ false)
-neither true c e = absurd (true≢false e)
-neither false c e = (refl, e)
 
 both-quiet : (a : Levels) (xs ys : List ℤ) → anyAbove a xs ys ≡ false → (one-channel.anyAbove (a .roll) xs ≡ false) × (one-channel.anyAbove (a .acceleration) ys ≡ false)
 both-quiet a xs ys e = neither (one-channel.anyAbove (a .roll) xs) (one-channel.anyAbove (a .acceleration) ys) e

@@ -11,7 +11,7 @@ use lib.ListN.{length}
 use borrow.Author.Tests.{lt-ltb, le-ltb, ltb-true, ltb-false, le-leb, lt-leb}
 use Rattle.refusal.specs.declared.Refusal.{Refusal}
 use Rattle.refusal.specs.declared.Refusal.the-variants.{Sample, Acceleration}
-use Rattle.truth.proofs.Laws.{both-true, true≢false}
+use Rattle.truth.proofs.Laws.{both-true, impossible, neither, true≢false}
 use Rattle.sample_block.specs.declared.Ends.{Ends}
 use Rattle.sample_block.specs.Block as one-channel
 use Rattle.sample_range.specs.Range.{sampleLimit, firstBad}
@@ -19,7 +19,6 @@ use Rattle.sample_range.proofs.Bad.{good-head, bad-within, quiet-good, loud-bad
 use Rattle.sample_channels.specs.declared.Moment.{Moment}
 use Rattle.sample_channels.specs.declared.Look.the-variants.{Good, Bad}
 use Rattle.sample_channels.specs.Channels.{moments, AllInRange, outsideEnds, hasBad, anyBad, badSample, badOf, looked}
-use Rattle.sample_channels.proofs.Quiet.{neither}
 
 pub all-in : (xs ys : List ℤ) → firstBad xs ≡ length xs → firstBad ys ≡ length ys → AllInRange (moments xs ys)
 unfolding moments AllInRange
@@ -70,14 +69,14 @@ module _ (xs ys : List ℤ) where
     where
       go : (b : Bool) → cond b (Bad (badOf xs ys)) Good ≡ Bad f → (b ≡ true) × (badOf xs ys ≡ f)
       go true e = (refl, cc)
-      go false e = let z : _≡_ {A = ℕ} 0 1 = cc in absurd (omega arith)
+      go false e = impossible (cc)
 
   pub looked-good : looked xs ys ≡ Good → anyBad xs ys ≡ false
   unfolding looked
   looked-good = go (anyBad xs ys)
     where
       go : (b : Bool) → cond b (Bad (badOf xs ys)) Good ≡ Good → b ≡ false
-      go true e = let z : _≡_ {A = ℕ} 0 1 = cc in absurd (omega arith)
+      go true e = impossible (cc)
       go false e = refl
 
   -- the one at the lower of the two first bad places

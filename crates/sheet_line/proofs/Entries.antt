@@ -5,6 +5,7 @@ use mathlib.Core.Path.{_≡_, refl, subst}
 use mathlib.Core.List.{List}
 use native.Mathlib.Omega.{arith}
 use lib.Dec.{eqb}
+use Rattle.truth.proofs.Laws.{impossible}
 use Rattle.refusal.specs.declared.Refusal.{Refusal}
 use Rattle.campaign_state.specs.declared.CampaignAnswer.{CampaignAnswer}
 use Rattle.campaign_state.specs.declared.CampaignAnswer.the-variants.{Taken, Refused}
@@ -30,7 +31,7 @@ module _ {P : Sheet → Type 0} {line : ℕ} where
 
 -- from a step's answer back to what it says
 never : {s : Sheet} {line column : ℕ} {r : Refusal} → ¬ (Stop line column r ≡ Next s)
-never e = let z : _≡_ {A = ℕ} 0 1 = cc in absurd (omega arith)
+never e = impossible (cc)
 
 same : {s t : Sheet} → Next s ≡ Next t → s ≡ t
 same e = cc
@@ -40,7 +41,7 @@ says-next {P} (goes p) e = subst P (same e) p
 says-next (stops k) e = absurd (never e)
 
 not-next : {s : Sheet} {line column : ℕ} {r : Refusal} → ¬ (Next s ≡ Stop line column r)
-not-next e = let z : _≡_ {A = ℕ} 0 1 = cc in absurd (omega arith)
+not-next e = impossible (cc)
 
 same-line : {n l k m : ℕ} {q r : Refusal} → k < 1000 → Stop n k q ≡ Stop l m r → (l ≡ n) × (m < 1000)
 same-line {n} {l} {k} {m} h e = let line : l ≡ n = cc in let column : k ≡ m = cc in (line, omega arith)

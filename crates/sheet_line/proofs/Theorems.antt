@@ -12,7 +12,7 @@ use lib.ListN.{length, drop, length-append}
 use lib.Seq.{drop-append-add, drop-append-seam, getD-append-seam}
 use native.Mathlib.Nat.{add-assoc, zero-add}
 use borrow.Author.Tests.{le-leb, le-ltb, eq-eqb, ne-eqb}
-use Rattle.truth.proofs.Laws.{holds}
+use Rattle.truth.proofs.Laws.{holds, impossible, past}
 use Rattle.record_state.specs.declared.Record.{Record}
 use Rattle.sample_items.specs.Limits.{longestTime}
 use Rattle.refusal.specs.declared.Refusal.{Refusal}
@@ -55,11 +55,10 @@ module _ (c : Campaign) (f : Bool) (t : ℕ) where
 
   pub told-entered : (d : Campaign) → telling c f t ≡ Taken d → entering c (lineOutcome f t) ≡ Taken d
   unfolding telling
-  told-entered d e = past (ltb longestTime t) TooLong _ (past (eqb t 0) TooShort _ e)
+  told-entered d e = past (ltb longestTime t) never (past (eqb t 0) never e .1) .1
     where
-      past : (b : Bool) (r : Refusal) (a : CampaignAnswer) → cond b (Refused r) a ≡ Taken d → a ≡ Taken d
-      past true r a e = let z : _≡_ {A = ℕ} 0 1 = cc in absurd (omega arith)
-      past false r a e = e
+      never : {r : Refusal} → ¬ (Refused r ≡ Taken d)
+      never e = impossible (cc)
 
 -- and so is any result with that failure and that exposure
 pub line-results : (c : Campaign) (line : List ℕ) (s : Sheet) (e : Entry c line s) (x : Result) → outcomeOf x

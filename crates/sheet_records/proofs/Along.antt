@@ -10,7 +10,7 @@ use native.Mathlib.Omega.{arith}
 use lib.Dec.{eqb}
 use lib.ListN.{length, drop, drop-of-length-le, length-drop}
 use borrow.Author.Tests.{eqb-false, ne-eqb, not-true}
-use Rattle.truth.proofs.Laws.{and-true, holds, is-true, true≢false}
+use Rattle.truth.proofs.Laws.{and-true, holds, impossible, is-true, true≢false}
 use Rattle.poisson.specs.Rows.{rows}
 use Rattle.refusal.specs.declared.Refusal.{Refusal}
 use Rattle.refusal.specs.declared.Refusal.the-variants.{Item}
@@ -64,7 +64,7 @@ NotClean text = (d : Campaign) → ¬ (meaning text .end ≡ Read d)
 
 -- a refusal is no end of a clean sheet
 never : (line : ℕ) (r : Refusal) (go : Sheet → Account) (d : Campaign) → ¬ (afterStep (outcome line (Refused r)) go .end ≡ Read d)
-never line r go d e = let z : _≡_ {A = ℕ} 0 1 = cc in absurd (omega arith)
+never line r go d e = impossible (cc)
 
 -- ---- line 1
 pub no-head : (text : List ℕ) → HeadOf text None → NotClean text

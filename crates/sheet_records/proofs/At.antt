@@ -12,7 +12,7 @@ use lib.Dec.{eqb, ltb}
 use lib.ListN.{length, getD, drop, length-drop}
 use lib.Seq.{drop-append-seam, drop-cons, drop-drop, getD-drop}
 use borrow.Author.Tests.{eq-eqb, eqb-true, lt-ltb, ltb-true}
-use Rattle.truth.proofs.Laws.{and-true, true≢false}
+use Rattle.truth.proofs.Laws.{and-true, impossible, true≢false}
 use Rattle.sample_items.specs.Limits.{longestTime}
 use Rattle.decimal.specs.declared.Lead.the-variants.{Number, Nothing}
 use Rattle.decimal.specs.Decimal.{digitsOf, isDigit, longest, zeroByte}
@@ -30,7 +30,7 @@ use Rattle.sheet_records.specs.declared.Head.the-variants.{Standard}
 use Rattle.sheet_records.specs.Pass.{EntryHere, ExposureAt, ExposureHere, HeadOf}
 
 never : {v end : ℕ} → ¬ (Nothing ≡ Number v end)
-never e = let z : _≡_ {A = ℕ} 0 1 = cc in absurd (omega arith)
+never e = impossible (cc)
 
 -- ---- a number and a byte at a place, and the text from there on
 module _ (s : List ℕ) (at : ℕ) where
@@ -58,11 +58,6 @@ module _ (s : List ℕ) (at : ℕ) where
       let inside : at < length s = omega (arith, ap length e, length-drop at s) in
       let byte : getD s at 0 ≡ b = rw (← add-zero at, ← getD-drop) (ap (λ (l : List ℕ). getD l 0 0) e) in
       (rw (lt-ltb at (length s) inside, eq-eqb (getD s at 0) b byte), rw after (sym (drop-drop 1 at s) ∙ ap (drop 1) e))
-
--- a flag: the byte of 1 stands there, or that of 0
-pub neither : (a b : Bool) → (a || b) ≡ false → (a ≡ false) × (b ≡ false)
-neither true b e = absurd (true≢false e)
-neither false b e = (refl, e)
 
 pub flag-stands : (s : List ℕ) (at : ℕ) {one zero : Bool} → one ≡ standsAt s at (zeroByte + 1) → (one || zero) ≡ true → zero ≡ standsAt s at zeroByte
     → standsAt s at (zeroByte + cond one 1 0) ≡ true

@@ -8,7 +8,7 @@ use Prim.Native.Nat.{ℕ, zero, suc, _+_, _≤_}
 use native.Mathlib.Omega.{arith}
 use lib.Dec.{eqb}
 use lib.ListN.{drop}
-use Rattle.truth.proofs.Laws.{is-true}
+use Rattle.truth.proofs.Laws.{impossible, is-true}
 use Rattle.sample_items.specs.Limits.{longestTime}
 use Rattle.campaign_state.specs.declared.CampaignAnswer.the-variants.{Taken}
 use Rattle.campaign_state.specs.declared.Campaign.{Campaign}
@@ -39,7 +39,7 @@ use Rattle.sheet_records.proofs.Lines.{entry-says, lines-joined}
 -- a reading that came to its end took the line
 took : (step : Step) (go : Sheet → Account) (d : Campaign) → afterStep step go .end ≡ Read d → (s : Sheet) × (step ≡ Next s) × (go s .end ≡ Read d)
 took (Next s) go d e = (s, refl, e)
-took (Stop line column r) go d e = let z : _≡_ {A = ℕ} 0 1 = cc in absurd (omega arith)
+took (Stop line column r) go d e = impossible (cc)
 
 -- ---- a record's line
 pub record First (c : Campaign) (line : List ℕ) (lines : List (List ℕ)) (d : Campaign) : Type 0 where
@@ -149,7 +149,7 @@ unfolding meaning readingSheet joined
 apart text d e = go (linesOf text) refl e
   where
     go : (lines : List (List ℕ)) → linesOf text ≡ lines → readingSheet false lines Fresh .end ≡ Read d → Apart text d
-    go [] are e = let z : _≡_ {A = ℕ} 0 1 = cc in absurd (omega arith)
+    go [] are e = impossible (cc)
     go (line ∷ lines) are e =
         record { line = line; lines = lines; are = are; parts = sym (lines-joined text) ∙ ap joined are; first = begun line lines d e }
 

@@ -7,6 +7,7 @@ use native.Mathlib.Omega.{arith}
 use lib.Dec.{T}
 use lib.IntN.{ℤ}
 use lib.ListN.{length}
+use Rattle.truth.proofs.Laws.{impossible}
 use Rattle.record_end.specs.declared.Outcome.{Outcome}
 use Rattle.campaign_state.specs.declared.CampaignAnswer.{CampaignAnswer}
 use Rattle.campaign_state.specs.declared.CampaignAnswer.the-variants.{Taken, Refused}
@@ -26,7 +27,7 @@ use Rattle.sheet_records.specs.Answers.{judged, judgedFrom, onward}
 -- an answer that goes on was a campaign
 pub went-on : (a : CampaignAnswer) (go : Campaign → CampaignAnswer) (d : Campaign) → onward a go ≡ Taken d → (c : Campaign) × (a ≡ Taken c) × (go c ≡ Taken d)
 went-on (Taken c) go d e = (c, refl, e)
-went-on (Refused r) go d e = let z : _≡_ {A = ℕ} 0 1 = cc in absurd (omega arith)
+went-on (Refused r) go d e = impossible (cc)
 
 same : {c d : Campaign} → Taken c ≡ Taken d → c ≡ d
 same e = cc

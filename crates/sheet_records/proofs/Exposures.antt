@@ -12,7 +12,7 @@ use lib.ListN.{length, drop, getD, drop-of-length-le}
 use lib.Seq.{drop-cons, getD-drop}
 use borrow.Author.Tests.{eq-eqb, eqb-true, le-leb, ne-eqb}
 use Rattle.truth.proofs.Cases.{by-order}
-use Rattle.truth.proofs.Laws.{true≢false}
+use Rattle.truth.proofs.Laws.{impossible, true≢false}
 use Rattle.sample_items.specs.Limits.{longestTime}
 use Rattle.decimal.specs.declared.Lead.the-variants.{Number, Nothing}
 use Rattle.decimal.specs.Decimal.{digitsOf, isDigit, isNumber, longest, valueOf, zeroByte}
@@ -54,8 +54,7 @@ module _ (s : List ℕ) (at : ℕ) where
   pub no-number : leadingAt s at ≡ Nothing → NoExposure
   unfolding leadingAt
   no-number e t b rest low high d h =
-      let z : _≡_ {A = ℕ} 0 1 = cc (rw (are t b rest d h, number-digits t (omega arith)) at e) in
-      absurd (omega arith)
+      impossible (cc (rw (are t b rest d h, number-digits t (omega arith)) at e))
 
   pub too-much : (v end : ℕ) → leadingAt s at ≡ Number v end → longestTime < v → NoExposure
   too-much v end e more t b rest low high d h =

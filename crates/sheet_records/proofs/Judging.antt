@@ -11,7 +11,7 @@ use lib.IntN.{ℤ, pos}
 use lib.ListN.{length, getD, drop, drop-of-length-le}
 use borrow.Author.Tests.{eq-eqb, eqb-false, eqb-true, ne-eqb, le-leb, ltb-false}
 use Rattle.truth.proofs.Cases.{by-test}
-use Rattle.truth.proofs.Laws.{holds, is-true}
+use Rattle.truth.proofs.Laws.{holds, impossible, is-true}
 use Rattle.refusal.specs.declared.Refusal.{Refusal}
 use Rattle.refusal.specs.declared.Refusal.the-variants.{CampaignFull, Item, RowsUsedUp, TooLong, TooShort}
 use Rattle.poisson.specs.Rows.{rows}
@@ -96,10 +96,10 @@ module _ (c : Campaign) (f : Bool) (t : ℕ) (g : sound c ≡ true) where
 -- what was judged is an answer
 pub judged-clean : (a : CampaignAnswer) → Clean ≡ judgedAs a → (c : Campaign) × (a ≡ Taken c)
 judged-clean (Taken c) e = (c, refl)
-judged-clean (Refused r) e = let z : _≡_ {A = ℕ} 0 1 = cc in absurd (omega arith)
+judged-clean (Refused r) e = impossible (cc)
 
 pub judged-fault : (a : CampaignAnswer) (r : Refusal) → Fault r ≡ judgedAs a → a ≡ Refused r
-judged-fault (Taken c) r e = let z : _≡_ {A = ℕ} 0 1 = cc in absurd (omega arith)
+judged-fault (Taken c) r e = impossible (cc)
 judged-fault (Refused s) r e = let f : s ≡ r = cc in ap Refused f
 
 module _ {q : ℕ} {xs : List ℤ} {i failures : ℕ} (a : Along q xs i failures) where

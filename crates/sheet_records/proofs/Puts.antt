@@ -9,6 +9,7 @@ use lib.ListN.{length, length-append}
 use lib.Signed.{ltZ}
 use lib.Dec.{ltb}
 use borrow.Author.Tests.{le-ltb, lt-ltb, ltb-false}
+use Rattle.truth.proofs.Laws.{impossible}
 use Rattle.truth.proofs.Cases.{by-test}
 use Rattle.refusal.specs.declared.Refusal.{Refusal}
 use Rattle.refusal.specs.declared.Refusal.the-variants.{Room}
@@ -90,7 +91,7 @@ unfolding writingSheet
 wrote q xs out n e = go (judged q xs) refl e
   where
     never : {r : Refusal} → ¬ (Declined r ≡ Bytes n)
-    never f = let z : _≡_ {A = ℕ} 0 1 = cc in absurd (omega arith)
+    never f = impossible (cc)
 
     go : (a : CampaignAnswer) → judged q xs ≡ a → afterJudging a (length (sheetText q xs)) (length out) ≡ Bytes n → Wrote q xs out n
     go (Refused r) is e = absurd (never e)

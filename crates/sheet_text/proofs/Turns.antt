@@ -9,7 +9,7 @@ use lib.Dec.{ltb}
 use lib.ListN.{length, drop, length-drop}
 use lib.Seq.{drop-drop}
 use borrow.Author.Tests.{ltb-true}
-use Rattle.truth.proofs.Laws.{and-true}
+use Rattle.truth.proofs.Laws.{and-true, impossible}
 use Rattle.refusal.specs.declared.Refusal.{Refusal}
 use Rattle.sheet_text.specs.declared.LineFound.the-variants.{Taken, Waits, Bad}
 use Rattle.sheet_text.specs.declared.Reading.the-variants.{Stopped, Waiting}
@@ -26,22 +26,22 @@ use Rattle.sheet_text.proofs.Steps.{most, step-led, step-line}
 
 -- the three cases are apart, and each holds what it was made of
 not-taken : {n : ℕ} {t : Sheet} {next : ℕ} → ¬ (Waits n ≡ Taken t next)
-not-taken e = let z : _≡_ {A = ℕ} 0 1 = cc in absurd (omega arith)
+not-taken e = impossible (cc)
 
 not-taken′ : {l k : ℕ} {r : Refusal} {t : Sheet} {next : ℕ} → ¬ (Bad l k r ≡ Taken t next)
-not-taken′ e = let z : _≡_ {A = ℕ} 0 1 = cc in absurd (omega arith)
+not-taken′ e = impossible (cc)
 
 not-waits : {t : Sheet} {next n : ℕ} → ¬ (Taken t next ≡ Waits n)
-not-waits e = let z : _≡_ {A = ℕ} 0 1 = cc in absurd (omega arith)
+not-waits e = impossible (cc)
 
 not-waits′ : {l k : ℕ} {r : Refusal} {n : ℕ} → ¬ (Bad l k r ≡ Waits n)
-not-waits′ e = let z : _≡_ {A = ℕ} 0 1 = cc in absurd (omega arith)
+not-waits′ e = impossible (cc)
 
 not-bad : {n l k : ℕ} {r : Refusal} → ¬ (Waits n ≡ Bad l k r)
-not-bad e = let z : _≡_ {A = ℕ} 0 1 = cc in absurd (omega arith)
+not-bad e = impossible (cc)
 
 not-bad′ : {t : Sheet} {next l k : ℕ} {r : Refusal} → ¬ (Taken t next ≡ Bad l k r)
-not-bad′ e = let z : _≡_ {A = ℕ} 0 1 = cc in absurd (omega arith)
+not-bad′ e = impossible (cc)
 
 module _ (more : Bool) (text : List ℕ) (at : ℕ) (s : Sheet) where
   -- the reading of what stands at the place

@@ -3,7 +3,7 @@
 -- there is room for what is left, which is in range; the gap is its own. The measure is what is left. Assumes nothing.
 use Prim.Native.Nat.{_+_, _-_, _≤_, _<_}
 use mathlib.Core.Path.{_≡_, refl, sym, ap, _∙_}
-use mathlib.Core.Bool.{Bool, true, false, not, _&&_}
+use mathlib.Core.Bool.{Bool, and-assoc, false, not, true, _&&_}
 use mathlib.Core.List.{List, [], _∷_, foldl}
 use native.Mathlib.Omega.{arith}
 use borrow.Author.Needs.{needs}
@@ -22,10 +22,6 @@ use Rattle.record_feed.proofs.Gaps.{gap-stays}
 use Rattle.record_step.proofs.Steps.{stepped-sound, stepped-n, stepped-most, stepped-levels, stepped-timed, stepped-low}
 use Rattle.record_feed.proofs.along.Statement.{statement}
 use Rattle.record_feed.proofs.along.Tie as tie
-
-and-assoc : (a b c : Bool) → ((a && b) && c) ≡ (a && (b && c))
-and-assoc true b c = refl
-and-assoc false b c = refl
 
 abbrev Inv-loop : tie.InvT-loop
 Inv-loop ups roll acceleration gap s₀ low₀ i₀ s low i =

@@ -5,6 +5,7 @@ use Prim.Native.Nat.{ℕ, _+_, _/_}
 use mathlib.Core.Path.{_≡_}
 use native.Mathlib.Omega.{arith}
 use lib.ListN.{length}
+use Rattle.truth.proofs.Laws.{impossible}
 use Rattle.sample_block.proofs.Cut.{block-length}
 use Rattle.sample_channels.proofs.Blocks.{block-equal}
 use Rattle.record_list.proofs.Steps.{ready-less}
@@ -12,10 +13,10 @@ use Rattle.record_list.proofs.writes_at_once.Statement.{statement}
 use Rattle.record_list.proofs.writes_at_once.Tie as tie
 
 returns : tie.Need-returns
-returns c = λ e. let z : _≡_ {A = ℕ} 0 1 = cc in absurd (omega arith)
+returns c = λ e. impossible (cc)
 
 returns-2 : tie.Need-returns-2
-returns-2 c = λ e. let z : _≡_ {A = ℕ} 0 1 = cc in absurd (omega arith)
+returns-2 c = λ e. impossible (cc)
 
 pass-requires : tie.Need-pass-requires
 pass-requires c κs =

@@ -8,13 +8,13 @@ use native.Mathlib.Omega.{arith}
 use lib.ListN.{length}
 use denote.Ref.{now}
 use borrow.Author.Tests.{not-false, not-true}
-use Rattle.truth.proofs.Laws.{said-no, said-yes}
+use Rattle.truth.proofs.Laws.{neither, said-no, said-yes}
 use Rattle.decimal.specs.declared.Lead.the-variants.{Number}
 use Rattle.decimal.specs.Decimal.{zeroByte}
 use Rattle.decimal.specs.Field.{tab}
 use Rattle.decimal.specs.Leading.{leadingAt, standsAt}
 use Rattle.sheet_records.specs.Pass.{EntryAt, ExposureAt, ExposureHere}
-use Rattle.sheet_records.proofs.At.{entry-here, flag-stands, neither, no-exposure, no-feed, no-flag, no-number, no-second, no-tab, other-number, stand-bytes}
+use Rattle.sheet_records.proofs.At.{entry-here, flag-stands, no-exposure, no-feed, no-flag, no-number, no-second, no-tab, other-number, stand-bytes}
 use borrow.Author.Needs.{needs}
 use Rattle.sheet_records.proofs.entry_at.Statement.{statement}
 use Rattle.sheet_records.proofs.entry_at.Tie as tie

@@ -1,0 +1,19 @@
+-- `capi::keep` meets its contract: the numbers are put into an array of their length, any other stays. Assumes nothing.
+use borrow.Author.Tests.{eq-eqb, ne-eqb}
+use borrow.Author.Needs.{needs}
+use Rattle.capi.proofs.Placed.{placed-right}
+use Rattle.capi.proofs.keep.Statement.{statement}
+use Rattle.capi.proofs.keep.Tie as tie
+
+returns : tie.Need-returns
+returns c = rw (ne-eqb _ _ (c .before .before .if1 .taken), c .refuse .ensures .0, c .refuse .ensures .1)
+
+returns-2 : tie.Need-returns-2
+returns-2 c =
+    let l = c .before .before .before .before .before .before .if1 .left in
+    rw (eq-eqb _ _ l, c .give .ensures .0, c .give .ensures .1, c .before .before .before .before .put .ensures, placed-right _ _ l)
+
+pub keep-spec : {M : Type 1} → statement M
+keep-spec =
+    tie.close
+    (tie.spec (λ c κs. search needs) returns (λ c κs. search needs) (λ c κs. search needs) (λ c. search needs) returns-2)

@@ -1,11 +1,13 @@
 """python3 -m unittest test_chimenickel, after bin/build-lib."""
 
+import copy
 import ctypes
 import decimal
 import fractions
 import math
 import os
 import pathlib
+import pickle
 import subprocess
 import sys
 import tempfile
@@ -16,7 +18,12 @@ try:
     import numpy
 except ImportError:
     numpy = None
+try:
+    import pandas
+except ImportError:
+    pandas = None
 
+import chimenickel
 from chimenickel import (
     Bench,
     Campaign,
@@ -53,7 +60,8 @@ MODULE = """
 import pathlib, sys, threading, types
 from array import array
 
-code = compile(pathlib.Path("chimenickel.py").read_text(), str(pathlib.Path("chimenickel.py").resolve()), "exec")
+path = pathlib.Path("chimenickel/__init__.py").resolve()
+code = compile(path.read_text(), str(path), "exec")
 
 def made():
     module = types.ModuleType("chimenickel")
@@ -255,7 +263,11 @@ class Records(unittest.TestCase):
         roll = numpy.array([0, 41, 39, 41, 39, 41, 0], dtype=numpy.float32)
         self.assertEqual(fed(from_degrees(roll)).numbers, fed(ROLL).numbers)
         degrees = numpy.linspace(-1000, 1000, 100_001)
-        self.assertEqual(from_degrees(degrees), from_degrees(degrees.tolist()))
+        self.assertEqual(from_degrees(degrees).tolist(), from_degrees(degrees.tolist()).tolist())
+        self.assertEqual(from_degrees(degrees).dtype, numpy.int32)
+        self.assertEqual(len(from_degrees(degrees[:0])), 0)
+        for form in ("f2", "f4", "g", ">f8", "i2", "u8"):
+            self.assertEqual(from_degrees(numpy.array([0, 41, 7], dtype=form)).tolist(), [0, 41_000, 7_000])
         self.assertEqual(numpy.loadtxt([line.decode() for line in write_comma(from_degrees(degrees), 50).splitlines()], delimiter=",")[:, 1].tolist(), [x / 1000 for x in from_degrees(degrees)])
         for strange in (numpy.nan, numpy.inf, 1e9):
             self.assertRaises(OverflowError, from_degrees, numpy.array([strange]))
@@ -429,6 +441,10 @@ class Records(unittest.TestCase):
             done = subprocess.run([sys.executable, "-c", script], cwd=HERE, capture_output=True, text=True, timeout=300)
             self.assertEqual((done.returncode, done.stderr), (0, ""))
 
+    def test_other_threads_go_on(self):
+        """A PyDLL, which is a CDLL too, would hold them while the library works."""
+        self.assertIs(type(chimenickel._lib), ctypes.CDLL)
+
     def test_a_library_that_is_not_there(self):
         """An ImportError of one line says where it looked and what writes the library; of a bad or an old one too."""
         with tempfile.TemporaryDirectory() as folder:
@@ -545,7 +561,154 @@ class Records(unittest.TestCase):
         self.assertEqual(list(from_degrees(numpy.array([[1.5, 9], [-2, 9]])[:, 0])), [1_500, -2_000])
         # in 32 bits some of these times 1,000 are halves
         near = numpy.linspace(-999, 999, 9_999, dtype="f4")
-        self.assertEqual(from_degrees(list(near)), from_degrees(near))
+        self.assertEqual(from_degrees(list(near)).tolist(), from_degrees(near).tolist())
+
+    @unittest.skipUnless(numpy, "numpy is not there")
+    def test_rows_of_32_bits_are_lent(self):
+        """What the library is handed is where the array stands, of either channel, whoever may write to it."""
+        roll = numpy.array(ROLL, dtype="i4")
+        fixed = roll.copy()
+        fixed.flags.writeable = False
+        odd = numpy.frombuffer(b"-" + roll.tobytes(), dtype="i4", offset=1)
+        held = array("i", ROLL)
+        for row in (roll, fixed, roll[2:], held, memoryview(held)):
+            lent = chimenickel._lent("roll", row)
+            self.assertEqual(lent.first, numpy.asarray(row).ctypes.data)
+        for row in (roll[::2], roll[::-1], roll.astype(">i4"), roll.astype("i8"), odd):
+            lent = chimenickel._lent("roll", row)
+            self.assertNotEqual(lent.first, row.ctypes.data)
+            self.assertEqual(ctypes.string_at(lent.first, 4 * lent.length), row.astype("i4").tobytes())
+            self.assertEqual(lent.first % 4, 0)
+        for row in (memoryview(b"-" + roll.tobytes())[1:].cast("i"), memoryview(bytearray(b"-" + roll.tobytes()))[1:].cast("i")):
+            lent = chimenickel._lent("roll", row)
+            self.assertEqual((lent.first % 4, ctypes.string_at(lent.first, 4 * lent.length)), (0, roll.tobytes()))
+        # as long as it is lent it stays where it is
+        lent = chimenickel._lent("roll", held)
+        self.assertRaises(BufferError, held.append, 0)
+        # what looks twice has a copy of its own
+        self.assertNotEqual(chimenickel._own("roll", roll).first, roll.ctypes.data)
+
+    @unittest.skipUnless(numpy, "numpy is not there")
+    def test_long_pieces_of_other_kinds(self):
+        """Channels that are to be narrowed go in smaller pieces, and are answered as a whole."""
+        n = 2 * chimenickel._PIECE + 5
+        roll = numpy.zeros(n, dtype="i8")
+        roll[::999] = 41_000
+        narrow = roll.astype("i4")
+        whole = Record(1, 0, 40_000, 2_000, 9_810)
+        whole.feed(narrow, narrow)
+        beside = numpy.zeros((n, 2), dtype="i4")
+        beside[:, 1] = roll
+        for first in (roll, roll.astype(">i4"), roll.astype("u8"), beside[:, 1], narrow):
+            record = Record(1, 0, 40_000, 2_000, 9_810)
+            record.feed(first, roll)
+            self.assertEqual(record, whole)
+            self.refused(12, 0, record.feed, first, roll[1:])
+            self.assertEqual(record, whole)
+        # a number that is too wide at the end goes before a sample out of range at the start, and one of these before 3
+        roll[0], roll[-1] = 1_000_001, -1 << 31
+        self.assertEqual(self.refused(2, 0, whole.feed, narrow, roll).channel, Channel.ACCELERATION)
+        roll[-1] = 1 << 31
+        with self.assertRaisesRegex(OverflowError, f"^acceleration is .*: 2147483648 given at place {n - 1}, which"):
+            whole.feed(narrow, roll)
+        self.refused(2, 0, Record(10_000, 0, 1, 0, 1).feed, roll[:-1])
+        self.refused(3, 0, Record(10_000, 0, 1, 0, 1).feed, roll[1:-1])
+        self.assertEqual(record, whole)
+
+    @unittest.skipUnless(numpy, "numpy is not there")
+    def test_long_pieces_of_one_channel(self):
+        """A channel that is fed alone goes in smaller pieces, and is answered as a whole."""
+        piece = chimenickel._PIECE
+        for n in (piece - 1, piece, piece + 1, 2 * piece, 3 * piece + 7):
+            roll = numpy.zeros(n, dtype="i4")
+            roll[::1_001] = 41_000
+            roll[-1] = 41_000
+            quiet = numpy.zeros(n, dtype="i4")
+            for one, both in (((roll,), (roll, quiet)), ((None, roll), (quiet, roll))):
+                record, whole = Record(1, 0, 40_000, 2_000, 9_810), Record(1, 0, 40_000, 2_000, 9_810)
+                record.feed(*one)
+                whole.feed(*both)
+                self.assertEqual(record, whole)
+                before = record.numbers
+                roll[n - 1] = -1_000_001
+                channel = Channel.ROLL if one[0] is not None else Channel.ACCELERATION
+                self.assertEqual(self.refused(2, n - 1, record.feed, *one).channel, channel)
+                roll[n - 1] = 41_000
+                self.assertEqual(record.numbers, before)
+        record = Record(10_000, 0, 40_000, 0, 9_810)
+        roll = numpy.zeros(2 * piece, dtype="i4")
+        self.refused(3, 0, record.feed, roll)
+        # 3 is met in the first smaller piece, 2 in the last, and 2 goes first
+        roll[-1] = 1_000_001
+        self.refused(2, 2 * piece - 1, record.feed, roll)
+        self.assertEqual(record, Record(10_000, 0, 40_000, 0, 9_810))
+        self.refused(8, 0, Record.from_numbers([(1 << 64) - 1] * 14).feed, roll)
+        self.refused(8, 0, Record.from_numbers([(1 << 64) - 1] * 14).feed, [])
+
+    @unittest.skipUnless(pandas, "pandas is not there")
+    def test_rows_of_pandas(self):
+        wanted = [1, 700, 3, 999, 5, 6]
+        forms = ("int16", "int32", "int64", "uint32", "Int32", "Int64")
+        table = pandas.DataFrame({"roll": wanted, "other": wanted})
+        rows = [lambda form=form: pandas.Series(wanted, dtype=form) for form in forms]
+        rows += [lambda: table["roll"], lambda: pandas.Index(wanted), lambda: pandas.Series(wanted[::-1])[::-1]]
+        self.taken(rows, wanted)
+        floats = [pandas.Series([1.0, 2.0])]
+        absent = [pandas.Series([1, None], dtype="Int32"), pandas.Series([True, False]), pandas.Series(["1", "2"])]
+        self.not_taken(floats, [table, *absent, pandas.Series(pandas.to_datetime(["2026-01-01"] * 2))])
+        self.assertEqual(list(from_degrees(pandas.Series([0.5, -41.5]))), [500, -41_500])
+        single = pandas.Series(wanted, dtype="int32")
+        self.assertEqual(chimenickel._lent("roll", single).first, single.to_numpy().ctypes.data)
+
+    def test_too_wide(self):
+        """The first number that is none of 32 bits is told by its place."""
+        rows = [[0, 1 << 31, 1 << 40], (0, 1 << 31), array("q", [0, 1 << 31]), iter([0, 1 << 31])]
+        if numpy:
+            rows += [numpy.array([0, 1 << 31, -1 << 40]), numpy.array([0, 1 << 31], dtype="u4"), [0, numpy.int64(1 << 31)]]
+        for row in rows:
+            with self.assertRaisesRegex(OverflowError, "^roll is .*: 2147483648 given at place 1, which is no 32-bit number$"):
+                Record(*ITEMS).feed(row)
+        with self.assertRaisesRegex(OverflowError, "^peaks are .*: -1 given at place 1, which is no 32-bit number$"):
+            fit_tail([1, -1], 2)
+
+    def test_states_compare_print_and_pickle(self):
+        campaign, total, bench = Campaign(7_200_000), Sum(500), Bench()
+        campaign.enter(True, 7_000)
+        total.add(fed(ROLL))
+        bench.take(1, 7_200_000)
+        for state in (fed(ROLL), campaign, total, bench):
+            again = (pickle.loads(pickle.dumps(state)), eval(repr(state)), copy.copy(state), copy.deepcopy(state))
+            for other in again:
+                self.assertIs(type(other), type(state))
+                self.assertEqual(other, state)
+                self.assertEqual(other.numbers, state.numbers)
+            self.assertFalse(state != again[0])
+            self.assertNotEqual(state, state.numbers)
+            self.assertRaises(TypeError, hash, state)
+        again = copy.copy(campaign)
+        again.enter(False, 1)
+        self.assertNotEqual(again, campaign)
+        self.assertNotEqual(Campaign.from_numbers([1, 0, 0, 0, 0]), Sum(1))
+        self.assertEqual(repr(campaign), "Campaign.from_numbers([7200000, 1, 1, 7000, 1])")
+        result = fed(ROLL).end()
+        for value in (result, campaign.verdict(), campaign.rates(), total.bounds(), fit_tail([1, 2], 2)):
+            self.assertEqual(pickle.loads(pickle.dumps(value)), value)
+        refusal = self.refused(2, 1, fed(ROLL).feed, [0, -1_000_001])
+        with self.assertRaises(Refusal) as caught:
+            Campaign.read_sheet(b"standard\t7200000\n1\t0\t18x0\n")
+        for raised in (refusal, caught.exception):
+            other = pickle.loads(pickle.dumps(raised))
+            self.assertEqual((str(other), vars(other)), (str(raised), vars(raised)))
+
+    def test_everything_is_described(self):
+        """What the module lists is there, and each name, with what is public of it, has words."""
+        self.assertRegex(chimenickel.__version__, r"^\d+\.\d+\.\d+$")
+        for name in chimenickel.__all__:
+            thing = getattr(chimenickel, name)
+            self.assertTrue(thing.__doc__, name)
+            for part, value in vars(thing).items() if isinstance(thing, type) else ():
+                if not part.startswith("_") and (callable(value) or isinstance(value, (property, classmethod))):
+                    self.assertTrue(value.__doc__, f"{name}.{part}")
 
     def test_items_that_are_not_whole(self):
         bench, campaign = Bench(), Campaign(7_200_000)

@@ -193,26 +193,38 @@ build() {
     unlock_builds
 }
 
+# finds NAME WAIT: the words that start the program go to `program`. Installed, it stands beside the commands and runs on
+# the machine's own libraries; in the source tree it is proved and built first, and runs on the kit's.
+finds() {
+    local emulator
+    if [ ! -e "$root/crates.txt" ]; then
+        program=("$here/$1")
+        [ -x "${program[0]}" ] || stop "${program[0]} is not there: it was not installed whole"
+        return
+    fi
+    needs_kit
+    is_built "$1" || build "$1" "$2"
+    # the program is for x86-64; elsewhere the kit has an emulator
+    emulator=$tools/bin/qemu-x86_64
+    [ -x "$emulator" ] || emulator=
+    program=(${emulator:+"$emulator"} "$tools/lib/ld-linux-x86-64.so.2" --library-path "$tools/lib" "$root/target/bin/$1")
+}
+
 # run NAME WAIT [ARGUMENT..]: runs the program NAME of crates/ with the arguments, from standard input to standard
 # output, once it is proved and built. A program of the kit has no exit status. It says how it ended by a digit on
 # descriptor 3, which goes to `status`: 0 done, 1 refused, 2 something could not be read or written. Before a 1 stand
 # what the refusal carries, for `carried`, and the refused line, for `refused`. What it writes goes straight to standard
 # output, so nothing on the way holds it back. Descriptor 4 is handed on as it is, for a second file.
 run() {
-    local name=$1 wait=$2 out emulator end IFS
+    local program out end IFS
+    finds "$1" "$2"
     shift 2
-    needs_kit
-    is_built "$name" || build "$name" "$wait"
-    # the program is for x86-64; elsewhere the kit has an emulator
-    emulator=$tools/bin/qemu-x86_64
-    [ -x "$emulator" ] || emulator=
     # with nobody to read the answer a write fails, and the program says why; else it would be ended without a word
     trap '' PIPE
     # and a descriptor that is closed would be taken by the pipe from the program itself
     [ -e /dev/fd/0 ] || stop "standard input is closed"
     { command exec {out}>&1; } 2>/dev/null || stop "standard output is closed"
-    end=$(${emulator:+"$emulator"} "$tools/lib/ld-linux-x86-64.so.2" --library-path "$tools/lib" \
-        "$root/target/bin/$name" "$@" 3>&1 >&"$out" {out}>&-)
+    end=$("${program[@]}" "$@" 3>&1 >&"$out" {out}>&-)
     exec {out}>&-
     status=${end##*"$lf"}
     case $status in

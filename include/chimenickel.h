@@ -91,6 +91,13 @@
 extern "C" {
 #endif
 
+/* 3.0.0, each of the last two in three digits. The first number is that of the library's name for the loader,
+ * libchimenickel.so.3, and grows when an array's length does; the second when a function is added. */
+#define CHIM_VERSION 3000000
+
+/* The CHIM_VERSION of the header that the library was made with. */
+uint64_t chim_version(void);
+
 enum { CHIM_RECORD_NUMBERS = 14, CHIM_RESULT_NUMBERS = 5, CHIM_CAMPAIGN_NUMBERS = 5, CHIM_SUM_NUMBERS = 3, CHIM_BOUNDS_NUMBERS = 4, CHIM_BENCH_PLACES = 32, CHIM_PLACE_NUMBERS = 6 };
 
 /* The most situations of a loading condition, and room for the report of any. */

@@ -8,6 +8,7 @@ import math
 import os
 import pathlib
 import pickle
+import re
 import subprocess
 import sys
 import tempfile
@@ -464,6 +465,12 @@ class Records(unittest.TestCase):
             subprocess.run(["gcc", "-shared", "-x", "c", "/dev/null", "-o", library], check=True)
             older = "it is older than this module, and bin/build-lib writes it anew"
             self.assertEqual(said(), f"ImportError: {library} has no chim_record_open: {older}")
+            # one of another version, whose arrays have other lengths
+            names = re.findall(r"\b(chim_\w+)\(", (HERE.parents[1] / "include" / "chimenickel.h").read_text())
+            source = "".join(f"long {name}(void) {{ return 2014000; }}\n" for name in sorted(set(names)))
+            subprocess.run(["gcc", "-shared", "-x", "c", "-", "-o", library], input=source, text=True, check=True)
+            version = f"is of version 2014000, and this module is of {chimenickel.__version__}: their arrays differ"
+            self.assertEqual(said(), f"ImportError: {library} {version}")
 
     # every function that takes a row of whole numbers, by the name that it has for it
     ROWS = (

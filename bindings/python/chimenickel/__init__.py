@@ -171,6 +171,7 @@ for _name, _result, _parameters in [
     ("chim_comma_write", _u64, [_samples, _size, _u64, ctypes.c_char_p, _size, _numbers]),
     ("chim_upper_row", ctypes.c_uint32, [_u64]),
     ("chim_lower_row", ctypes.c_uint32, [_u64]),
+    ("chim_version", _u64, []),
 ]:
     try:
         _function = getattr(_lib, _name)
@@ -181,6 +182,12 @@ for _name, _result, _parameters in [
             path=_path,
         ) from None
     _function.restype, _function.argtypes = _result, _parameters
+if _lib.chim_version() // 1_000_000 != int(__version__.partition(".")[0]):
+    raise ImportError(
+        f"{_path} is of version {_lib.chim_version()}, and this module is of {__version__}: their arrays differ",
+        name=__name__,
+        path=_path,
+    )
 
 
 class Channel(enum.IntEnum):

@@ -7,28 +7,35 @@
 PREFIX = /usr/local
 LIBDIR = $(PREFIX)/lib
 # where Python looks: Debian's own for its own prefix, and below another that of the version
-PYTHONDIR = $(PREFIX)/lib/python$(if $(filter /usr,$(PREFIX)),3,$(shell /usr/bin/python3 -c 'import sys; print("3.%d" % sys.version_info[1])'))/dist-packages
+PYTHON = $(shell /usr/bin/python3 -c 'import sys; print("3.%d" % sys.version_info[1])')
+PYTHONDIR = $(PREFIX)/lib/python$(if $(filter /usr,$(PREFIX)),3,$(PYTHON))/dist-packages
 DESTDIR =
 
+TRIPLET = $(shell dpkg-architecture -qDEB_HOST_MULTIARCH)
+
+# where it is put together, and the package
 STAGE = target/stage
+DEB = target
 
 all:
-	@case '$(PREFIX)$(LIBDIR)$(PYTHONDIR)' in *[!A-Za-z0-9./_+-]*) echo 'make: a path may have letters, digits, . / _ + -' >&2; exit 2;; esac
-	@case '$(PREFIX)' in /*) ;; *) echo 'make: PREFIX has to start with /' >&2; exit 2;; esac
+	@case '$(subst ','\'',$(PREFIX)$(LIBDIR)$(PYTHONDIR))' in [!/]* | *[!A-Za-z0-9./_+-]*) \
+	    echo 'make: PREFIX starts with / and has letters, digits, . / _ + -' >&2; exit 2;; esac
 	@packaging/stage $(STAGE) $(PREFIX) $(LIBDIR) $(PYTHONDIR)
 	@echo 'built in $(STAGE)'
 
 install: all
 	@packaging/install $(STAGE) '$(DESTDIR)'
+	@echo 'installed in $(DESTDIR)$(PREFIX)'
 
 uninstall: all
-	@cd $(STAGE) && find . ! -type d | sed 's#^\.##' | while IFS= read -r file; do rm -fv '$(DESTDIR)'"$$file"; done
+	@find $(STAGE) ! -type d -printf '/%P\n' | while IFS= read -r file; do rm -f '$(DESTDIR)'"$$file" || exit 2; done
+	@echo 'removed from $(DESTDIR)$(PREFIX)'
 
 check:
 	bash .ci/run
 
 deb:
-	@$(MAKE) --no-print-directory all STAGE=target/deb PREFIX=/usr LIBDIR=/usr/lib/$$(dpkg-architecture -qDEB_HOST_MULTIARCH) >/dev/null
-	@packaging/deb target/deb target
+	@$(MAKE) --no-print-directory all STAGE=$(DEB)/package PREFIX=/usr LIBDIR=/usr/lib/$(TRIPLET) >/dev/null
+	@packaging/deb $(DEB)/package $(DEB)
 
 .PHONY: all install uninstall check deb

@@ -7,7 +7,8 @@ use lib.IntN.{ℤ}
 use Rattle.peak_groups.specs.Peaks.{handed}
 use Rattle.peak_envelope.specs.declared.PeaksFound.{PeaksFound}
 use Rattle.peak_envelope.specs.declared.PeaksFound.the-variants.{Peaks, Refused}
-use Rattle.peak_envelope.specs.Answers.{sizeOf, momentOf, found, written}
+use Rattle.peak_machine.specs.Step.{sizeOf, momentOf}
+use Rattle.peak_envelope.specs.Answers.{found, written}
 use Rattle.capi.specs.Told.{Told, refused, told}
 
 -- the number of peaks is carried, and the lent array is that of the magnitudes

@@ -11,6 +11,7 @@ pub mod Stays
 pub mod Request8
 pub mod Request9
 pub mod Request11
+pub mod Request11Pieces
 pub mod Request13
 pub mod Tail
 pub mod Refusal9

@@ -35,7 +35,8 @@ use Rattle.peak_groups.proofs.Stretches.{standing-stands, stands-standing}
 use Rattle.peak_groups.proofs.Apart.{handed-apart}
 use Rattle.peak_envelope.specs.declared.PeaksFound.{PeaksFound}
 use Rattle.peak_envelope.specs.declared.PeaksFound.the-variants.{Peaks, Refused}
-use Rattle.peak_envelope.specs.Answers.{FindsTo, found, itemAsked, momentOf, placed, sizeOf, written}
+use Rattle.peak_machine.specs.Step.{momentOf, sizeOf}
+use Rattle.peak_envelope.specs.Answers.{FindsTo, found, itemAsked, placed, written}
 use Rattle.peak_envelope.proofs.Unique.{find-unique}
 use Rattle.demands.proofs.Demand1.{Decides, Test, _gives_, decide, decided}
 

@@ -92,7 +92,7 @@ use Rattle.comma_line.specs.Text.{samplesOf, textOf}
 use Rattle.comma_read.specs.Answers as intake
 use Rattle.peak_groups.specs.Peaks.{handed}
 use Rattle.peak_envelope.specs.declared.PeaksFound.{PeaksFound}
-use Rattle.peak_envelope.specs.Answers.{momentOf, sizeOf}
+use Rattle.peak_machine.specs.Step.{momentOf, sizeOf}
 use Rattle.peak_envelope.specs.Answers as envelope
 use Rattle.peak_tail.specs.declared.Fitted.{Fitted}
 use Rattle.peak_tail.specs.declared.Fitted.the-variants as fitted

@@ -23,10 +23,11 @@ use Rattle.peak_groups.specs.declared.Peak.{Peak}
 use Rattle.peak_groups.specs.Groups.{tops}
 use Rattle.peak_groups.specs.Runs.{peaks}
 use Rattle.peak_groups.specs.Peaks.{sum, kept, close, handed, short}
+use Rattle.peak_machine.specs.Step.{sizeOf, momentOf}
 use Rattle.peak_envelope.specs.declared.PeaksFound.{PeaksFound}
 use Rattle.peak_envelope.specs.declared.PeaksFound.the-variants.{Peaks, Refused}
 use Rattle.peak_envelope.specs.Step.{chosen}
-use Rattle.peak_envelope.specs.Answers.{sizeOf, momentOf, unlevelled, itemAsked, placed, found, written, HandsOut, FindsTo}
+use Rattle.peak_envelope.specs.Answers.{unlevelled, itemAsked, placed, found, written, HandsOut, FindsTo}
 
 -- what a pass hands out with the peaks' own number and sum
 pub chosen-kept : (n s D τ : ℕ) (xs : List ℤ) → n ≡ length (peaks D xs) → s ≡ sum (peaks D xs) → chosen n s D τ xs ≡ tops (close τ) (kept (peaks D xs))

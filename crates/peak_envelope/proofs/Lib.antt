@@ -1,4 +1,3 @@
-pub mod Come
 pub mod Turns
 pub mod Passing
 pub mod Answered

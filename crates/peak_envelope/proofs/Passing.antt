@@ -17,11 +17,12 @@ use Rattle.peak_groups.specs.Machine.{closed}
 use Rattle.peak_groups.specs.declared.Run.{Run}
 use Rattle.peak_groups.specs.Runs.{peaks, firstRun, peakAt, second}
 use Rattle.peak_groups.proofs.Due.{due, due-first, second-fits, walk-holds, walk-next, walk-ends}
-use Rattle.peak_envelope.specs.declared.Envelope.{Envelope}
-use Rattle.peak_envelope.specs.Step.{stepped, fresh, Fits, chosen, noting}
-use Rattle.peak_envelope.specs.Answers.{sizeOf, momentOf}
-use Rattle.peak_envelope.proofs.Come.{toCome, come-next, come-first, come-last}
-use Rattle.peak_envelope.proofs.Turns.{chains-more, fits-later, place-next, sets-next, noting-length, place-last, sets-last}
+use Rattle.peak_machine.specs.declared.Envelope.{Envelope}
+use Rattle.peak_machine.specs.Step.{sizeOf, momentOf, stepped, fresh, Fits}
+use Rattle.peak_machine.proofs.Come.{toCome, come-next, come-first, come-last}
+use Rattle.peak_machine.proofs.Fits.{chains-more, fits-later}
+use Rattle.peak_envelope.specs.Step.{chosen, noting}
+use Rattle.peak_envelope.proofs.Turns.{place-next, sets-next, noting-length, place-last, sets-last}
 
 module _ (D n s τ : ℕ) (timed : List ℤ) (sizes₀ times₀ : List ℕ) where
   -- what is handed out in all, and what of it is to come

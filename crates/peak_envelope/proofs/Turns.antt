@@ -11,38 +11,13 @@ use lib.Dec.{ltb, eqb}
 use borrow.Author.Tests.{ne-eqb, ltb-true, ltb-false, eqb-true, eqb-false}
 use Rattle.peak_groups.specs.declared.Peak.{Peak}
 use Rattle.peak_groups.specs.declared.Group.{Group}
-use Rattle.peak_groups.specs.Machine.{gave, closed}
-use Rattle.peak_groups.proofs.Left.{Next, turned-next}
-use Rattle.peak_groups.specs.Peaks.{high, alike, close}
-use Rattle.peak_envelope.specs.declared.Envelope.{Envelope}
-use Rattle.peak_envelope.specs.Step.{met, chained, stepped, Fits, noting}
+use Rattle.peak_groups.specs.Machine.{closed}
+use Rattle.peak_groups.proofs.Left.{Next}
+use Rattle.peak_envelope.specs.Step.{noting}
 
 count-next : (b : Bool) (k : ℕ) (p : Peak) (l : List Peak) → cond b (k + 1) k + length l ≡ k + length (cond b (p ∷ l) l)
 count-next true k p l = omega arith
 count-next false k p l = refl
-
--- ---- the groups' numbers
-fed-next : (b : Bool) (g h : Group) → Next g h → Next g (cond b h g)
-fed-next true g h n = n
-fed-next false g h n = (omega arith, omega arith)
-
-module _ (n s τ : ℕ) (e : Envelope) (p : Peak) where
-  pub chains-more : Next (e .chains) (stepped n s τ e p .chains)
-  unfolding stepped
-  chains-more =
-      fed-next (gave (e .stretches) (met n s (e .stretches) p) && high n s (e .stretches .best)) (e .chains) (chained τ (e .chains) (e .stretches .best))
-      (turned-next (close τ (e .chains .last) (e .stretches .best)) (e .chains) (e .stretches .best))
-
-  pub fits-next : (k : ℕ) → Fits k e → Fits (k + 1) (stepped n s τ e p)
-  unfolding stepped
-  fits-next k f =
-      let h = turned-next (alike n s (e .stretches .last) p) (e .stretches) p in
-      let c = chains-more in
-      (omega arith, omega arith)
-
-  -- groups that fit k numbers fit m, if that is more
-  pub fits-later : (k m : ℕ) → k < m → Fits k e → Fits m (stepped n s τ e p)
-  fits-later k m l f = let g = fits-next k f in (omega (arith, g .0), omega (arith, g .1))
 
 -- ---- the slices
 -- the next place moves on where a chain was closed

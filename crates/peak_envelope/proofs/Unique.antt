@@ -5,8 +5,9 @@ use mathlib.Core.Path.{_≡_, sym, ap, _∙_}
 use mathlib.Core.List.{List, map}
 use lib.IntN.{ℤ}
 use Rattle.peak_groups.specs.Peaks.{handed}
+use Rattle.peak_machine.specs.Step.{sizeOf, momentOf}
 use Rattle.peak_envelope.specs.declared.PeaksFound.{PeaksFound}
-use Rattle.peak_envelope.specs.Answers.{sizeOf, momentOf, written, FindsTo}
+use Rattle.peak_envelope.specs.Answers.{written, FindsTo}
 
 pub find-unique : (D R τ : ℕ) (xs : List ℤ) (sizes times : List ℕ) (x y : PeaksFound) (s t u v : List ℕ) →
     FindsTo D R τ xs sizes times x s u → FindsTo D R τ xs sizes times y t v → (x ≡ y) × (s ≡ t) × (u ≡ v)

@@ -14,15 +14,9 @@ use Rattle.sample_range.specs.Range.{firstBad}
 use Rattle.record_whole.specs.Tests.{itemThen, lengthThen}
 use Rattle.peak_groups.specs.declared.Peak.{Peak}
 use Rattle.peak_groups.specs.Peaks.{handed, short}
+use Rattle.peak_machine.specs.Step.{sizeOf, momentOf}
 use Rattle.peak_envelope.specs.declared.PeaksFound.{PeaksFound}
 use Rattle.peak_envelope.specs.declared.PeaksFound.the-variants.{Peaks, Refused}
-
--- a peak's magnitude, and its time
-abbrev pub sizeOf : Peak → ℕ
-sizeOf p = p .size
-
-abbrev pub momentOf : Peak → ℕ
-momentOf p = p .time
 
 -- the items 1, 2 and 4: items 3 and 6, the levels, are not asked for, and 1 is a level in range
 abbrev pub unlevelled : ℕ → ℕ → ℕ → Items

@@ -6,17 +6,18 @@
 ghost use mathlib.Core.Path.{_≡_};
 ghost use mathlib.Core.List.{map};
 ghost use Prim.Native.Nat.{ℕ, _+_, _*_, _/_, _<_, _≤_};
-ghost use lib.ListN.{set, length};
+ghost use lib.ListN.{length};
 ghost use lib.Seq.{sets};
-ghost use Rattle.peak_groups.specs.Machine.{empty, turned, gave};
 ghost use Rattle.peak_groups.specs.Runs.{peaks, peakAt};
 ghost use Rattle.peak_groups.specs.Peaks.{sum, kept, close};
 ghost use Rattle.peak_groups.specs.Groups.{tops};
-ghost use Rattle.peak_envelope.specs.Step.{met, chainsAfter, stepped, fresh, Fits, chosen, added, noting};
-ghost use Rattle.peak_envelope.specs.Answers.{sizeOf, momentOf, HandsOut, FindsTo};
+ghost use Rattle.peak_machine.specs.Step.{sizeOf, momentOf, stepped, Fits};
+ghost use Rattle.peak_envelope.specs.Step.{chosen, added, noting};
+ghost use Rattle.peak_envelope.specs.Answers.{HandsOut, FindsTo};
 use peak_groups::Group;
 use peak_groups::Peak;
 use peak_groups::Run;
+use peak_machine::Envelope;
 use record_whole::Size;
 use refusal::Refusal;
 use sample_channels::Levels;
@@ -27,104 +28,10 @@ pub enum PeaksFound {
     Refused(Refusal),
 }
 
-// A pass between two peaks: peaks in stretches, and the peaks kept of those in chains.
-struct Envelope {
-    stretches: Group,
-    chains: Group,
-}
-
 // How many peaks there are, and their sum.
 struct Totals {
     number: u32,
     sum: u64,
-}
-
-fn empty() -> Group
-    ensures { λ r. ⌜ r ≡ empty ⌝ }
-{
-    let none = Peak {
-        below: false,
-        size: 0,
-        time: 0,
-    };
-    Group {
-        opened: 0,
-        last: none,
-        best: none,
-    }
-}
-
-// One member more: it joins the open group, or opens one.
-fn turn(joins: bool, g: Group, y: Peak) -> Group
-    requires { ⌜ g .opened < 20000000 ⌝ }
-    ensures { λ r. ⌜ r ≡ turned joins g y ⌝ }
-{
-    if truth::both(0 < g.opened, joins) {
-        let best = g.best;
-        return Group {
-            opened: g.opened,
-            last: y,
-            best: peak_groups::larger(best, y),
-        };
-    }
-    Group {
-        opened: g.opened + 1,
-        last: y,
-        best: y,
-    }
-}
-
-// Whether a group that is not the first was closed from g to h.
-fn gave(g: Group, h: Group) -> bool
-    ensures { λ r. ⌜ r ≡ gave g h ⌝ }
-{
-    truth::both(1 < g.opened, g.opened != h.opened)
-}
-
-// The stretches with the peak p.
-fn met(n: u32, s: u64, g: Group, p: Peak) -> Group
-    requires { ⌜ g .opened < 20000000 ⌝ }
-    ensures { λ h. ⌜ h ≡ met n s g p ⌝ }
-{
-    turn(peak_groups::in_stretch(n, s, g, p), g, p)
-}
-
-// The chains, with the largest of the stretch that was closed on the way to h, if it is high.
-fn chains_after(n: u32, s: u64, decorrelation: u32, e: Envelope, h: Group) -> Group
-    requires { ⌜ e .chains .opened < 20000000 ⌝ }
-    ensures { λ c. ⌜ c ≡ chainsAfter n s decorrelation e h ⌝ }
-{
-    let stretches = e.stretches;
-    let g = e.chains;
-    let best = stretches.best;
-    if truth::both(gave(stretches, h), peak_groups::high(n, s, best)) {
-        return turn(peak_groups::in_chain(decorrelation, g, best), g, best);
-    }
-    g
-}
-
-// The pass with the peak p.
-fn advance(n: u32, s: u64, decorrelation: u32, e: Envelope, p: Peak) -> Envelope
-    requires { ⌜ Fits 19999999 e ⌝ }
-    ensures { λ f. ⌜ f ≡ stepped n s decorrelation e p ⌝ }
-{
-    let stretches = e.stretches;
-    let h = met(n, s, stretches, p);
-    let c = chains_after(n, s, decorrelation, e, h);
-    Envelope {
-        stretches: h,
-        chains: c,
-    }
-}
-
-fn fresh() -> Envelope
-    ensures { λ r. ⌜ r ≡ fresh ⌝ }
-{
-    let g = empty();
-    Envelope {
-        stretches: g,
-        chains: g,
-    }
 }
 
 // The peak of a run that starts at timed sample i.
@@ -139,16 +46,6 @@ fn peak(step: u64, i: usize, r: Run) -> Peak
     }
 }
 
-// Puts a figure into a place, if there is such a place.
-fn place(slice: &mut [u32], k: usize, v: u32)
-    ensures { λ r. ⌜ now (slice .exit) ≡ set (now (slice .entry)) k v ⌝ }
-{
-    if slice.len() <= k {
-        return;
-    }
-    slice[k] = v;
-}
-
 // Puts the largest of the open chain into its place, if the chain is closed where there are `opened`.
 fn hand(g: Group, opened: u64, sizes: &mut [u32], times: &mut [u32])
     requires { ⌜ g .opened ≤ 20000000 ⌝ }
@@ -160,8 +57,8 @@ fn hand(g: Group, opened: u64, sizes: &mut [u32], times: &mut [u32])
     }
     let k = (g.opened - 1) as usize;
     let best = g.best;
-    place(sizes, k, best.size);
-    place(times, k, best.time);
+    peak_machine::place(sizes, k, best.size);
+    peak_machine::place(times, k, best.time);
 }
 
 // The pass with the peak p, which hands out the chain that it closes, if it closes one.
@@ -179,7 +76,7 @@ fn onward(
         × (now (sizes .exit) ≡ noting (e .chains) (f .chains .opened) (e .chains .best .size) (now (sizes .entry)))
         × (now (times .exit) ≡ noting (e .chains) (f .chains .opened) (e .chains .best .time) (now (times .entry))) ⌝ }
 {
-    let f = advance(n, s, decorrelation, e, p);
+    let f = peak_machine::advance(n, s, decorrelation, e, p);
     let chains = e.chains;
     let after = f.chains;
     hand(chains, after.opened, sizes, times);
@@ -231,7 +128,7 @@ fn pass(
         × (now (times .exit)
         ≡ sets (now (times .entry)) 0 (map momentOf (chosen n s step decorrelation (now (timed .entry))))) ⌝ }
 {
-    let mut e = fresh();
+    let mut e = peak_machine::fresh();
     let mut i = peak_groups::second_run(timed);
     let mut run = peak_groups::first_run(&timed[i..]);
     while i + run.length < timed.len() {

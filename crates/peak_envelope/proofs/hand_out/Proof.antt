@@ -11,8 +11,8 @@ use Rattle.peak_groups.specs.declared.Peak.{Peak}
 use Rattle.peak_groups.specs.Groups.{tops}
 use Rattle.peak_groups.specs.Runs.{peaks}
 use Rattle.peak_groups.specs.Peaks.{kept, close}
+use Rattle.peak_machine.specs.Step.{sizeOf, momentOf}
 use Rattle.peak_envelope.specs.Step.{chosen}
-use Rattle.peak_envelope.specs.Answers.{sizeOf, momentOf}
 use Rattle.peak_envelope.proofs.Answered.{chosen-kept, no-room, all-placed}
 use Rattle.peak_envelope.proofs.hand_out.Statement.{statement}
 use Rattle.peak_envelope.proofs.hand_out.Tie as tie

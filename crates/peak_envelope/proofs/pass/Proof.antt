@@ -8,8 +8,9 @@ use borrow.Author.Needs.{needs}
 use lib.ListN.{length}
 use Rattle.peak_groups.specs.Runs.{firstRun, peakAt}
 use Rattle.peak_groups.proofs.Due.{from-place, second-fits, walk-fits, walk-holds}
-use Rattle.peak_envelope.specs.declared.Envelope.{Envelope}
-use Rattle.peak_envelope.specs.Step.{stepped, noting}
+use Rattle.peak_machine.specs.declared.Envelope.{Envelope}
+use Rattle.peak_machine.specs.Step.{stepped}
+use Rattle.peak_envelope.specs.Step.{noting}
 use Rattle.peak_envelope.proofs.Turns.{noting-length}
 use Rattle.peak_envelope.proofs.Passing.{Passing, passing-starts, passing-on, passing-number, passing-sizes, passing-times}
 use Rattle.peak_envelope.proofs.pass.Statement.{statement}

@@ -1,0 +1,9 @@
+pub mod Bounds
+pub mod Cases
+pub mod Ahead
+pub mod Passing
+pub mod Pieces
+pub mod Coming
+pub mod Over
+pub mod Anywhere
+pub mod Unique

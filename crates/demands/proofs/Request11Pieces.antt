@@ -9,6 +9,7 @@ use mathlib.Core.List.{List, [], _∷_, _++_, foldl, map}
 use lib.Dec.{ltb}
 use lib.IntN.{ℤ}
 use lib.ListN.{length, drop}
+use Rattle.truth.proofs.Laws.{impossible}
 use Rattle.refusal.specs.declared.Refusal.{Refusal}
 use Rattle.refusal.specs.declared.Refusal.the-variants.{Item, Room, BrokenState, TooLong}
 use Rattle.sample_items.specs.Limits.{stepInRange, decorrelationInRange, mostInRange}
@@ -26,7 +27,7 @@ use Rattle.peak_stream.specs.Hands.{waiting, begun, moved, closedBy, ready, han
 use Rattle.peak_stream.proofs.Pieces.{survey-anywhere, survey-too-long}
 use Rattle.peak_stream.proofs.Anywhere.{passes-anywhere}
 use Rattle.peak_stream.proofs.Unique.{hand-over-unique}
-use Rattle.demands.proofs.Demand1.{Decides, _gives_, decide, decided, no}
+use Rattle.demands.proofs.Demand1.{Decides, _gives_, decide, decided}
 
 -- ---- the statement
 pub record Request11Pieces : Type 0 where
@@ -75,12 +76,12 @@ pub request-11-pieces : Request11Pieces
 unfolding decide started taken begun handsOn noted
 request-11-pieces =
     record {
-      survey = λ D. decided Refused (Taken (none D)) (λ r s e. cc) (λ r e. no (cc)) _ (started D) refl;
-      take = λ s xs. decided Refused (Taken (foldl surveyed s xs)) (λ r t e. cc) (λ r e. no (cc)) _ (taken s xs) refl;
+      survey = λ D. decided Refused (Taken (none D)) (λ r s e. cc) (λ r e. impossible (cc)) _ (started D) refl;
+      take = λ s xs. decided Refused (Taken (foldl surveyed s xs)) (λ r t e. cc) (λ r e. impossible (cc)) _ (taken s xs) refl;
       totals = λ D ps d m l. let a = survey-anywhere D ps d m l in (a .0, a .1, a .2 .number, a .2 .sum);
       too-long = survey-too-long;
-      begin = λ D τ n s. decided handing.Refused (handing.Taken (waiting D τ n s) 0) (λ r t e. cc) (λ r e. no (cc)) _ (begun D τ n s) refl;
-      hand-over = λ h xs sizes times. decided handing.Refused (handing.Taken (foldl moved h xs) (length (closedBy h xs))) (λ r t e. cc) (λ r e. no (cc)) _ (handsOn h xs sizes times) refl;
+      begin = λ D τ n s. decided handing.Refused (handing.Taken (waiting D τ n s) 0) (λ r t e. cc) (λ r e. impossible (cc)) _ (begun D τ n s) refl;
+      hand-over = λ h xs sizes times. decided handing.Refused (handing.Taken (foldl moved h xs) (length (closedBy h xs))) (λ r t e. cc) (λ r e. impossible (cc)) _ (handsOn h xs sizes times) refl;
       stays = λ h xs sizes times s t f p. (p .sizes-left, p .times-left);
       given = λ h g xs sizes times s t k p. (p .sizes-left, p .times-left);
       few = λ h xs sizes times s t x p. p .few;

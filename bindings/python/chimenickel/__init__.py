@@ -70,6 +70,7 @@ __all__ = [
     "Campaign",
     "Case",
     "Channel",
+    "FileRefusal",
     "Peak",
     "Rates",
     "Record",
@@ -79,6 +80,7 @@ __all__ = [
     "Sum",
     "Tail",
     "Verdict",
+    "count_files",
     "counted_times",
     "envelope_peaks",
     "first_crossing",
@@ -88,6 +90,7 @@ __all__ = [
     "lower_row",
     "read_comma",
     "read_records",
+    "sheet_of_files",
     "upper_row",
     "write_comma",
     "write_report",
@@ -1120,3 +1123,7 @@ def lower_row(n: Whole) -> int:
     """Lower row n in millionths of an expected failure, from 1 to 64; 0 for any other n."""
     row: int = _lib.chim_lower_row(*_items(n=n))
     return row
+
+
+# these stand on the above
+from chimenickel.files import FileRefusal, count_files, sheet_of_files  # noqa: E402

@@ -89,6 +89,39 @@ opens() {
     { command exec {opened}<"$1"; } 2>/dev/null || stop "$1: cannot be opened"
 }
 
+# files_from LIST: the names of the list go to `names`, one a line, from the file of this name, or from standard input for
+# a minus. A list has no bound: the names do not stand among the words of a command.
+files_from() {
+    if [ "$1" = - ]; then
+        [ -e /dev/fd/0 ] || stop "standard input is closed"
+        mapfile -t names || stop "standard input: cannot be read"
+    else
+        are_there "$1"
+        opens "$1"
+        mapfile -t names <&"$opened" || stop "$1: cannot be read"
+        exec {opened}<&-
+    fi
+    [ "${#names[@]}" -gt 0 ] || stop "${1/#-/standard input} names no file"
+}
+
+# takes_names: asks of all `names` whether they can be read, each by itself. A program opens files by their names; one that
+# stands for a descriptor is opened here, before a descriptor is taken for something else, and goes by another name. The
+# names to hand over go to `handed`.
+takes_names() {
+    local file
+    are_there "${names[@]}"
+    are_apart "${names[@]}"
+    handed=()
+    for file in "${names[@]}"; do
+        descriptor_of "$file"
+        if [ -n "$descriptor" ]; then
+            opens "$file"
+            file=/dev/fd/$opened
+        fi
+        handed+=("$file")
+    done
+}
+
 # --- refusals in words
 
 # meaning NUMBER PLACE: what a refusal means, as the Python module has it (Refusal.MEANINGS); tests/commands compares
@@ -213,8 +246,9 @@ finds() {
 # run NAME WAIT [ARGUMENT..]: runs the program NAME of crates/ with the arguments, from standard input to standard
 # output, once it is proved and built. A program of the kit has no exit status. It says how it ended by a digit on
 # descriptor 3, which goes to `status`: 0 done, 1 refused, 2 something could not be read or written. Before a 1 stand
-# what the refusal carries, for `carried`, and the refused line, for `refused`. What it writes goes straight to standard
-# output, so nothing on the way holds it back. Descriptor 4 is handed on as it is, for a second file.
+# what the refusal carries or nothing, for `carried`, and the refused line, for `refused`. What it writes goes straight to standard
+# output, so nothing on the way holds it back. Descriptor 4 is handed on as it is, for a second file or for a list of
+# names, each ended by a 0 byte.
 run() {
     local program out end IFS
     finds "$1" "$2"
@@ -233,6 +267,8 @@ run() {
         carried=${end%%"$lf"*} end=${end#*"$lf"}
         IFS=$tab
         refused=(${end%%"$lf"*})
+        # most programs leave it to the refused line, whose last field after 1 is the item
+        carried=${carried:-${refused[-1]}}
         ;;
     *) stop "it was ended from outside" ;;
     esac

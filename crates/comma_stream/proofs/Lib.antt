@@ -1,4 +1,5 @@
 pub mod Going
 pub mod Pieces
 pub mod Begun
+pub mod Whole
 pub mod Unique

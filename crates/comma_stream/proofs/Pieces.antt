@@ -29,32 +29,32 @@ use Rattle.comma_stream.specs.Pieces.{Passed, nothing, withPiece, passin
 use Rattle.comma_stream.proofs.Going.{Outside, outside-is, outside-join, wrong-none}
 
 -- ---- the right lines that a text starts with, from a time on
-abbrev Rights : ℕ → ℕ → List ℕ → List (List ℕ)
+abbrev pub Rights : ℕ → ℕ → List ℕ → List (List ℕ)
 Rights D time text = take (firstWrong D time (linesOf text)) (linesOf text)
 
 -- what is left after them
-abbrev Left : ℕ → ℕ → List ℕ → List ℕ
+abbrev pub Left : ℕ → ℕ → List ℕ → List ℕ
 Left D time text = drop (bytesOf (Rights D time text)) text
 
-none : (D time : ℕ) (text : List ℕ) → right time text ≡ false → Rights D time text ≡ []
+pub none : (D time : ℕ) (text : List ℕ) → right time text ≡ false → Rights D time text ≡ []
 none D time text r = rw (wrong-none D time text r)
 
 module _ (D time : ℕ) (text : List ℕ) (r : right time text ≡ true) where
-  abbrev t : Turn time text
+  abbrev pub t : Turn time text
   t = turn time text r
 
-  abbrev rest : List ℕ
+  abbrev pub rest : List ℕ
   rest = drop (lineLength text) text
 
   -- one line, and those after it, with more after the text or not
-  one : (more : List ℕ) → Rights D time (t .line ++ more) ≡ t .line ∷ Rights D (time + D) more
+  pub one : (more : List ℕ) → Rights D time (t .line ++ more) ≡ t .line ∷ Rights D (time + D) more
   unfolding firstWrong
   one more = rw (t .before more, t .is)
 
-  first : Rights D time text ≡ t .line ∷ Rights D (time + D) rest
+  pub first : Rights D time text ≡ t .line ∷ Rights D (time + D) rest
   first = ap (Rights D time) (t .parts) ∙ one rest
 
-  past : (lines : List (List ℕ)) → drop (bytesOf (t .line ∷ lines)) text ≡ drop (bytesOf lines) rest
+  pub past : (lines : List (List ℕ)) → drop (bytesOf (t .line ∷ lines)) text ≡ drop (bytesOf lines) rest
   unfolding bytesOf
   past lines = rw (t .bytes) (sym (drop-drop (bytesOf lines) (lineLength text) text))
 
@@ -62,11 +62,11 @@ module _ (D time : ℕ) (text : List ℕ) (r : right time text ≡ true) where
   shorter = omega (arith, length-drop (lineLength text) text, t .some, t .within)
 
 -- the lines of a text with more after it: those of the text, and those of what is left with more after it
-record Joins (D time : ℕ) (a b : List ℕ) : Type 0 where
-  lines : Rights D time (a ++ b) ≡ Rights D time a ++ Rights D (time + length (Rights D time a) * D) (Left D time a ++ b)
-  left : Left D time (a ++ b) ≡ Left D (time + length (Rights D time a) * D) (Left D time a ++ b)
-  all : linesOf a ≡ Rights D time a ++ linesOf (Left D time a)
-  stops : right (time + length (Rights D time a) * D) (Left D time a) ≡ false
+pub record Joins (D time : ℕ) (a b : List ℕ) : Type 0 where
+  pub lines : Rights D time (a ++ b) ≡ Rights D time a ++ Rights D (time + length (Rights D time a) * D) (Left D time a ++ b)
+  pub left : Left D time (a ++ b) ≡ Left D (time + length (Rights D time a) * D) (Left D time a ++ b)
+  pub all : linesOf a ≡ Rights D time a ++ linesOf (Left D time a)
+  pub stops : right (time + length (Rights D time a) * D) (Left D time a) ≡ false
 
 -- no right line
 joins-none : (D time : ℕ) (a b : List ℕ) → right time a ≡ false → Joins D time a b
@@ -112,7 +112,7 @@ module _ (D time : ℕ) (a b : List ℕ) (r : right time a ≡ true) (ih : Joins
         stops = rw (first D time a r, past D time a r, due) (ih .stops);
       }
 
-joins : (n D time : ℕ) (a b : List ℕ) → length a ≤ n → Joins D time a b
+pub joins : (n D time : ℕ) (a b : List ℕ) → length a ≤ n → Joins D time a b
 joins zero D time a b h = by-test (right time a) (λ r. absurd (omega (arith, shorter D time a r))) (joins-none D time a b)
 joins (suc n) D time a b h =
     by-test (right time a)
@@ -138,10 +138,10 @@ module _ (f : Follow) (us vs : List (List ℕ)) where
   after-join i = record { step = f .step; lines = many-join i; outside = outside-both i }
 
 -- what was passed is what the text so far leaves
-record Level (D : ℕ) (p : Passed) (text : List ℕ) : Type 0 where
-  stands : p .stands ≡ afterLines (nothing D .stands) (Rights D 0 text)
-  samples : p .samples ≡ samplesOf (Rights D 0 text)
-  left : p .left ≡ Left D 0 text
+pub record Level (D : ℕ) (p : Passed) (text : List ℕ) : Type 0 where
+  pub stands : p .stands ≡ afterLines (nothing D .stands) (Rights D 0 text)
+  pub samples : p .samples ≡ samplesOf (Rights D 0 text)
+  pub left : p .left ≡ Left D 0 text
 
 module _ (D : ℕ) where
   -- the right lines of what is left and a piece
@@ -158,7 +158,7 @@ module _ (D : ℕ) where
     all : Rights D 0 (text ++ piece) ≡ Taken ++ rightLines (p .stands) (p .left ++ piece)
     all = joins (length text) D 0 text piece (omega arith) .lines ∙ ap (λ x. Taken ++ x) (sym more)
 
-    level-on : Level D (withPiece p piece) (text ++ piece)
+    pub level-on : Level D (withPiece p piece) (text ++ piece)
     level-on =
         record {
           stands = ap (λ f. afterLines f (rightLines (p .stands) (p .left ++ piece))) (l .stands) ∙ after-join (nothing D .stands) Taken _ ∙ ap (afterLines (nothing D .stands)) (sym all);
@@ -166,13 +166,13 @@ module _ (D : ℕ) where
           left = rw (more, l .left) (sym (joins (length text) D 0 text piece (omega arith) .left));
         }
 
-  level-all : (pieces : List (List ℕ)) (p : Passed) (text : List ℕ) → Level D p text → Level D (passing p pieces) (text ++ joined pieces)
+  pub level-all : (pieces : List (List ℕ)) (p : Passed) (text : List ℕ) → Level D p text → Level D (passing p pieces) (text ++ joined pieces)
   unfolding passing joined
   level-all [] p text l = rw append-nil l
   level-all (piece ∷ pieces) p text l =
       subst (Level D (passing (withPiece p piece) pieces)) (append-assoc text piece (joined pieces)) (level-all pieces (withPiece p piece) (text ++ piece) (level-on p text piece l))
 
-  level-start : Level D (nothing D) []
+  pub level-start : Level D (nothing D) []
   unfolding linesOf firstWrong bytesOf afterLines firstBad
   level-start = record { stands = refl; samples = refl; left = refl }
 
@@ -184,7 +184,7 @@ module _ (D : ℕ) where
       λ i. record { stands = (l .stands ∙ sym (m .stands)) i; samples = (l .samples ∙ sym (m .samples)) i; left = (l .left ∙ sym (m .left)) i }
 
 -- ---- the end
-wrong-within : (D time : ℕ) (lines : List (List ℕ)) → firstWrong D time lines ≤ length lines
+pub wrong-within : (D time : ℕ) (lines : List (List ℕ)) → firstWrong D time lines ≤ length lines
 unfolding firstWrong
 wrong-within D time [] = omega arith
 wrong-within D time (line ∷ lines) = by-test (right time line) (λ r. rw r (omega (arith, wrong-within D (time + D) lines))) (λ r. rw r (omega arith))
@@ -196,15 +196,15 @@ module _ (D : ℕ) (text : List ℕ) (p : Passed) (l : Level D p text) where
   abbrev Bad : ℕ
   Bad = firstBad (samplesOf L)
 
-  number : length (Rights D 0 text) ≡ firstWrong D 0 L
+  pub number : length (Rights D 0 text) ≡ firstWrong D 0 L
   number = length-take-le (firstWrong D 0 L) L (wrong-within D 0 L)
 
-  rest-of : L ≡ Rights D 0 text ++ linesOf (Left D 0 text)
+  pub rest-of : L ≡ Rights D 0 text ++ linesOf (Left D 0 text)
   rest-of = joins (length text) D 0 text [] (omega arith) .all
 
   -- no bytes are left: all lines are right
   module _ (e : Left D 0 text ≡ []) where
-    same : Rights D 0 text ≡ L
+    pub same : Rights D 0 text ≡ L
     unfolding linesOf
     same = sym (rest-of ∙ ap (λ x. Rights D 0 text ++ linesOf x) e ∙ append-nil (Rights D 0 text))
 

@@ -17,6 +17,7 @@ pub mod Tail
 pub mod Refusal9
 pub mod Request10
 pub mod JobSheet
+pub mod Desk
 pub mod Figures
 pub mod Relations
 pub mod Ends
@@ -30,3 +31,4 @@ pub mod RecordCases
 pub mod BenchCases
 pub mod TailCases
 pub mod ReportCases
+pub mod DeskCases

@@ -320,12 +320,13 @@ fn refused(line: u64, r: Refusal) -> u8 {
     declined(&out, n, r)
 }
 
-fn refused_in(line: u64, r: Refusal, channel: u64) -> u8 {
+// The same with a field more: the channel, or after 1 the item.
+fn refused_in(line: u64, r: Refusal, more: u64) -> u8 {
     let mut out = [0u8; 64];
     let after_word = text::write_bytes(b"refused\t", &mut out, 0);
     let after_line = decimal::write_field(line, TAB, &mut out, after_word);
     let after_number = decimal::write_field(refusal::number(r), TAB, &mut out, after_line);
-    let n = decimal::write_field(channel, LF, &mut out, after_number);
+    let n = decimal::write_field(more, LF, &mut out, after_number);
     declined(&out, n, r)
 }
 
@@ -450,7 +451,7 @@ fn run() -> u8 {
     };
     match record_state::open(items) {
         record_state::RecordAnswer::Taken(r) => watched(r),
-        record_state::RecordAnswer::Refused(f) => refused(0, f),
+        record_state::RecordAnswer::Refused(f) => refused_in(0, f, refusal::carried(f)),
     }
 }
 

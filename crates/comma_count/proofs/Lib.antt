@@ -1,0 +1,9 @@
+pub mod Few
+pub mod Zeros
+pub mod Joining
+pub mod Way
+pub mod Piece
+pub mod Whole
+pub mod Cut
+pub mod Unique
+pub mod Buffer

@@ -1,0 +1,74 @@
+-- `comma_count::take` meets its contract: what is over, what stands nowhere, or where the right lines lead and what is left after them. Assumes nothing.
+use Prim.Native.Nat.{_≤_}
+use mathlib.Core.Path.{_≡_, sym, subst, _∙_}
+use mathlib.Core.Bool.{true}
+use native.Mathlib.Omega.{arith}
+use lib.ListN.{length}
+use borrow.Author.Needs.{needs}
+use denote.Ref.{now}
+use Rattle.truth.proofs.Laws.{said-no, said-yes}
+use Rattle.comma_count.specs.Taking.{Leads, soundFollow}
+use Rattle.comma_count.proofs.Piece.{sound-step, sound-lines, NearlyAll, used, taking-over, taking-broken, taking-on}
+use Rattle.comma_count.proofs.take.Statement.{statement}
+use Rattle.comma_count.proofs.take.Tie as tie
+
+-- past the tests
+abbrev start : tie.Else2 → tie.Start
+start c = c .before .before .before .before .before
+
+sound : (c : tie.Else2) → soundFollow (start c .args .c .follow) ≡ true
+sound c = said-yes (c .before .sound .ensures) (c .if2 .left)
+
+short : (c : tie.Start) → length (now (c .args .text)) ≤ 9223372036854775807
+short c = search needs
+
+leads : (c : tie.After-lines) → let a = start (c .before) .args in Leads (a .c .follow) (a .c .answer) (now (a .text)) (c .lines .result .follow) (c .lines .result .answer) (c .lines .result .at)
+leads c = c .lines .ensures
+
+returns : tie.Need-returns
+returns c = let a = c .before .before .args in (taking-over (a .c) (now (a .text)) (a .more) (c .if1 .taken), (omega arith, omega arith))
+
+sound-requires : tie.Need-sound-requires
+sound-requires c κs = search needs
+
+stopped-requires : tie.Need-stopped-requires
+stopped-requires c κs = search needs
+
+returns-2 : tie.Need-returns-2
+returns-2 c =
+    let a = c .before .before .before .before .before .before .args in
+    (rw (c .stopped .ensures) (taking-broken (a .c) (now (a .text)) (a .more) (c .before .before .before .before .if1 .left) (said-no (c .before .before .sound .ensures) (c .before .if2 .taken))), (omega arith, omega arith))
+
+lines-requires : tie.Need-lines-requires
+lines-requires c κs = sound-step (start c .args .c .follow) (sound c)
+
+left-requires : tie.Need-left-requires
+left-requires c κs = search needs
+
+rested-requires : tie.Need-rested-requires
+rested-requires c κs =
+    let l = c .before in
+    let s = start (l .before) in
+    omega (arith, leads l .few, sound-lines (s .args .c .follow) (sound (l .before)), short s)
+
+returns-3 : tie.Need-returns-3
+returns-3 c =
+    let l = c .before .before in
+    let a = start (l .before) .args in
+    let is = c .rested .ensures in
+    let rest = c .before .left .ensures .0 in
+    let all = used (c .before .left .result) _ (now (a .text)) (l .lines .result .at) (a .more) (leads l .within) rest in
+    (is ∙ taking-on (a .c) (now (a .text)) (a .more) (l .before .before .before .before .if1 .left) (sound (l .before)) (leads l) rest, subst (NearlyAll (now (a .text))) (sym is) all)
+
+pub take-spec : {M : Type 1} → statement M
+take-spec =
+    tie.close
+    (tie.spec
+    returns
+    sound-requires
+    stopped-requires
+    returns-2
+    lines-requires
+    left-requires
+    rested-requires
+    returns-3)

@@ -1,0 +1,113 @@
+-- The desk: what the clerk's commands write, over the bytes of the files that they are handed. A command's line and the
+-- digit by which it ends are those of a definition over whole texts, however the texts come: in one piece or in many,
+-- cut within a line or a number. Which line it is, is decided by the command's tests in their order, each over the whole
+-- file (demand 1). Assumes nothing.
+use mathlib.Core.Path.{_≡_, refl}
+use mathlib.Core.Bool.{Bool, cond, false, not, true}
+use mathlib.Core.List.{List, [], _∷_, map}
+use Prim.Native.Nat.{ℕ, _+_}
+use lib.Dec.{eqb, ltb}
+use lib.ListN.{length, take, drop}
+use Rattle.refusal.specs.declared.Refusal.{Refusal}
+use Rattle.refusal.specs.declared.Refusal.the-variants.{CommaLine, Item, Sample, SumFull, TooLong, TooShort}
+use Rattle.refusal.specs.Numbers.{numberOf, valueOf}
+use Rattle.sample_items.specs.declared.Items.{Items}
+use Rattle.sample_items.specs.Limits.{itemOutside, mostSamples}
+use Rattle.sample_range.specs.Range.{firstBad}
+use Rattle.crossing_places.specs.Reading.{tooFew}
+use Rattle.binomial_sum.specs.declared.Sum.{Sum}
+use Rattle.binomial_sum.specs.State.{empty, grown, wouldPass}
+use Rattle.binomial_bounds.specs.Bounds.{boundsOf}
+use Rattle.text.specs.Pieces.{joined}
+use Rattle.decimal.specs.Lines.{linesOf}
+use Rattle.comma_line.specs.Text.{firstWrong, samplesOf}
+use Rattle.desk_line.specs.Said.{Said}
+use Rattle.comma_count.specs.declared.Counting.{Counting}
+use Rattle.comma_count.specs.Line.{countSaid, countSaidOfLines, counted, oneChannel, refusedAt, resultFor}
+use Rattle.comma_count.specs.Taking.{opening, saying, taking, turnLeft, turning}
+use Rattle.comma_count.specs.Pieces.{carrying}
+use Rattle.comma_count.proofs.Buffer.{kept-first}
+use Rattle.comma_count.proofs.Cut.{cut-anywhere}
+use Rattle.binomial_files.specs.Files.{binomialFrom, binomialSaid, groupsOf, refusedIn, summed, timedOf}
+use Rattle.binomial_files.specs.Adding.{addedSaid, filesAfter, openedFiles}
+use Rattle.binomial_files.proofs.Anywhere.{files-anywhere}
+use Rattle.demands.proofs.Demand1.{Test, _gives_, decide}
+
+-- ---- the statement
+-- the line that a refusal of a file names: a malformed line's number, a bad sample's line, or 0
+abbrev pub faultLine : Refusal → ℕ
+faultLine r = cond (eqb (numberOf r) 10) (valueOf r) (cond (eqb (numberOf r) 2) (valueOf r + 1) 0)
+
+abbrev pub refusedFile : Refusal → Said
+refusedFile r = refusedAt (faultLine r) r
+
+-- bin/count 1, 10, 2, 3, 4, each over all lines
+abbrev pub countTests : Items → List (List ℕ) → List Test
+countTests i lines =
+    not (eqb (itemOutside i) 0) gives Item (itemOutside i)
+    ∷ (ltb (firstWrong (i .step) 0 lines) (length lines) gives CommaLine (firstWrong (i .step) 0 lines + 1)
+    ∷ (ltb (firstBad (samplesOf lines)) (length lines) gives Sample (firstBad (samplesOf lines))
+    ∷ (ltb (mostSamples (i .step) (i .ramp)) (length lines) gives TooLong
+    ∷ (tooFew (i .ramp) (length lines) gives TooShort
+    ∷ []))))
+
+-- bin/binomial of one file among several: 10, 2, 3, 4, then 11
+abbrev pub sumTests : Items → Sum → List (List ℕ) → List Test
+sumTests i s lines =
+    ltb (firstWrong (i .step) 0 lines) (length lines) gives CommaLine (firstWrong (i .step) 0 lines + 1)
+    ∷ (ltb (firstBad (samplesOf lines)) (length lines) gives Sample (firstBad (samplesOf lines))
+    ∷ (ltb (mostSamples (i .step) (i .ramp)) (length lines) gives TooLong
+    ∷ (tooFew (i .ramp) (length lines) gives TooShort
+    ∷ (wouldPass s (groupsOf i lines) (timedOf i lines) gives SumFull
+    ∷ []))))
+
+pub record Desk : Type 0 where
+  -- bin/count: what is said of a file does not depend on the pieces in which it comes
+  pub count-pieces : (i : Items) (pieces : List (List ℕ)) → saying (carrying (opening i) [] pieces) ≡ countSaid i (joined pieces)
+  -- and is what the tests decide
+  pub count-order : (i : Items) (text : List ℕ)
+      → let lines = linesOf text in
+      countSaid i text ≡ decide refusedFile (countTests i lines) (counted (length lines) (resultFor i (oneChannel (samplesOf lines))))
+  -- bin/binomial: what is said of several files does not depend on the pieces in which each comes
+  pub binomial-pieces : (i : Items) (files : List (List (List ℕ))) → addedSaid (filesAfter i 1 (openedFiles i) files) ≡ binomialSaid i (map joined files)
+  -- an item goes first; then file by file the tests of bin/count, and 11; the first that is refused is named by its number
+  pub binomial-item : (i : Items) (texts : List (List ℕ)) → not (eqb (itemOutside i) 0) ≡ true → binomialSaid i texts ≡ refusedIn 0 0 (Item (itemOutside i))
+  pub binomial-none : (i : Items) → not (eqb (itemOutside i) 0) ≡ false → (texts : List (List ℕ)) → binomialSaid i texts ≡ binomialFrom i 1 (empty (i .step)) texts
+  pub binomial-file : (i : Items) (file : ℕ) (s : Sum) (text : List ℕ) (texts : List (List ℕ))
+      → let lines = linesOf text in
+      binomialFrom i file s (text ∷ texts)
+      ≡ decide (λ r. refusedIn file (faultLine r) r) (sumTests i s lines) (binomialFrom i (file + 1) (grown s (groupsOf i lines) (timedOf i lines)) texts)
+  -- after the last file the line has N, P and what they say
+  pub binomial-end : (i : Items) (file : ℕ) (s : Sum) → binomialFrom i file s [] ≡ summed s (boundsOf s)
+  -- after a turn through a buffer its first bytes are those that the turn left unused, so that the next are read after
+  -- them
+  pub count-buffer : (c : Counting) (text : List ℕ) (end : ℕ) (more : Bool)
+      → take (turning c (take end text) more .kept) (turnLeft c end more text) ≡ drop (taking c (take end text) more .used) (take end text)
+
+-- ---- the proof
+by-tests : (i : Items) (text : List ℕ)
+    → let lines = linesOf text in
+    countSaid i text ≡ decide refusedFile (countTests i lines) (counted (length lines) (resultFor i (oneChannel (samplesOf lines))))
+unfolding countSaidOfLines decide
+by-tests i text = refl
+
+by-file : (i : Items) (file : ℕ) (s : Sum) (text : List ℕ) (texts : List (List ℕ))
+    → let lines = linesOf text in
+    binomialFrom i file s (text ∷ texts)
+    ≡ decide (λ r. refusedIn file (faultLine r) r) (sumTests i s lines) (binomialFrom i (file + 1) (grown s (groupsOf i lines) (timedOf i lines)) texts)
+unfolding binomialFrom decide
+by-file i file s text texts = refl
+
+pub desk : Desk
+unfolding binomialSaid binomialFrom
+desk =
+    record {
+      count-pieces = cut-anywhere;
+      count-order = by-tests;
+      binomial-pieces = files-anywhere;
+      binomial-item = λ i texts e. rw e;
+      binomial-none = λ i e texts. rw e;
+      binomial-file = by-file;
+      binomial-end = λ i file s. refl;
+      count-buffer = kept-first;
+    }

@@ -1,0 +1,212 @@
+// What the clerk's programs share: how a program reads a file through a buffer, what it writes, how it says that it has
+// ended, the numbers among its arguments, and its progress on a terminal. No contract can say what is read or written:
+// here bytes are only carried, and what is in them is the promise of the libraries beneath.
+use comma_count::Counting;
+use desk_line::Finished;
+use libc::STDERR_FILENO;
+use libc::STDOUT_FILENO;
+
+// Where a program says how it ended; bin/program waits for it there.
+const END_FILENO: i32 = 3;
+
+// How many lines lie between two signs of progress.
+const LINES_BETWEEN: u64 = 1_000_000;
+
+// Writes the first `n` bytes of `out`; answers whether it could.
+pub fn write_to(to: i32, out: &[u8], n: usize) -> bool {
+    if out.len() < n {
+        return false;
+    }
+    io::write_all(to, &out[..n])
+}
+
+// Writes a line to standard output, and answers how the program ends. Whoever waits for that learns a refused line too,
+// so that a command can say it in words.
+pub fn answer(out: &[u8], f: Finished) -> u8 {
+    if f.end == desk_line::REFUSED {
+        io::write_all(END_FILENO, b"\n");
+        write_to(END_FILENO, out, f.put);
+    }
+    if !write_to(STDOUT_FILENO, out, f.put) {
+        os::fail(b"standard output");
+        return desk_line::FAILED;
+    }
+    f.end
+}
+
+// Says how the program ended.
+pub fn end(how: u8) {
+    let digit = [how; 1];
+    io::write_all(END_FILENO, &digit);
+}
+
+// The number of an argument; where it is none of at most 12 digits, a number that is in no item's range.
+pub fn item(i: usize) -> u64 {
+    let mut buffer = [0u8; 32];
+    let n = os::arg(i, &mut buffer);
+    decimal::number_or(&buffer[..n], u64::MAX)
+}
+
+// Whether somebody is watching.
+pub fn watched() -> bool {
+    libc::isatty(STDERR_FILENO) == 1
+}
+
+// Progress for a terminal, once in a million lines: their number.
+fn show_progress(before: u64, lines: u64, shown: bool) {
+    if !shown {
+        return;
+    }
+    if before / LINES_BETWEEN == lines / LINES_BETWEEN {
+        return;
+    }
+    let mut out = [0u8; 64];
+    let after_lines = decimal::write_field(lines, b' ', &mut out, 0);
+    let n = text::write_bytes(b"lines\r", &mut out, after_lines);
+    write_to(STDERR_FILENO, &out, n);
+}
+
+// What reading once comes to: where the bytes end, or that nothing can be read.
+enum Got {
+    Upto(usize),
+    Broken,
+}
+
+// Reads once from the descriptor `from`, which is called `name`, after the first `kept` bytes of `text`.
+fn fill(from: i32, name: &[u8], text: &mut [u8], kept: usize) -> Got {
+    if text.len() < kept {
+        return Got::Broken;
+    }
+    let got = libc::read(from, &mut text[kept..]);
+    if got < 0 {
+        os::fail(name);
+        return Got::Broken;
+    }
+    Got::Upto(kept + io::count(got, &text[kept..]))
+}
+
+// What a file came to: its count, or that it could not be read.
+pub enum Served {
+    Counted(Counting),
+    Broken,
+}
+
+// Counts a file on the descriptor `from` through the buffer `text`, to its end or until nothing changes the answer any
+// more. A proved loop has to end, and nothing says that the input does; so it counts its turns down, from a number that
+// no run uses up.
+pub fn serve(from: i32, name: &[u8], start: Counting, text: &mut [u8], shown: bool) -> Served {
+    let mut count = start;
+    let mut kept = 0;
+    let mut turns = u64::MAX;
+    while turns > 0 {
+        if count.over {
+            return Served::Counted(count);
+        }
+        let Got::Upto(end) = fill(from, name, text, kept) else {
+            return Served::Broken;
+        };
+        let t = comma_count::turn(count, text, end, kept < end);
+        let c = t.counting;
+        if end <= kept {
+            return Served::Counted(c);
+        }
+        show_progress(count.follow.lines, c.follow.lines, shown);
+        count = c;
+        kept = t.kept;
+        turns -= 1;
+    }
+    Served::Broken
+}
+
+// Where the names of files come from, one after the other, each ended by a 0 byte, which no name has.
+const NAMES_FILENO: i32 = 4;
+
+const NAME_END: u8 = 0;
+
+// How many files lie between two signs of progress.
+const FILES_BETWEEN: u64 = 100;
+
+// Progress for a terminal, once in a hundred files: their number.
+pub fn show_files(files: u64, shown: bool) {
+    if !shown {
+        return;
+    }
+    if files % FILES_BETWEEN != 0 {
+        return;
+    }
+    let mut out = [0u8; 64];
+    let after_files = decimal::write_field(files, b' ', &mut out, 0);
+    let n = text::write_bytes(b"files\r", &mut out, after_files);
+    write_to(STDERR_FILENO, &out, n);
+}
+
+// Counts the file of this name.
+pub fn serve_named(name: &[u8], start: Counting, text: &mut [u8], shown: bool) -> Served {
+    let from = os::open_read(name);
+    if from < 0 {
+        os::fail(name);
+        return Served::Broken;
+    }
+    let s = serve(from, name, start, text, shown);
+    libc::close(from);
+    s
+}
+
+// What stands next in the list of names.
+pub enum Name {
+    // The name's first byte, the 0 after its last, and where the bytes that were read end.
+    At(usize, usize, usize),
+    Over,
+    Broken,
+}
+
+// The place of the first 0 from `at` on, or `end`.
+fn name_end(names: &[u8], at: usize, end: usize) -> usize {
+    let mut i = at;
+    while i < end {
+        if i >= names.len() {
+            return end;
+        }
+        if names[i] == NAME_END {
+            return i;
+        }
+        i += 1;
+    }
+    end
+}
+
+// The next name in the buffer `names`, of which the bytes from `at` up to `end` are read and not used yet; where none has
+// its 0 among them, they go to the front and more is read.
+pub fn next_name(names: &mut [u8], at: usize, end: usize) -> Name {
+    let mut first = at;
+    let mut upto = end;
+    let mut turns = u64::MAX;
+    while turns > 0 {
+        if upto < first {
+            return Name::Broken;
+        }
+        let stop = name_end(names, first, upto);
+        if stop < upto {
+            return Name::At(first, stop, upto);
+        }
+        let kept = upto - first;
+        text::keep(names, first, kept);
+        let Got::Upto(filled) = fill(NAMES_FILENO, b"the list of files", names, kept) else {
+            return Name::Broken;
+        };
+        if filled <= kept {
+            if kept == 0 {
+                return Name::Over;
+            }
+            io::write_all(
+                STDERR_FILENO,
+                b"the list of files: a name of more than 4,095 bytes\n",
+            );
+            return Name::Broken;
+        }
+        first = 0;
+        upto = filled;
+        turns -= 1;
+    }
+    Name::Broken
+}

@@ -174,6 +174,58 @@ explain() {
     fi
 }
 
+# comma_fault FILE LINE STEP: where the line of a comma file goes wrong, and what was wanted there, after the sentence of
+# refusal 10; nothing where the file is no plain one, whose lines are gone once they are read. It only explains: that the
+# line is wrong is the program's answer.
+comma_fault() {
+    local LC_ALL=C line rest time degrees due=$((($2 - 1) * $3)) column=1 ended=1
+    [ -f "$1" ] || return 0
+    { IFS= read -r line || ended=; } < <(tail -n "+$2" -- "$1" 2>/dev/null | tr -d '\0')
+    [ -n "$ended$line" ] || return 0
+    rest=$line
+    time=${rest%%[!0-9]*}
+    column=$((${#time} + 1)) rest=${rest#"$time"}
+    if [ "$time" != "$due" ] || [ "${rest:0:1}" != , ]; then
+        case $time$rest in
+        $'\xef\xbb\xbf'*) echo ": column 1 has a byte order mark" ;;
+        '' | $'\r') echo ": the line is empty" ;;
+        [A-Za-z\"\#]*) echo ": column 1: the time $due was wanted, and this looks like a header" ;;
+        [0-9]*.*,*) echo ": column $column: a comma was wanted; times are whole ms, and this looks like seconds" ;;
+        *) [ "$time" = "$due" ] && echo ": column $column: a comma was wanted" ||
+            echo ": column 1: the time $due was wanted" ;;
+        esac
+        return
+    fi
+    rest=${rest#,} column=$((column + 1))
+    [ "${rest:0:1}" != - ] || rest=${rest#-} column=$((column + 1))
+    degrees=${rest%%[!0-9]*}
+    case $degrees in
+    '' | 0?* | ?????????????*)
+        echo ": column $column: degrees of 1 to 12 digits were wanted, without a zero before others"
+        return
+        ;;
+    esac
+    rest=${rest#"$degrees"} column=$((column + ${#degrees}))
+    if [ "${rest:0:1}" = . ]; then
+        rest=${rest#.} column=$((column + 1))
+        degrees=${rest%%[!0-9]*}
+        if [ "${#degrees}" -lt 1 ] || [ "${#degrees}" -gt 3 ]; then
+            [ "${#degrees}" -lt 1 ] || column=$((column + 3))
+            echo ": column $column: one to three decimals were wanted"
+            return
+        fi
+        rest=${rest#"$degrees"} column=$((column + ${#degrees}))
+    fi
+    case $rest in
+    $'\r'*) rest="a CR stands before it" ;;
+    ,*) rest="a second comma stands there" ;;
+    [eE]*) rest="an exponent stands there" ;;
+    '') rest="the file ends there" ;;
+    *) rest="another byte stands there" ;;
+    esac
+    echo ": column $column: LF was wanted, and $rest"
+}
+
 # Behind the sentence of a malformed line that is itself a refused line.
 handed_on="; it is the line by which another command refused, and no line of a sheet"
 

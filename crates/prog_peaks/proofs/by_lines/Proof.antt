@@ -1,0 +1,23 @@
+-- `prog_peaks::by_lines` is safe and ends. Assumes nothing.
+use borrow.Author.Needs.{needs}
+use Rattle.prog_peaks.proofs.by_lines.Statement.{statement}
+use Rattle.prog_peaks.proofs.by_lines.Tie as tie
+
+abbrev Inv-loop : tie.InvT-loop
+Inv-loop items first text more at₀ file₀ turns₀ at file turns = Unit {0}
+
+abbrev μ-loop : tie.MeasureT-loop
+μ-loop items first text more at₀ file₀ turns₀ at file turns = turns
+
+loop-holds : tie.Need-loop-holds Inv-loop μ-loop
+loop-holds c = tt
+
+loop-again : tie.Need-loop-again Inv-loop μ-loop
+loop-again c = tt
+
+pub by-lines-spec : {M : Type 1} → statement M
+by-lines-spec =
+    tie.close
+    (tie.spec Inv-loop μ-loop loop-holds (λ c. search needs) (λ c κs. search needs) (λ c κs. search needs)
+    (λ c. search needs) (λ c κs. search needs) (λ c. search needs) (λ c κs. search needs) (λ c κs. search needs)
+    (λ c. search needs) (λ c. search needs) loop-again (λ c. search needs))

@@ -8,7 +8,8 @@ import re
 HEAD = re.compile(r"^ *(?P<marks>(?:(?:abbrev|unfoldable|instance|pub|record|data) )*)(?P<name>[^\s:(){}]+)(?: .*|$)")
 NOT_NAMES = set("use module infix infixl infixr unfolding let in mod ghost where → × --".split())
 FUNCTION = re.compile(
-    r"^impl (\w+) \{|^\}|((?:^ *//[^\n]*\n)*)^( *)pub (?:extern \"C\" )?fn (\w+)(.*?)^\3\{", re.M | re.S
+    r"^impl (\w+) \{|^\}|((?:^ *//[^\n]*\n)*)(?:^ *#\[[^\n]*\n)*^( *)pub (?:extern \"C\" )?fn (\w+)(.*?)^\3\{",
+    re.M | re.S,
 )
 USE = re.compile(r"^(?:ghost )?use (?P<path>[^\s{;]+?)(?:\.\{(?P<names>[^}]*)\}| as (?P<alias>\S+?))?;?$", re.M)
 WORD = re.compile(r"[^\s(){};,⌜⌝]+")

@@ -11,7 +11,7 @@ use lib.Dec.{eqb, leb, ltb}
 use lib.ListN.{length, drop, length-append}
 use borrow.Author.Tests.{eq-eqb, ne-eqb, eqb-true, eqb-false, le-leb}
 use Rattle.truth.proofs.Cases.{by-test}
-use Rattle.truth.proofs.Laws.{both-true}
+use Rattle.truth.proofs.Laws.{both-true, impossible}
 use Rattle.refusal.specs.declared.Refusal.the-variants.{Item}
 use Rattle.sample_items.specs.Limits.{itemOutside}
 use Rattle.sample_items.proofs.Ranges.{low}
@@ -59,11 +59,11 @@ left-wrong text more e =
     (omega arith, λ m. by-test (mayBegin text) (λ b. absurd (waits (sym (rw (z, m, b) at e)))) (λ b. b)))
   where
     none : (b : Bool) → Wrong ≡ cond b (Waits 0) Over → ⊥
-    none true f = let z : _≡_ {A = ℕ} 0 1 = cc in omega arith
-    none false f = let z : _≡_ {A = ℕ} 0 1 = cc in omega arith
+    none true f = impossible (cc)
+    none false f = impossible (cc)
 
     waits : {n : ℕ} → Wrong ≡ Waits n → ⊥
-    waits f = let z : _≡_ {A = ℕ} 0 1 = cc in omega arith
+    waits f = impossible (cc)
 
 -- at the end of a file nothing waits
 left-over : (text : List ℕ) → 1 ≤ length text → resting text false ≡ Wrong
@@ -141,8 +141,8 @@ module _ (i : Items) (ok : itemOutside i ≡ 0) where
     -- the end of a file
     ended-by : (text : List ℕ) (at all : ℕ) (r : Rest) → resting (Left D 0 text) false ≡ r → P (rested r (standing i (Rights D 0 text)) at all .counting) ≡ Q text
     ended-by text at all Wrong e = wrong-end text (left-wrong (Left D 0 text) false e .0)
-    ended-by text at all Over e = right-end text (rest-none (Left D 0 text) (λ w. let z : _≡_ {A = ℕ} 0 1 = cc in omega arith))
-    ended-by text at all (Waits n) e = right-end text (rest-none (Left D 0 text) (λ w. let z : _≡_ {A = ℕ} 0 1 = cc in omega arith))
+    ended-by text at all Over e = right-end text (rest-none (Left D 0 text) (λ w. impossible (cc)))
+    ended-by text at all (Waits n) e = right-end text (rest-none (Left D 0 text) (λ w. impossible (cc)))
 
     ends : (text : List ℕ) → P (carrying (standing i (Rights D 0 text)) (Left D 0 text) []) ≡ Q text
     unfolding carrying

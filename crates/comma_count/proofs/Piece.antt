@@ -11,7 +11,7 @@ use lib.ListN.{length, take, drop, length-drop}
 use lib.Seq.{take-all, length-take-le}
 use borrow.Author.Tests.{eqb-true, leb-true, ltb-true}
 use Rattle.truth.proofs.Cases.{by-test, by-order}
-use Rattle.truth.proofs.Laws.{and-true}
+use Rattle.truth.proofs.Laws.{and-true, impossible}
 use Rattle.refusal.specs.declared.Refusal.the-variants.{BrokenState}
 use Rattle.sample_items.specs.Limits.{stepInRange}
 use Rattle.record_state.specs.declared.RecordAnswer.{RecordAnswer}
@@ -51,12 +51,12 @@ used Wrong c text at more h e = (omega arith, omega arith)
 used Over c text at more h e = by-few (rest-few (drop at text) more)
   where
     by-few : (resting (drop at text) more ≡ Wrong) ⊎ (length (drop at text) < 31) → (at ≤ length text) × (length text - at < 31)
-    by-few (inl w) = absurd (let z : _≡_ {A = ℕ} 0 1 = cc in omega arith)
+    by-few (inl w) = impossible (cc)
     by-few (inr l) = (h, omega (arith, length-drop at text))
 used (Waits n) c text at more h e = by-few (rest-few (drop at text) more)
   where
     by-few : (resting (drop at text) more ≡ Wrong) ⊎ (length (drop at text) < 31) → (at ≤ length text) × (length text - at < 31)
-    by-few (inl w) = absurd (let z : _≡_ {A = ℕ} 0 1 = cc in omega arith)
+    by-few (inl w) = impossible (cc)
     by-few (inr l) = (h, omega (arith, length-drop at text))
 
 module _ (c : Counting) (text : List ℕ) (more : Bool) where

@@ -9,6 +9,7 @@ use native.Mathlib.Omega.{arith}
 use lib.IntN.{ℤ}
 use lib.ListN.{length, take, drop, length-append, length-map, length-drop, length-take}
 use lib.Seq.{take-nil, take-all, take-at, drop-drop}
+use Rattle.truth.proofs.Laws.{impossible}
 use Rattle.sample_items.specs.Limits.{stepInRange}
 use Rattle.decimal.specs.Lines.{linesOf}
 use Rattle.degrees.specs.Degrees.{sampleOf}
@@ -93,7 +94,7 @@ module _ (f : Follow) (text : List ℕ) (slice : List ℤ) (step : stepInRange (
 
   pub never-refused : {part : List ℕ} {r : Followed} {q : Refusal} → part ≡ text → r ≡ taking f part (length slice) → r ≡ followed.Refused q → ⊥
   unfolding takenBy
-  never-refused same e is = let z : _≡_ {A = ℕ} 0 1 = cc (sym is ∙ e ∙ ap (λ x. taking f x (length slice)) same ∙ took-all) in omega arith
+  never-refused same e is = impossible (cc (sym is ∙ e ∙ ap (λ x. taking f x (length slice)) same ∙ took-all))
 
 -- ---- on the way
 pub record Way (f : Follow) (a : RecordAnswer) (text : List ℕ) (g : Follow) (b : RecordAnswer) (at : ℕ) : Type 0 where

@@ -149,6 +149,9 @@ meaning() {
     16) echo "there are more than 4,096 peaks, or k is outside 2 to their number" ;;
     17) echo "the peak at place $2 is 0 or above 1,000,000" ;;
     18) echo "there is no campaign, or there are more than 64" ;;
+    19) echo "there are fewer timed samples than peaks in the tail, or more than 100,000,000" ;;
+    20) echo "the level is below $2, the last peak of the tail" ;;
+    21) echo "the tail has no spread" ;;
     esac
 }
 

@@ -26,8 +26,12 @@
  *   14   taking a job for a bureau that has 16 already                          0
  *   15   a place that is not in the table, or not the bureau's own              0
  *   16   a list of more than 4,096 peaks, or k outside 2 to its length          0
- *   17   a peak is 0 or above 1,000,000                                         its place in the list, the first
+ *   17   a peak is 0 or above 1,000,000;                                        its place in the list, the first
+ *        where the list is to lie downwards, above the one before it
  *   18   a loading condition of no campaign, or of more than 64                 0
+ *   19   fewer timed samples than peaks in the tail, or more than 100,000,000   0
+ *   20   a level below the last peak of the tail                                that peak
+ *   21   a tail without spread                                                  0
  *
  * Where several hold, the first in the order that stands at the function is given.
  *
@@ -98,7 +102,7 @@ extern "C" {
 /* The CHIM_VERSION of the header that the library was made with. */
 uint64_t chim_version(void);
 
-enum { CHIM_RECORD_NUMBERS = 14, CHIM_RESULT_NUMBERS = 5, CHIM_CAMPAIGN_NUMBERS = 5, CHIM_SUM_NUMBERS = 3, CHIM_BOUNDS_NUMBERS = 4, CHIM_BENCH_PLACES = 32, CHIM_PLACE_NUMBERS = 6 };
+enum { CHIM_RECORD_NUMBERS = 14, CHIM_RESULT_NUMBERS = 5, CHIM_CAMPAIGN_NUMBERS = 5, CHIM_SUM_NUMBERS = 3, CHIM_BOUNDS_NUMBERS = 4, CHIM_TIMES_NUMBERS = 3, CHIM_BENCH_PLACES = 32, CHIM_PLACE_NUMBERS = 6 };
 
 /* The most situations of a loading condition, and room for the report of any. */
 enum { CHIM_MOST_SITUATIONS = 64, CHIM_REPORT_BYTES = 1832 };
@@ -108,6 +112,9 @@ enum { CHIM_CROSSINGS = 0, CHIM_COUNTED = 1, CHIM_FIRST = 2, CHIM_EXPOSURE = 3, 
 
 /* The places of a sum's bounds. */
 enum { CHIM_ESTIMATE = 0, CHIM_LOWER = 1, CHIM_UPPER = 2, CHIM_TIME = 3 };
+
+/* The places of the times beyond the records. */
+enum { CHIM_ESTIMATED = 0, CHIM_LONGEST_ACCEPTED = 1, CHIM_SHORTEST_REJECTED = 2 };
 
 enum {
     CHIM_TAKEN = 0,
@@ -128,7 +135,10 @@ enum {
     CHIM_NOT_ITS_OWN = 15,
     CHIM_TAIL = 16,
     CHIM_PEAK = 17,
-    CHIM_CONDITION = 18
+    CHIM_CONDITION = 18,
+    CHIM_TIMED_SAMPLES = 19,
+    CHIM_LOW_LEVEL = 20,
+    CHIM_NO_SPREAD = 21
 };
 
 /* The channels of a record. */
@@ -282,6 +292,13 @@ uint64_t chim_envelope_find(uint64_t step, uint64_t ramp, uint64_t decorrelation
  * logarithms to base 2 of Y(i) / Y(k), i from 1 to k, added up in units of 1/65,536. Each is never above the exact figure and at most 1 below, and
  * 0 for a peak that is Y(k), so the sum is at most k - 1 below. Document 001's shape of the tail (11) is xi = sum * ln 2 / (65,536 * k). Refuses 16, 17, 7. */
 uint64_t chim_tail_fit(const uint32_t *peaks, size_t peaks_len, uint64_t k, uint32_t *sorted, size_t sorted_len, uint64_t *carried);
+
+/* The rate beyond the records: from peaks that lie downwards, as chim_tail_fit leaves them at the start of `sorted`, a tail of the first k, a level
+ * (item 3), a step (item 1), the timed samples of all records and a standard (item 5), three times in ms: at most the estimated mean time between failures
+ * at the level, the longest standard found to be accepted (0 for none), the shortest found to be rejected (0 for none). The standard's letter goes to
+ * *carried: CHIM_ACCEPT, CHIM_REJECT or CHIM_CONTINUE. Refuses 8 for another number of times; 1 with the lowest of items 1, 3 and 5; 16; 17 with the first
+ * place; 19; 20 with the k-th peak; 21 where the Hill sum is 0 or the exponent by the library's figures 64 or more, as with clipped records. */
+uint64_t chim_extrapolate(const uint32_t *peaks, size_t peaks_len, uint64_t k, uint64_t level, uint64_t step, uint64_t samples, uint64_t standard, uint64_t *times, size_t times_len, uint64_t *carried);
 
 /* ---- a simulator's comma file: one sample a line, ended by LF: time in ms, comma, roll in degrees with at most three decimals; times start at 0 and
  * grow by the step */

@@ -6,14 +6,10 @@ ghost use Rattle.binomial_sum.specs.Kept.{Kept};
 ghost use Rattle.campaign_verdict.specs.Figures.{quotient};
 ghost use Rattle.binomial_bounds.specs.Answers.{bounding, rating};
 ghost use Rattle.binomial_bounds.specs.Bounds.{boundsOf, three};
-ghost use Rattle.binomial_bounds.specs.HalfWidth.{Least, halfWidth};
 use binomial_sum::Sum;
 use campaign_verdict::Rated;
 use campaign_verdict::Rates;
 use refusal::Refusal;
-
-// No half-width is more: that of 10,000 failures among endlessly many samples.
-const WIDEST: u64 = 196_000;
 
 // Thousandths of a failure in `time` ms.
 pub struct Bounds {
@@ -29,34 +25,6 @@ pub enum Bounded {
     Refused(Refusal),
 }
 
-// The least number whose square times p is at least a: the numbers below `low` are too small, and `high` is not.
-fn least(a: u64, p: u64) -> u64
-    requires { ⌜ (a ≤ 196000 * 196000 * p) × (p ≤ 100000000) ⌝ }
-    ensures { λ m. ⌜ Least a p m ⌝ }
-{
-    let mut low: u64 = 0;
-    let mut high: u64 = WIDEST;
-    while low < high {
-        let middle = (low + high) / 2;
-        if middle * middle * p < a {
-            low = middle + 1;
-        } else {
-            high = middle;
-        }
-    }
-    high
-}
-
-fn half_width(s: Sum) -> u64
-    requires { ⌜ Kept s ⌝ }
-    ensures { λ m. ⌜ m ≡ halfWidth (s .failures) (s .samples) ⌝ }
-{
-    least(
-        1_960 * 1_960 * s.failures * (s.samples - s.failures),
-        s.samples,
-    )
-}
-
 // x - y, or 0 where that falls below.
 fn less(x: u64, y: u64) -> u64
     ensures { λ r. ⌜ r ≡ x - y ⌝ }
@@ -69,7 +37,7 @@ fn bounds_of(s: Sum) -> Bounds
     ensures { λ b. ⌜ b ≡ boundsOf s ⌝ }
 {
     let estimate = 1_000 * s.failures;
-    let width = half_width(s);
+    let width = root::half_width(1_960, s.failures, s.samples);
     Bounds {
         estimate: estimate,
         lower: less(estimate, width),

@@ -7,6 +7,7 @@ use Prim.Native.Nat.{ℕ}
 use Rattle.refusal.specs.declared.Refusal.{Refusal}
 use Rattle.refusal.specs.declared.Refusal.the-variants.{Acceleration, BrokenState, BureauFull, CampaignFull, CommaLine, Item}
 use Rattle.refusal.specs.declared.Refusal.the-variants.{Line, NoBureau, NotItsOwn, Peak, Room, RowsUsedUp, Sample, Situation}
+use Rattle.refusal.specs.declared.Refusal.the-variants.{LowLevel, NoSpread, TimedSamples}
 use Rattle.refusal.specs.declared.Refusal.the-variants.{Situations, SumFull, Tail, TooLong, TooShort, Unequal}
 use Rattle.refusal.specs.Numbers.{channelOf, numberOf, valueOf}
 use Rattle.campaign_condition.specs.Answers.{situationsInRange}
@@ -26,7 +27,8 @@ abbrev refusals : List Refusal
 refusals =
     Item 91 ∷ Sample 92 ∷ Acceleration 92 ∷ TooLong ∷ TooShort ∷ CampaignFull ∷ RowsUsedUp ∷ Room 97
     ∷ BrokenState ∷ Situation 98 ∷ Line 99 ∷ CommaLine 910 ∷ SumFull ∷ Unequal
-    ∷ NoBureau ∷ BureauFull ∷ NotItsOwn ∷ Tail ∷ Peak 917 ∷ Situations ∷ []
+    ∷ NoBureau ∷ BureauFull ∷ NotItsOwn ∷ Tail ∷ Peak 917 ∷ Situations ∷ TimedSamples
+    ∷ LowLevel 920 ∷ NoSpread ∷ []
 
 abbrev summed : ℕ → ℕ → Sum
 summed N P = record { step = 1; failures = N; samples = P }
@@ -36,7 +38,8 @@ pub record Figures : Type 0 where
       ≡ (1 ∷ 91 ∷ 0 ∷ []) ∷ (2 ∷ 92 ∷ 1 ∷ []) ∷ (2 ∷ 92 ∷ 2 ∷ []) ∷ (3 ∷ 0 ∷ 0 ∷ []) ∷ (4 ∷ 0 ∷ 0 ∷ [])
       ∷ (5 ∷ 0 ∷ 0 ∷ []) ∷ (6 ∷ 0 ∷ 0 ∷ []) ∷ (7 ∷ 97 ∷ 0 ∷ []) ∷ (8 ∷ 0 ∷ 0 ∷ []) ∷ (8 ∷ 98 ∷ 0 ∷ [])
       ∷ (9 ∷ 99 ∷ 0 ∷ []) ∷ (10 ∷ 910 ∷ 0 ∷ []) ∷ (11 ∷ 0 ∷ 0 ∷ []) ∷ (12 ∷ 0 ∷ 0 ∷ []) ∷ (13 ∷ 0 ∷ 0 ∷ [])
-      ∷ (14 ∷ 0 ∷ 0 ∷ []) ∷ (15 ∷ 0 ∷ 0 ∷ []) ∷ (16 ∷ 0 ∷ 0 ∷ []) ∷ (17 ∷ 917 ∷ 0 ∷ []) ∷ (18 ∷ 0 ∷ 0 ∷ []) ∷ []
+      ∷ (14 ∷ 0 ∷ 0 ∷ []) ∷ (15 ∷ 0 ∷ 0 ∷ []) ∷ (16 ∷ 0 ∷ 0 ∷ []) ∷ (17 ∷ 917 ∷ 0 ∷ []) ∷ (18 ∷ 0 ∷ 0 ∷ [])
+      ∷ (19 ∷ 0 ∷ 0 ∷ []) ∷ (20 ∷ 920 ∷ 0 ∷ []) ∷ (21 ∷ 0 ∷ 0 ∷ []) ∷ []
   -- a number on a sheet has at most 12 digits, a line at most 64 bytes
   pub sheet-numbers : (longest ≡ 12) × (mostNumber ≡ 999999999999) × (longestSheetLine ≡ 64)
   -- [7] 10,000 failures and 100,000,000 samples are the most of a sum

@@ -13,6 +13,7 @@ pub mod Request9
 pub mod Request11
 pub mod Request11Pieces
 pub mod Request13
+pub mod Request14
 pub mod Tail
 pub mod Refusal9
 pub mod Request10
@@ -30,5 +31,6 @@ pub mod TextCases
 pub mod RecordCases
 pub mod BenchCases
 pub mod TailCases
+pub mod BeyondCases
 pub mod ReportCases
 pub mod DeskCases

@@ -44,7 +44,9 @@ use Rattle.campaign_verdict.specs.Figures.{quotient, zero64}
 use Rattle.binomial_bounds.specs.declared.Bounds.{Bounds}
 use Rattle.binomial_bounds.specs.Answers.{recorded}
 use Rattle.binomial_bounds.specs.Bounds.{boundsOf, ratesOf}
-use Rattle.binomial_bounds.specs.HalfWidth.{firstFrom, halfWidth}
+use Rattle.binomial_bounds.specs.HalfWidth.{halfWidth}
+use Rattle.root.specs.HalfWidth as root
+use Rattle.root.specs.Root.{firstFrom}
 
 -- ---- records
 abbrev levels : ℕ → ℕ → Levels
@@ -222,7 +224,7 @@ sum D N P = record { step = D; failures = N; samples = P }
 half-width-figures :
     halfWidth 1 100 ∷ halfWidth 9 1000 ∷ halfWidth 1 1 ∷ halfWidth 0 5 ∷ halfWidth 20 25 ∷ []
     ≡ 1951 ∷ 5854 ∷ 0 ∷ 0 ∷ 3920 ∷ []
-unfolding halfWidth firstFrom
+unfolding root.halfWidth firstFrom
 half-width-figures = refl
 
 -- 1,000·N, lower, upper, P·D; lower is 0 where 1,000·N - m falls below
@@ -231,7 +233,7 @@ bounds-figures :
     ≡ record { estimate = 1000; lower = 0; upper = 2951; time = 50000 }
     ∷ record { estimate = 9000; lower = 3146; upper = 14854; time = 7000 }
     ∷ []
-unfolding halfWidth firstFrom
+unfolding root.halfWidth firstFrom
 bounds-figures = refl
 
 -- each over P·D is its rate; without a record 0
@@ -240,7 +242,7 @@ rates-figures :
     ≡ record { estimate = quotient 9000 7000; lower = quotient 3146 7000; upper = quotient 14854 7000 }
     ∷ record { estimate = zero64; lower = zero64; upper = zero64 }
     ∷ []
-unfolding halfWidth firstFrom
+unfolding root.halfWidth firstFrom
 rates-figures = refl
 
 -- no record

@@ -37,9 +37,12 @@ use Rattle.binomial_sum.proofs.Records.{any-order, grown-by-adding, none-timed}
 use Rattle.campaign_verdict.specs.declared.Rated.the-variants as rated
 use Rattle.binomial_bounds.specs.Answers.{bounding, rating, recorded}
 use Rattle.binomial_bounds.specs.Bounds.{boundsOf, ratesOf}
-use Rattle.binomial_bounds.specs.HalfWidth.{HalfWidth, firstFrom, halfWidth}
+use Rattle.binomial_bounds.specs.HalfWidth.{HalfWidth, halfWidth}
 use Rattle.binomial_bounds.specs.declared.Bounded.the-variants as bounded
-use Rattle.binomial_bounds.proofs.HalfWidth.{all-failures, half-width, least-unique, no-failure}
+use Rattle.root.specs.HalfWidth as root
+use Rattle.root.specs.Root.{firstFrom}
+use Rattle.root.proofs.First.{only-least}
+use Rattle.root.proofs.HalfWidth.{all-failures, half-width, no-failure}
 use Rattle.binomial_bounds.proofs.Order.{ordered}
 use Rattle.demands.proofs.Demand1.{Decides, Test, _gives_, decide, decided}
 
@@ -109,7 +112,7 @@ unfolding stateOf
 joined-adds items xs x y e = answered.added-from x (stateOf items xs) y e .after
 
 empty-record : (D : ℕ) (s : Sum) → opened D ≡ Taken s → (recorded s ≡ false) × (boundsOf s .upper ≡ 0)
-empty-record D s e = rw (answered.opened-from D s e .1) (refl, omega (arith, no-failure 0))
+empty-record D s e = rw (answered.opened-from D s e .1) (refl, omega (arith, no-failure 1960 0))
 
 some-record : (s t : Sum) (r : Record) (rs : List Record) → AllAdded s (r ∷ rs) t → recorded t ≡ true
 some-record s t r rs a = rw (ne-eqb (t .samples) 0 (λ z. let e = none-timed a z in let f : _≡_ {A = ℕ} 1 0 = ap kind e in omega arith))
@@ -119,7 +122,7 @@ some-record s t r rs a = rw (ne-eqb (t .samples) 0 (λ z. let e = none-timed a z
     kind (r ∷ rs) = 1
 
 widths : halfWidth 1 2 ∷ halfWidth 1 10000 ∷ halfWidth 4 100 ∷ [] ≡ 1386 ∷ 1960 ∷ 3841 ∷ []
-unfolding halfWidth firstFrom
+unfolding root.halfWidth firstFrom
 widths = refl
 
 pub request-7 : Request7
@@ -136,11 +139,11 @@ request-7 =
       in-any-order = λ before a b after s t. any-order before a b after;
       pieces = λ items s t ps x e f. ap (adding x) (pieces-whole items s e f);
       adds = joined-adds;
-      least = half-width;
-      only = λ N P m n. least-unique;
+      least = half-width 1960;
+      only = λ N P m n. only-least;
       widths = widths;
-      no-failure = no-failure;
-      all-failures = all-failures;
+      no-failure = no-failure 1960;
+      all-failures = all-failures 1960;
       in-order = ordered;
       no-record = empty-record;
       a-record = some-record;

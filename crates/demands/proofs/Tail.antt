@@ -22,8 +22,9 @@ use Rattle.sorting.proofs.Unique.{sort-unique}
 use Rattle.peak_tail.specs.declared.Fitted.{Fitted}
 use Rattle.peak_tail.specs.declared.Fitted.the-variants.{Refused, Sum}
 use Rattle.peak_tail.specs.Fitting.{FitsTo, Summed, firstBad, fitted, tailOutside}
-use Rattle.peak_tail.specs.Hill.{ExactSum, HillSum, NearSum, kth, plus, start}
+use Rattle.peak_tail.specs.Hill.{ExactSum, HillSum, figures, kth}
 use Rattle.peak_tail.proofs.Slack.{exact-sum, hill-slack}
+use Rattle.peak_tail.proofs.Summing.{sum-of-figures}
 use Rattle.peak_tail.proofs.Unique.{fit-unique}
 use Rattle.demands.proofs.Demand1.{Decides, Test, _gives_, decide, decided}
 
@@ -75,16 +76,6 @@ high (suc (suc (suc (suc j)))) h l = absurd (omega arith)
 
 down : Downwards twoAndOnes
 down i j l h = le-trans (high j h (omega arith)) (low i (omega arith))
-
--- the figures as a definition that computes
-unfoldable pub figures : List ℕ → ℕ → ℕ → ℕ
-figures ys y zero = 0
-figures ys y (suc n) = figures ys y n + ourFigure (getD ys n 0) y
-
-pub sum-of-figures : {ys : List ℕ} {y n s : ℕ} → NearSum ys y n s → s ≡ figures ys y n
-unfolding figures
-sum-of-figures start = refl
-sum-of-figures (plus a f) = let e = sum-of-figures a in let d = f .ours in cc
 
 twice : (before after : List ℕ) (s : ℕ) → FitsTo twoAndOnes 4 before (Sum s) after → s ≡ 65536
 unfolding figures ourFigure doublings squarings

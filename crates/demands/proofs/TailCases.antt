@@ -26,7 +26,8 @@ use Rattle.sorting.proofs.Unique.{sort-unique}
 use Rattle.peak_tail.specs.declared.Fitted.{Fitted}
 use Rattle.peak_tail.specs.declared.Fitted.the-variants.{Refused, Sum}
 use Rattle.peak_tail.specs.Fitting.{FitsTo, firstBad, fitted, peakInRange, tailOutside}
-use Rattle.demands.proofs.Tail.{figures, sum-of-figures}
+use Rattle.peak_tail.specs.Hill.{figures}
+use Rattle.peak_tail.proofs.Summing.{sum-of-figures}
 
 -- ---- [11] envelope peaks
 -- the runs 2 | -1 | 5 | -1 | 7 | -1 | 6 | -1 | 2, one sample each: of the peaks 1 5 1 7 1 6 1, seven with the sum 22,

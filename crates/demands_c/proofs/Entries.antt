@@ -107,6 +107,9 @@ use Rattle.demands.proofs.Request9.{callTests, placeTests, request-9}
 use Rattle.demands.proofs.Request11.{envelopeTests, request-11}
 use Rattle.demands.proofs.Request13 as request13
 use Rattle.demands.proofs.Tail.{tail-fitted, tailTests}
+use Rattle.demands.proofs.Request14.{beyondTests, request-14}
+use Rattle.peak_reach.specs.Answers as beyond
+use Rattle.peak_reach.specs.Answers.{letterFor}
 use Rattle.capi.specs.Numbers.{campaignNumbers, campaignOf, flag, numberAt, ofCampaign, ofRecord, ofResult}
 use Rattle.capi.specs.Numbers.{recordNumbers, recordOf, resultNumbers, resultOf}
 use Rattle.capi.specs.Numbers.{isCampaign, isRecord}
@@ -132,6 +135,7 @@ use Rattle.capi_comma.specs.Told.{commaRead, commaSamples, commaWritten}
 use Rattle.capi_comma.specs.Told as commas
 use Rattle.capi_envelope.specs.Told.{envelopeFound, envelopeTimes, foundTold}
 use Rattle.capi_tail.specs.Told.{FitTold, fitTold}
+use Rattle.capi_reach.specs.Told.{beyondTold, letterCode, ofTimes, reachTold, timesNumbers}
 use Rattle.demands_c.specs.Header.{CHIM-EXPOSURE, CHIM-FIRST}
 use Rattle.demands_c.specs.History.{made}
 use Rattle.demands_c.proofs.Request9.{rows-9}
@@ -407,6 +411,12 @@ pub record Peaks : Type 0 where
   pub fit-sum :
       (peaks : List ℕ) (k : ℕ) (before : List ℕ) (c : ℕ) (after : List ℕ) → FitTold peaks k before 0 c after
       → Summed peaks k before c after
+  -- chim_extrapolate: 8 (the times' length), 1, 16, 17, 19, 20, 21
+  pub extrapolate :
+      (ys : List ℕ) (k c D P q : ℕ) (out : List ℕ)
+      → Tells (otherLength out timesNumbers (beyondTests ys k c D P q)) out
+      (letterCode (letterFor q (beyond.times ys k c D P))) (ofTimes (beyond.times ys k c D P))
+      (array (beyondTold ys k c D P q out))
 
 -- ---- the table of two bureaus: 8 first of all, 13, then 14 or 15
 -- lent rates beside the rows
@@ -883,7 +893,7 @@ fit-sum peaks k before c after (fitted.Refused f) t l =
     absurd (omega (arith, some-number f))
 
 pub peaks-told : Peaks
-unfolding foundTold envelope.written tell-found
+unfolding foundTold envelope.written tell-found beyondTold reachTold
 peaks-told =
     record {
       find =
@@ -893,6 +903,10 @@ peaks-told =
           (slices sizes times) _ _ _ (λ r. refl) refl refl;
       fit = fits;
       fit-sum = λ peaks k before c after h. fit-sum peaks k before c after (h .answer) (h .tells) (h .fits .leaves);
+      extrapolate =
+          λ ys k c D P q out.
+          in-array out timesNumbers (λ x. reachTold x out) (beyond.extrapolated ys k c D P q)
+          (tells (request-14 .order ys k c D P q) (λ x. array (reachTold x out)) out _ _ _ (λ r. refl) refl refl);
     }
 
 -- ---- the table of two bureaus

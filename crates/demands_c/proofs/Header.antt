@@ -19,7 +19,7 @@ use Rattle.refusal.specs.Numbers.{channelOf, numberOf, valueOf}
 use Rattle.refusal.specs.declared.Refusal.the-variants.{Item, Sample, TooLong, TooShort, CampaignFull, RowsUsedUp, Room}
 use Rattle.refusal.specs.declared.Refusal.the-variants.{BrokenState, Line, CommaLine, SumFull, Unequal, NoBureau}
 use Rattle.refusal.specs.declared.Refusal.the-variants.{BureauFull, NotItsOwn, Tail, Peak, Situations, Situation}
-use Rattle.refusal.specs.declared.Refusal.the-variants.{Acceleration}
+use Rattle.refusal.specs.declared.Refusal.the-variants.{Acceleration, LowLevel, NoSpread, TimedSamples}
 use Rattle.record_state.specs.declared.Record.{Record}
 use Rattle.record_state.specs.State as recording
 use Rattle.record_end.specs.declared.Result.{Result}
@@ -30,6 +30,8 @@ use Rattle.campaign_verdict.specs.Figures.{zero64}
 use Rattle.binomial_sum.specs.declared.Sum.{Sum}
 use Rattle.binomial_sum.specs.State as summing
 use Rattle.binomial_bounds.specs.declared.Bounds.{Bounds}
+use Rattle.peak_reach.specs.declared.Letter.the-variants as letter
+use Rattle.peak_reach.specs.declared.Times.{Times}
 use Rattle.bureau_table.specs.declared.Place.{Place}
 use Rattle.bureau_table.specs.Table.{placeKept, places}
 use Rattle.campaign_condition.specs.Answers.{mostSituations}
@@ -39,10 +41,13 @@ use Rattle.capi.specs.Numbers.{ofRecord, ofResult, recordNumbers, recordOf, res
 use Rattle.capi.proofs.States.{other-campaign, other-record}
 use Rattle.capi_verdict.specs.Told.{judgement, verdictTold}
 use Rattle.capi_binomial.specs.Told.{ofBounds, ofSum, sumNumbers, sumOf}
+use Rattle.capi_reach.specs.Told.{letterCode, ofTimes}
 use Rattle.capi_bureau.specs.Rows.{ofPlace, placeOf}
 use Rattle.capi_condition.specs.Told.{standingCode}
 use Rattle.demands_c.specs.Header.{CHIM-ACCELERATION, CHIM-ACCEPT, CHIM-ACCEPTED, CHIM-BENCH-PLACES}
 use Rattle.demands_c.specs.Header.{CHIM-BOUNDS-NUMBERS, CHIM-BROKEN-STATE, CHIM-BUREAU-FULL, CHIM-CAMPAIGN-FULL}
+use Rattle.demands_c.specs.Header.{CHIM-ESTIMATED, CHIM-LONGEST-ACCEPTED, CHIM-LOW-LEVEL, CHIM-NO-SPREAD}
+use Rattle.demands_c.specs.Header.{CHIM-SHORTEST-REJECTED, CHIM-TIMED-SAMPLES, CHIM-TIMES-NUMBERS}
 use Rattle.demands_c.specs.Header.{CHIM-CAMPAIGN-NUMBERS, CHIM-COMMA-LINE, CHIM-CONDITION, CHIM-CONTINUE}
 use Rattle.demands_c.specs.Header.{CHIM-COUNTED, CHIM-CROSSINGS, CHIM-ESTIMATE, CHIM-EXPOSURE, CHIM-FIRST}
 use Rattle.demands_c.specs.Header.{CHIM-ITEM, CHIM-LARGEST-SET, CHIM-LINE, CHIM-LOWER, CHIM-MOST-SITUATIONS}
@@ -103,6 +108,12 @@ pub record BoundsPlaces (b : Bounds) : Type 0 where
   pub upper : numberAt (ofBounds b) CHIM-UPPER ≡ b .upper
   pub time : numberAt (ofBounds b) CHIM-TIME ≡ b .time
 
+pub record TimesPlaces (t : Times) : Type 0 where
+  pub long : length (ofTimes t) ≡ CHIM-TIMES-NUMBERS
+  pub estimated : numberAt (ofTimes t) CHIM-ESTIMATED ≡ t .estimate
+  pub longest-accepted : numberAt (ofTimes t) CHIM-LONGEST-ACCEPTED ≡ t .accepted
+  pub shortest-rejected : numberAt (ofTimes t) CHIM-SHORTEST-REJECTED ≡ t .rejected
+
 -- a row of the table: the owner, then the five of its campaign
 pub record RowPlaces (p : Place) : Type 0 where
   pub long : length (ofPlace p) ≡ CHIM-PLACE-NUMBERS
@@ -131,6 +142,9 @@ pub record Refusals : Type 0 where
   pub tail : (numberOf Tail ≡ CHIM-TAIL) × (valueOf Tail ≡ 0)
   pub peak : (i : ℕ) → (numberOf (Peak i) ≡ CHIM-PEAK) × (valueOf (Peak i) ≡ i)
   pub situations : (numberOf Situations ≡ CHIM-CONDITION) × (valueOf Situations ≡ 0)
+  pub timed-samples : (numberOf TimedSamples ≡ CHIM-TIMED-SAMPLES) × (valueOf TimedSamples ≡ 0)
+  pub low-level : (i : ℕ) → (numberOf (LowLevel i) ≡ CHIM-LOW-LEVEL) × (valueOf (LowLevel i) ≡ i)
+  pub no-spread : (numberOf NoSpread ≡ CHIM-NO-SPREAD) × (valueOf NoSpread ≡ 0)
 
 -- codes; a rate that a verdict does not carry is 0
 pub record Codes : Type 0 where
@@ -139,6 +153,8 @@ pub record Codes : Type 0 where
   pub reject : (lower : Float) → verdictTold (Reject lower) ≡ judgement CHIM-TAKEN CHIM-REJECT lower zero64
   pub continues : (lower upper : Float) → verdictTold (Continue lower upper)
       ≡ judgement CHIM-TAKEN CHIM-CONTINUE lower upper
+  pub letters : (letterCode letter.Accept ≡ CHIM-ACCEPT) × (letterCode letter.Reject ≡ CHIM-REJECT)
+      × (letterCode letter.Continue ≡ CHIM-CONTINUE)
   pub accepted : standingCode Accepted ≡ CHIM-ACCEPTED
   pub rejected : standingCode Rejected ≡ CHIM-REJECTED
   pub left-open : standingCode Open ≡ CHIM-OPEN
@@ -168,6 +184,7 @@ pub record Header : Type 0 where
   pub a-campaign : (c : Campaign) → CampaignPlaces c
   pub a-sum : (s : Sum) → SumPlaces s
   pub bounds : (b : Bounds) → BoundsPlaces b
+  pub times : (t : Times) → TimesPlaces t
   pub a-row : (p : Place) → RowPlaces p
   pub refusals : Refusals
   pub codes : Codes
@@ -272,6 +289,7 @@ header =
           record { long = refl; standard = refl; records = refl; failures = refl; exposure = refl; failed = refl };
       a-sum = λ s. record { long = refl; step = refl; failures = refl; samples = refl };
       bounds = λ b. record { long = refl; estimate = refl; lower = refl; upper = refl; time = refl };
+      times = λ t. record { long = refl; estimated = refl; longest-accepted = refl; shortest-rejected = refl };
       a-row = λ p. record { long = refl; owner = refl; campaign = refl };
       refusals =
           record {
@@ -295,6 +313,9 @@ header =
             tail = (refl, refl);
             peak = λ i. (refl, refl);
             situations = (refl, refl);
+            timed-samples = (refl, refl);
+            low-level = λ i. (refl, refl);
+            no-spread = (refl, refl);
           };
       codes =
           record {
@@ -302,6 +323,7 @@ header =
             accept = λ upper. refl;
             reject = λ lower. refl;
             continues = λ lower upper. refl;
+            letters = (refl, refl, refl);
             accepted = refl;
             rejected = refl;
             left-open = refl;

@@ -12,7 +12,7 @@ use Rattle.refusal.specs.declared.Refusal.{Refusal}
 use Rattle.refusal.specs.declared.Refusal.the-variants.{Item, Sample, TooLong, TooShort, CampaignFull, RowsUsedUp, Room}
 use Rattle.refusal.specs.declared.Refusal.the-variants.{BrokenState, Line, CommaLine, SumFull, Unequal, NoBureau}
 use Rattle.refusal.specs.declared.Refusal.the-variants.{BureauFull, NotItsOwn, Tail, Peak, Situations, Situation}
-use Rattle.refusal.specs.declared.Refusal.the-variants.{Acceleration}
+use Rattle.refusal.specs.declared.Refusal.the-variants.{Acceleration, LowLevel, NoSpread, TimedSamples}
 use Rattle.demands.proofs.Demand1.{Decides, First, None, Test, end, here, later, not-it, _gives_}
 
 -- ---- what is told
@@ -68,6 +68,9 @@ some-number (Peak p) = omega arith
 some-number Situations = omega arith
 some-number (Situation k) = omega arith
 some-number (Acceleration p) = omega arith
+some-number TimedSamples = omega arith
+some-number (LowLevel y) = omega arith
+some-number NoSpread = omega arith
 
 -- one test is the first that holds, or none holds
 pub settle : (ts : List Test) → None ts ⊎ ((r : Refusal) × First ts r)

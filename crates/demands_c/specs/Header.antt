@@ -18,6 +18,9 @@ CHIM-SUM-NUMBERS = 3
 abbrev pub CHIM-BOUNDS-NUMBERS : ℕ
 CHIM-BOUNDS-NUMBERS = 4
 
+abbrev pub CHIM-TIMES-NUMBERS : ℕ
+CHIM-TIMES-NUMBERS = 3
+
 abbrev pub CHIM-BENCH-PLACES : ℕ
 CHIM-BENCH-PLACES = 32
 
@@ -46,6 +49,16 @@ CHIM-EXPOSURE = 3
 
 abbrev pub CHIM-LARGEST-SET : ℕ
 CHIM-LARGEST-SET = 4
+
+-- ---- The places of the times beyond the records
+abbrev pub CHIM-ESTIMATED : ℕ
+CHIM-ESTIMATED = 0
+
+abbrev pub CHIM-LONGEST-ACCEPTED : ℕ
+CHIM-LONGEST-ACCEPTED = 1
+
+abbrev pub CHIM-SHORTEST-REJECTED : ℕ
+CHIM-SHORTEST-REJECTED = 2
 
 -- ---- The places of a sum's bounds
 abbrev pub CHIM-ESTIMATE : ℕ
@@ -117,6 +130,15 @@ CHIM-PEAK = 17
 
 abbrev pub CHIM-CONDITION : ℕ
 CHIM-CONDITION = 18
+
+abbrev pub CHIM-TIMED-SAMPLES : ℕ
+CHIM-TIMED-SAMPLES = 19
+
+abbrev pub CHIM-LOW-LEVEL : ℕ
+CHIM-LOW-LEVEL = 20
+
+abbrev pub CHIM-NO-SPREAD : ℕ
+CHIM-NO-SPREAD = 21
 
 -- ---- The channels of a record
 abbrev pub CHIM-ROLL : ℕ

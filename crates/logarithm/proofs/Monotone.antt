@@ -2,7 +2,7 @@
 -- is taken and left, since a greater square has the top bit or, with the same bit, leaves no less. Assumes nothing.
 use mathlib.Core.Path.{_≡_}
 use mathlib.Core.Bool.{Bool, true, false, cond}
-use mathlib.Core.Logic.{_⊎_, inl, inr}
+use mathlib.Core.Logic.{inl, inr}
 use Prim.Native.Nat.{ℕ, zero, suc, _+_, _*_, _/_, _^_, _≤_, _<_, zero-le}
 use native.Mathlib.Decide.{decLe}
 use native.Mathlib.Nat.{le-of-lt, lt-of-mul-lt-mul-right, lt-of-not-le, mul-le-mul, mul-le-mul-left, mul-le-mul-right}
@@ -13,7 +13,8 @@ use lib.Pow.{shr-mono}
 use Rattle.logarithm.specs.Logarithm.{Logarithm}
 use Rattle.logarithm.specs.Ours.{halved, one, ourFigure, part, rest, squarings, topBit, whole}
 use Rattle.logarithm.proofs.Parts.{NotAfter, ours-quotient, quotient-grows}
-use Rattle.logarithm.proofs.Turn.{Cut, squares}
+use Rattle.logarithm.proofs.Turn.{squares}
+use Rattle.logarithm.proofs.Whole.{is-ours}
 
 -- a number from one up to two
 pub record Scaled (x : ℕ) : Type 0 where
@@ -71,20 +72,11 @@ module _ (a b c d : ℕ) (some : 1 ≤ b) (over : 1 ≤ d) (fits : a < 2 ^ 32) (
           (squarings-grow 16 (record { least = x .least; below-two = x .below-two }) (record { least = y .least; below-two = y .below-two })
           (quotient-grows a b c d (whole a b) (part a b) (whole c d) (part c d) x y some over less))
 
--- whatever the values are over 1 or more, the answer is our figure
-ours : (a b r : ℕ) → 1 ≤ b → Logarithm a b r → r ≡ ourFigure a b
-unfolding ourFigure
-ours a b r some x = go (decLe b a)
-  where
-    go : Dec (b ≤ a) → r ≡ ourFigure a b
-    go (yes l) = x .near some l .ours
-    go (no l) = let h = lt-of-not-le l in rw (ne-eqb b 0 (λ z. omega arith), le-leb a b (le-of-lt h)) (x .below-one h)
-
 -- so of two answers: a ratio that is no smaller has no smaller figure
 module _ (a b c d r q : ℕ) (x : Logarithm a b r) (y : Logarithm c d q) (fits : a < 2 ^ 32) (hold : c < 2 ^ 32) where
   pub log2-grows : 1 ≤ b → 1 ≤ d → a * d ≤ c * b → r ≤ q
   log2-grows some over less =
-      rw (ours a b r some x, ours c d q over y) (figure-grows a b c d some over fits hold less)
+      rw (is-ours a b r x, is-ours c d q y) (figure-grows a b c d some over fits hold less)
 
   -- a greater value over the same one, or the same value over a smaller
   pub log2-by-value : 1 ≤ b → b ≡ d → a ≤ c → r ≤ q

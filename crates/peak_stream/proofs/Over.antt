@@ -11,6 +11,7 @@ use lib.Seq.{sets, sets-eq}
 use lib.Dec.{ltb}
 use lib.IntN.{ℤ}
 use borrow.Author.Tests.{le-ltb, lt-ltb, ltb-false}
+use Rattle.truth.proofs.Laws.{neither}
 use Rattle.refusal.specs.declared.Refusal.the-variants.{TooLong, Room, BrokenState}
 use Rattle.peak_groups.specs.declared.Peak.{Peak}
 use Rattle.sample_items.specs.Limits.{mostInRange}
@@ -20,10 +21,6 @@ use Rattle.peak_stream.specs.declared.Handing.{Handing}
 use Rattle.peak_stream.specs.declared.Handed.the-variants.{Taken, Refused}
 use Rattle.peak_stream.specs.Hands.{moved, closedBy, ready, handsOn, noted, HandsOver}
 use Rattle.peak_stream.proofs.Coming.{closed-few}
-
-neither : (a b : Bool) → (a || b) ≡ false → (a ≡ false) × (b ≡ false)
-neither true b e = absurd (true≢false e)
-neither false b e = (refl, e)
 
 module _ (h : Handing) (xs : List ℤ) (sizes times : List ℕ) where
   abbrev most : ℕ

@@ -13,11 +13,18 @@ use Rattle.sorting.proofs.Unique.{sort-unique}
 use Rattle.peak_tail.specs.declared.Fitted.{Fitted}
 use Rattle.peak_tail.specs.declared.Fitted.the-variants.{Sum, Refused}
 use Rattle.peak_tail.specs.Hill.{NearSum, plus, start}
-use Rattle.peak_tail.specs.Fitting.{FitsTo, firstBad, fitted, tailOutside}
+use Rattle.peak_tail.specs.Fitting.{FitsTo, firstBad, fitted, hillWithin, tailOutside}
 
 pub sum-unique : {ys : List ℕ} {y n s t : ℕ} → NearSum ys y n s → NearSum ys y n t → s ≡ t
 sum-unique start start = refl
 sum-unique (plus a f) (plus b g) = let e = sum-unique a b in let d = near-unique f g in cc
+
+-- the functions over plain lists equate their answers with a definition
+pub tail-outside-unique : (n k : ℕ) (a b : Bool) → a ≡ tailOutside n k → b ≡ tailOutside n k → a ≡ b
+tail-outside-unique n k a b p q = p ∙ sym q
+
+pub hill-sum-unique : (ys : List ℕ) (k r s : ℕ) → r ≡ hillWithin ys k → s ≡ hillWithin ys k → r ≡ s
+hill-sum-unique ys k r s p q = p ∙ sym q
 
 -- whether fitting refuses, and how, does not hang on the sum
 refusal-settled : (a b c : Bool) (f g h r : Refusal) (s t : ℕ)

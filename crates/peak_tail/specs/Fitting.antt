@@ -10,7 +10,7 @@ use Rattle.refusal.specs.declared.Refusal.the-variants.{Tail, Peak, Room}
 use Rattle.sorting.specs.Sorting.{Sorted}
 use Rattle.peak_tail.specs.declared.Fitted.{Fitted}
 use Rattle.peak_tail.specs.declared.Fitted.the-variants.{Sum, Refused}
-use Rattle.peak_tail.specs.Hill.{HillSum}
+use Rattle.peak_tail.specs.Hill.{HillSum, hillSum}
 
 -- the longest list of peaks
 abbrev pub longestList : ℕ
@@ -54,3 +54,7 @@ pub record FitsTo (peaks : List ℕ) (k : ℕ) (before : List ℕ) (answer : Fit
   pub sum : ℕ
   pub answers : answer ≡ fitted peaks k (length before) sum
   pub leaves : Leaves peaks k before answer after
+
+-- the Hill sum of any list and any k, 0 where 16 is due
+unfoldable pub hillWithin : List ℕ → ℕ → ℕ
+hillWithin ys k = cond (tailOutside (length ys) k) 0 (hillSum ys k)

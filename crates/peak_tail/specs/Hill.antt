@@ -2,9 +2,10 @@
 -- of the logarithms of Y(i) / Y(k), i from 1 to k, in units of 1/65,536. Y(i) stands at place i - 1 of a list. Assumes
 -- nothing.
 use mathlib.Core.List.{List}
-use Prim.Native.Nat.{ℕ, suc, _+_, _-_}
+use Prim.Native.Nat.{ℕ, zero, suc, _+_, _-_}
 use lib.ListN.{getD}
 use Rattle.logarithm.specs.Logarithm.{ExactFigure, Near}
+use Rattle.logarithm.specs.Ours.{ourFigure}
 
 -- the exact figures of the first n values over y add up to a sum
 pub data ExactSum (ys : List ℕ) (y : ℕ) : ℕ → ℕ → Type 0 where
@@ -24,3 +25,11 @@ pub data NearSum (ys : List ℕ) (y : ℕ) : ℕ → ℕ → Type 0 where
 -- the Hill sum over the first k values, in our figures
 abbrev pub HillSum : List ℕ → ℕ → ℕ → Type 0
 HillSum ys k r = NearSum ys (kth ys k) k r
+
+-- the same as a definition that computes: our figures of the first n values over y, added up
+unfoldable pub figures : List ℕ → ℕ → ℕ → ℕ
+figures ys y zero = 0
+figures ys y (suc n) = figures ys y n + ourFigure (getD ys n 0) y
+
+abbrev pub hillSum : List ℕ → ℕ → ℕ
+hillSum ys k = figures ys (kth ys k) k

@@ -1,2 +1,3 @@
 pub mod Hill
 pub mod Fitting
+pub mod Steps

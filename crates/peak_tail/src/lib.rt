@@ -4,9 +4,10 @@ ghost use mathlib.Core.Path.{_≡_};
 ghost use mathlib.Core.List.{_++_};
 ghost use Prim.Native.Nat.{_≤_};
 ghost use lib.ListN.{drop, length};
-ghost use Rattle.sorting.specs.Sorting.{Downwards, Sorted, count};
-ghost use Rattle.peak_tail.specs.Fitting.{FitsTo, firstBad, peakInRange, tailOutside};
-ghost use Rattle.peak_tail.specs.Hill.{HillSum, kth};
+ghost use Rattle.sorting.specs.Sorting.{Sorted, count};
+ghost use Rattle.peak_tail.specs.Fitting.{FitsTo, firstBad, hillWithin, peakInRange, tailOutside};
+ghost use Rattle.peak_tail.specs.Hill.{HillSum};
+ghost use Rattle.peak_tail.specs.Steps.{SumOfFirst};
 use refusal::Refusal;
 
 pub const LONGEST_LIST: u64 = 4_096;
@@ -18,7 +19,8 @@ pub enum Fitted {
     Refused(Refusal),
 }
 
-fn tail_outside(n: u64, k: u64) -> bool
+// 16: a list of n peaks is too long, or k is outside 2 to n.
+pub fn tail_outside(n: u64, k: u64) -> bool
     ensures { λ r. ⌜ r ≡ tailOutside n k ⌝ }
 {
     truth::either(LONGEST_LIST < n, truth::either(k < 2, n < k))
@@ -56,10 +58,10 @@ fn copy(peaks: &[u32], to: &mut [u32])
     }
 }
 
-// The logarithms of Y(i) / Y(k) added up, for values that lie downwards. The last, of Y(k) / Y(k), is 0.
-fn hill_sum(y: &[u32], k: usize) -> u64
-    requires { ⌜ Downwards (now y) × (2 ≤ k) × (k ≤ length (now y)) × (k ≤ 4096) × (1 ≤ kth (now y) k) ⌝ }
-    ensures { λ r. ⌜ HillSum (now (y .entry)) k r ⌝ }
+// The logarithms of Y(i) / Y(k) added up. The last, of Y(k) / Y(k), is 0.
+fn sum_of_first(y: &[u32], k: usize) -> u64
+    requires { ⌜ (2 ≤ k) × (k ≤ length (now y)) × (k ≤ 4096) ⌝ }
+    ensures { λ r. ⌜ SumOfFirst (now (y .entry)) k r ⌝ }
 {
     let last = k - 1;
     let least = y[last];
@@ -72,13 +74,23 @@ fn hill_sum(y: &[u32], k: usize) -> u64
     sum
 }
 
+// The Hill sum over the first k of values that lie downwards; 0 where 16 is due.
+pub fn hill_sum(y: &[u32], k: u64) -> u64
+    ensures { λ r. ⌜ r ≡ hillWithin (now (y .entry)) k ⌝ }
+{
+    if tail_outside(y.len() as u64, k) {
+        return 0;
+    }
+    sum_of_first(y, k as usize)
+}
+
 // Sorts the values, none of which is 0, and sums over the k largest.
 fn sum_of_largest(y: &mut [u32], k: usize) -> u64
     requires { ⌜ (2 ≤ k) × (k ≤ length (now y)) × (k ≤ 4096) × (count 0 (now y) ≡ 0) ⌝ }
     ensures { λ r. ⌜ Sorted (now (y .entry)) (now (y .exit)) × HillSum (now (y .exit)) k r ⌝ }
 {
     sorting::sort(y);
-    hill_sum(y, k)
+    sum_of_first(y, k)
 }
 
 // The Hill sum over the k largest peaks, which then stand sorted downwards from the start of `sorted`, whose rest

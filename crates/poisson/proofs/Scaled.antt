@@ -34,12 +34,12 @@ unfolding numer
 numer-pos h a zero = mul-pos (rw pow-zero (omega arith)) (mul-pos h (zero-lt-suc 0))
 numer-pos h a (suc j) = mul-pos (omega (arith, numer-pos h a j)) (mul-pos h (zero-lt-suc (suc j)))
 
-bottom-pos : (a : ℕ) {b : ℕ} → 0 < b → (j : ℕ) → 0 < S j (over a b) .bottom
+pub bottom-pos : (a : ℕ) {b : ℕ} → 0 < b → (j : ℕ) → 0 < S j (over a b) .bottom
 unfolding S
 bottom-pos a h zero = lit< tt
 bottom-pos a {b} h (suc j) = mul-pos (bottom-pos a h j) (subst (λ (d : ℕ). 0 < d) (denom-is b j) (denom-pos h j))
 
-same : (a b j : ℕ) → S j (over a b) .top * denom b j ≡ numer a b j * S j (over a b) .bottom
+pub same : (a b j : ℕ) → S j (over a b) .top * denom b j ≡ numer a b j * S j (over a b) .bottom
 unfolding S denom numer
 same a b zero = refl
 same a b (suc j) = rw (← denom-is b j) (omega (arith, ap (λ (x : ℕ). x * (denom b j * (b * suc j))) (same a b j)))

@@ -21,7 +21,7 @@ pub terms : ℕ
 terms = 200
 
 -- S(k) ≤ S(m) + 2 x ^ m / m!, for every k, where 2 x ≤ m + 1
-bounded : (b a m : ℕ) → 2 * a ≤ suc m * b → (k : ℕ) → numer a b k * denom b m ≤ (numer a b m + 2 * a ^ m) * denom b k
+pub bounded : (b a m : ℕ) → 2 * a ≤ suc m * b → (k : ℕ) → numer a b k * denom b m ≤ (numer a b m + 2 * a ^ m) * denom b k
 bounded b a m far k = go (decLe m k)
   where
     go : Dec (m ≤ k) → numer a b k * denom b m ≤ (numer a b m + 2 * a ^ m) * denom b k

@@ -5,7 +5,7 @@ use Rattle.refusal.specs.declared.Refusal.{Refusal}
 use Rattle.refusal.specs.declared.Refusal.the-variants.{Item, Sample, TooLong, TooShort, CampaignFull, RowsUsedUp}
 use Rattle.refusal.specs.declared.Refusal.the-variants.{Room, BrokenState, Line, CommaLine, SumFull, Unequal}
 use Rattle.refusal.specs.declared.Refusal.the-variants.{NoBureau, BureauFull, NotItsOwn, Tail, Peak, Situations}
-use Rattle.refusal.specs.declared.Refusal.the-variants.{Situation, Acceleration}
+use Rattle.refusal.specs.declared.Refusal.the-variants.{Situation, Acceleration, TimedSamples, LowLevel, NoSpread}
 use Rattle.refusal.specs.Numbers.{numberOf}
 
 pub number-small : (r : Refusal) → numberOf r < 100
@@ -29,3 +29,6 @@ number-small (Peak p) = omega arith
 number-small Situations = omega arith
 number-small (Situation k) = omega arith
 number-small (Acceleration p) = omega arith
+number-small TimedSamples = omega arith
+number-small (LowLevel y) = omega arith
+number-small NoSpread = omega arith

@@ -12,7 +12,7 @@ use Rattle.refusal.specs.declared.Refusal.{Refusal}
 use Rattle.refusal.specs.declared.Refusal.the-variants.{Item, Sample, TooLong, TooShort, CampaignFull, RowsUsedUp}
 use Rattle.refusal.specs.declared.Refusal.the-variants.{Room, BrokenState, Line, CommaLine, SumFull, Unequal}
 use Rattle.refusal.specs.declared.Refusal.the-variants.{NoBureau, BureauFull, NotItsOwn, Tail, Peak, Situations}
-use Rattle.refusal.specs.declared.Refusal.the-variants.{Situation, Acceleration}
+use Rattle.refusal.specs.declared.Refusal.the-variants.{Situation, Acceleration, TimedSamples, LowLevel, NoSpread}
 use Rattle.refusal.specs.Numbers.{numberOf, valueOf, channelOf}
 
 -- the refusal of a number, a value and a channel, row by row
@@ -35,7 +35,10 @@ from n v k =
     (cond (eqb n 15) NotItsOwn
     (cond (eqb n 16) Tail
     (cond (eqb n 17) (Peak v)
-    Situations))))))))))))))))
+    (cond (eqb n 18) Situations
+    (cond (eqb n 19) TimedSamples
+    (cond (eqb n 20) (LowLevel v)
+    NoSpread)))))))))))))))))))
 
 -- a situation's number is counted from 1
 abbrev pub FromOne : Refusal → Type 0
@@ -61,6 +64,9 @@ from-own Tail h = refl
 from-own (Peak p) h = refl
 from-own Situations h = refl
 from-own (Acceleration p) h = refl
+from-own TimedSamples h = refl
+from-own (LowLevel y) h = refl
+from-own NoSpread h = refl
 from-own (Situation k) h = let low : 1 ≤ k = h k refl in rw (ne-eqb k 0 (omega arith))
 
 -- the functions' promises settle their answers

@@ -1,11 +1,11 @@
--- Document 01, "Refusal numbers", and document 02: the number of each refusal, and what is returned with it. Assumes
--- nothing.
+-- Document 01, "Refusal numbers", document 02 and [14]: the number of each refusal, and what is returned with it.
+-- Assumes nothing.
 use Prim.Native.Nat.{ℕ}
 use Rattle.refusal.specs.declared.Refusal.{Refusal}
 use Rattle.refusal.specs.declared.Refusal.the-variants.{Item, Sample, TooLong, TooShort, CampaignFull, RowsUsedUp}
 use Rattle.refusal.specs.declared.Refusal.the-variants.{Room, BrokenState, Line, CommaLine, SumFull, Unequal}
 use Rattle.refusal.specs.declared.Refusal.the-variants.{NoBureau, BureauFull, NotItsOwn, Tail, Peak, Situations}
-use Rattle.refusal.specs.declared.Refusal.the-variants.{Situation, Acceleration}
+use Rattle.refusal.specs.declared.Refusal.the-variants.{Situation, Acceleration, TimedSamples, LowLevel, NoSpread}
 
 -- the column "No."
 abbrev pub numberOf : Refusal → ℕ
@@ -29,8 +29,11 @@ numberOf (Peak p) = 17
 numberOf Situations = 18
 numberOf (Situation k) = 8
 numberOf (Acceleration p) = 2
+numberOf TimedSamples = 19
+numberOf (LowLevel y) = 20
+numberOf NoSpread = 21
 
--- the column "Returns with it": item number, place, number needed, line number; 0 stands for nothing
+-- the column "Returns with it": item number, place, number needed, line number, peak; 0 stands for nothing
 abbrev pub valueOf : Refusal → ℕ
 valueOf (Item i) = i
 valueOf (Sample p) = p
@@ -52,6 +55,9 @@ valueOf (Peak p) = p
 valueOf Situations = 0
 valueOf (Situation k) = k
 valueOf (Acceleration p) = p
+valueOf TimedSamples = 0
+valueOf (LowLevel y) = y
+valueOf NoSpread = 0
 
 -- the channel that document 02, [8], names with 2: 1 for the roll, or the only one, 2 for the acceleration; 0 stands
 -- for nothing
@@ -76,3 +82,6 @@ channelOf (Peak p) = 0
 channelOf Situations = 0
 channelOf (Situation k) = 0
 channelOf (Acceleration p) = 2
+channelOf TimedSamples = 0
+channelOf (LowLevel y) = 0
+channelOf NoSpread = 0

@@ -44,6 +44,12 @@ pub enum Refusal {
     Situation(u64),
     // 2 again: a sample of the acceleration is outside its range; the first such place in the piece.
     Acceleration(u64),
+    // 19: fewer timed samples than peaks in the tail, or more than there may be.
+    TimedSamples,
+    // 20: a level below the last peak of the tail; that peak.
+    LowLevel(u64),
+    // 21: a tail without spread.
+    NoSpread,
 }
 
 // The number of a refusal.
@@ -71,6 +77,9 @@ pub fn number(r: Refusal) -> u64
         Refusal::Situations => 18,
         Refusal::Situation(_) => 8,
         Refusal::Acceleration(_) => 2,
+        Refusal::TimedSamples => 19,
+        Refusal::LowLevel(_) => 20,
+        Refusal::NoSpread => 21,
     }
 }
 
@@ -87,6 +96,7 @@ pub fn carried(r: Refusal) -> u64
         Refusal::Peak(place) => place,
         Refusal::Situation(number) => number,
         Refusal::Acceleration(place) => place,
+        Refusal::LowLevel(peak) => peak,
         Refusal::TooLong => 0,
         Refusal::TooShort => 0,
         Refusal::CampaignFull => 0,
@@ -99,6 +109,8 @@ pub fn carried(r: Refusal) -> u64
         Refusal::NotItsOwn => 0,
         Refusal::Tail => 0,
         Refusal::Situations => 0,
+        Refusal::TimedSamples => 0,
+        Refusal::NoSpread => 0,
     }
 }
 
@@ -128,5 +140,8 @@ pub fn channel(r: Refusal) -> u64
         Refusal::Peak(_) => 0,
         Refusal::Situations => 0,
         Refusal::Situation(_) => 0,
+        Refusal::TimedSamples => 0,
+        Refusal::LowLevel(_) => 0,
+        Refusal::NoSpread => 0,
     }
 }

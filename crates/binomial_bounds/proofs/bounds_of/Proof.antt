@@ -1,18 +1,22 @@
 -- `binomial_bounds::bounds_of` meets its contract, number by number, each of which fits. Assumes nothing.
 use native.Mathlib.Omega.{arith}
-use Rattle.binomial_bounds.proofs.Order.{small, width-small}
+use Rattle.binomial_bounds.proofs.Order.{small, width-is, width-small}
 use borrow.Author.Needs.{needs}
 use Rattle.binomial_bounds.proofs.bounds_of.Statement.{statement}
 use Rattle.binomial_bounds.proofs.bounds_of.Tie as tie
 
 add-t5 : tie.Need-add-t5
-add-t5 c = omega (arith, c .before .half-width .ensures, width-small _ (c .before .before .before .pre))
+add-t5 c =
+    let k = c .before .before .before .pre in
+    omega (arith, c .before .half-width .ensures, width-is _ k, width-small _ k)
 
 mul-t6 : tie.Need-mul-t6
 mul-t6 c = omega (arith, small _ (c .before .before .before .before .pre) .time)
 
 returns : tie.Need-returns
-returns c = rw (c .before .less .ensures, c .before .before .half-width .ensures)
+returns c =
+    let k = c .before .before .before .before .pre in
+    rw (c .before .less .ensures, c .before .before .half-width .ensures, width-is _ k)
 
 pub bounds-of-spec : {M : Type 1} → statement M
 bounds-of-spec =

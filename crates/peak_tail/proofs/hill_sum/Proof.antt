@@ -1,59 +1,27 @@
--- `peak_tail::hill_sum` meets its contract. The invariant of its loop is `Part`, and the measure how many values are
--- left. Assumes nothing.
-use Prim.Native.Nat.{_-_}
+-- `peak_tail::hill_sum` meets its contract: past the test for 16 the sum over the first k is defined. Assumes nothing.
+use mathlib.Core.Path.{sym, _∙_}
 use native.Mathlib.Omega.{arith}
 use borrow.Author.Needs.{needs}
-use Rattle.peak_tail.proofs.Summing.{Part, ends, goes-on, starts}
+use Rattle.peak_tail.specs.Fitting.{hillWithin}
+use Rattle.peak_tail.proofs.Order.{inside}
 use Rattle.peak_tail.proofs.hill_sum.Statement.{statement}
 use Rattle.peak_tail.proofs.hill_sum.Tie as tie
 
-abbrev Inv-loop : tie.InvT-loop
-Inv-loop y k last least sum₀ i₀ sum i = Part y k i sum
+returns : tie.Need-returns
+unfolding hillWithin
+returns c = rw (sym (c .before .tail-outside .ensures) ∙ c .if1 .taken)
 
-abbrev μ-loop : tie.MeasureT-loop
-μ-loop y k last least sum₀ i₀ sum i = last - i
+sum-of-first-requires : tie.Need-sum-of-first-requires
+sum-of-first-requires c κs =
+    let o = c .before in
+    let (long, low, high) = inside _ _ (sym (o .tail-outside .ensures) ∙ c .if1 .left) in
+    (low, high, omega arith)
 
-sub-last : tie.Need-sub-last Inv-loop μ-loop
-sub-last c = omega arith
-
-mul-least : tie.Need-mul-least Inv-loop μ-loop
-mul-least c = omega arith
-
-shared-slice-read-least : tie.Need-shared-slice-read-least Inv-loop μ-loop
-shared-slice-read-least c = omega arith
-
-loop-holds : tie.Need-loop-holds Inv-loop μ-loop
-loop-holds c = starts _ _
-
-mul-log2 : tie.Need-mul-log2 Inv-loop μ-loop
-mul-log2 c = omega arith
-
-shared-slice-read-log2 : tie.Need-shared-slice-read-log2 Inv-loop μ-loop
-shared-slice-read-log2 c = omega arith
-
-add-sum : tie.Need-add-sum Inv-loop μ-loop
-add-sum c = omega arith
-
-add-i : tie.Need-add-i Inv-loop μ-loop
-add-i c = omega arith
-
-loop-less : tie.Need-loop-less Inv-loop μ-loop
-loop-less c = omega arith
-
-loop-again : tie.Need-loop-again Inv-loop μ-loop
-loop-again c =
-    let b = c .before .before .before in
-    let l = b .loop in
-    let s = b .before .before .before in
-    goes-on _ _ _ _ (l .inv) (s .pre .0) (omega arith) (s .pre .4) _ (omega arith) (c .log2 .ensures)
-
-returns : tie.Need-returns Inv-loop μ-loop
-returns c =
-    let s = c .before .before .before .before in
-    ends _ _ _ _ (c .before .loop .inv) (s .pre .0) (omega arith) (s .pre .4) (omega arith) (omega arith)
+returns-2 : tie.Need-returns-2
+unfolding hillWithin
+returns-2 c =
+    let o = c .before .before in
+    rw (sym (o .tail-outside .ensures) ∙ c .before .if1 .left) (c .sum-of-first .ensures .figures)
 
 pub hill-sum-spec : {M : Type 1} → statement M
-hill-sum-spec =
-    tie.close
-    (tie.spec Inv-loop μ-loop sub-last mul-least shared-slice-read-least loop-holds mul-log2 shared-slice-read-log2
-    (λ c κs. search needs) add-sum add-i loop-less loop-again returns)
+hill-sum-spec = tie.close (tie.spec (λ c κs. search needs) returns sum-of-first-requires returns-2)

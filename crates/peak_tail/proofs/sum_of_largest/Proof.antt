@@ -7,18 +7,21 @@ use Rattle.peak_tail.proofs.Bad.{some-at}
 use Rattle.peak_tail.proofs.sum_of_largest.Statement.{statement}
 use Rattle.peak_tail.proofs.sum_of_largest.Tie as tie
 
-hill-sum-requires : tie.Need-hill-sum-requires
-hill-sum-requires c κs =
+sum-of-first-requires : tie.Need-sum-of-first-requires
+sum-of-first-requires c κs =
     let b = c .before .before .before in
+    let pre = b .before .before .before .pre in
+    (pre .0, omega (arith, b .sort .kept .0), pre .2)
+
+returns : tie.Need-returns
+returns c =
+    let b = c .before .before .before .before in
     let s = b .sort in
     let pre = b .before .before .before .pre in (
-      s .ensures .downwards,
-      pre .0,
-      omega (arith, s .kept .0),
-      pre .2,
-      some-at (s .last .0) (sym (s .ensures .same 0) ∙ pre .3) _ (omega (arith, s .kept .0)),
+      s .ensures,
+      c .sum-of-first .ensures .sums (s .ensures .downwards)
+          (some-at (s .last .0) (sym (s .ensures .same 0) ∙ pre .3) _ (omega (arith, s .kept .0))),
     )
 
 pub sum-of-largest-spec : {M : Type 1} → statement M
-sum-of-largest-spec = tie.close (tie.spec (λ c κs. search needs) hill-sum-requires (λ c. search needs)
-    (λ c. search needs))
+sum-of-largest-spec = tie.close (tie.spec (λ c κs. search needs) sum-of-first-requires (λ c. search needs) returns)

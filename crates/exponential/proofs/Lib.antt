@@ -1,0 +1,11 @@
+pub mod Bounds
+pub mod Cuts
+pub mod Ends
+pub mod Figures
+pub mod Laws
+pub mod Order
+pub mod Product
+pub mod Rows
+pub mod Terms
+pub mod Turn
+pub mod Unique

@@ -1,0 +1,69 @@
+-- `exponential::up` meets its contract. The invariant of its loop is `AfterUp`, the figure of the bits below i, beside
+-- what is left of the definition's rows; the measure is what is left of the 26 turns. Assumes nothing.
+use mathlib.Core.Path.{_≡_, refl, sym, _∙_}
+use mathlib.Core.Logic.{⊎-elim}
+use Prim.Native.Nat.{suc, _-_, _%_}
+use native.Mathlib.Numerals.{add-one}
+use native.Mathlib.Omega.{arith}
+use borrow.Author.Needs.{needs}
+use borrow.Author.Tests.{eq-eqb, ne-eqb}
+use lib.Dec.{lit≤}
+use Rattle.exponential.specs.Exponential.{one}
+use Rattle.exponential.specs.Ours.{rowUp, rowsUp, unit}
+use Rattle.exponential.proofs.Figures.{up-is, none-our-up, rows-up, turned-up, whole-up}
+use Rattle.exponential.proofs.Ends.{none-up}
+use Rattle.exponential.proofs.Rows.{rows}
+use Rattle.exponential.proofs.Turn.{AfterUp, factors-up, starts}
+use Rattle.exponential.proofs.up.Statement.{statement}
+use Rattle.exponential.proofs.up.Tie as tie
+
+abbrev Inv-loop : tie.InvT-loop
+Inv-loop x p₀ rest₀ i₀ p rest i = AfterUp x i rest (p .mantissa) (p .shift) × (rowsUp (26 - i) i rest p ≡ rowsUp 26 0 x unit)
+
+abbrev μ-loop : tie.MeasureT-loop
+μ-loop x p₀ rest₀ i₀ p rest i = 26 - i
+
+returns : tie.Need-returns Inv-loop μ-loop
+returns c = (none-our-up (c .before .args .x) (omega arith), none-up (c .before .args .x) (omega arith))
+
+loop-holds : tie.Need-loop-holds Inv-loop μ-loop
+loop-holds c = (starts one (suc one) 1 1 4294967296 (lit≤ tt) _, refl)
+
+row-requires : tie.Need-row-requires Inv-loop μ-loop
+row-requires c κs = search needs
+
+add-product-up : tie.Need-add-product-up Inv-loop μ-loop
+add-product-up c = rw (c .before .row .ensures) (omega (arith, rows _ (c .before .before .before .loop-test .taken) .below-two))
+
+product-up-requires : tie.Need-product-up-requires Inv-loop μ-loop
+product-up-requires c κs =
+    let r = c .before in
+    rw (r .row .ensures, add-one)
+    (factors-up _ _ _ _ _ _ _ (r .before .before .before .loop .inv .0) (rows _ (r .before .before .loop-test .taken)))
+
+add-i : tie.Need-add-i Inv-loop μ-loop
+add-i c = omega arith
+
+loop-less : tie.Need-loop-less Inv-loop μ-loop
+loop-less c = omega arith
+
+loop-again : tie.Need-loop-again Inv-loop μ-loop
+loop-again c =
+    let l = c .before .before .loop in
+    let h = c .before .loop-test .taken in
+    let e : c .if2 .p ≡ rowUp (l .p) (l .i) (l .rest % 2) =
+    ⊎-elim (λ w. rw (w .4, w .3 .ensures, w .1 .ensures, add-one, eq-eqb _ _ (w .0 .taken))) (λ w. rw (w .1, ne-eqb _ _ (w .0 .left))) (c .if2 .came)
+    in
+    rw e (turned-up _ _ _ (l .p) (l .inv .0) h, sym (rows-up (l .i) (l .rest) (l .p) h) ∙ l .inv .1)
+
+returns-2 : tie.Need-returns-2 Inv-loop μ-loop
+returns-2 c =
+    let x = c .before .before .before .args .x in
+    let e = whole-up x _ _ _ (omega arith) (omega arith) (c .before .loop .inv .1) in
+    (e, rw e (up-is x))
+
+pub up-spec : {M : Type 1} → statement M
+up-spec =
+    tie.close
+    (tie.spec Inv-loop μ-loop returns loop-holds row-requires add-product-up product-up-requires add-i loop-less loop-again
+    returns-2)

@@ -1,0 +1,4 @@
+pub mod Exponential
+pub mod Ours
+pub mod Steps
+pub mod Tables

@@ -1,0 +1,4 @@
+pub mod Answers
+pub mod Figures
+pub mod Reach
+pub mod Steps

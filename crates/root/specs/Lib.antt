@@ -1,0 +1,2 @@
+pub mod HalfWidth
+pub mod Root

@@ -293,12 +293,15 @@ uint64_t chim_envelope_find(uint64_t step, uint64_t ramp, uint64_t decorrelation
  * 0 for a peak that is Y(k), so the sum is at most k - 1 below. Document 001's shape of the tail (11) is xi = sum * ln 2 / (65,536 * k). Refuses 16, 17, 7. */
 uint64_t chim_tail_fit(const uint32_t *peaks, size_t peaks_len, uint64_t k, uint32_t *sorted, size_t sorted_len, uint64_t *carried);
 
-/* The rate beyond the records: from peaks that lie downwards, as chim_tail_fit leaves them at the start of `sorted`, a tail of the first k, a level
- * (item 3), a step (item 1), the timed samples of all records and a standard (item 5), three times in ms: at most the estimated mean time between failures
- * at the level, the longest standard found to be accepted (0 for none), the shortest found to be rejected (0 for none). The standard's letter goes to
- * *carried: CHIM_ACCEPT, CHIM_REJECT or CHIM_CONTINUE. Refuses 8 for another number of times; 1 with the lowest of items 1, 3 and 5; 16; 17 with the first
- * place; 19; 20 with the k-th peak; 21 where the Hill sum is 0 or the exponent by the library's figures 64 or more, as with clipped records. */
-uint64_t chim_extrapolate(const uint32_t *peaks, size_t peaks_len, uint64_t k, uint64_t level, uint64_t step, uint64_t samples, uint64_t standard, uint64_t *times, size_t times_len, uint64_t *carried);
+/* The rate beyond the records: from peaks that lie downwards, as chim_tail_fit leaves them at the start of `sorted`, a
+ * tail of the first k, a level (item 3), a step (item 1), the timed samples of all records and a standard (item 5),
+ * three times in ms: at most the estimated mean time between failures at the level, the longest standard found to be
+ * accepted (0 for none), the shortest found to be rejected (0 for none). The standard's letter goes to *carried:
+ * CHIM_ACCEPT, CHIM_REJECT or CHIM_CONTINUE. Refuses 8 for another number of times; 1 with the lowest of items 1, 3 and
+ * 5; 16; 17 with the first place; 19; 20 with the k-th peak; 21 where the Hill sum is 0 or the exponent by the library's
+ * figures 64 or more, as with clipped records. */
+uint64_t chim_extrapolate(const uint32_t *peaks, size_t peaks_len, uint64_t k, uint64_t level, uint64_t step,
+                          uint64_t samples, uint64_t standard, uint64_t *times, size_t times_len, uint64_t *carried);
 
 /* ---- a simulator's comma file: one sample a line, ended by LF: time in ms, comma, roll in degrees with at most three decimals; times start at 0 and
  * grow by the step */

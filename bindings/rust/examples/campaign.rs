@@ -39,9 +39,9 @@ fn main() -> Result<(), Refusal> {
             show(&campaign)?;
         }
     }
-    if let Err(refusal) = record.feed_roll(&[0, 2_000_000]) {
-        let Refusal::Sample(place) = refusal else { return Err(refusal) };
-        println!("refused: {} ({place})", refusal.number());
+    match record.feed_roll(&[0, 2_000_000]) {
+        Err(refusal @ Refusal::Sample(place)) => println!("refused: {} ({place})", refusal.number()),
+        other => other?,
     }
     let times: Vec<String> = with_zeros(roll.len(), |zeros| list(items, &roll, zeros))?.iter().map(u32::to_string).collect();
     println!("counted times: {} ms", times.join(" "));

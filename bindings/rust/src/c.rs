@@ -145,4 +145,5 @@ extern "C" {
     pub fn chim_comma_write(samples: *const i32, samples_len: usize, step: u64, out: *mut u8, out_len: usize, carried: *mut u64) -> u64;
     pub fn chim_upper_row(n: u64) -> u32;
     pub fn chim_lower_row(n: u64) -> u32;
+    pub fn chim_version() -> u64;
 }

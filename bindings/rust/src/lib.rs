@@ -23,11 +23,106 @@
 //! # Ok(())
 //! # }
 //! ```
+//!
+//! What hands out a list or a text needs memory of its own, and stands behind the feature `std`, which is on unless it is turned off;
+//! without it the crate is `no_std` and touches nothing but what it is lent.
+//!
+//! # The cases of README
+//!
+//! A simulator's file is counted: two groups of six crossings, the first failure 7 s after the ramp.
+//!
+//! ```
+//! # #[cfg(feature = "std")] {
+//! use chimenickel::{read_comma, Items, Record};
+//!
+//! let items = Items { step: 500, ramp: 20, level: 40_000, decorrelation: 20_000, acceleration_level: 9_810 };
+//! let roll = read_comma(&std::fs::read("../../examples/roll.csv").unwrap(), 500).unwrap();
+//! let mut record = Record::open(items).unwrap();
+//! record.feed_roll(&roll).unwrap();
+//! let ended = record.end().unwrap();
+//! assert_eq!((record.samples(), ended.crossings, ended.counted, ended.largest_set), (241, 6, 2, 2));
+//! assert_eq!((ended.first, ended.exposure), (Some(20 + 7_000 / 500), 7_000));
+//!
+//! // with the acceleration, which adds a crossing of its own
+//! let acceleration = read_comma(&std::fs::read("../../examples/acceleration.csv").unwrap(), 500).unwrap();
+//! let mut both = Record::open(items).unwrap();
+//! both.feed(&roll, &acceleration).unwrap();
+//! assert_eq!((both.crossings(), both.counted(), both.largest_set()), (7, 3, 3));
+//! # }
+//! ```
+//!
+//! Roll and acceleration are watched together: where the roll was above, the acceleration's is no crossing.
+//!
+//! ```
+//! # fn main() -> Result<(), chimenickel::Refusal> {
+//! use chimenickel::{Items, Record};
+//!
+//! let mut record = Record::open(Items { step: 500, ramp: 0, level: 40_000, decorrelation: 2_000, acceleration_level: 9_810 })?;
+//! record.feed(&[0, 41_000, 0, 0, 0, 0, 0], &[0, 0, 9_900, 0, 0, 0, -9_900])?;
+//! assert_eq!((record.end()?.crossings, record.end()?.counted), (2, 2));
+//! # Ok(())
+//! # }
+//! ```
+//!
+//! The envelope peaks of a hull that never reaches the level, and their tail:
+//!
+//! ```
+//! # #[cfg(feature = "std")] {
+//! use chimenickel::{envelope_peaks, read_comma, Tail};
+//!
+//! let swell = read_comma(&std::fs::read("../../examples/swell.csv").unwrap(), 500).unwrap();
+//! let peaks = envelope_peaks(500, 20, 35_000, &swell).unwrap();
+//! let sizes: Vec<u32> = peaks.iter().map(|peak| peak.size).collect();
+//! assert_eq!((sizes.as_slice(), peaks[0].time), ([26_468, 23_183, 23_189, 24_942].as_slice(), 89_000));
+//! let tail = Tail::fit(&sizes, 3).unwrap();
+//! assert_eq!((tail.sum, (tail.shape() * 10_000.0).round()), (19_394, 684.0));
+//! # }
+//! ```
+//!
+//! Long records to their end, by the binomial method:
+//!
+//! ```
+//! # #[cfg(feature = "std")] {
+//! use chimenickel::{read_comma, Items, Record, Sum};
+//!
+//! let mut sum = Sum::open(500).unwrap();
+//! for name in ["roll", "swell"] {
+//!     let samples = read_comma(&std::fs::read(format!("../../examples/{name}.csv")).unwrap(), 500).unwrap();
+//!     let items = Items { step: 500, ramp: 20, level: 40_000, decorrelation: 20_000, acceleration_level: 9_810 };
+//!     let mut record = Record::open(items).unwrap();
+//!     record.feed_roll(&samples).unwrap();
+//!     sum.add(&record).unwrap();
+//! }
+//! let bounds = sum.bounds().unwrap().unwrap();
+//! assert_eq!((sum.failures(), sum.samples()), (2, 802));
+//! assert_eq!((bounds.estimate, bounds.lower, bounds.upper, bounds.time), (2_000, 0, 4_769, 401_000));
+//! # }
+//! ```
+//!
+//! A record that is rejected, and a loading condition of two campaigns:
+//!
+//! ```
+//! # fn main() -> Result<(), chimenickel::BadLine> {
+//! use chimenickel::{judge_condition, Campaign, Standing, Verdict};
+//!
+//! let rejected = Campaign::read_sheet(b"standard\t7200000\n1\t1\t7000\n")?;
+//! assert!(matches!(rejected.verdict(), Ok(Verdict::Reject { .. })));
+//! let first = Campaign::read_sheet(b"standard\t7200000\n1\t0\t1800000\n2\t1\t933980\n")?;
+//! assert_eq!(judge_condition(&[first, Campaign::open(7_200_000).unwrap()]), Ok(Standing::Open));
+//! # Ok(())
+//! # }
+//! ```
+#![no_std]
 
+#[cfg(feature = "std")]
+extern crate std;
+
+#[allow(dead_code)] // without std some are not asked
 mod c;
 
-use std::cell::Cell;
-use std::fmt;
+use core::fmt;
+#[cfg(feature = "std")]
+use std::{cell::Cell, string::String, thread_local, vec, vec::Vec};
 
 /// Why nothing was done, by the counter's refusal numbers.
 #[derive(Clone, Copy, Debug, PartialEq, Eq)]
@@ -151,7 +246,13 @@ impl fmt::Display for Refusal {
     }
 }
 
+#[cfg(feature = "std")]
 impl std::error::Error for Refusal {}
+
+/// The version of the library that is linked, as `CHIM_VERSION` of its header has it: 3,000,000 for 3.0.0.
+pub fn version() -> u64 {
+    unsafe { c::chim_version() }
+}
 
 /// What a call answers: the number that it carries, or the refusal.
 fn answer(call: impl FnOnce(*mut u64) -> u64) -> Result<u64, Refusal> {
@@ -171,6 +272,7 @@ fn answer_of_two(call: impl FnOnce(*mut u64, *mut u64) -> u64) -> Result<u64, Re
     })
 }
 
+#[cfg(feature = "std")]
 thread_local! {
     static ZEROS: Cell<Vec<i32>> = const { Cell::new(Vec::new()) };
 }
@@ -184,6 +286,7 @@ thread_local! {
 /// let roll = [0, 41_000, 39_000, -41_000];
 /// assert_eq!(with_zeros(roll.len(), |zeros| list(items, &roll, zeros)), Ok(vec![500, 1_500]));
 /// ```
+#[cfg(feature = "std")]
 pub fn with_zeros<T>(n: usize, call: impl FnOnce(&[i32]) -> T) -> T {
     ZEROS.with(|kept| {
         let mut zeros = kept.take();
@@ -256,11 +359,13 @@ impl Record {
     }
 
     /// The next piece of a job that has only the roll.
+    #[cfg(feature = "std")]
     pub fn feed_roll(&mut self, roll: &[i32]) -> Result<(), Refusal> {
         with_zeros(roll.len(), |zeros| self.feed(roll, zeros))
     }
 
     /// The next piece of a job that has only the acceleration.
+    #[cfg(feature = "std")]
     pub fn feed_acceleration(&mut self, acceleration: &[i32]) -> Result<(), Refusal> {
         with_zeros(acceleration.len(), |zeros| self.feed(zeros, acceleration))
     }
@@ -273,10 +378,12 @@ impl Record {
         Ok(Ended { crossings, counted, first: Some(first).filter(|&place| place != 0), exposure, largest_set })
     }
 
+    /// The samples so far.
     pub fn samples(&self) -> u64 {
         self.numbers[4]
     }
 
+    /// The crossings so far.
     pub fn crossings(&self) -> u64 {
         self.numbers[6]
     }
@@ -367,6 +474,7 @@ pub fn list_into(items: Items, roll: &[i32], acceleration: &[i32], times: &mut [
 }
 
 /// The counted times of a whole record.
+#[cfg(feature = "std")]
 pub fn list(items: Items, roll: &[i32], acceleration: &[i32]) -> Result<Vec<u32>, Refusal> {
     let mut times = Vec::new();
     if let Err(Refusal::Room(places)) = list_into(items, roll, acceleration, &mut times) {
@@ -580,14 +688,19 @@ pub enum Standing {
     Open,
 }
 
-fn rows(campaigns: &[Campaign]) -> Vec<[u64; 5]> {
-    campaigns.iter().map(|campaign| campaign.numbers).collect()
+/// The campaigns' numbers, and how many there are; of more than 64, which are refused by their number, as many as make it so.
+fn rows(campaigns: &[Campaign]) -> ([[u64; 5]; 65], usize) {
+    let mut rows = [[0; 5]; 65];
+    for (row, campaign) in rows.iter_mut().zip(campaigns) {
+        *row = campaign.numbers;
+    }
+    (rows, campaigns.len().min(65))
 }
 
 /// What a loading condition of 1 to 64 campaigns, one for each design situation, comes to.
 pub fn judge_condition(campaigns: &[Campaign]) -> Result<Standing, Refusal> {
-    let rows = rows(campaigns);
-    Ok(match answer(|carried| unsafe { c::chim_condition_judge(rows.as_ptr(), rows.len(), carried) })? {
+    let (rows, n) = rows(campaigns);
+    Ok(match answer(|carried| unsafe { c::chim_condition_judge(rows.as_ptr(), n, carried) })? {
         1 => Standing::Accepted,
         2 => Standing::Rejected,
         _ => Standing::Open,
@@ -606,12 +719,13 @@ pub fn judge_condition(campaigns: &[Campaign]) -> Result<Standing, Refusal> {
 /// assert_eq!(report, "1\t1\t1\t2733980\tC\t1\n2\t0\t0\t0\tE\t0\ntotal\t2\t1\t2733980\t1\tO\n");
 /// # Ok::<(), chimenickel::Refusal>(())
 /// ```
+#[cfg(feature = "std")]
 pub fn write_report(campaigns: &[Campaign]) -> Result<String, Refusal> {
-    let rows = rows(campaigns);
+    let (rows, n) = rows(campaigns);
     // room for any report of so many situations, of which no more than 64 are taken
-    let mut text = vec![0; 40 + 28 * rows.len().min(64)];
-    let n = answer(|carried| unsafe { c::chim_condition_report(rows.as_ptr(), rows.len(), text.as_mut_ptr(), text.len(), carried) })?;
-    text.truncate(n as usize);
+    let mut text = vec![0; 40 + 28 * n.min(64)];
+    let bytes = answer(|carried| unsafe { c::chim_condition_report(rows.as_ptr(), n, text.as_mut_ptr(), text.len(), carried) })?;
+    text.truncate(bytes as usize);
     Ok(String::from_utf8(text).expect("a report is letters, digits, tabs and LFs"))
 }
 
@@ -711,6 +825,7 @@ pub fn envelope_peaks_into(
 }
 
 /// The envelope peaks of a whole record, in order of time.
+#[cfg(feature = "std")]
 pub fn envelope_peaks(step: u64, ramp: u64, decorrelation: u64, samples: &[i32]) -> Result<Vec<Peak>, Refusal> {
     let (mut sizes, mut times) = (Vec::new(), Vec::new());
     if let Err(Refusal::Room(places)) = envelope_peaks_into(step, ramp, decorrelation, samples, &mut sizes, &mut times) {
@@ -722,6 +837,7 @@ pub fn envelope_peaks(step: u64, ramp: u64, decorrelation: u64, samples: &[i32])
 }
 
 /// A tail: the peaks sorted downwards, and the Hill sum over the k largest in units of 1/65,536.
+#[cfg(feature = "std")]
 #[derive(Clone, Debug, PartialEq, Eq)]
 pub struct Tail {
     pub sorted: Vec<u32>,
@@ -729,6 +845,7 @@ pub struct Tail {
     pub sum: u64,
 }
 
+#[cfg(feature = "std")]
 impl Tail {
     /// Fits the k largest of up to 4,096 peaks, each from 1 to 1,000,000.
     pub fn fit(peaks: &[u32], k: u64) -> Result<Tail, Refusal> {
@@ -741,7 +858,7 @@ impl Tail {
 
     /// The tail's shape by document 001, formula (11): the mean of the natural logarithms.
     pub fn shape(&self) -> f64 {
-        self.sum as f64 * std::f64::consts::LN_2 / (65_536.0 * self.k as f64)
+        self.sum as f64 * core::f64::consts::LN_2 / (65_536.0 * self.k as f64)
     }
 }
 
@@ -764,6 +881,7 @@ pub fn lower_row(n: u64) -> Option<u32> {
 /// assert_eq!(chimenickel::write_comma(&samples, 500)?, b"0,0.000\n500,-41.500\n");
 /// # Ok::<(), chimenickel::Refusal>(())
 /// ```
+#[cfg(feature = "std")]
 pub fn read_comma(text: &[u8], step: u64) -> Result<Vec<i32>, Refusal> {
     // a sample has a line, and a line an LF
     let mut samples = vec![0; text.iter().filter(|&&b| b == b'\n').count()];
@@ -773,6 +891,7 @@ pub fn read_comma(text: &[u8], step: u64) -> Result<Vec<i32>, Refusal> {
 }
 
 /// Samples as a comma file, always with three decimals.
+#[cfg(feature = "std")]
 pub fn write_comma(samples: &[i32], step: u64) -> Result<Vec<u8>, Refusal> {
     let mut text = Vec::new();
     loop {
@@ -792,6 +911,7 @@ pub fn write_comma(samples: &[i32], step: u64) -> Result<Vec<u8>, Refusal> {
 /// assert_eq!(chimenickel::read_records(sheet.as_bytes()), Ok((7_200_000, vec![1_800_000, -933_980])));
 /// # Ok::<(), chimenickel::Refusal>(())
 /// ```
+#[cfg(feature = "std")]
 pub fn write_sheet(standard: u64, records: &[i32]) -> Result<String, Refusal> {
     // room for any sheet of so many records, of which no more than 100,000 are taken
     let mut text = vec![0; 22 + 18 * records.len().min(100_000)];
@@ -801,6 +921,7 @@ pub fn write_sheet(standard: u64, records: &[i32]) -> Result<String, Refusal> {
 }
 
 /// The standard and the records of a whole job sheet, as `write_sheet` takes them; or its first bad line.
+#[cfg(feature = "std")]
 pub fn read_records(text: &[u8]) -> Result<(u64, Vec<i32>), BadLine> {
     // a record has a line, and a line an LF
     let mut records = vec![0; text.iter().filter(|&&b| b == b'\n').count()];
@@ -813,9 +934,10 @@ pub fn read_records(text: &[u8]) -> Result<(u64, Vec<i32>), BadLine> {
     Ok((standard, records))
 }
 
-#[cfg(test)]
+#[cfg(all(test, feature = "std"))]
 mod tests {
     use super::*;
+    use std::string::ToString;
 
     const ITEMS: Items = Items { step: 500, ramp: 0, level: 40_000, decorrelation: 2_000, acceleration_level: 9_810 };
     const ROLL: [i32; 7] = [0, 41_000, 39_000, 41_000, 39_000, 41_000, 0];

@@ -477,7 +477,7 @@ def _own(name: str, values: Any, code: str = "i") -> _Lent:
 
 # A long record is fed in pieces where a channel has to be made for the library: so few samples that they stay near the
 # processor. Nothing writes to these zeros.
-_PIECE = 1 << 18
+_PIECE = 1 << 19
 _QUIET = (ctypes.c_int32 * _PIECE)()
 
 

@@ -91,16 +91,13 @@
 #include <stddef.h>
 #include <stdint.h>
 
-#ifdef __cplusplus
-extern "C" {
-#endif
-
 /* 3.0.0, each of the last two in three digits. The first number is that of the library's name for the loader,
  * libchimenickel.so.3, and grows when an array's length does; the second when a function is added. */
 #define CHIM_VERSION 3000000
 
-/* The CHIM_VERSION of the header that the library was made with. */
-uint64_t chim_version(void);
+#ifdef __cplusplus
+extern "C" {
+#endif
 
 enum { CHIM_RECORD_NUMBERS = 14, CHIM_RESULT_NUMBERS = 5, CHIM_CAMPAIGN_NUMBERS = 5, CHIM_SUM_NUMBERS = 3, CHIM_BOUNDS_NUMBERS = 4, CHIM_TIMES_NUMBERS = 3, CHIM_BENCH_PLACES = 32, CHIM_PLACE_NUMBERS = 6 };
 
@@ -317,6 +314,9 @@ uint64_t chim_comma_write(const int32_t *samples, size_t samples_len, uint64_t s
 /* ---- the quantile table, in millionths of an expected failure: row n from 1 to 64, and 0 for any other n */
 uint32_t chim_upper_row(uint64_t n);
 uint32_t chim_lower_row(uint64_t n);
+
+/* ---- the CHIM_VERSION of the header that the library was made with; it is beside the proof */
+uint64_t chim_version(void);
 
 #ifdef __cplusplus
 }

@@ -11,25 +11,29 @@ PYTHON = $(shell /usr/bin/python3 -c 'import sys; print("3.%d" % sys.version_inf
 PYTHONDIR = $(PREFIX)/lib/python$(if $(filter /usr,$(PREFIX)),3,$(PYTHON))/dist-packages
 DESTDIR =
 
-TRIPLET = $(shell dpkg-architecture -qDEB_HOST_MULTIARCH)
+# a word of the shell, whatever is in it
+quoted = '$(subst ','\'',$(1))'
+
+TRIPLET = $(shell gcc -print-multiarch)
 
 # where it is put together, and the package
 STAGE = target/stage
 DEB = target
 
 all:
-	@case '$(subst ','\'',$(PREFIX)$(LIBDIR)$(PYTHONDIR))' in [!/]* | *[!A-Za-z0-9./_+-]*) \
+	@case $(call quoted,$(PREFIX)$(LIBDIR)$(PYTHONDIR)) in [!/]* | *[!A-Za-z0-9./_+-]*) \
 	    echo 'make: PREFIX starts with / and has letters, digits, . / _ + -' >&2; exit 2;; esac
 	@packaging/stage $(STAGE) $(PREFIX) $(LIBDIR) $(PYTHONDIR)
 	@echo 'built in $(STAGE)'
 
 install: all
-	@packaging/install $(STAGE) '$(DESTDIR)'
-	@echo 'installed in $(DESTDIR)$(PREFIX)'
+	@packaging/install $(STAGE) $(call quoted,$(DESTDIR))
+	@echo installed in $(call quoted,$(DESTDIR)$(PREFIX))
 
 uninstall: all
-	@find $(STAGE) ! -type d -printf '/%P\n' | while IFS= read -r file; do rm -f '$(DESTDIR)'"$$file" || exit 2; done
-	@echo 'removed from $(DESTDIR)$(PREFIX)'
+	@find $(STAGE) ! -type d -printf '/%P\n' | while IFS= read -r file; do \
+	    rm -f $(call quoted,$(DESTDIR))"$$file" || exit 2; done
+	@echo removed from $(call quoted,$(DESTDIR)$(PREFIX))
 
 check:
 	bash .ci/run

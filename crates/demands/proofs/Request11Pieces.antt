@@ -1,12 +1,13 @@
--- Document 02 [11] for samples that come in pieces, which a customer may cut as he likes: what is refused in which order
--- (1; 8, 3; 8, 3, 7), and that two passes over the same timed samples, answer by answer, hand out the peaks that the
--- whole record hands out. D is the step, R the ramp, τ the decorrelation time, xs all samples. The proof only puts
--- together what `peak_stream` has. Assumes nothing.
+-- Document 02 [11] for samples that come in pieces, which a customer may cut as he likes: what is refused in which
+-- order (1; 8, 3; 8, 3, 7), and that two passes over the same timed samples, answer by answer, hand out the peaks
+-- that the whole record hands out; the same for a comma file, whose text and samples are cut anywhere in either
+-- reading. D is the step, R the ramp, τ the decorrelation time, xs all samples. The proof only puts together what
+-- `peak_stream` and `comma_peaks` have. Assumes nothing.
 use Prim.Native.Nat.{ℕ, _+_, _≤_, _<_}
 use mathlib.Core.Path.{_≡_, refl}
 use mathlib.Core.Bool.{true, not, _||_}
 use mathlib.Core.List.{List, [], _∷_, _++_, foldl, map}
-use lib.Dec.{ltb}
+use lib.Dec.{eqb, ltb}
 use lib.IntN.{ℤ}
 use lib.ListN.{length, drop}
 use Rattle.truth.proofs.Laws.{impossible}
@@ -23,10 +24,21 @@ use Rattle.peak_stream.specs.declared.Handing.{Handing}
 use Rattle.peak_stream.specs.declared.Handed.{Handed}
 use Rattle.peak_stream.specs.declared.Handed.the-variants as handing
 use Rattle.peak_stream.specs.Survey.{none, started, surveyed, sound, taken, onwards, Totalled, Small}
-use Rattle.peak_stream.specs.Hands.{waiting, begun, moved, closedBy, ready, handsOn, handingOut, noted, HandsOver, Pieces}
+use Rattle.peak_stream.specs.Hands.{waiting, begun, moved, closedBy, ready, handsOn, handingOut, noted}
+use Rattle.peak_stream.specs.Hands.{HandsOver, Pieces}
 use Rattle.peak_stream.proofs.Pieces.{survey-anywhere, survey-too-long}
 use Rattle.peak_stream.proofs.Anywhere.{passes-anywhere}
 use Rattle.peak_stream.proofs.Unique.{hand-over-unique}
+use Rattle.text.specs.Pieces.{joined}
+use Rattle.decimal.specs.Lines.{linesOf}
+use Rattle.comma_line.specs.Text.{samplesOf}
+use Rattle.comma_stream.specs.Follow.{held}
+use Rattle.comma_stream.specs.Pieces.{nothing, passing}
+use Rattle.comma_peaks.specs.declared.Judged.the-variants.{Peaks}
+use Rattle.comma_peaks.specs.Timed.{blocks, handingBlocks}
+use Rattle.comma_peaks.specs.Judged.{comesTo, judging}
+use Rattle.comma_peaks.proofs.Files.{file-judged}
+use Rattle.comma_peaks.proofs.Peaks.{file-peaks}
 use Rattle.demands.proofs.Demand1.{Decides, _gives_, decide, decided}
 
 -- ---- the statement
@@ -68,6 +80,16 @@ pub record Request11Pieces : Type 0 where
       → Small (drop R xs) → length (drop R xs) ≤ mostInRange D 0 → Pieces n qs
       → (s : Surveying) × (onwards ps (started D) ≡ Taken s)
       × (handingOut (length sizes) (length times) qs (begun D τ (s .number) (s .sum)) ≡ handed D R τ xs)
+  -- a comma file that comes in pieces is judged at its end, 10, 2, 3, 4, as its whole text is
+  pub judged : (D : ℕ) (ps : List (List ℕ)) → stepInRange D ≡ true → (R : ℕ) → length (linesOf (joined ps)) < 18446744073709551615
+      → let p = passing (nothing D) ps in judging (p .stands) R (not (eqb (length (p .left)) 0)) ≡ comesTo D R (linesOf (joined ps))
+  -- and where nothing is refused, two readings of it, cut as ps and as qs, their samples in blocks bs and cs, hand
+  -- out the peaks of the text
+  pub file : (n : ℕ) (sizes times : List ℕ) → n ≤ length sizes → n ≤ length times → (D R τ : ℕ) (ps qs : List (List ℕ)) (bs cs : List (List ℤ))
+      → joined ps ≡ joined qs → stepInRange D ≡ true → decorrelationInRange τ ≡ true → comesTo D R (linesOf (joined ps)) ≡ Peaks
+      → together bs ≡ map held (passing (nothing D) ps .samples) → together cs ≡ map held (passing (nothing D) qs .samples) → Pieces n cs
+      → handingBlocks R (length sizes) (length times) 0 cs (begun D τ (blocks R 0 (none D) bs .number) (blocks R 0 (none D) bs .sum))
+      ≡ handed D R τ (samplesOf (linesOf (joined ps)))
   pub settled : (h : Handing) (xs : List ℤ) (sizes times : List ℕ) (x y : Handed) (s t u v : List ℕ)
       → HandsOver h xs sizes times x s u → HandsOver h xs sizes times y t v → (x ≡ y) × (s ≡ t) × (u ≡ v)
 
@@ -86,5 +108,7 @@ request-11-pieces =
       given = λ h g xs sizes times s t k p. (p .sizes-left, p .times-left);
       few = λ h xs sizes times s t x p. p .few;
       passes = passes-anywhere;
+      judged = file-judged;
+      file = file-peaks;
       settled = hand-over-unique;
     }

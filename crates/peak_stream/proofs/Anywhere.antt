@@ -39,14 +39,14 @@ abbrev pub AllTaken : Handing → List (List ℤ) → ℕ → ℕ → Type 0
 AllTaken h [] sizes times = Unit {0}
 AllTaken h (p ∷ ps) sizes times = (Taken (foldl moved h p) (length (closedBy h p)) ≡ handsOn h p sizes times) × AllTaken (foldl moved h p) ps sizes times
 
-set-fold : (h : Handing) (xs : List ℤ) (k : ℕ) → Set h (length xs + k) → Set (foldl moved h xs) k
+pub set-fold : (h : Handing) (xs : List ℤ) (k : ℕ) → Set h (length xs + k) → Set (foldl moved h xs) k
 set-fold h [] k g = subst (Set h) (omega arith) g
 set-fold h (x ∷ xs) k g = set-fold (moved h x) xs k (set-next h (moved h x) x (length (x ∷ xs) + k) (length xs + k) refl (omega arith) g)
 
-both-long : (n sizes times k : ℕ) → k ≤ n → n ≤ sizes → n ≤ times → short sizes times k ≡ false
+pub both-long : (n sizes times k : ℕ) → k ≤ n → n ≤ sizes → n ≤ times → short sizes times k ≡ false
 both-long n sizes times k h i j = rw (le-ltb sizes k (omega arith), le-ltb times k (omega arith))
 
-fresh-ready : (D τ n s : ℕ) → ready (waiting D τ n s) ≡ true
+pub fresh-ready : (D τ n s : ℕ) → ready (waiting D τ n s) ≡ true
 fresh-ready D τ n s = both-true (both-true (le-leb 0 (mostInRange D 0) (omega arith)) refl) (both-true refl refl)
 
 module _ (n : ℕ) (sizes times : List ℕ) (a : n ≤ length sizes) (b : n ≤ length times) where

@@ -75,17 +75,18 @@ step-small : (s : Surveying) (x : ℤ) → s .reading .best .size ≤ 4294967295
 unfolding surveyed
 step-small s x = best-small (s .reading) x
 
-record Goes (s t : Surveying) (m k : ℕ) : Type 0 where
-  state : Good t k
-  best : t .reading .best .size ≤ 4294967295
-  n : t .reading .n ≡ s .reading .n + m
-  step : t .reading .step ≡ s .reading .step
+-- from s to t by m samples, with room for k more
+pub record Goes (s t : Surveying) (m k : ℕ) : Type 0 where
+  pub state : Good t k
+  pub best : t .reading .best .size ≤ 4294967295
+  pub n : t .reading .n ≡ s .reading .n + m
+  pub step : t .reading .step ≡ s .reading .step
 
 step-grows : (s : Surveying) (x : ℤ) → (surveyed s x .reading .n ≡ s .reading .n + 1) × (surveyed s x .reading .step ≡ s .reading .step)
 unfolding surveyed
 step-grows s x = let g = read-grows (s .reading) x in (g .n, g .step)
 
-goes : (s : Surveying) (xs : List ℤ) (k : ℕ) → Small xs → s .reading .best .size ≤ 4294967295 → Good s (length xs + k) → Goes s (foldl surveyed s xs) (length xs) k
+pub goes : (s : Surveying) (xs : List ℤ) (k : ℕ) → Small xs → s .reading .best .size ≤ 4294967295 → Good s (length xs + k) → Goes s (foldl surveyed s xs) (length xs) k
 goes s [] k m b g = record { state = subst (Good s) (omega arith) g; best = b; n = omega arith; step = refl }
 goes s (x ∷ xs) k m b g =
     let e : length (x ∷ xs) + k ≡ length xs + k + 1 = omega arith in
@@ -93,11 +94,11 @@ goes s (x ∷ xs) k m b g =
     let w = step-grows s x in
     record { state = h .state; best = h .best; n = omega (arith, h .n, w .0); step = h .step ∙ w .1 }
 
-small-left : (xs ys : List ℤ) → Small (xs ++ ys) → Small xs
+pub small-left : (xs ys : List ℤ) → Small (xs ++ ys) → Small xs
 small-left [] ys h = tt
 small-left (x ∷ xs) ys h = (h .0, small-left xs ys (h .1))
 
-small-right : (xs ys : List ℤ) → Small (xs ++ ys) → Small ys
+pub small-right : (xs ys : List ℤ) → Small (xs ++ ys) → Small ys
 small-right [] ys h = h
 small-right (x ∷ xs) ys h = small-right xs ys (h .1)
 
@@ -149,7 +150,7 @@ anywhere s (p ∷ ps) e b m = by-order (mostInRange (s .reading .step) 0) (s .re
         let g = room s p (together ps) e b l h in
         ap (onwards ps) (sym (taken-all s p e h)) ∙ rest (foldl surveyed s p) (sound-good (foldl surveyed s p) 0 (g .state)) (g .best) (small-right p (together ps) m) ∙ joins s p (together ps) e b l h
 
-none-sound : (D : ℕ) → sound (none D) ≡ true
+pub none-sound : (D : ℕ) → sound (none D) ≡ true
 none-sound D = both-true (both-true (le-leb 0 (mostInRange D 0) (omega arith)) refl) (both-true refl refl)
 
 -- the first pass, over the timed samples in pieces cut anywhere

@@ -1,13 +1,14 @@
 // The clerk's search for envelope peaks in simulators' comma files: one line to standard output for each peak handed
 // out, or the refused line. A file is gone over twice, a piece at a time: which peaks are high is known only when all
 // are, and no samples are held. What cannot be read twice is written to a temporary file on the way through, which has
-// no name. What the lines say is `comma_stream`'s promise, what is counted and handed out `peak_stream`'s, how a peak
-// is written `peak_lines`'s; here bytes are only carried. How it ended goes as a digit to a descriptor of its own,
-// where bin/program waits for it.
+// no name. What the lines say is `comma_stream`'s promise, what is counted, handed out and refused `comma_peaks`'s, how
+// a peak is written `peak_lines`'s; here bytes are only carried. How it ended goes as a digit to a descriptor of its
+// own, where bin/program waits for it.
 //
 // Arguments: the step, the ramp, the decorrelation time; where a temporary file may be made, ending in XXXXXX; then
 // nothing for one file on standard input, a dash for names that come on descriptor 4, one a line, or the names.
 ghost use Prim.Native.Nat.{_≤_};
+use comma_peaks::Judged;
 use comma_stream::Follow;
 use comma_stream::Followed;
 use comma_stream::Rest;
@@ -18,7 +19,6 @@ use peak_groups::Peak;
 use peak_stream::Handed;
 use peak_stream::Handing;
 use peak_stream::Last;
-use peak_stream::Reading;
 use peak_stream::Surveyed;
 use peak_stream::Surveying;
 use refusal::Refusal;
@@ -96,36 +96,6 @@ fn least(a: usize, b: usize) -> usize
     if a < b { a } else { b }
 }
 
-// How many of `len` samples after so many lines belong to the ramp.
-fn ramp_end(ramp: u64, lines: u64, len: usize) -> usize
-    ensures { λ r. ⌜ r ≤ len ⌝ }
-{
-    if ramp < lines {
-        return 0;
-    }
-    least((ramp - lines) as usize, len)
-}
-
-// How many of `len` timed samples a record takes that has `n` already: what is more is refused by the number of lines.
-fn timed_end(r: Reading, len: usize) -> usize
-    ensures { λ r. ⌜ r ≤ len ⌝ }
-{
-    let most = sample_items::most_samples(r.step as u64, 0);
-    if most < r.n as u64 {
-        return 0;
-    }
-    least((most - r.n as u64) as usize, len)
-}
-
-// The timed samples counted.
-fn count_timed(s: Surveying, timed: &[i32]) -> Surveying {
-    let n = timed_end(s.reading, timed.len());
-    match peak_stream::take(s, &timed[..n]) {
-        Surveyed::Taken(t) => t,
-        Surveyed::Refused(_) => s,
-    }
-}
-
 // A second pass after some samples, and whether their peaks could be written.
 struct Given {
     handing: Handing,
@@ -143,21 +113,21 @@ fn write_peaks(file: u64, sizes: &[u32], times: &[u32], k: u64) -> bool {
     write_out(&out, put)
 }
 
-// The timed samples' peaks handed out, where it is the second pass.
-fn hand_timed(second: bool, file: u64, h: Handing, timed: &[i32]) -> Given {
-    if !second {
+// The peaks of some samples handed out, where it is the second pass.
+fn hand_out(p: Pass, samples: &[i32]) -> Given {
+    let h = p.handing;
+    if !p.second {
         return Given {
             handing: h,
             written: true,
         };
     }
-    let n = timed_end(h.reading, timed.len());
     let mut sizes = [0u32; LINES];
     let mut times = [0u32; LINES];
-    match peak_stream::hand_over(h, &timed[..n], &mut sizes, &mut times) {
+    match comma_peaks::hand(h, p.ramp, p.follow.lines, samples, &mut sizes, &mut times) {
         Handed::Taken(next, k) => Given {
             handing: next,
-            written: write_peaks(file, &sizes, &times, k),
+            written: write_peaks(p.file, &sizes, &times, k),
         },
         Handed::Refused(_) => Given {
             handing: h,
@@ -173,9 +143,8 @@ struct Passed {
 }
 
 fn with_samples(p: Pass, f: Follow, samples: &[i32]) -> Passed {
-    let from = ramp_end(p.ramp, p.follow.lines, samples.len());
-    let counted = count_timed(p.counted, &samples[from..]);
-    let given = hand_timed(p.second, p.file, p.handing, &samples[from..]);
+    let counted = comma_peaks::count(p.counted, p.ramp, p.follow.lines, samples);
+    let given = hand_out(p, samples);
     let handing = given.handing;
     Passed {
         pass: Pass {
@@ -413,58 +382,6 @@ fn refused(file: u64, line: u64, r: Refusal) -> u8 {
     if write_out(&out, n) { REFUSED } else { FAILED }
 }
 
-// What a first pass comes to: the line at fault and the refusal, in the order 10, 2, 3, 4; or the peaks may be handed
-// out.
-enum Judged {
-    Refused(u64, Refusal),
-    Peaks,
-}
-
-fn judge(p: Pass) -> Judged {
-    let f = p.follow;
-    if p.wrong {
-        let line = std::num::wrapping_add_u64(f.lines, 1);
-        return Judged::Refused(line, Refusal::CommaLine(line));
-    }
-    if f.outside != 0 {
-        return Judged::Refused(f.outside, Refusal::Sample(f.outside));
-    }
-    if sample_items::most_samples(f.step, p.ramp) < f.lines {
-        return Judged::Refused(0, Refusal::TooLong);
-    }
-    if f.lines < 2 {
-        return Judged::Refused(0, Refusal::TooShort);
-    }
-    if f.lines - 2 < p.ramp {
-        return Judged::Refused(0, Refusal::TooShort);
-    }
-    Judged::Peaks
-}
-
-// Whether two passes went over the same: as many lines, and as many peaks with the same sum.
-fn alike(p: Pass, q: Pass) -> bool {
-    let f = p.follow;
-    let g = q.follow;
-    let s = p.counted;
-    let t = q.counted;
-    if p.wrong {
-        return false;
-    }
-    if q.wrong {
-        return false;
-    }
-    if f.lines != g.lines {
-        return false;
-    }
-    if f.outside != g.outside {
-        return false;
-    }
-    if s.number != t.number {
-        return false;
-    }
-    s.sum == t.sum
-}
-
 // The peak of the chain that the end of the file closes.
 fn last(p: Pass) -> u8 {
     let Last::One(peak) = peak_stream::finish(p.handing) else {
@@ -479,14 +396,16 @@ fn last(p: Pass) -> u8 {
     }
 }
 
-// A file whose bytes cannot be had twice, or not the same.
-fn not_twice(words: &[u8]) -> u8 {
-    io::write_all(STDERR_FILENO, words);
+fn changed() -> u8 {
+    io::write_all(
+        STDERR_FILENO,
+        b"peaks: the file changed while it was read\n",
+    );
     FAILED
 }
 
 // The second pass, from the start of what the first went over.
-fn hand_out(items: Items, first: Pass, from: i32, start: i64) -> u8 {
+fn second_pass(items: Items, first: Pass, from: i32, start: i64) -> u8 {
     if libc::lseek(from, start, libc::SEEK_SET) < 0 {
         os::fail(b"going back to the start");
         return FAILED;
@@ -522,8 +441,11 @@ fn hand_out(items: Items, first: Pass, from: i32, start: i64) -> u8 {
     ) else {
         return FAILED;
     };
-    if !alike(first, p) {
-        return not_twice(b"peaks: the file changed while it was read\n");
+    if !comma_peaks::alike(first.follow, first.counted, p.follow, p.counted) {
+        return changed();
+    }
+    if p.wrong {
+        return changed();
     }
     last(p)
 }
@@ -559,15 +481,15 @@ fn both_passes(items: Items, first: Pass, from: i32, start: i64) -> u8 {
         return FAILED;
     };
     let mut end = READ;
-    match judge(p) {
+    match comma_peaks::judge(p.follow, p.ramp, p.wrong) {
         Judged::Refused(line, r) => {
             end = refused(p.file, line, r);
         }
         Judged::Peaks => {
             if start < 0 {
-                end = hand_out(items, p, copy, 0);
+                end = second_pass(items, p, copy, 0);
             } else {
-                end = hand_out(items, p, from, start);
+                end = second_pass(items, p, from, start);
             }
         }
     }

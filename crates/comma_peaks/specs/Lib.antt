@@ -1,0 +1,2 @@
+pub mod Timed
+pub mod Judged

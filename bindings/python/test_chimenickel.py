@@ -37,6 +37,7 @@ from chimenickel import (
     counted_times,
     envelope_peaks,
     first_crossing,
+    extrapolate,
     fit_tail,
     from_degrees,
     judge_condition,
@@ -435,6 +436,25 @@ class Records(unittest.TestCase):
         self.refused(16, 0, fit_tail, [], 0)
         self.refused(17, 1, fit_tail, [1, 0, 1_000_001], 2)
         self.assertRaises(OverflowError, fit_tail, [1, -1], 2)
+
+    def test_beyond(self):
+        peaks = [31_000, 34_000, 33_000, 32_000, 31_500, 30_500, 30_000, 29_500, 29_000, 28_500, 28_000, 27_500]
+        found = extrapolate(peaks, 10, 40_000, 500, 1_000_000, 7_200_000)
+        self.assertEqual(found[:4], (3_569_418_850, 356_906_209, None, "A"))
+        self.assertEqual(found.tail, fit_tail(peaks, 10))
+        for standard, letter in ((29_289_438, "A"), (29_289_439, "C"), (170_706_725, "C"), (170_706_726, "R")):
+            found = extrapolate(peaks, 10, 28_500, 500, 1_000_000, standard)
+            self.assertEqual(found[:4], (50_000_000, 29_289_438, 170_706_726, letter))
+        self.refused(1, 1, extrapolate, [], 0, 0, 0, 0, 0)
+        self.refused(1, 3, extrapolate, [], 0, 1_000_001, 1, 0, 0)
+        self.refused(1, 5, extrapolate, [0], 0, 40_000, 1, 0, 0)
+        self.refused(16, 0, extrapolate, peaks, 13, 40_000, 500, 0, 1)
+        self.refused(17, 1, extrapolate, [1, 0, 2], 2, 40_000, 500, 0, 1)
+        self.refused(19, 0, extrapolate, peaks, 10, 20_000, 500, 9, 1)
+        self.refused(20, 28_500, extrapolate, peaks, 10, 28_499, 500, 10, 1)
+        self.refused(21, 0, extrapolate, [35_000] * 40, 10, 40_000, 500, 1_000_000, 1)
+        self.assertRaises(OverflowError, extrapolate, peaks, 10, 40_000, 500, -1, 1)
+        self.assertRaises(TypeError, extrapolate, peaks, 10, 40_000, 500, 1.5, 1)
 
     def test_threads(self):
         """A record of one channel is told of nothing in the other, whatever other threads feed meanwhile."""

@@ -66,6 +66,7 @@ __version__ = "3.0.0"
 
 __all__ = [
     "Bench",
+    "Beyond",
     "Bounds",
     "Campaign",
     "Case",
@@ -83,6 +84,7 @@ __all__ = [
     "count_files",
     "counted_times",
     "envelope_peaks",
+    "extrapolate",
     "first_crossing",
     "fit_tail",
     "from_degrees",
@@ -168,6 +170,7 @@ for _name, _result, _parameters in [
     ("chim_condition_report", _u64, [_campaigns, _size, ctypes.c_char_p, _size, _numbers]),
     ("chim_envelope_find", _u64, [_u64, _u64, _u64, _samples, _size, _times, _size, _times, _size, _numbers]),
     ("chim_tail_fit", _u64, [_times, _size, _u64, _times, _size, _numbers]),
+    ("chim_extrapolate", _u64, [_times, _size, _u64, _u64, _u64, _u64, _u64, _numbers, _size, _numbers]),
     ("chim_sheet_write", _u64, [_u64, _samples, _size, ctypes.c_char_p, _size, _numbers]),
     ("chim_sheet_records", _u64, [ctypes.c_char_p, _size, _samples, _size, _numbers, _numbers, _numbers, _numbers]),
     ("chim_comma_read", _u64, [ctypes.c_char_p, _size, _u64, _samples, _size, _numbers]),
@@ -224,6 +227,9 @@ class Refusal(Exception):
         16: "there are more than 4,096 peaks, or k is outside 2 to their number",
         17: "the peak at place {} is 0 or above 1,000,000",
         18: "there is no campaign, or there are more than 64",
+        19: "there are fewer timed samples than peaks in the tail, or more than 100,000,000",
+        20: "the level is below {}, the last peak of the tail",
+        21: "the tail has no spread",
     }
 
     def __init__(self, number: int, carried: int, channel: Optional[Channel] = None) -> None:
@@ -258,6 +264,7 @@ _TAKEN = {
     "acceleration": "is in whole mm/s2, in one dimension",
     "samples": "are whole thousandths, in one dimension",
     "peaks": "are whole numbers, in one dimension",
+    "timed_samples": "are a whole number",
     "records": "are in whole ms, in one dimension",
     "degrees": "are numbers, in one dimension",
 }
@@ -1123,6 +1130,39 @@ def lower_row(n: Whole) -> int:
     """Lower row n in millionths of an expected failure, from 1 to 64; 0 for any other n."""
     row: int = _lib.chim_lower_row(*_items(n=n))
     return row
+
+
+class Beyond(NamedTuple):
+    """What extrapolation comes to, in ms: at most the estimated mean time between failures at the level, the longest
+    standard found to be accepted and the shortest found to be rejected (None for none); the letter for the standard that
+    was asked, A, R or C; and the tail that it was found from."""
+
+    estimate: int
+    accepted: Optional[int]
+    rejected: Optional[int]
+    letter: str
+    tail: Tail
+
+
+def extrapolate(
+    peaks: Row, k: Whole, level: Whole, step: Whole, timed_samples: Whole, standard: Whole
+) -> Beyond:
+    """The mean time between failures at a level that no record need reach, from up to 4,096 envelope peaks in any order:
+    by the k largest of them, the level in thousandths of a degree, the step in ms, the timed samples of all records and a
+    standard in ms. Refuses 1 with item 1, 3 or 5, 16, 17, 19, 20 with the k-th peak, 21, in this order."""
+    items = _items(level=level, step=step, timed_samples=timed_samples, standard=standard)
+    [largest] = _items(k=k)
+    times = (_u64 * 3)()
+    # without a peak 1 is given where it is due, and else 16; the place that 17 names is that of the list handed over
+    try:
+        _ask(_lib.chim_extrapolate, (ctypes.c_uint32 * 1)(), 0, 0, *items, times, 3)
+    except Refusal as refusal:
+        if refusal.number == 1:
+            raise
+    tail = fit_tail(peaks, largest)
+    lent = (ctypes.c_uint32 * len(tail.sorted))(*tail.sorted)
+    letter = _ask(_lib.chim_extrapolate, lent, len(tail.sorted), largest, *items, times, 3)
+    return Beyond(times[0], times[1] or None, times[2] or None, " ARC"[letter], tail)
 
 
 # these stand on the above

@@ -130,6 +130,18 @@ extern "C" {
         carried: *mut u64,
     ) -> u64;
     pub fn chim_tail_fit(peaks: *const u32, peaks_len: usize, k: u64, sorted: *mut u32, sorted_len: usize, carried: *mut u64) -> u64;
+    pub fn chim_extrapolate(
+        peaks: *const u32,
+        peaks_len: usize,
+        k: u64,
+        level: u64,
+        step: u64,
+        samples: u64,
+        standard: u64,
+        times: *mut u64,
+        times_len: usize,
+        carried: *mut u64,
+    ) -> u64;
     pub fn chim_sheet_write(standard: u64, records: *const i32, records_len: usize, out: *mut u8, out_len: usize, carried: *mut u64) -> u64;
     pub fn chim_sheet_records(
         text: *const u8,

@@ -117,8 +117,13 @@
 #[cfg(feature = "std")]
 extern crate std;
 
+#[cfg(feature = "std")]
+mod beyond;
 #[allow(dead_code)] // without std some are not asked
 mod c;
+
+#[cfg(feature = "std")]
+pub use beyond::{extrapolate, Beyond, Letter};
 
 use core::fmt;
 #[cfg(feature = "std")]
@@ -167,6 +172,12 @@ pub enum Refusal {
     Peak(u64),
     /// 18: a loading condition of no campaign, or of more than 64.
     Condition,
+    /// 19: fewer timed samples than peaks in the tail, or more than 100,000,000.
+    TimedSamples,
+    /// 20: a level below the last peak of the tail; that peak.
+    LowLevel(u64),
+    /// 21: a tail without spread.
+    NoSpread,
 }
 
 impl Refusal {
@@ -191,6 +202,9 @@ impl Refusal {
             Refusal::Tail => 16,
             Refusal::Peak(_) => 17,
             Refusal::Condition => 18,
+            Refusal::TimedSamples => 19,
+            Refusal::LowLevel(_) => 20,
+            Refusal::NoSpread => 21,
         }
     }
 
@@ -214,6 +228,9 @@ impl Refusal {
             16 => Refusal::Tail,
             17 => Refusal::Peak(carried),
             18 => Refusal::Condition,
+            19 => Refusal::TimedSamples,
+            20 => Refusal::LowLevel(carried),
+            21 => Refusal::NoSpread,
             _ => Refusal::BrokenState,
         }
     }
@@ -242,6 +259,11 @@ impl fmt::Display for Refusal {
             Refusal::Tail => write!(f, "there are more than 4,096 peaks, or k is outside 2 to their number"),
             Refusal::Peak(place) => write!(f, "the peak at place {place} is 0 or above 1,000,000"),
             Refusal::Condition => write!(f, "there is no campaign, or there are more than 64"),
+            Refusal::TimedSamples => {
+                write!(f, "there are fewer timed samples than peaks in the tail, or more than 100,000,000")
+            }
+            Refusal::LowLevel(peak) => write!(f, "the level is below {peak}, the last peak of the tail"),
+            Refusal::NoSpread => write!(f, "the tail has no spread"),
         }
     }
 }

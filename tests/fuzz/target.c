@@ -401,6 +401,39 @@ static void tail(void) {
     hold(before == after);
 }
 
+/* the rate beyond the records from any peaks, as they come and sorted: a refusal leaves the times, and without one they are in order, the letter is that of
+ * the standard, and a shorter one that was accepted is accepted again */
+static void beyond(void) {
+    enum { MOST = 64 };
+    uint32_t peaks[MOST], sorted[MOST];
+    uint64_t k = number(1), level = number(3), step = number(2), samples = number(4), standard = number(5), carried = 0, sum = 0;
+    uint64_t times[CHIM_TIMES_NUMBERS + 1], places = number(1) % 16 == 0 ? number(1) % 5 : CHIM_TIMES_NUMBERS;
+    size_t n = 0;
+    while (left > 0 && n < MOST)
+        peaks[n++] = (uint32_t)number(3) % 1048576;
+    for (int turn = 0; turn < 2; turn++) {
+        const uint32_t *list = turn == 0 ? peaks : sorted;
+        if (turn == 1 && chim_tail_fit(peaks, n, k, sorted, MOST, &sum) != CHIM_TAKEN)
+            return;
+        memset(times, 0xa5, sizeof times);
+        size_t lent = places <= CHIM_TIMES_NUMBERS ? places : CHIM_TIMES_NUMBERS + 1;
+        uint64_t answer = chim_extrapolate(list, n, k, level, step, samples, standard, times, lent, &carried);
+        for (size_t i = answer == CHIM_TAKEN ? CHIM_TIMES_NUMBERS : 0; i <= CHIM_TIMES_NUMBERS; i++)
+            hold(times[i] == 0xa5a5a5a5a5a5a5a5);
+        hold(answer == CHIM_TAKEN || answer == CHIM_BROKEN_STATE || answer == CHIM_ITEM || answer == CHIM_TAIL || answer == CHIM_PEAK
+             || answer == CHIM_TIMED_SAMPLES || answer == CHIM_LOW_LEVEL || answer == CHIM_NO_SPREAD);
+        hold(turn == 0 || answer != CHIM_PEAK);
+        hold(answer != CHIM_LOW_LEVEL || (carried == list[k - 1] && level < carried));
+        if (answer != CHIM_TAKEN)
+            continue;
+        uint64_t e = times[CHIM_ESTIMATED], a = times[CHIM_LONGEST_ACCEPTED], b = times[CHIM_SHORTEST_REJECTED], letter = carried;
+        hold(lent == CHIM_TIMES_NUMBERS && a <= e && e <= 100000000000 && (b == 0 || (e < b && b <= 100000000000)));
+        hold(letter == (standard <= a ? CHIM_ACCEPT : b != 0 && standard >= b ? CHIM_REJECT : CHIM_CONTINUE));
+        if (letter == CHIM_ACCEPT)
+            hold(chim_extrapolate(list, n, k, level, step, samples, standard / 2 + 1, times, lent, &carried) == CHIM_TAKEN && carried == CHIM_ACCEPT);
+    }
+}
+
 /* the envelope peaks of any samples, into slices of any lengths: more than the decorrelation time apart, each a sample of that size at that time, and nothing
  * beyond; with places enough the same call is taken */
 static void envelope(void) {
@@ -505,7 +538,7 @@ static void condition(void) {
 
 int LLVMFuzzerTestOneInput(const uint8_t *data, size_t size) {
     in = data, left = size;
-    switch (number(1) % 11) {
+    switch (number(1) % 12) {
     case 0: sheet(); break;
     case 1: record(); break;
     case 2: list(); break;
@@ -517,6 +550,7 @@ int LLVMFuzzerTestOneInput(const uint8_t *data, size_t size) {
     case 8: envelope(); break;
     case 9: condition(); break;
     case 10: sum(); break;
+    case 11: beyond(); break;
     }
     return 0;
 }

@@ -155,20 +155,21 @@ unfolding lineLength
 lines-ahead none = omega arith
 lines-ahead (more ls l) = omega (arith, lines-ahead ls, l .line .place)
 
-module _ {D : ℕ} {text : List ℕ} {at time count sound : ℕ} (a : Along D text at time count sound) where
-  counted : (sound count lines : ℕ) → sound ≤ count
-      → cond (eqb (cond (eqb sound count) (sound + lines) sound) (count + lines) && true) (cond (eqb sound count) (sound + lines) sound + 1) (cond (eqb sound count) (sound + lines) sound)
-      ≡ cond (eqb sound count) (sound + (lines + 1)) sound
-  counted sound count lines low =
-      by-test (eqb sound count)
-      (λ e. let same = eqb-true sound count e in rw (e, eq-eqb (sound + lines) (count + lines) (omega arith)) (omega arith))
-      (λ e. let other = eqb-false sound count e in rw (e, ne-eqb sound (count + lines) (λ q. other (omega arith))))
+-- their samples are in range
+pub counted : (sound count lines : ℕ) → sound ≤ count
+    → cond (eqb (cond (eqb sound count) (sound + lines) sound) (count + lines) && true) (cond (eqb sound count) (sound + lines) sound + 1) (cond (eqb sound count) (sound + lines) sound)
+    ≡ cond (eqb sound count) (sound + (lines + 1)) sound
+counted sound count lines low =
+    by-test (eqb sound count)
+    (λ e. let same = eqb-true sound count e in rw (e, eq-eqb (sound + lines) (count + lines) (omega arith)) (omega arith))
+    (λ e. let other = eqb-false sound count e in rw (e, ne-eqb sound (count + lines) (λ q. other (omega arith))))
 
+pub counted-none : (sound count : ℕ) → cond (eqb sound count) sound sound ≡ sound
+counted-none sound count = by-test (eqb sound count) (λ e. rw e) (λ e. rw e)
+
+module _ {D : ℕ} {text : List ℕ} {at time count sound : ℕ} (a : Along D text at time count sound) where
   pub all-on : {end lines : ℕ} → PlainLines text D at time end lines → D ≤ 10000 → Along D text end (time + lines * D) (count + lines) (cond (eqb sound count) (sound + lines) sound)
-  all-on none small = simp (zero-mul, add-zero, same) a
-    where
-      same : (m n : ℕ) → cond (eqb m n) m m ≡ m
-      same m n = by-test (eqb m n) (λ e. rw e) (λ e. rw e)
+  all-on none small = simp (zero-mul, add-zero, counted-none) a
   all-on (more {next} {lines} {end} ls l) small =
       let before = all-on ls small in
       let after = on before (l .line .is) small true (sym (le-leb _ largestSize (l .line .small))) in

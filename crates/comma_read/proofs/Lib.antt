@@ -7,4 +7,7 @@ pub mod Running
 pub mod Answered
 pub mod Along
 pub mod Front
+pub mod Puts
+pub mod Going
+pub mod Way
 pub mod Unique

@@ -16,7 +16,7 @@ use Rattle.comma_word.specs.Dial.{dial, each, turned}
 use Rattle.comma_word.proofs.Turn.{moved}
 use Rattle.comma_word.proofs.Shown.{shown-wide}
 use Rattle.comma_read.specs.Roll.{PlainRoll}
-use Rattle.comma_read.specs.Plain.{Narrow, PlainLines, none, more}
+use Rattle.comma_read.specs.Plain.{Narrow, RollLine, PlainLines, none, more}
 use Rattle.comma_read.proofs.Times.{narrow-on}
 use Rattle.comma_read.proofs.PlainLine.{whole-roll, roll-within}
 
@@ -67,14 +67,22 @@ module _ (s : List ℕ) (D at due width : ℕ) where
   pub set-out : (digits : ℕ) → digits ≡ dial 8 due → Narrow width due → at ≤ length s → Running s D at due width digits due at 0
   set-out digits e n inside = record { are = none; when = omega arith; dials = e; narrow = n; within = inside; count = omega arith }
 
+-- where the digits that are due stand and plain degrees after them, the line of the time does
+pub due-line : (s : List ℕ) (D at due width : ℕ) {digits time place lines : ℕ} → Running s D at due width digits time
+    place lines → width ≤ 8 → place + 17 ≤ length s → Small s place 8 → time < 99990000
+    → word (take 8 (drop place s)) / 2 ^ (64 - 8 * width) ≡ digits + 0x3030303030303030 / 2 ^ (64 - 8 * width)
+    → {roll : ℕ} → PlainRoll s (place + width) roll → RollLine s place time (place + width + roll / 2)
+due-line s D at due width {digits} {time} {place} {lines} r few room small early e {roll} p =
+    let t = due-stands width (r .narrow .some) few s place time (omega arith) small (omega arith) (e ∙ ap (λ (q : ℕ). q + 0x3030303030303030 / 2 ^ (64 - 8 * width)) (r .dials)) in
+    whole-roll s place width p time (r .narrow) (omega arith) (t .0) (t .1)
+
 -- one line more
 pub on-line : (s : List ℕ) (D at due width : ℕ) {digits time place lines : ℕ} → Running s D at due width digits time
     place lines → width ≤ 8 → place + 17 ≤ length s → Small s place 8 → time < 99990000 → D ≤ 10000
     → word (take 8 (drop place s)) / 2 ^ (64 - 8 * width) ≡ digits + 0x3030303030303030 / 2 ^ (64 - 8 * width)
     → {roll : ℕ} → PlainRoll s (place + width) roll → Running s D at due width (turned digits (dial 8 D + each 246 8)) (time + D) (place + width + roll / 2) (lines + 1)
 on-line s D at due width {digits} {time} {place} {lines} r few room small early step e {roll} p =
-    let t = due-stands width (r .narrow .some) few s place time (omega arith) small (omega arith) (e ∙ ap (λ (q : ℕ). q + 0x3030303030303030 / 2 ^ (64 - 8 * width)) (r .dials)) in
-    let l = whole-roll s place width p time (r .narrow) (omega arith) (t .0) (t .1) in
+    let l = due-line s D at due width r few room small early e p in
     record {
       are = more {end = place + width + roll / 2} (r .are) (rw (← r .when) l);
       when = omega (arith, r .when);

@@ -3,3 +3,4 @@ pub mod Roll
 pub mod Plain
 pub mod Answers
 pub mod Survey
+pub mod Taken

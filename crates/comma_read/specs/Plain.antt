@@ -4,9 +4,10 @@ use Prim.Native.Nat.{ℕ, _+_, _*_, _≤_}
 use mathlib.Core.Path.{_≡_}
 use mathlib.Core.Bool.{true}
 use mathlib.Core.List.{List}
-use lib.ListN.{length, drop}
+use lib.IntN.{ℤ}
+use lib.ListN.{length, drop, set}
 use Rattle.decimal.specs.Decimal.{digitsOf}
-use Rattle.degrees.specs.Degrees.{unsigned, size, largestSize}
+use Rattle.degrees.specs.Degrees.{unsigned, size, sampleOf, largestSize}
 use Rattle.comma_line.specs.Line.{roll, right, lineLength}
 use Rattle.comma_read.specs.Roll.{PlainRoll}
 
@@ -32,3 +33,9 @@ pub record RollLine (s : List ℕ) (at time next : ℕ) : Type 0 where
 pub data PlainLines (s : List ℕ) (D at time : ℕ) : ℕ → ℕ → Type 0 where
   none : PlainLines s D at time at 0
   more : {next lines end : ℕ} → PlainLines s D at time next lines → RollLine s next (time + lines * D) end → PlainLines s D at time end (lines + 1)
+
+-- the same, the sample of each put into a slice from a place on
+pub data PlainPut (s : List ℕ) (D at time : ℕ) (slice : List ℤ) (from : ℕ) : ℕ → ℕ → List ℤ → Type 0 where
+  as-it-stood : PlainPut s D at time slice from at 0 slice
+  one-more : {next lines end : ℕ} {samples : List ℤ} → PlainPut s D at time slice from next lines samples → RollLine s next (time + lines * D) end
+      → PlainPut s D at time slice from end (lines + 1) (set samples (from + lines) (sampleOf (roll (drop next s))))

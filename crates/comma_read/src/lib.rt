@@ -1,4 +1,5 @@
-// A comma file taken in: a whole text read into lent samples, all its lines judged before a sample is put.
+// A comma file taken in, by one reader: a whole text into lent samples, all its lines judged before a sample is put
+// (`read`), or the right lines that a text starts with, each put as it is judged (`take`).
 ghost use mathlib.Core.Path.{_≡_};
 ghost use mathlib.Core.Bool.{true, cond, _&&_};
 ghost use mathlib.Core.List.{[], _∷_};
@@ -7,6 +8,7 @@ ghost use lib.Bits.{bitAnd, bitXor};
 ghost use lib.Dec.{eqb};
 ghost use lib.ListN.{length, set, take, drop};
 ghost use lib.Seq.{sets};
+ghost use Rattle.sample_items.specs.Limits.{stepInRange};
 ghost use Rattle.decimal.specs.Decimal.{allDigits, valueOf, digitsOf};
 ghost use Rattle.decimal.specs.Lines.{linesOf};
 ghost use Rattle.degrees.specs.Degrees.{size, signed};
@@ -18,8 +20,9 @@ ghost use Rattle.comma_line.specs.Text.{samplesOf};
 ghost use Rattle.comma_word.specs.Form.{mask, bits, more};
 ghost use Rattle.comma_read.specs.Forms.{plusShort};
 ghost use Rattle.comma_read.specs.Roll.{PlainRoll, AnyRoll, rollSample};
-ghost use Rattle.comma_read.specs.Plain.{Narrow, PlainLines};
+ghost use Rattle.comma_read.specs.Plain.{Narrow, PlainLines, PlainPut};
 ghost use Rattle.comma_read.specs.Answers.{readingComma, filledBy};
+ghost use Rattle.comma_read.specs.Taken.{linesTaken, takenOf, putBy};
 ghost use Rattle.comma_read.specs.Survey.{AllGood, surveyed};
 use comma_line::Line;
 use degrees::Degrees;
@@ -37,10 +40,20 @@ const ROOM: usize = 17;
 // The times before it have eight digits with any step more.
 const LATEST: u64 = 99_990_000;
 
+// After so many lines no time has 12 digits.
+const MOST_LINES: u64 = 1_000_000_000_000;
+
 // What reading a text comes to.
 pub enum Reading {
     // The number of samples.
     Samples(u64),
+    Refused(Refusal),
+}
+
+// What taking a text's right lines comes to.
+pub enum LinesTaken {
+    // Their number, their bytes, and the samples before the first out of range.
+    Taken(u64, usize, u64),
     Refused(Refusal),
 }
 
@@ -256,19 +269,26 @@ fn plain_run(text: &[u8], at: usize, width: usize, due: u64, step: u64) -> Run
     }
 }
 
-// The same, where the first is looked at before the digits are laid out: a file whose lines are not plain pays for no
-// more.
+// Whether a plain line may stand at `at`, its time so wide: looked at before the digits are laid out, so that a file
+// whose lines are not plain pays for no more.
+fn looks_plain(text: &[u8], at: usize, width: usize) -> bool
+    ensures { λ r. ⌜ (r ≡ true → (at + 17 ≤ length (now (text .entry))) × (width ≤ 8)) ⌝ }
+{
+    if 8 < width {
+        return false;
+    }
+    if !text::has_room(text.len(), at, ROOM) {
+        return false;
+    }
+    comma_word::bytes_at(text, degrees::past_minus(text, at + width + 1)) != 0
+}
+
+// The same, where the first is looked at before.
 fn plain_lines(text: &[u8], at: usize, width: usize, due: u64, step: u64) -> Run
     requires { ⌜ Narrow width due × (step ≤ 10000) ⌝ }
     ensures { λ r. ⌜ PlainLines (now (text .entry)) step at due (r .at) (r .lines) ⌝ }
 {
-    if 8 < width {
-        return no_lines(at);
-    }
-    if !text::has_room(text.len(), at, ROOM) {
-        return no_lines(at);
-    }
-    if comma_word::bytes_at(text, degrees::past_minus(text, at + width + 1)) == 0 {
+    if !looks_plain(text, at, width) {
         return no_lines(at);
     }
     plain_run(text, at, width, due, step)
@@ -523,4 +543,129 @@ pub fn read(text: &[u8], step: u64, samples: &mut [i32]) -> Reading
             Reading::Samples(count)
         }
     }
+}
+
+// ---- the right lines of a text, one pass
+// Plain lines as `plain_run` has them, the sample of each put as it is judged, from `from` on: as many as have a place.
+fn plain_put(
+    text: &[u8],
+    at: usize,
+    width: usize,
+    due: u64,
+    step: u64,
+    samples: &mut [i32],
+    from: usize,
+) -> Run
+    requires { ⌜ (at + 17 ≤ length (now text)) × Narrow width due × (width ≤ 8) × (step ≤ 10000)
+        × (from ≤ length (now samples)) ⌝ }
+    ensures { λ r. ⌜ PlainPut (now (text .entry)) step at due (now (samples .entry)) from (r .at) (r .lines)
+        (now (samples .exit)) ⌝ }
+    ensures { λ r. ⌜ from + r .lines ≤ length (now (samples .entry)) ⌝ }
+{
+    let last = text.len() - ROOM;
+    let places = (samples.len() - from) as u64;
+    let shift = 64 - 8 * width;
+    let zeros = 0x3030_3030_3030_3030u64 >> shift;
+    let by = eight_digits(step) + 0xF6F6_F6F6_F6F6_F6F6;
+    let mut digits = eight_digits(due);
+    let mut time = due;
+    let mut place = at;
+    let mut lines: u64 = 0;
+    while lines < places {
+        if !truth::both(time < LATEST, place <= last) {
+            break;
+        }
+        if eight(text, place) >> shift != digits + zeros {
+            break;
+        }
+        let roll = plain_roll(text, place + width);
+        if roll == 0 {
+            break;
+        }
+        store(
+            plain_sample(text, place + width, roll),
+            samples,
+            from + lines as usize,
+        );
+        place = place + width + roll / 2;
+        digits = moved_on(digits, by);
+        time += step;
+        lines += 1;
+    }
+    Run {
+        at: place,
+        lines: lines,
+    }
+}
+
+// The same, where the first is looked at before.
+fn plain_taken(
+    text: &[u8],
+    at: usize,
+    width: usize,
+    due: u64,
+    step: u64,
+    samples: &mut [i32],
+    from: usize,
+) -> Run
+    requires { ⌜ Narrow width due × (step ≤ 10000) × (from ≤ length (now samples)) ⌝ }
+    ensures { λ r. ⌜ PlainPut (now (text .entry)) step at due (now (samples .entry)) from (r .at) (r .lines)
+        (now (samples .exit)) ⌝ }
+    ensures { λ r. ⌜ from + r .lines ≤ length (now (samples .entry)) ⌝ }
+{
+    if !looks_plain(text, at, width) {
+        return no_lines(at);
+    }
+    plain_put(text, at, width, due, step, samples, from)
+}
+
+// The right lines at a step in range, the first of them having a time: plain ones together, then one of any form.
+fn right_lines(text: &[u8], step: u64, before: u64, samples: &mut [i32]) -> LinesTaken
+    requires { ⌜ (stepInRange step ≡ true) × (before ≤ 1000000000000) ⌝ }
+    ensures { λ r. ⌜ r ≡ linesTaken step before (now (text .entry)) (length (now (samples .entry))) ⌝ }
+    ensures { λ r. ⌜ now (samples .exit) ≡ putBy r (now (text .entry)) (now (samples .entry)) ⌝ }
+    ensures { λ r. ⌜ before + takenOf r < 18446744073709551616 ⌝ }
+{
+    let mut at = 0;
+    let mut count: u64 = 0;
+    let mut due = before * step;
+    let mut sound: u64 = 0;
+    let mut width = 1;
+    while (count as usize) < samples.len() {
+        width = width_at(text, at, width, due);
+        let run = plain_taken(text, at, width, due, step, samples, count as usize);
+        sound = carried(sound, count, run.lines);
+        count += run.lines;
+        due += run.lines * step;
+        at = run.at;
+        if samples.len() <= count as usize {
+            break;
+        }
+        let Line::Says(minus, size, end) = comma_line::line_at(text, at, due) else {
+            break;
+        };
+        store(degrees::sample(minus, size), samples, count as usize);
+        sound = tallied(sound, count, size <= comma_line::SAMPLE_LIMIT as u64);
+        count += 1;
+        due += step;
+        at = end;
+    }
+    LinesTaken::Taken(count, at, sound)
+}
+
+// Takes the right lines that `text` starts with, as many as `samples` has places, where `before` lines of the file
+// stand before them. Puts their samples, a 0 for one out of range; the rest of `samples` stays. Or refusal 1 for the
+// step.
+pub fn take(text: &[u8], step: u64, before: u64, samples: &mut [i32]) -> LinesTaken
+    ensures { λ r. ⌜ r ≡ linesTaken step before (now (text .entry)) (length (now (samples .entry))) ⌝ }
+    ensures { λ r. ⌜ now (samples .exit) ≡ putBy r (now (text .entry)) (now (samples .entry)) ⌝ }
+    ensures { λ r. ⌜ before + takenOf r < 18446744073709551616 ⌝ }
+{
+    if !comma_line::step_in_range(step) {
+        return LinesTaken::Refused(Refusal::Item(1));
+    }
+    if before > MOST_LINES {
+        return LinesTaken::Taken(0, 0, 0);
+    }
+    right_lines(text, step, before, samples)
 }

@@ -22,11 +22,12 @@ use Rattle.refusal.specs.declared.Refusal.the-variants.{Sample, CommaLine}
 use Rattle.comma_read.specs.declared.Reading.the-variants.{Samples, Refused}
 use Rattle.comma_read.specs.Answers.{readingComma, readingLines}
 use Rattle.comma_read.proofs.Lines.{Turn, turn, first-line}
+use Rattle.comma_read.proofs.Going.{wrong-none}
 use Rattle.comma_stream.specs.declared.Follow.{Follow}
 use Rattle.comma_stream.specs.Follow.{bytesOf, rightLines, afterLines}
 use Rattle.text.specs.Pieces.{joined}
 use Rattle.comma_stream.specs.Pieces.{Passed, nothing, withPiece, passing, ending}
-use Rattle.comma_stream.proofs.Going.{Outside, outside-is, outside-join, wrong-none}
+use Rattle.comma_stream.proofs.Going.{Outside, outside-is, outside-join}
 
 -- ---- the right lines that a text starts with, from a time on
 abbrev pub Rights : ℕ → ℕ → List ℕ → List (List ℕ)

@@ -4,14 +4,15 @@ use Prim.Native.Nat.{ℕ, _+_, _*_}
 use mathlib.Core.Bool.{Bool, true, cond, not, _&&_}
 use mathlib.Core.List.{List, [], _∷_, _++_, map}
 use lib.Dec.{eqb, ltb}
-use lib.IntN.{ℤ, pos}
+use lib.IntN.{ℤ}
 use lib.ListN.{length, take, drop}
 use Rattle.refusal.specs.declared.Refusal.the-variants.{Item}
 use Rattle.sample_items.specs.Limits.{stepInRange}
-use Rattle.sample_range.specs.Range.{sampleInRange, firstBad}
+use Rattle.sample_range.specs.Range.{firstBad}
 use Rattle.decimal.specs.Field.{lineFeed}
 use Rattle.decimal.specs.Lines.{linesOf}
 use Rattle.comma_line.specs.Text.{firstWrong, samplesOf}
+unfoldable pub use Rattle.comma_read.specs.Taken.{bytesOf, held}
 use Rattle.comma_stream.specs.declared.Follow.{Follow}
 use Rattle.comma_stream.specs.declared.Followed.{Followed}
 use Rattle.comma_stream.specs.declared.Followed.the-variants.{Taken, Refused}
@@ -41,11 +42,6 @@ waitingFor (Waits n) = n
 waitingFor Over = 0
 waitingFor Wrong = 0
 
--- the bytes of lines
-unfoldable pub bytesOf : List (List ℕ) → ℕ
-bytesOf [] = 0
-bytesOf (line ∷ lines) = length line + bytesOf lines
-
 -- the right lines that a text starts with
 unfoldable pub rightLines : Follow → List ℕ → List (List ℕ)
 rightLines f text = take (firstWrong (f .step) (f .lines * f .step) (linesOf text)) (linesOf text)
@@ -66,10 +62,6 @@ takenBy f lines = Taken (afterLines f lines) (bytesOf lines) (length lines)
 -- taking a text's lines into so many places: 1 for the step, or its right lines, as many as there are places
 unfoldable pub taking : Follow → List ℕ → ℕ → Followed
 taking f text places = cond (not (stepInRange (f .step))) (Refused (Item 1)) (takenBy f (take places (rightLines f text)))
-
--- a sample out of range is held as 0
-unfoldable pub held : ℤ → ℤ
-held x = cond (sampleInRange x) x (pos 0)
 
 -- how many lines were taken
 unfoldable pub numberOf : Followed → ℕ

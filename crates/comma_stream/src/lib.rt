@@ -2,22 +2,18 @@
 // A piece's right lines are taken; what is left of it goes before the next piece. That the pieces make no difference
 // is the theorem `Pieces.followed-whole`.
 ghost use mathlib.Core.Path.{_≡_};
-ghost use mathlib.Core.Bool.{true, cond, _&&_};
-ghost use Prim.Native.Nat.{_≤_, _<_};
+ghost use mathlib.Core.Bool.{cond, _&&_};
+ghost use Prim.Native.Nat.{_+_, _≤_, _<_};
 ghost use lib.Dec.{eqb, ltb};
 ghost use lib.ListN.{length, drop};
-ghost use Rattle.sample_items.specs.Limits.{stepInRange};
 ghost use Rattle.comma_stream.specs.Follow.{unended, resting, waitingFor, taking, leaving, numberOf};
-use comma_line::Line;
+use comma_read::LinesTaken;
 use refusal::Refusal;
 
 const LF: u8 = 10;
 
 // The most bytes of a line: two numbers of 12 digits, comma, minus, point, three digits, LF.
 const LONGEST_LINE: usize = 31;
-
-// Past it no time has 12 digits.
-const LATEST: u64 = 1_000_000_000_000;
 
 // Where the reading of a file stands.
 pub struct Follow {
@@ -84,48 +80,16 @@ pub fn left(text: &[u8], at: usize, more: bool) -> Rest
     Rest::Waits(text.len() - at)
 }
 
-// The line of the first sample out of range, once this line is read.
-fn noted(outside: u64, size: u64, line: u64) -> u64
-    ensures { λ r. ⌜ r ≡ cond (eqb outside 0 && ltb 1000000 size) line outside ⌝ }
+// The line of the first sample out of range, once so many lines more are read, of which so many samples stand before
+// their first.
+fn noted(f: Follow, number: u64, sound: u64) -> u64
+    requires { ⌜ f .lines + number < 18446744073709551616 ⌝ }
+    ensures { λ r. ⌜ r ≡ cond (eqb (f .outside) 0 && ltb sound number) (f .lines + sound + 1) (f .outside) ⌝ }
 {
-    truth::pick(
-        truth::both(outside == 0, size > comma_line::SAMPLE_LIMIT as u64),
-        line,
-        outside,
-    )
-}
-
-// The right lines at a step in range, the first of them having a time.
-fn along(f: Follow, text: &[u8], samples: &mut [i32]) -> Followed
-    requires { ⌜ (stepInRange (f .step) ≡ true) × (f .lines ≤ 1000000000000) ⌝ }
-    ensures { λ r. ⌜ r ≡ taking f (now (text .entry)) (length (now (samples .entry))) ⌝ }
-    ensures { λ r. ⌜ now (samples .exit) ≡ leaving r (now (text .entry)) (now (samples .entry)) ⌝ }
-{
-    let mut lines = f.lines;
-    let mut outside = f.outside;
-    let mut time = f.lines * f.step;
-    let mut at = 0;
-    let mut number = 0;
-    while number < samples.len() {
-        let Line::Says(minus, size, next) = comma_line::line_at(text, at, time) else {
-            break;
-        };
-        lines += 1;
-        outside = noted(outside, size, lines);
-        samples[number] = degrees::sample(minus, size);
-        time += f.step;
-        at = next;
-        number += 1;
+    if truth::both(f.outside == 0, sound < number) {
+        return f.lines + sound + 1;
     }
-    Followed::Taken(
-        Follow {
-            step: f.step,
-            lines: lines,
-            outside: outside,
-        },
-        at,
-        number,
-    )
+    f.outside
 }
 
 // Takes the right lines that `text` starts with, as many as `samples` has places, and puts their samples there, a 0
@@ -135,11 +99,16 @@ pub fn take(f: Follow, text: &[u8], samples: &mut [i32]) -> Followed
     ensures { λ r. ⌜ now (samples .exit) ≡ leaving r (now (text .entry)) (now (samples .entry)) ⌝ }
     ensures { λ r. ⌜ numberOf r ≤ length (now (samples .entry)) ⌝ }
 {
-    if !comma_line::step_in_range(f.step) {
-        return Followed::Refused(Refusal::Item(1));
+    match comma_read::take(text, f.step, f.lines, samples) {
+        LinesTaken::Refused(why) => Followed::Refused(why),
+        LinesTaken::Taken(number, bytes, sound) => Followed::Taken(
+            Follow {
+                step: f.step,
+                lines: f.lines + number,
+                outside: noted(f, number, sound),
+            },
+            bytes,
+            number as usize,
+        ),
     }
-    if f.lines > LATEST {
-        return Followed::Taken(f, 0, 0);
-    }
-    along(f, text, samples)
 }

@@ -1,39 +1,47 @@
--- `comma_stream::take` meets its contract: a step out of range, lines after which no time has 12 digits, or what
--- stands along the text. Assumes nothing.
-use mathlib.Core.Path.{_≡_, refl}
-use mathlib.Core.Bool.{true}
+-- `comma_stream::take` meets its contract: what `comma_read` takes of the piece, as the reading stands after it. Assumes
+-- nothing.
+use mathlib.Core.Path.{sym, ap, _∙_}
+use Prim.Native.Nat.{_+_}
 use native.Mathlib.Omega.{arith}
-use lib.ListN.{length}
-use borrow.Author.Needs.{needs}
 use denote.Ref.{now}
-use Rattle.truth.proofs.Laws.{said-no, said-yes}
-use Rattle.sample_items.specs.Limits.{stepInRange}
-use Rattle.comma_stream.specs.Follow.{taking, leaving, numberOf}
-use Rattle.comma_stream.proofs.Going.{taken-few, none-late}
+use borrow.Author.Needs.{needs}
+use Rattle.comma_stream.specs.declared.Followed.the-variants.{Taken}
+use Rattle.comma_stream.proofs.Going.{follows, said, number-fits}
 use Rattle.comma_stream.proofs.take.Statement.{statement}
 use Rattle.comma_stream.proofs.take.Tie as tie
 
-returns : tie.Need-returns
-unfolding taking leaving numberOf
-returns c = let a = c .before .before .before .args in (rw (said-no (c .before .step-in-range .ensures) (c .if1 .taken)), (refl, omega arith))
+add-t12 : tie.Need-add-t12
+add-t12 c =
+    let k = c .before .before in
+    let t = k .before .before .before in
+    omega (arith, number-fits (t .before .before .before .args .f .lines) (k .number .given .1) (t .take .ensures .1 .1))
 
-step : (c : tie.Else1) → stepInRange (c .before .before .before .args .f .step) ≡ true
-step c = said-yes (c .before .step-in-range .ensures) (c .if1 .left)
+noted-requires : tie.Need-noted-requires
+noted-requires c κs =
+    let k = c .before .before in
+    let t = k .before .before .before in
+    number-fits (t .before .before .before .args .f .lines) (k .number .given .1) (t .take .ensures .1 .1)
+
+returns : tie.Need-returns
+unfolding follows
+returns c =
+    let a = c .before .before .before .before .before .before .before .args in let t = c .before .before .before .before .take in
+    said (a .f) (now (a .text)) (now (a .samples)) (ap (follows (a .f)) (c .before .why .given .1)) (t .ensures .0) (t .ensures .1 .0)
 
 returns-2 : tie.Need-returns-2
-unfolding leaving numberOf
+unfolding follows
 returns-2 c =
-    let a = c .before .before .before .before .before .args in
-    (none-late (a .f) (now (a .text)) _ (step (c .before .before)) (c .if2 .taken), (refl, omega arith))
-
-along-requires : tie.Need-along-requires
-along-requires c κs = (step (c .before .before .before), c .before .if2 .left)
-
-returns-3 : tie.Need-returns-3
-returns-3 c =
-    let a = c .before .before .before .before .before .before .before .before .args in
-    let l = c .before .along in
-    (l .ensures .0, (l .ensures .1, rw (l .ensures .0) (taken-few (a .f) (now (a .text)) (length (now (a .samples))))))
+    let k = c .before .before .before in
+    let a = k .before .before .before .before .before .before .args in
+    let t = k .before .before .before .take in
+    let n = k .number .given in
+    said (a .f) (now (a .text)) (now (a .samples))
+    (ap (follows (a .f)) (n .1)
+    ∙ (λ i. Taken (record { step = a .f .step; lines = a .f .lines + n .0 .0; outside = sym (c .noted .ensures) i }) (n .0 .1 .0) (n .0 .0)))
+    (t .ensures .0) (t .ensures .1 .0)
 
 pub take-spec : {M : Type 1} → statement M
-take-spec = tie.close (tie.spec (λ c κs. search needs) returns returns-2 along-requires (λ c. search needs) returns-3)
+take-spec =
+    tie.close
+    (tie.spec (λ c κs. search needs) (λ c. search needs) (λ c. search needs) add-t12 noted-requires (λ c. search needs)
+    returns (λ c. search needs) returns-2)

@@ -11,7 +11,7 @@ FUNCTION = re.compile(
     r"^impl (\w+) \{|^\}|((?:^ *//[^\n]*\n)*)(?:^ *#\[[^\n]*\n)*^( *)pub (?:extern \"C\" )?fn (\w+)(.*?)^\3\{",
     re.M | re.S,
 )
-USE = re.compile(r"^(?:ghost )?use (?P<path>[^\s{;]+?)(?:\.\{(?P<names>[^}]*)\}| as (?P<alias>\S+?))?;?$", re.M)
+USE = re.compile(r"^(?:ghost |(?:unfoldable |abbrev )?pub )?use (?P<path>[^\s{;]+?)(?:\.\{(?P<names>[^}]*)\}| as (?P<alias>\S+?))?;?$", re.M)
 WORD = re.compile(r"[^\s(){};,⌜⌝]+")
 
 
@@ -237,12 +237,19 @@ class Tree:
             for name in (m["names"] or "").split(","):
                 if name.strip():
                     first, last = (name.split(" as ") * 2)[:2]
-                    words[last.strip()] = (home, where, first.strip())
+                    words[last.strip()] = self.handed_on(home, where, first.strip())
         if file == "src":
             for home, name in re.findall(r"^use (\w+)::(\w+);", self.texts[crate, file], re.M):
                 words.setdefault(name, (home, "src", name))
         self._uses[crate, file] = words, aliases
         return words, aliases
+
+    def handed_on(self, crate, file, name):
+        """The key of a name that a file is asked for: it may hand on what another one declares."""
+        for m in re.finditer(r"^(?:unfoldable |abbrev )?pub use .*$", self.texts.get((crate, file), ""), re.M):
+            if re.search(rf"[{{ ]{re.escape(name)}[,}}]", m.group()):
+                return self.uses(crate, file)[0].get(name, (crate, file, name))
+        return crate, file, name
 
     def cites(self, crate, file, text, own=None):
         """The keys that a piece of a file's text cites, in the order of the text."""

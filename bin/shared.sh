@@ -45,10 +45,21 @@ no_options() {
 are_there() {
     local file
     for file; do
-        [ -e "$file" ] || stop "${file:-''}: no such file"
-        [ ! -d "$file" ] || stop "$file is a directory"
-        [ -r "$file" ] || stop "$file: may not be read"
+        fault_of "$file"
+        [ -z "$fault" ] || stop "$fault"
     done
+}
+
+# fault_of NAME: why the file cannot be read goes to `fault`, or nothing.
+fault_of() {
+    fault=
+    if [ ! -e "$1" ]; then
+        fault="${1:-''}: no such file"
+    elif [ -d "$1" ]; then
+        fault="$1 is a directory"
+    elif [ ! -r "$1" ]; then
+        fault="$1: may not be read"
+    fi
 }
 
 # descriptor_of NAME: the number of the descriptor that it stands for, or nothing, goes to `descriptor`.
@@ -108,11 +119,16 @@ files_from() {
 # stands for a descriptor is opened here, before a descriptor is taken for something else, and goes by another name. The
 # names to hand over go to `handed`.
 takes_names() {
-    local file
     are_there "${names[@]}"
     are_apart "${names[@]}"
+    hands_names "${names[@]}"
+}
+
+# hands_names NAME..: the same without the questions.
+hands_names() {
+    local file
     handed=()
-    for file in "${names[@]}"; do
+    for file; do
         descriptor_of "$file"
         if [ -n "$descriptor" ]; then
             opens "$file"

@@ -57,7 +57,8 @@ said-sum s k = rw k
 -- adding a sound record of n samples at the sum's step
 adding-is : (s : Sum) (r : Record) (n : ℕ) → sound s ≡ true → reading.sound r ≡ true → r .items .step ≡ s .step → r .n ≡ n
     → adding s r
-    ≡ cond (tooFew (r .items .ramp) n) (answer.Refused TooShort) (cond (wouldPass s (r .groups) (n - r .items .ramp)) (answer.Refused SumFull) (answer.Taken (grown s (r .groups) (n - r .items .ramp))))
+    ≡ cond (tooFew (r .items .ramp) n) (answer.Refused TooShort)
+    (cond (wouldPass s (r .groups) (n - r .items .ramp)) (answer.Refused SumFull) (answer.Taken (grown s (r .groups) (n - r .items .ramp))))
 unfolding adding
 adding-is s r n k l e f = rw (k, l, eq-eqb (r .items .step) (s .step) e, f)
 

@@ -1,7 +1,7 @@
-// Several files of one campaign whose records go on past a failure (document 02, [7]): what `bin/binomial` says of them.
-// Each is counted as one file is (`comma_count`), and its record added to a sum; the first that cannot be taken ends it,
-// named by its number. The definition is `Files.binomialSaid`, over the whole texts, and that it makes no difference how
-// each file comes is the theorem `Anywhere.files-anywhere`.
+// Several files of one campaign whose records go on past a failure (document 02, [7]): what `bin/binomial` says of
+// them. Each is counted as one file is (`comma_count`), and its record added to a sum; the first that cannot be taken
+// ends it, named by its number. The definition is `Files.binomialSaid`, over the whole texts, and that it makes no
+// difference how each file comes is the theorem `Anywhere.files-anywhere`.
 ghost use mathlib.Core.Path.{_≡_};
 ghost use Prim.Native.Nat.{_≤_};
 ghost use lib.ListN.{length};
@@ -129,8 +129,8 @@ fn put_added(a: Added, out: &mut [u8]) -> Finished
 }
 
 // Writes the line of the files to the start of `out`: N, P, the estimate, its lower and its upper bound in thousandths
-// of a failure, and P·D in ms; or refused, the number of the file at fault or 0, its line or 0, the refusal's number, and
-// after 1 the item. Without room for any line nothing is written, and the program ends as failed.
+// of a failure, and P·D in ms; or refused, the number of the file at fault or 0, its line or 0, the refusal's number,
+// and after 1 the item. Without room for any line nothing is written, and the program ends as failed.
 pub fn finish(a: Added, out: &mut [u8]) -> Finished
     ensures { λ f. ⌜ f ≡ putting (addedSaid a) (now (out .entry)) ⌝ }
     ensures { λ _. ⌜ now (out .exit) ≡ putLeft (addedSaid a) (now (out .entry)) ⌝ }

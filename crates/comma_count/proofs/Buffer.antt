@@ -1,5 +1,5 @@
--- A turn through a buffer does what `carrying` says: after it the bytes that its piece left unused stand at the buffer's start (`kept-first`), where the next piece is read after them.
--- Assumes nothing.
+-- A turn through a buffer does what `carrying` says: after it the bytes that its piece left unused stand at the
+-- buffer's start (`kept-first`), where the next piece is read after them. Assumes nothing.
 use Prim.Native.Nat.{ℕ, zero, suc, _+_, _-_, _≤_, _<_}
 use mathlib.Core.Path.{_≡_, refl, sym, ap, subst, _∙_}
 use mathlib.Core.Bool.{Bool, true, false, cond}

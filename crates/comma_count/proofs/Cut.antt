@@ -1,6 +1,6 @@
 -- However a file is cut into pieces, what is said of the count is what is said of the whole text (`cut-anywhere`). The
--- count after a text so far is the one after its right lines, and what is kept is what they leave; a piece keeps this so
--- (`piece-on`), or a line is wrong and stays wrong. Assumes nothing.
+-- count after a text so far is the one after its right lines, and what is kept is what they leave; a piece keeps this
+-- so (`piece-on`), or a line is wrong and stays wrong. Assumes nothing.
 use Prim.Native.Nat.{ℕ, _+_, _*_, _-_, _^_, _≤_, _<_}
 use mathlib.Core.Path.{_≡_, refl, sym, ap, subst, _∙_}
 use mathlib.Core.Bool.{Bool, true, false, cond, not, _&&_}

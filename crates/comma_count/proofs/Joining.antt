@@ -1,5 +1,5 @@
--- Samples of one channel, fed some at a time: what is answered to two pieces, one after the other, is what is answered to both at once (`onward-join`, `answering-join`).
--- Assumes nothing.
+-- Samples of one channel, fed some at a time: what is answered to two pieces, one after the other, is what is answered
+-- to both at once (`onward-join`, `answering-join`). Assumes nothing.
 use Prim.Native.Nat.{ℕ, zero, suc, _+_, _-_, _≤_, _<_}
 use mathlib.Core.Path.{_≡_, refl, sym, ap, _∙_}
 use mathlib.Core.Bool.{Bool, true, false, cond, _&&_}

@@ -1,4 +1,5 @@
--- What a piece comes to: the tests that pick its case, and that fewer bytes than a line has are left unused. Assumes nothing.
+-- What a piece comes to: the tests that pick its case, and that fewer bytes than a line has are left unused. Assumes
+-- nothing.
 use Prim.Native.Nat.{ℕ, _+_, _-_, _≤_, _<_, min}
 use mathlib.Core.Path.{_≡_, refl, sym, ap, _∙_}
 use mathlib.Core.Bool.{Bool, true, false, _&&_}

@@ -1,4 +1,5 @@
--- Two answers that a promise allows are the same answer, with the same bytes left: each promise equates them with a definition's value. Assumes nothing.
+-- Two answers that a promise allows are the same answer, with the same bytes left: each promise equates them with a
+-- definition's value. Assumes nothing.
 use mathlib.Core.Path.{_≡_}
 use mathlib.Core.Bool.{Bool}
 use mathlib.Core.List.{List}

@@ -1,5 +1,6 @@
--- The right lines of a text, taken some at a time. `Way`: what is still to come from where the reading stands is what was to come from the start. A turn keeps it (`way-on`), and a turn that
--- finds fewer lines than it has places is the last (`way-ends`). Assumes nothing.
+-- The right lines of a text, taken some at a time. `Way`: what is still to come from where the reading stands is what
+-- was to come from the start. A turn keeps it (`way-on`), and a turn that finds fewer lines than it has places is the
+-- last (`way-ends`). Assumes nothing.
 use Prim.Native.Nat.{ℕ, zero, suc, _+_, _*_, _-_, _≤_, _<_}
 use mathlib.Core.Path.{_≡_, refl, sym, ap, subst, _∙_}
 use mathlib.Core.Bool.{true}
@@ -83,7 +84,8 @@ module _ (f : Follow) (text : List ℕ) (slice : List ℤ) (step : stepInRange (
       rw same
       (take-at (map held (samplesOf Here)) (drop n slice) n (length-map (samplesOf Here) held ∙ length-map Here (λ line. sampleOf (roll line)) ∙ sym e))
 
-  pub took : {part : List ℕ} {r : Followed} {g : Follow} {bytes n : ℕ} {later : List ℤ} → part ≡ text → r ≡ taking f part (length slice) → later ≡ leaving r part slice → r ≡ followed.Taken g bytes n → Took g bytes n later
+  pub took : {part : List ℕ} {r : Followed} {g : Follow} {bytes n : ℕ} {later : List ℤ}
+      → part ≡ text → r ≡ taking f part (length slice) → later ≡ leaving r part slice → r ≡ followed.Taken g bytes n → Took g bytes n later
   unfolding takenBy leaving numberOf
   took {part} {r} {g} {bytes} {n} {later} same e l is =
       let all : followed.Taken g bytes n ≡ takenBy f Here = sym is ∙ e ∙ ap (λ x. taking f x (length slice)) same ∙ took-all in

@@ -1,6 +1,6 @@
 -- A count after all lines of a text comes to what the text comes to: where its lines are all right (`end-right`), and
--- where one is wrong (`end-wrong`). And what is said of a text is what is said of what it comes to (`said-end`). Assumes
--- nothing.
+-- where one is wrong (`end-wrong`). And what is said of a text is what is said of what it comes to (`said-end`).
+-- Assumes nothing.
 use Prim.Native.Nat.{ℕ, _+_, _-_, _≤_, _<_}
 use mathlib.Core.Path.{_≡_, refl, sym, ap, _∙_}
 use mathlib.Core.Bool.{Bool, true, false, cond, not}
@@ -144,7 +144,13 @@ module _ (i : Items) (ok : itemOutside i ≡ 0) where
     bad : firstBad (samplesOf lines) < length lines → endOf (standing i lines) ≡ endOfLines i lines
     unfolding afterLines answering endOfLines
     bad h =
-        rw (eq-eqb (itemOutside i) 0 ok, right, le-ltb (length lines) (length lines) (omega arith), lt-ltb (firstBad (samplesOf lines)) (length lines) h, ne-eqb (0 + firstBad (samplesOf lines) + 1) 0 (λ z. omega arith))
+        rw (
+          eq-eqb (itemOutside i) 0 ok,
+          right,
+          le-ltb (length lines) (length lines) (omega arith),
+          lt-ltb (firstBad (samplesOf lines)) (length lines) h,
+          ne-eqb (0 + firstBad (samplesOf lines) + 1) 0 (λ z. omega arith),
+        )
         (rw zero-add (ap (λ n. end.Refused (firstBad (samplesOf lines) + 1) (Sample n)) (omega arith)))
 
     module _ (good : length lines ≤ firstBad (samplesOf lines)) where
@@ -186,11 +192,13 @@ said-end i lines =
     (λ b.
     by-order (mostSamples (i .step) (i .ramp)) (length lines)
     (λ h. rw (e, le-ltb fw (length lines) w, le-ltb (firstBad xs) (length lines) b, lt-ltb (mostSamples (i .step) (i .ramp)) (length lines) h))
-    (λ h. rw (e, le-ltb fw (length lines) w, le-ltb (firstBad xs) (length lines) b, le-ltb (mostSamples (i .step) (i .ramp)) (length lines) h) (whole-said i (eqb-true (itemOutside i) 0 e) lines b h)))))
+    (λ h.
+    rw (e, le-ltb fw (length lines) w, le-ltb (firstBad xs) (length lines) b, le-ltb (mostSamples (i .step) (i .ramp)) (length lines) h)
+    (whole-said i (eqb-true (itemOutside i) 0 e) lines b h)))))
     (λ e. rw e)
 
--- ---- what is done with what the lines come to, where the items are in range: the tests in their order, and then with a
--- record that is sound and has a sample for each line
+-- ---- what is done with what the lines come to, where the items are in range: the tests in their order, and then with
+-- a record that is sound and has a sample for each line
 pub end-then : (i : Items) (ok : itemOutside i ≡ 0) {X : Type 0} (refuse : ℕ → Refusal → X) (go : Record → X) (proper : X) (lines : List (List ℕ))
     → let r = stateOf i (oneChannel (samplesOf lines)) in
     (sound r ≡ true → r .n ≡ length lines → go r ≡ cond (tooFew (i .ramp) (length lines)) (refuse 0 TooShort) proper)

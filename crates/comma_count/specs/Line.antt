@@ -85,8 +85,8 @@ countSaidOfLines i lines =
     cond (not (eqb (itemOutside i) 0)) (refusedAt 0 (Item (itemOutside i)))
     (fileThen i refusedAt lines (counted (length lines) (resultFor i (oneChannel (samplesOf lines)))))
 
--- ---- what a text comes to, for programs that go on from its record: 1, 10, 2, 3 with the line at fault, or the record's
--- state over all samples
+-- ---- what a text comes to, for programs that go on from its record: 1, 10, 2, 3 with the line at fault, or the
+-- record's state over all samples
 unfoldable pub endOfLines : Items → List (List ℕ) → End
 endOfLines i lines =
     cond (not (eqb (itemOutside i) 0)) (Refused 0 (Item (itemOutside i)))

@@ -101,7 +101,8 @@ turning c piece more = record { counting = taking c piece more .counting; kept =
 abbrev pub turnLeft : Counting → ℕ → Bool → List ℕ → List ℕ
 turnLeft c end more text = kept (taking c (take end text) more .used) (length (take end text) - taking c (take end text) more .used) text
 
--- ---- what is said of a count: the line at fault is a malformed line's number, or that of the line of the first sample out of range
+-- ---- what is said of a count: the line at fault is a malformed line's number, or that of the line of the first sample
+-- out of range
 abbrev pub lineFor : Follow → Refusal → ℕ
 lineFor f r = cond (eqb (numberOf r) 10) (valueOf r) (cond (eqb (numberOf r) 2) (f .outside) 0)
 

@@ -1,7 +1,7 @@
 // The counter of a simulator's comma file (document 02, [1]): what `bin/count` says of one, as a promise over bytes. A
-// count is opened with a record's items, takes the file piece by piece, and is finished with its line; the definition is
-// `Line.countSaid`, over the whole text, and that the pieces make no difference is the theorem `Cut.cut-anywhere`. A file
-// has one channel: zeros are lent for the other. The state goes in by value and comes back.
+// count is opened with a record's items, takes the file piece by piece, and is finished with its line; the definition
+// is `Line.countSaid`, over the whole text, and that the pieces make no difference is the theorem `Cut.cut-anywhere`. A
+// file has one channel: zeros are lent for the other. The state goes in by value and comes back.
 ghost use mathlib.Core.Path.{_≡_};
 ghost use mathlib.Core.Bool.{true, false};
 ghost use Prim.Native.Nat.{_+_, _-_, _≤_, _<_, min};
@@ -12,8 +12,8 @@ ghost use Rattle.record_feed.specs.Answers.{fed};
 ghost use Rattle.desk_line.specs.Said.{longestSaid, Puts, putting, putLeft};
 ghost use Rattle.comma_count.specs.Line.{zeros, firstText, counted};
 ghost use Rattle.comma_count.specs.Taking.{isRefused, opening, onward, answering, soundFollow, taking, turning};
-ghost use Rattle.comma_count.specs.Taking.{turnLeft, lineFor, saidEnded, endBy, endOf, saidEnd, Leads, over, going};
-ghost use Rattle.comma_count.specs.Taking.{rested, saying};
+ghost use Rattle.comma_count.specs.Taking.{turnLeft, lineFor, saidEnded, endBy, endOf, saidEnd, Leads, over};
+ghost use Rattle.comma_count.specs.Taking.{going, rested, saying};
 use comma_stream::Follow;
 use comma_stream::Followed;
 use comma_stream::Rest;
@@ -185,9 +185,9 @@ fn rested(r: Reached, rest: Rest, all: usize) -> Took
     }
 }
 
-// Takes the right lines of a piece, of which `more` says whether others follow. A line begun is left unused; a malformed
-// one, or one with a wrong time, ends the count with refusal 10, and all of the piece is used, as it is where the count
-// is over. Or 8 for a count that was never handed out.
+// Takes the right lines of a piece, of which `more` says whether others follow. A line begun is left unused; a
+// malformed one, or one with a wrong time, ends the count with refusal 10, and all of the piece is used, as it is where
+// the count is over. Or 8 for a count that was never handed out.
 pub fn take(c: Counting, text: &[u8], more: bool) -> Took
     ensures { λ t. ⌜ t ≡ taking c (now (text .entry)) more ⌝ }
     ensures { λ t. ⌜ (t .used ≤ length (now (text .entry))) × (length (now (text .entry)) - t .used < 31) ⌝ }

@@ -1,5 +1,6 @@
--- What a whole text, or a front of it, comes to, for readers that stop on the way: the right lines taken some at a time (`part`), what is left of a text that is all right or
--- not (`all-right`, `one-wrong`), and that a line told to be wrong before its end stays wrong (`stays`). Assumes nothing.
+-- What a whole text, or a front of it, comes to, for readers that stop on the way: the right lines taken some at a time
+-- (`part`), what is left of a text that is all right or not (`all-right`, `one-wrong`), and that a line told to be
+-- wrong before its end stays wrong (`stays`). Assumes nothing.
 use Prim.Native.Nat.{ℕ, zero, suc, _+_, _-_, _*_, _^_, _≤_, _<_}
 use mathlib.Core.Path.{_≡_, refl, sym, ap, subst, _∙_}
 use mathlib.Core.Bool.{true, false}

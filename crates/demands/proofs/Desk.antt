@@ -4,24 +4,26 @@
 -- file (demand 1). Assumes nothing.
 use mathlib.Core.Path.{_≡_, refl}
 use mathlib.Core.Bool.{Bool, cond, false, not, true}
-use mathlib.Core.List.{List, [], _∷_, map}
-use Prim.Native.Nat.{ℕ, _+_}
-use lib.Dec.{eqb, ltb}
+use mathlib.Core.List.{List, [], _∷_, _++_, map}
+use Prim.Native.Nat.{ℕ, _+_, _≤_}
+use lib.Dec.{eqb, leb, ltb}
+use lib.IntN.{ℤ}
 use lib.ListN.{length, take, drop}
 use Rattle.refusal.specs.declared.Refusal.{Refusal}
-use Rattle.refusal.specs.declared.Refusal.the-variants.{CommaLine, Item, Sample, SumFull, TooLong, TooShort}
+use Rattle.refusal.specs.declared.Refusal.the-variants.{CampaignFull, CommaLine, Item, RowsUsedUp, Sample, SumFull, TooLong, TooShort}
 use Rattle.refusal.specs.Numbers.{numberOf, valueOf}
 use Rattle.sample_items.specs.declared.Items.{Items}
 use Rattle.sample_items.specs.Limits.{itemOutside, mostSamples}
 use Rattle.sample_range.specs.Range.{firstBad}
 use Rattle.crossing_places.specs.Reading.{tooFew}
+use Rattle.campaign_state.specs.State.{mostRecords, standardInRange}
 use Rattle.binomial_sum.specs.declared.Sum.{Sum}
 use Rattle.binomial_sum.specs.State.{empty, grown, wouldPass}
 use Rattle.binomial_bounds.specs.Bounds.{boundsOf}
 use Rattle.text.specs.Pieces.{joined}
 use Rattle.decimal.specs.Lines.{linesOf}
 use Rattle.comma_line.specs.Text.{firstWrong, samplesOf}
-use Rattle.desk_line.specs.Said.{Said}
+use Rattle.desk_line.specs.Said.{Said, longestSaid}
 use Rattle.comma_count.specs.declared.Counting.{Counting}
 use Rattle.comma_count.specs.Line.{countSaid, countSaidOfLines, counted, oneChannel, refusedAt, resultFor}
 use Rattle.comma_count.specs.Taking.{opening, saying, taking, turnLeft, turning}
@@ -31,6 +33,10 @@ use Rattle.comma_count.proofs.Cut.{cut-anywhere}
 use Rattle.binomial_files.specs.Files.{binomialFrom, binomialSaid, groupsOf, refusedIn, summed, timedOf}
 use Rattle.binomial_files.specs.Adding.{addedSaid, filesAfter, openedFiles}
 use Rattle.binomial_files.proofs.Anywhere.{files-anywhere}
+use Rattle.sheet_records.specs.Ledger.{sheetText}
+use Rattle.sheet_files.specs.Files.{failuresIn, recordOf, refusedRecord, sheetFrom, sheetSaid}
+use Rattle.sheet_files.specs.Filing.{finishing, finishLeft}
+use Rattle.sheet_files.proofs.Anywhere.{deskOf, sheet-anywhere}
 use Rattle.demands.proofs.Demand1.{Test, _gives_, decide}
 
 -- ---- the statement
@@ -61,6 +67,17 @@ sumTests i s lines =
     ∷ (wouldPass s (groupsOf i lines) (timedOf i lines) gives SumFull
     ∷ []))))
 
+-- bin/sheet of one file after these records: 10, 2, 3, 4, then 5, 6
+abbrev pub sheetTests : Items → List ℤ → List (List ℕ) → List Test
+sheetTests i records lines =
+    ltb (firstWrong (i .step) 0 lines) (length lines) gives CommaLine (firstWrong (i .step) 0 lines + 1)
+    ∷ (ltb (firstBad (samplesOf lines)) (length lines) gives Sample (firstBad (samplesOf lines))
+    ∷ (ltb (mostSamples (i .step) (i .ramp)) (length lines) gives TooLong
+    ∷ (tooFew (i .ramp) (length lines) gives TooShort
+    ∷ (leb mostRecords (length records) gives CampaignFull
+    ∷ (leb 64 (failuresIn records) gives RowsUsedUp
+    ∷ [])))))
+
 pub record Desk : Type 0 where
   -- bin/count: what is said of a file does not depend on the pieces in which it comes
   pub count-pieces : (i : Items) (pieces : List (List ℕ)) → saying (carrying (opening i) [] pieces) ≡ countSaid i (joined pieces)
@@ -79,6 +96,26 @@ pub record Desk : Type 0 where
       ≡ decide (λ r. refusedIn file (faultLine r) r) (sumTests i s lines) (binomialFrom i (file + 1) (grown s (groupsOf i lines) (timedOf i lines)) texts)
   -- after the last file the line has N, P and what they say
   pub binomial-end : (i : Items) (file : ℕ) (s : Sum) → binomialFrom i file s [] ≡ summed s (boundsOf s)
+  -- bin/sheet: what is written for the files of a campaign does not depend on the pieces in which each comes; it is put
+  -- whole where there is room for it, with the records in a lent slice that has a place for each
+  pub sheet-pieces : (q : ℕ) (i : Items) (files : List (List (List ℕ))) (records : List ℤ) (out : List ℕ)
+      → let s = sheetSaid q i (map joined files) in
+      let d = deskOf q i records files in
+      mostRecords ≤ length records → longestSaid ≤ length out → length (s .line) ≤ length out
+      → (finishing q (d .filed) (d .records) out ≡ record { put = length (s .line); end = s .end })
+      × (finishLeft q (d .filed) (d .records) out ≡ s .line ++ drop (length (s .line)) out)
+  -- the standard goes first, then an item; then file by file the tests of bin/count, 5, 6; after the last file it is the
+  -- sheet of the files' records in their order
+  pub sheet-standard : (q : ℕ) (i : Items) (texts : List (List ℕ)) → not (standardInRange q) ≡ true → sheetSaid q i texts ≡ refusedRecord 0 0 (Item 5)
+  pub sheet-item : (q : ℕ) (i : Items) (texts : List (List ℕ)) → not (standardInRange q) ≡ false → not (eqb (itemOutside i) 0) ≡ true
+      → sheetSaid q i texts ≡ refusedRecord 0 0 (Item (itemOutside i))
+  pub sheet-none : (q : ℕ) (i : Items) (texts : List (List ℕ)) → not (standardInRange q) ≡ false → not (eqb (itemOutside i) 0) ≡ false
+      → sheetSaid q i texts ≡ sheetFrom q i [] texts
+  pub sheet-file : (q : ℕ) (i : Items) (records : List ℤ) (text : List ℕ) (texts : List (List ℕ))
+      → let lines = linesOf text in
+      sheetFrom q i records (text ∷ texts)
+      ≡ decide (λ r. refusedRecord (length records + 1) (faultLine r) r) (sheetTests i records lines) (sheetFrom q i (records ++ (recordOf i lines ∷ [])) texts)
+  pub sheet-end : (q : ℕ) (i : Items) (records : List ℤ) → sheetFrom q i records [] ≡ record { line = sheetText q records; end = 48 }
   -- after a turn through a buffer its first bytes are those that the turn left unused, so that the next are read after
   -- them
   pub count-buffer : (c : Counting) (text : List ℕ) (end : ℕ) (more : Bool)
@@ -98,8 +135,15 @@ by-file : (i : Items) (file : ℕ) (s : Sum) (text : List ℕ) (texts : List (Li
 unfolding binomialFrom decide
 by-file i file s text texts = refl
 
+by-record : (q : ℕ) (i : Items) (records : List ℤ) (text : List ℕ) (texts : List (List ℕ))
+    → let lines = linesOf text in
+    sheetFrom q i records (text ∷ texts)
+    ≡ decide (λ r. refusedRecord (length records + 1) (faultLine r) r) (sheetTests i records lines) (sheetFrom q i (records ++ (recordOf i lines ∷ [])) texts)
+unfolding sheetFrom decide
+by-record q i records text texts = refl
+
 pub desk : Desk
-unfolding binomialSaid binomialFrom
+unfolding binomialSaid binomialFrom sheetSaid sheetFrom
 desk =
     record {
       count-pieces = cut-anywhere;
@@ -109,5 +153,11 @@ desk =
       binomial-none = λ i e texts. rw e;
       binomial-file = by-file;
       binomial-end = λ i file s. refl;
+      sheet-pieces = sheet-anywhere;
+      sheet-standard = λ q i texts e. rw e;
+      sheet-item = λ q i texts e f. rw (e, f);
+      sheet-none = λ q i texts e f. rw (e, f);
+      sheet-file = by-record;
+      sheet-end = λ q i records. refl;
       count-buffer = kept-first;
     }

@@ -22,6 +22,8 @@ use Rattle.desk_line.specs.Said.{Said, placesThen, refusedLine, whyText}
 use Rattle.comma_count.specs.Line.{countSaid, countSaidOfLines, figuresLine, firstText, resultFor}
 use Rattle.binomial_bounds.specs.HalfWidth.{firstFrom, halfWidth}
 use Rattle.binomial_files.specs.Files.{binomialFrom, binomialSaid, sumLine}
+use Rattle.sheet_records.specs.Ledger.{linesFrom, sheetText}
+use Rattle.sheet_files.specs.Files.{failuresIn, sheetFrom, sheetSaid}
 
 -- the step 500 ms, no ramp, 40 degrees, 1,500 ms
 abbrev items : Items
@@ -117,3 +119,27 @@ binomial-item : binomialSaid (record { step = 1; ramp = 0; levels = record { rol
     ≡ refused (114 ∷ 101 ∷ 102 ∷ 117 ∷ 115 ∷ 101 ∷ 100 ∷ 9 ∷ 48 ∷ 9 ∷ 48 ∷ 9 ∷ 49 ∷ 9 ∷ 52 ∷ 10 ∷ [])
 unfolding binomialSaid itemOutside placesThen refusedLine whyText fieldText digitsOf digitsWithin
 binomial-item = refl
+
+-- ---- bin/sheet
+-- the standard, and for each file its number, whether it failed, its exposure: two files, 500 ms to the first failure of
+-- one, 1,000 ms of the other
+sheet-written : sheetSaid 7200000 items (rolling ∷ calm ∷ [])
+    ≡ read
+    (115 ∷ 116 ∷ 97 ∷ 110 ∷ 100 ∷ 97 ∷ 114 ∷ 100 ∷ 9 ∷ 55 ∷ 50 ∷ 48 ∷ 48 ∷ 48 ∷ 48 ∷ 48 ∷ 10 ∷ 49 ∷ 9 ∷ 49 ∷ 9 ∷ 53 ∷ 48 ∷ 48 ∷ 10 ∷ 50 ∷ 9 ∷ 48 ∷ 9 ∷ 49 ∷ 48 ∷ 48 ∷ 48 ∷ 10 ∷ [])
+unfolding sheetSaid sheetFrom sheetText linesFrom failuresIn linesOf firstWrong right isCommaLine isNumber allDigits
+    leading valueOf isSize sizeLength filled size digitsOf digitsWithin fieldText firstBad itemOutside moments passing firstOf groups
+    attach walk later resultFor
+sheet-written = refl
+
+-- the standard is item 5 and goes before an item and before the files: refused 0 0 1 5
+sheet-standard : sheetSaid 0 (record { step = 0; ramp = 0; levels = record { roll = 1; acceleration = 1 }; decorrelation = 0 }) ((120 ∷ []) ∷ [])
+    ≡ refused (114 ∷ 101 ∷ 102 ∷ 117 ∷ 115 ∷ 101 ∷ 100 ∷ 9 ∷ 48 ∷ 9 ∷ 48 ∷ 9 ∷ 49 ∷ 9 ∷ 53 ∷ 10 ∷ [])
+unfolding sheetSaid placesThen refusedLine whyText fieldText digitsOf digitsWithin
+sheet-standard = refl
+
+-- the second file is the first at fault: refused 2 1 10, and no sheet
+sheet-file : sheetSaid 7200000 items (calm ∷ (120 ∷ []) ∷ []) ≡ refused (114 ∷ 101 ∷ 102 ∷ 117 ∷ 115 ∷ 101 ∷ 100 ∷ 9 ∷ 50 ∷ 9 ∷ 49 ∷ 9 ∷ 49 ∷ 48 ∷ 10 ∷ [])
+unfolding sheetSaid sheetFrom failuresIn linesOf firstWrong right isCommaLine isNumber allDigits leading valueOf isSize sizeLength filled
+    size digitsOf digitsWithin fieldText firstBad itemOutside moments passing firstOf groups attach walk later resultFor placesThen
+    refusedLine whyText
+sheet-file = refl

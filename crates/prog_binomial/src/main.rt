@@ -1,7 +1,7 @@
-// The clerk's counter of several files of one campaign, for bin/binomial: their names come on a descriptor of their own,
-// one after the other, and their one line goes to standard output; the four items are arguments. What the line holds is
-// `binomial_files`' promise, over the whole files however they come; here names and bytes are only carried. A file has
-// one channel, so that any level in range will do for the other.
+// The clerk's counter of several files of one campaign, for bin/binomial: their names come on a descriptor of their
+// own, one after the other, and their one line goes to standard output; the four items are arguments. What the line
+// holds is `binomial_files`' promise, over the whole files however they come; here names and bytes are only carried. A
+// file has one channel, so that any level in range will do for the other.
 use binomial_files::Added;
 use prog_desk::Name;
 use prog_desk::Served;

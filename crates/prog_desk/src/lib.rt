@@ -175,8 +175,8 @@ fn name_end(names: &[u8], at: usize, end: usize) -> usize {
     end
 }
 
-// The next name in the buffer `names`, of which the bytes from `at` up to `end` are read and not used yet; where none has
-// its 0 among them, they go to the front and more is read.
+// The next name in the buffer `names`, of which the bytes from `at` up to `end` are read and not used yet; where none
+// has its 0 among them, they go to the front and more is read.
 pub fn next_name(names: &mut [u8], at: usize, end: usize) -> Name {
     let mut first = at;
     let mut upto = end;

@@ -1,5 +1,5 @@
--- `comma_count::finish` meets its contract: without room nothing is written, and with it the line of the answer. Assumes
--- nothing.
+-- `comma_count::finish` meets its contract: without room nothing is written, and with it the line of the answer.
+-- Assumes nothing.
 use mathlib.Core.Path.{_≡_, ap}
 use denote.Ref.{now}
 use Rattle.desk_line.proofs.Put.{puts-same, finished, without}

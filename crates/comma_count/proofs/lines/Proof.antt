@@ -1,4 +1,5 @@
--- `comma_count::lines` meets its contract. The loop's invariant is `Way`; the measure is what is left of the text, of which a turn that goes on takes 1024 lines. Assumes nothing.
+-- `comma_count::lines` meets its contract. The loop's invariant is `Way`; the measure is what is left of the text, of
+-- which a turn that goes on takes 1024 lines. Assumes nothing.
 use Prim.Native.Nat.{ℕ, _-_, _≤_}
 use mathlib.Core.Path.{_≡_, sym, ap, _∙_}
 use mathlib.Core.Bool.{true}
@@ -77,7 +78,9 @@ enum-told c = search needs
 returns : tie.Need-returns Inv-loop μ-loop
 returns c =
     let l = c .before .before .before .before .before .before in
-    absurd (never-refused (l .loop .follow) (drop (l .loop .at) (now (l .before .before .args .text))) (l .loop .samples) (step l) (from (now (l .before .before .args .text)) (l .loop .at)) (c .before .before .before .take .ensures .0) (c .enum-told .given .1))
+    let text = now (l .before .before .args .text) in
+    let told = c .before .before .before .take .ensures .0 in
+    absurd (never-refused (l .loop .follow) (drop (l .loop .at) text) (l .loop .samples) (step l) (from text (l .loop .at)) told (c .enum-told .given .1))
 
 array-share-prefix-samples : tie.Need-array-share-prefix-samples Inv-loop μ-loop
 array-share-prefix-samples c = omega (arith, few c, later-long c)

@@ -1,4 +1,5 @@
--- `comma_count::take` meets its contract: what is over, what stands nowhere, or where the right lines lead and what is left after them. Assumes nothing.
+-- `comma_count::take` meets its contract: what is over, what stands nowhere, or where the right lines lead and what is
+-- left after them. Assumes nothing.
 use Prim.Native.Nat.{_≤_}
 use mathlib.Core.Path.{_≡_, sym, subst, _∙_}
 use mathlib.Core.Bool.{true}
@@ -37,7 +38,8 @@ stopped-requires c κs = search needs
 returns-2 : tie.Need-returns-2
 returns-2 c =
     let a = c .before .before .before .before .before .before .args in
-    (rw (c .stopped .ensures) (taking-broken (a .c) (now (a .text)) (a .more) (c .before .before .before .before .if1 .left) (said-no (c .before .before .sound .ensures) (c .before .if2 .taken))), (omega arith, omega arith))
+    let broken = said-no (c .before .before .sound .ensures) (c .before .if2 .taken) in
+    (rw (c .stopped .ensures) (taking-broken (a .c) (now (a .text)) (a .more) (c .before .before .before .before .if1 .left) broken), (omega arith, omega arith))
 
 lines-requires : tie.Need-lines-requires
 lines-requires c κs = sound-step (start c .args .c .follow) (sound c)

@@ -1,4 +1,5 @@
--- `comma_count::turn` meets its contract: the piece is the buffer's first bytes, and what it leaves unused goes to the start. Assumes nothing.
+-- `comma_count::turn` meets its contract: the piece is the buffer's first bytes, and what it leaves unused goes to the
+-- start. Assumes nothing.
 use Prim.Native.Nat.{min}
 use mathlib.Core.Path.{_≡_, sym}
 use native.Mathlib.Omega.{arith}

@@ -1,4 +1,5 @@
--- `desk_line::put_refused_in` meets its contract: the word, the file's number, the line's number, and the reason. Assumes nothing.
+-- `desk_line::put_refused_in` meets its contract: the word, the file's number, the line's number, and the reason.
+-- Assumes nothing.
 use Prim.Native.Nat.{ℕ}
 use mathlib.Core.Path.{_≡_, refl}
 use mathlib.Core.List.{List, [], _∷_, _++_}

@@ -1,4 +1,5 @@
--- `prog_binomial::each` is safe and ends: the files that may come grow fewer, and both buffers keep their lengths. Assumes nothing.
+-- `prog_binomial::each` is safe and ends: the files that may come grow fewer, and both buffers keep their lengths.
+-- Assumes nothing.
 use Prim.Native.Nat.{_-_}
 use mathlib.Core.Path.{_≡_, refl}
 use lib.ListN.{length}

@@ -1,4 +1,5 @@
--- `prog_desk::next_name` is safe and ends: the turns that are left fall, and the buffer keeps its length. Assumes nothing.
+-- `prog_desk::next_name` is safe and ends: the turns that are left fall, and the buffer keeps its length. Assumes
+-- nothing.
 use mathlib.Core.Path.{_≡_, refl}
 use lib.ListN.{length}
 use borrow.Author.Needs.{needs}

@@ -1,0 +1,25 @@
+-- `sheet_files::put_writing` meets its contract, by its two cases. Assumes nothing.
+use mathlib.Core.Path.{_≡_, refl, sym, ap, _∙_}
+use denote.Ref.{now}
+use Rattle.sheet_files.specs.Filing.{writingPut, writingLeft}
+use borrow.Author.Needs.{needs}
+use Rattle.sheet_files.proofs.put_writing.Statement.{statement}
+use Rattle.sheet_files.proofs.put_writing.Tie as tie
+
+returns : tie.Need-returns
+returns c =
+    let s = c .before .before .before .before in
+    let e = c .before .w .given .1 in
+    (sym (ap (λ w. writingPut w (now (s .args .out))) e), sym (ap (λ w. writingLeft w (now (s .args .out))) e))
+
+returns-2 : tie.Need-returns-2
+returns-2 c =
+    let s = c .before .before .before .before .before .before .before .before in
+    let e = c .before .before .before .before .before .w2 .given .1 in
+    let f = c .before .before .refuse-in .ensures in
+    (f .0 ∙ sym (ap (λ w. writingPut w (now (s .args .out))) e), f .1 ∙ sym (ap (λ w. writingLeft w (now (s .args .out))) e))
+
+pub put-writing-spec : {M : Type 1} → statement M
+put-writing-spec =
+    tie.close
+    (tie.spec (λ c. search needs) (λ c. search needs) (λ c κs. search needs) returns (λ c. search needs) returns-2)

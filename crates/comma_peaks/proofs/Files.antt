@@ -11,6 +11,7 @@ use lib.IntN.{ℤ}
 use lib.ListN.{length, take, drop}
 use lib.Seq.{take-all, length-take-le}
 use borrow.Author.Tests.{eq-eqb, eqb-true, eqb-false, lt-ltb, le-ltb}
+use Rattle.truth.proofs.Laws.{impossible}
 use Rattle.truth.proofs.Cases.{by-test, by-order}
 use Rattle.refusal.specs.declared.Refusal.the-variants.{Sample, CommaLine}
 use Rattle.sample_items.specs.Limits.{stepInRange, mostInRange}
@@ -37,12 +38,12 @@ no b x y e = rw e
 
 -- 10 is neither 2 nor a number of samples
 not-both : (b c : Bool) (n m i j k : ℕ) → cond b (Refused (Sample i)) (Samples n) ≡ Refused (CommaLine k) → ⊥
-not-both true c n m i j k e = let z : _≡_ {A = ℕ} 0 1 = cc in omega arith
-not-both false c n m i j k e = let z : _≡_ {A = ℕ} 0 1 = cc in omega arith
+not-both true c n m i j k e = impossible (cc)
+not-both false c n m i j k e = impossible (cc)
 
 not-other : (b : Bool) (n i k : ℕ) → cond b (Samples n) (Refused (Sample i)) ≡ Refused (CommaLine k) → ⊥
-not-other true n i k e = let z : _≡_ {A = ℕ} 0 1 = cc in omega arith
-not-other false n i k e = let z : _≡_ {A = ℕ} 0 1 = cc in omega arith
+not-other true n i k e = impossible (cc)
+not-other false n i k e = impossible (cc)
 
 module _ (D : ℕ) (lines : List (List ℕ)) (step : stepInRange D ≡ true) where
   reading-wrong : firstWrong D 0 lines < length lines → readingLines D lines (length lines) ≡ Refused (CommaLine (firstWrong D 0 lines + 1))

@@ -11,7 +11,7 @@ use lib.IntN.{ℤ, natAbs, pos}
 use lib.ListN.{length, drop, length-map, length-drop}
 use borrow.Author.Tests.{eqb-true, leb-true, ltb-false}
 use Rattle.truth.proofs.Cases.{by-test, by-order}
-use Rattle.truth.proofs.Laws.{both-true}
+use Rattle.truth.proofs.Laws.{both-true, impossible}
 use Rattle.refusal.specs.declared.Refusal.the-variants.{Sample, TooLong, TooShort, CommaLine}
 use Rattle.sample_items.specs.Limits.{stepInRange, rampInRange, decorrelationInRange, mostSamples, mostInRange}
 use Rattle.sample_range.specs.Range.{sampleInRange, firstBad}
@@ -37,7 +37,7 @@ use Rattle.comma_peaks.proofs.Files.{some-left}
 
 -- ---- nothing is refused
 never : {n : ℕ} {f : _} → Refused n f ≡ Peaks → ⊥
-never e = let z : _≡_ {A = ℕ} 0 1 = cc in omega arith
+never e = impossible (cc)
 
 pub record Fine (D R : ℕ) (lines : List (List ℕ)) : Type 0 where
   pub right : length lines ≤ firstWrong D 0 lines

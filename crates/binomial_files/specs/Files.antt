@@ -1,5 +1,5 @@
--- WHAT IS SAID OF SEVERAL FILES (document 02, [7]; README, "Long records to their end"): one line and a digit, over the
--- whole texts, file by file in their order. Assumes nothing.
+-- WHAT IS SAID OF SEVERAL FILES (document 02, [7]; docs/CLERK.md, "Long records to their end"): one line and a digit,
+-- over the whole texts, file by file in their order. Assumes nothing.
 use Prim.Native.Nat.{ℕ, _+_, _-_}
 use mathlib.Core.Bool.{cond, not}
 use mathlib.Core.List.{List, [], _∷_, _++_}

@@ -1,5 +1,5 @@
--- WHAT IS SAID OF A COMMA FILE (document 02, [1], [4], [5]; README, "From a simulator's file to the sheet"): one line
--- and a digit, over the whole text. Each refusal is judged over the whole file: 1, 10, 2, 3, 4. Assumes nothing.
+-- WHAT IS SAID OF A COMMA FILE (document 02, [1], [4], [5]; docs/CLERK.md, "From a simulator's file to the sheet"): one
+-- line and a digit, over the whole text. Each refusal is judged over the whole file: 1, 10, 2, 3, 4. Assumes nothing.
 use Prim.Native.Nat.{ℕ, _+_}
 use mathlib.Core.Bool.{cond, not}
 use mathlib.Core.List.{List, [], _∷_, _++_, map}

@@ -1,4 +1,4 @@
--- WHAT IS WRITTEN FOR THE FILES OF A CAMPAIGN (document 01, "The job sheet"; document 02, [2]; README, "From a
+-- WHAT IS WRITTEN FOR THE FILES OF A CAMPAIGN (document 01, "The job sheet"; document 02, [2]; docs/CLERK.md, "From a
 -- campaign's files to a verdict"): the sheet of their records, or the refused line of the first file at fault, and a
 -- digit, over the whole texts. Assumes nothing.
 use Prim.Native.Nat.{ℕ, _+_}

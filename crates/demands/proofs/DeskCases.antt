@@ -20,7 +20,8 @@ use Rattle.crossing_sets.specs.Groups.{attach, groups}
 use Rattle.crossing_sets.specs.Walk.{later, walk}
 use Rattle.desk_line.specs.Said.{Said, placesThen, refusedLine, whyText}
 use Rattle.comma_count.specs.Line.{countSaid, countSaidOfLines, figuresLine, firstText, resultFor}
-use Rattle.binomial_bounds.specs.HalfWidth.{firstFrom, halfWidth}
+use Rattle.root.specs.HalfWidth as root
+use Rattle.root.specs.Root.{firstFrom}
 use Rattle.binomial_files.specs.Files.{binomialFrom, binomialSaid, sumLine}
 use Rattle.sheet_records.specs.Ledger.{linesFrom, sheetText}
 use Rattle.sheet_files.specs.Files.{failuresIn, sheetFrom, sheetSaid}
@@ -102,8 +103,8 @@ calm = 48 ∷ 44 ∷ 48 ∷ 10 ∷ 53 ∷ 48 ∷ 48 ∷ 44 ∷ 52 ∷ 48 ∷ 10 
 -- N, P, the estimate, lower, upper, the time, of two files: 2 16 2000 0 4593 8000
 binomial-summed : binomialSaid items (rolling ∷ calm ∷ []) ≡ read (50 ∷ 9 ∷ 49 ∷ 54 ∷ 9 ∷ 50 ∷ 48 ∷ 48 ∷ 48 ∷ 9 ∷ 48 ∷ 9 ∷ 52 ∷ 53 ∷ 57 ∷ 51 ∷ 9 ∷ 56 ∷ 48 ∷ 48 ∷ 48 ∷ 10 ∷ [])
 unfolding binomialSaid binomialFrom sumLine linesOf firstWrong right isCommaLine isNumber allDigits leading valueOf isSize
-    sizeLength filled size digitsOf digitsWithin fieldText firstBad itemOutside moments passing groups attach halfWidth
-    firstFrom
+    sizeLength filled size digitsOf digitsWithin fieldText firstBad itemOutside moments passing groups attach
+    root.halfWidth firstFrom
 binomial-summed = refl
 
 -- the third file is the first at fault, on its line 2: refused 3 2 10

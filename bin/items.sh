@@ -41,6 +41,7 @@ times() {
 in_units() {
     local number=${2%%[!0-9.]*} pair units
     unit=${2#"$number"}
+    [ -n "$number" ] || wrong
     if [ -z "$unit" ]; then
         whole "$2" || wrong
         value=$2

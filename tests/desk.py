@@ -67,6 +67,7 @@ def signs(words, text):
             pass
     finally:
         os.close(ours)
+    shown = re.sub(rb"^\w+: (?:standard|step) [^\n]*\n", b"", shown)  # the items in words, which a terminal is told first
     return [int(n) for n in re.findall(rb"\d+", shown)] if re.fullmatch(rb"(?:\d+ lines\r)*", shown) else None
 
 

@@ -47,6 +47,10 @@ in_units() {
         value=$2
         return
     fi
+    # a unit is a word of letters, as deg or m/s2; anything else is a number wrongly typed
+    case ${unit%2} in
+    '' | *[!a-z/]*) wrong ;;
+    esac
     for pair in ${item_units[$1]}; do
         [ "${pair%%:*}" = "$unit" ] || continue
         times "$number" "${pair#*:}" || stop "--$1 $2 is no whole number of ${item_plain[$1]/samples/ms}"

@@ -128,22 +128,21 @@ letters = refl
 
 -- the whole answers behind them
 -- past its tests the answer is that of the times
-abbrev Passed : ℕ → ℕ → Type 0
-Passed c q = extrapolated peaks 10 c 500 1000000 q
-    ≡ Found (times peaks 10 c 500 1000000) (letterFor q (times peaks 10 c 500 1000000))
+abbrev Taken : List ℕ → ℕ → ℕ → ℕ → ℕ → ℕ → Type 0
+Taken ys k c D P q = extrapolated ys k c D P q ≡ Found (times ys k c D P) (letterFor q (times ys k c D P))
 
 told : (t s : Times) (q : ℕ) → t ≡ s → Found t (letterFor q t) ≡ Found s (letterFor q s)
 told t s q e = rw e
 
-passed-40000 : Passed 40000 7200000
+passed-40000 : Taken peaks 10 40000 500 1000000 7200000
 unfolding extrapolated reached itemOutside firstOutAfter figures ourFigure doublings squarings
 passed-40000 = refl
 
-passed-28500 : Passed 28500 50000000
+passed-28500 : Taken peaks 10 28500 500 1000000 50000000
 unfolding extrapolated reached itemOutside firstOutAfter figures ourFigure doublings squarings
 passed-28500 = refl
 
-passed-at-B : Passed 28500 170706726
+passed-at-B : Taken peaks 10 28500 500 1000000 170706726
 unfolding extrapolated reached itemOutside firstOutAfter figures ourFigure doublings squarings
 passed-at-B = refl
 
@@ -198,6 +197,28 @@ spread-refused : asked (4 ∷ 4 ∷ []) 2 4 1 2 1 ∷ asked (4 ∷ 4 ∷ []) 2 5
     ≡ Refused NoSpread ∷ Refused NoSpread ∷ Refused NoSpread ∷ []
 unfolding extrapolated reached itemOutside firstOutAfter figures ourFigure doublings squarings
 spread-refused = refl
+
+-- the exponent by our figures: 2 · 127 is below 64 · (2 + 2), 2 · 128 is not
+limit-refused : asked (100003 ∷ 100000 ∷ []) 2 100136 1 2 1 ≡ Refused NoSpread
+unfolding extrapolated reached itemOutside firstOutAfter figures ourFigure doublings squarings
+limit-refused = refl
+
+-- just inside each end: as many samples as the tail has peaks, and 100,000,000; an exponent below 64; the highest items
+fewest-samples-taken : Taken peaks 10 40000 500 10 7200000
+unfolding extrapolated reached itemOutside firstOutAfter figures ourFigure doublings squarings
+fewest-samples-taken = refl
+
+most-samples-taken : Taken peaks 10 40000 500 100000000 7200000
+unfolding extrapolated reached itemOutside firstOutAfter figures ourFigure doublings squarings
+most-samples-taken = refl
+
+spread-taken : Taken (100003 ∷ 100000 ∷ []) 2 100135 1 2 1
+unfolding extrapolated reached itemOutside firstOutAfter figures ourFigure doublings squarings
+spread-taken = refl
+
+highest-items-taken : Taken (1000000 ∷ 500000 ∷ []) 2 1000000 10000 2 100000000000
+unfolding extrapolated reached itemOutside firstOutAfter figures ourFigure doublings squarings
+highest-items-taken = refl
 
 -- ---- with 10 samples each of them has a peak and the half-width is 0; with 11 it is 2.132 failures
 count-of-all : countWidth 10 10 ≡ 0

@@ -142,9 +142,12 @@ opening-line : (line : List ℕ) (t : Sheet) → stepping Fresh line ≡ Next t 
 unfolding stepping
 opening-line line t step =
     let o = says-next (standard-says _ line (standard-few line)) step in
-    let (range, is) = opened-from (o .standard) (o .after) (o .taken) in
-    (o .after, is-true _ (opened-sound (o .standard) (o .after) (o .taken)), o .next,
-    omega (arith, ap length (o .bytes), head-few (o .standard) (in-range (o .standard) range)))
+    let (range, is) = opened-from (o .standard) (o .after) (o .taken) in (
+      o .after,
+      is-true _ (opened-sound (o .standard) (o .after) (o .taken)),
+      o .next,
+      omega (arith, ap length (o .bytes), head-few (o .standard) (in-range (o .standard) range)),
+    )
 
 module _ (text : List ℕ) (s : Sheet) (left : ℕ) (some : 0 < length text) where
   abbrev after-head : List ℕ

@@ -42,7 +42,14 @@ fn put_fault(place: u64, line: u64, number: u64, told: bool, value: u64, out: &m
 
 // The refused line of the sheet at this place, at its line, with the refusal's number and `value` where it is told.
 // Without room for any line nothing is written, and the program ends as failed.
-pub fn refuse(place: u64, line: u64, number: u64, told: bool, value: u64, out: &mut [u8]) -> Finished
+pub fn refuse(
+    place: u64,
+    line: u64,
+    number: u64,
+    told: bool,
+    value: u64,
+    out: &mut [u8],
+) -> Finished
     ensures { λ f. ⌜ f ≡ putting (refusedSheet place line number told value) (now (out .entry)) ⌝ }
     ensures { λ _. ⌜ now (out .exit) ≡ putLeft (refusedSheet place line number told value) (now (out .entry)) ⌝ }
 {

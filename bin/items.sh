@@ -64,10 +64,10 @@ in_units() {
 # takes_items NAMES WORD..: the leading options among the names go to `item` by their names, the words after them to
 # `words`. A name with a colon is no item and takes any word. --verbose is one of every command's.
 takes_items() {
-    local names=" $1 " ramp_unit='' ramp_word=''
+    local names=" $1 "
     shift
     declare -gA item=()
-    verbose=''
+    verbose='' ramp_unit='' ramp_word=''
     while [ $# -ge 1 ]; do
         if [ "$1" = --verbose ]; then
             verbose=1
@@ -90,11 +90,14 @@ takes_items() {
         shift 2
     done
     words=("$@")
-    if [ -n "$ramp_unit" ] && [ "${item[step]:-0}" -gt 0 ]; then
-        [ $((item[ramp] % item[step])) -eq 0 ] ||
-            stop "--ramp $ramp_word is no whole number of steps of ${item[step]} ms"
-        item[ramp]=$((item[ramp] / item[step]))
-    fi
+    ramp_in_steps
+}
+
+# ramp_in_steps: a ramp that was given as a time in steps, once the step is known.
+ramp_in_steps() {
+    [ -n "$ramp_unit" ] && [ "${item[step]:-0}" -gt 0 ] || return 0
+    [ $((item[ramp] % item[step])) -eq 0 ] || stop "--ramp $ramp_word is no whole number of steps of ${item[step]} ms"
+    item[ramp]=$((item[ramp] / item[step])) ramp_unit=
 }
 
 # asks_for NAME..: the options that a command cannot do without.
@@ -138,3 +141,68 @@ says_items() {
     done
     echo "$speaker: $said" >&2
 }
+
+# --- the items of a campaign, kept in a file from day to day: one a line, its name and its number, parted by a tab
+
+kept_names=(step ramp level acceleration-level decorrelation)
+
+# reads_items FILE: what the file has goes to `kept` by name. A line that is no item, one twice, or one that is missing
+# ends it: a file that was damaged says nothing.
+reads_items() {
+    local lines=() line name number=0
+    declare -gA kept=()
+    [ -f "$1" ] || stop "$1 is no plain file"
+    [ -r "$1" ] || stop "$1: may not be read"
+    # more than six lines of items can have is not looked at
+    mapfile -t lines < <(head -c 1000 -- "$1" | tr '\0' ' ')
+    for line in ${lines[@]+"${lines[@]}"}; do
+        number=$((number + 1)) name=${line%%"$tab"*}
+        case " ${kept_names[*]} " in
+        *" ${name:-no name} "*) ;;
+        *) stop "$1, line $number: no item of a campaign" ;;
+        esac
+        whole "${line#*"$tab"}" && [ "${#line}" -lt 40 ] || stop "$1, line $number: no number of ${item_words[$name]}"
+        [ -z "${kept[$name]-}" ] || stop "$1, line $number: ${item_words[$name]} a second time"
+        kept[$name]=${line#*"$tab"}
+    done
+    for name in step ramp level decorrelation; do
+        [ -n "${kept[$name]-}" ] || stop "$1 has no line for ${item_words[$name]}"
+    done
+}
+
+# holds_items FILE: an item that was not given is the file's; one that was given and is another there ends it.
+holds_items() {
+    local name
+    reads_items "$1"
+    [ -n "${item[step]-}" ] || item[step]=${kept[step]}
+    ramp_in_steps
+    for name in "${kept_names[@]}"; do
+        [ -n "${item[$name]-}" ] || item[$name]=${kept[$name]-}
+        [ "${item[$name]}" = "${kept[$name]-}" ] || stop "${item_words[$name]} is ${kept[$name]:-not there} in $1, and ${item[$name]} was given"
+    done
+}
+
+# may_keep_items FILE: whether the file can be written at the end, asked before anything is read.
+may_keep_items() {
+    local folder=.
+    case $1 in
+    */*) folder=${1%/*}/ ;;
+    esac
+    [ -d "$folder" ] || stop "$1: no such directory"
+    [ -w "$folder" ] || stop "$1: its directory may not be written"
+}
+
+# keeps_items FILE: writes the items to the file, whole or not at all: beside it first, then under its name where nobody
+# else has it by now. Where somebody has, it is held to that.
+keeps_items() (
+    draft=$(mktemp -- "$1.XXXXXX") || exit 2
+    trap 'rm -f -- "$draft"' EXIT
+    trap 'exit 2' INT TERM HUP
+    for name in "${kept_names[@]}"; do
+        [ -z "${item[$name]-}" ] || printf '%s\t%s\n' "$name" "${item[$name]}" || exit
+    done >"$draft" || stop "$1: cannot be written, and the items are not kept"
+    chmod -- "$(printf %o $((0666 & ~$(umask))))" "$draft"
+    ln -- "$draft" "$1" 2>/dev/null && exit
+    [ -e "$1" ] || mv -n -- "$draft" "$1" 2>/dev/null || stop "$1: cannot be written, and the items are not kept"
+    holds_items "$1"
+)

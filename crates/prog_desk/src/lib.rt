@@ -67,7 +67,7 @@ fn show_progress(before: u64, lines: u64, shown: bool) {
 }
 
 // What reading once comes to: where the bytes end, or that nothing can be read.
-enum Got {
+pub enum Got {
     Upto(usize),
     Broken,
 }
@@ -209,4 +209,24 @@ pub fn next_name(names: &mut [u8], at: usize, end: usize) -> Name {
         turns -= 1;
     }
     Name::Broken
+}
+
+// Reads from the descriptor `from`, which is called `name`, to its end, or until `text` is full.
+pub fn read_whole(from: i32, name: &[u8], text: &mut [u8]) -> Got {
+    let mut kept = 0;
+    let mut turns = u64::MAX;
+    while turns > 0 {
+        if text.len() <= kept {
+            return Got::Upto(kept);
+        }
+        let Got::Upto(end) = fill(from, name, text, kept) else {
+            return Got::Broken;
+        };
+        if end <= kept {
+            return Got::Upto(kept);
+        }
+        kept = end;
+        turns -= 1;
+    }
+    Got::Broken
 }

@@ -3,12 +3,19 @@
 // the standard and the four items are arguments. What is written is `sheet_files`' promise, over the whole files
 // however they come; here names and bytes are only carried. An empty name stands for a file that the script could not
 // find, and says so itself. A file has one channel, so that any level in range will do for the other.
+// With a word more than these, yesterday's sheet is on standard input, and is taken up first (`sheet_after`): its
+// standard is today's, and its records go before today's files.
 ghost use mathlib.Core.Path.{_≡_};
 ghost use lib.ListN.{length};
+use libc::STDERR_FILENO;
+use libc::STDIN_FILENO;
+use prog_desk::Got;
 use prog_desk::Name;
 use prog_desk::Served;
+use refusal::Refusal;
 use sample_channels::Levels;
 use sample_items::Items;
+use sheet_after::TakenUp;
 use sheet_files::Filed;
 
 // The most bytes that are read at once, of a file and of the list of names.
@@ -110,13 +117,21 @@ fn how(a: After) -> u8 {
     }
 }
 
+// Where a day starts: the standard, what is filed, and the number of the first file.
+struct Start {
+    standard: u64,
+    filed: Filed,
+    number: u64,
+}
+
 // File after file, up to the first that is refused. The number of the next one is up by one with each, and ends the
 // loop that has to end at a number that no run reaches.
-fn each(q: u64, items: Items, names: &mut [u8], text: &mut [u8], records: &mut [i32]) -> u8 {
-    let mut filed = sheet_files::open(q, items);
+fn each(s: Start, items: Items, names: &mut [u8], text: &mut [u8], records: &mut [i32]) -> u8 {
+    let q = s.standard;
+    let mut filed = s.filed;
     let mut at = 0;
     let mut end = 0;
-    let mut number: u64 = 1;
+    let mut number = s.number;
     while number < u64::MAX {
         let l = List { at: at, end: end };
         let after = turn(number, q, filed, items, names, text, records, l);
@@ -129,6 +144,95 @@ fn each(q: u64, items: Items, names: &mut [u8], text: &mut [u8], records: &mut [
         number += 1;
     }
     desk_line::FAILED
+}
+
+// What taking yesterday's sheet up comes to, or that it could not be read. The buffer holds as much of a sheet as decides
+// (`demands`' NextDay.first-bytes), and is free again when today's files come.
+enum Morning {
+    Up(TakenUp),
+    Broken,
+}
+
+fn read_sheet(items: Items, sheet: &mut [u8], records: &mut [i32]) -> Morning {
+    let Got::Upto(n) = prog_desk::read_whole(STDIN_FILENO, b"yesterday's sheet", sheet) else {
+        return Morning::Broken;
+    };
+    if sheet.len() < n {
+        return Morning::Broken;
+    }
+    Morning::Up(sheet_after::take_up(items, &sheet[..n], records))
+}
+
+fn take_up(items: Items, records: &mut [i32]) -> Morning {
+    let mut sheet = room_for_the_sheet();
+    read_sheet(items, &mut sheet, records)
+}
+
+fn sheet_refused(line: u64, column: u64, r: Refusal) -> u8 {
+    let mut out = [0u8; 128];
+    let f = sheet_after::refuse(line, column, r, &mut out);
+    prog_desk::answer(&out, f)
+}
+
+// Whether the standard among the words, if there is one, is yesterday's sheet's; else it is said that it is not.
+fn agrees(given: u64, q: u64) -> bool {
+    if given == u64::MAX {
+        return true;
+    }
+    if given == q {
+        return true;
+    }
+    let mut out = [0u8; 128];
+    let word = text::write_bytes(b"the standard of yesterday's sheet is ", &mut out, 0);
+    let after = decimal::write_number(q, &mut out, word);
+    let n = text::write_bytes(b", and another was given\n", &mut out, after);
+    prog_desk::write_to(STDERR_FILENO, &out, n);
+    false
+}
+
+fn next_day(
+    given: u64,
+    items: Items,
+    names: &mut [u8],
+    text: &mut [u8],
+    records: &mut [i32],
+) -> u8 {
+    let Morning::Up(t) = take_up(items, records) else {
+        return desk_line::FAILED;
+    };
+    match t {
+        TakenUp::Refused(line, column, r) => sheet_refused(line, column, r),
+        TakenUp::Records(q, n, failures) => {
+            if !agrees(given, q) {
+                return desk_line::FAILED;
+            }
+            let s = Start {
+                standard: q,
+                filed: Filed::Records(n, failures),
+                number: std::num::wrapping_add_u64(n, 1),
+            };
+            each(s, items, names, text, records)
+        }
+    }
+}
+
+fn first_day(q: u64, items: Items, names: &mut [u8], text: &mut [u8], records: &mut [i32]) -> u8 {
+    let s = Start {
+        standard: q,
+        filed: sheet_files::open(q, items),
+        number: 1,
+    };
+    each(s, items, names, text, records)
+}
+
+// The program's own name, the standard and four items; a word more asks for yesterday's sheet.
+const WORDS: usize = 6;
+
+fn day(q: u64, items: Items, names: &mut [u8], text: &mut [u8], records: &mut [i32]) -> u8 {
+    if os::arg_count() > WORDS {
+        return next_day(q, items, names, text, records);
+    }
+    first_day(q, items, names, text, records)
 }
 
 fn main() {
@@ -144,7 +248,7 @@ fn main() {
         },
         decorrelation: prog_desk::item(5),
     };
-    prog_desk::end(each(
+    prog_desk::end(day(
         prog_desk::item(1),
         items,
         &mut names,

@@ -137,7 +137,7 @@ well-step q number (filed.Refused first line p) e records w = tt
 well-step q number (filed.Records n failures) (end.Refused line p) records w = tt
 well-step q number (filed.Records n failures) (end.Counted r) records w = well-ended q number n failures records r (ending r) refl w
 
-well-after : (q : ℕ) (i : Items) (files : List (List (List ℕ))) (number : ℕ) (d : Desk) → Well q (d .filed) (d .records)
+pub well-after : (q : ℕ) (i : Items) (files : List (List (List ℕ))) (number : ℕ) (d : Desk) → Well q (d .filed) (d .records)
     → let l = deskAfter i number d files in Well q (l .filed) (l .records)
 unfolding deskAfter
 well-after q i [] number d w = w
@@ -168,7 +168,7 @@ ending-as r n x s e g =
 
 module _ (q : ℕ) (i : Items) (ok : itemOutside i ≡ 0) where
   -- what is said after so many records, whatever they are
-  abbrev Later : ℕ → List (List (List ℕ)) → Type 0
+  abbrev pub Later : ℕ → List (List (List ℕ)) → Type 0
   Later number files =
       (n failures : ℕ) (records : List ℤ) → Kept q n failures records → mostRecords ≤ length records → number ≡ n + 1
       → deskSaid q (deskAfter i number (record { filed = filed.Records n failures; records = records }) files) ≡ sheetFrom q i (take n records) (map joined files)
@@ -259,7 +259,7 @@ module _ (q : ℕ) (i : Items) (ok : itemOutside i ≡ 0) where
         let num : number ≡ length (take n records) + 1 = e ∙ ap (λ m. m + 1) many in
         λ j. Said-by (num j) (many j) (k .fails j)
 
-  from : (files : List (List (List ℕ))) (number : ℕ) → Later number files
+  pub from : (files : List (List (List ℕ))) (number : ℕ) → Later number files
   unfolding deskAfter sheetFrom
   from [] number n failures records k big e = refl
   from (pieces ∷ files) number n failures records k big e =

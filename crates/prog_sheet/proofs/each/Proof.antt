@@ -8,11 +8,11 @@ use Rattle.prog_sheet.proofs.each.Statement.{statement}
 use Rattle.prog_sheet.proofs.each.Tie as tie
 
 abbrev Inv-loop : tie.InvT-loop
-Inv-loop q items names₀ text₀ records₀ filed₀ at₀ end₀ number₀ names text records filed at end number =
+Inv-loop items names₀ text₀ records₀ q filed₀ at₀ end₀ number₀ names text records filed at end number =
     (length names ≡ length names₀) × (length text ≡ length text₀) × (length records ≡ length records₀)
 
 abbrev μ-loop : tie.MeasureT-loop
-μ-loop q items names₀ text₀ records₀ filed₀ at₀ end₀ number₀ names text records filed at end number = 18446744073709551615 - number
+μ-loop items names₀ text₀ records₀ q filed₀ at₀ end₀ number₀ names text records filed at end number = 18446744073709551615 - number
 
 loop-holds : tie.Need-loop-holds Inv-loop μ-loop
 loop-holds c = (refl, refl, refl)
@@ -20,7 +20,7 @@ loop-holds c = (refl, refl, refl)
 pub each-spec : {M : Type 1} → statement M
 each-spec =
     tie.close
-    (tie.spec Inv-loop μ-loop (λ c κs. search needs) loop-holds (λ c κs. search needs) (λ c. search needs)
+    (tie.spec Inv-loop μ-loop loop-holds (λ c κs. search needs) (λ c. search needs)
     (λ c. search needs) (λ c κs. search needs) (λ c. search needs) (λ c. search needs) (λ c. search needs)
     (λ c. search needs) (λ c. search needs) (λ c. search needs) (λ c. search needs) (λ c. search needs)
     (λ c. search needs) (λ c. search needs) (λ c. search needs))

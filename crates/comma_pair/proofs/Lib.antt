@@ -1,0 +1,5 @@
+pub mod Few
+pub mod Front
+pub mod Joining
+pub mod Way
+pub mod Piece

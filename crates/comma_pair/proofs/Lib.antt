@@ -3,3 +3,4 @@ pub mod Front
 pub mod Joining
 pub mod Way
 pub mod Piece
+pub mod Text

@@ -1,7 +1,10 @@
 // What the clerk's programs share: how a program reads a file through a buffer, what it writes, how it says that it has
 // ended, the numbers among its arguments, and its progress on a terminal. No contract can say what is read or written:
 // here bytes are only carried, and what is in them is the promise of the libraries beneath.
+ghost use Prim.Native.Nat.{_≤_};
 use comma_count::Counting;
+use comma_pair::Next;
+use comma_pair::Watching;
 use desk_line::Finished;
 use libc::STDERR_FILENO;
 use libc::STDOUT_FILENO;
@@ -229,4 +232,178 @@ pub fn read_whole(from: i32, name: &[u8], text: &mut [u8]) -> Got {
         turns -= 1;
     }
     Got::Broken
+}
+
+// ---- two files of one record
+
+// Where a file stands in its buffer: the bytes from `at` up to `end` are read and not used yet, and whether more follows.
+pub struct Part {
+    at: usize,
+    end: usize,
+    more: bool,
+}
+
+fn least(a: usize, b: usize) -> usize
+    ensures { λ r. ⌜ (r ≤ a) × (r ≤ b) ⌝ }
+{
+    if a < b { a } else { b }
+}
+
+fn moved(p: Part, used: usize) -> Part {
+    Part {
+        at: std::num::wrapping_add_u64(p.at as u64, used as u64) as usize,
+        end: p.end,
+        more: p.more,
+    }
+}
+
+// Takes what is read of both files and not used yet.
+fn take_both(w: Watching, roll: &[u8], p: Part, acceleration: &[u8], q: Part) -> comma_pair::Took {
+    let end = least(p.end, roll.len());
+    let at = least(p.at, end);
+    let other_end = least(q.end, acceleration.len());
+    let other_at = least(q.at, other_end);
+    comma_pair::take(
+        w,
+        &roll[at..end],
+        p.more,
+        &acceleration[other_at..other_end],
+        q.more,
+    )
+}
+
+// What reading a file once more comes to.
+enum Refilled {
+    More(Part),
+    Broken,
+}
+
+// Reads once, after the bytes that are not used yet, which go to the front.
+fn refill(from: i32, name: &[u8], text: &mut [u8], p: Part) -> Refilled {
+    let end = least(p.end, text.len());
+    let at = least(p.at, end);
+    let kept = end - at;
+    text::keep(text, at, kept);
+    let Got::Upto(filled) = fill(from, name, text, kept) else {
+        return Refilled::Broken;
+    };
+    Refilled::More(Part {
+        at: 0,
+        end: filled,
+        more: kept < filled,
+    })
+}
+
+// What reading on comes to: both files as they stand then; or neither has to be read; or one cannot be.
+enum Onward {
+    Both(Part, Part),
+    Over,
+    Broken,
+}
+
+fn with_roll(f: Refilled, q: Part) -> Onward {
+    match f {
+        Refilled::More(p) => Onward::Both(p, q),
+        Refilled::Broken => Onward::Broken,
+    }
+}
+
+fn with_acceleration(p: Part, f: Refilled) -> Onward {
+    match f {
+        Refilled::More(q) => Onward::Both(p, q),
+        Refilled::Broken => Onward::Broken,
+    }
+}
+
+// The descriptors of the two files.
+pub struct Sources {
+    pub roll: i32,
+    pub acceleration: i32,
+}
+
+// Reads the file that has to be read. Only that one is waited for, so that one hand may write both.
+fn read_on(
+    next: Next,
+    from: Sources,
+    roll: &mut [u8],
+    p: Part,
+    acceleration: &mut [u8],
+    q: Part,
+) -> Onward {
+    match next {
+        Next::Roll => with_roll(refill(from.roll, b"the roll", roll, p), q),
+        Next::Acceleration => with_acceleration(
+            p,
+            refill(from.acceleration, b"the acceleration", acceleration, q),
+        ),
+        Next::Neither => Onward::Over,
+    }
+}
+
+// The lines of the longer file.
+fn longer(w: Watching) -> u64 {
+    let f = w.roll;
+    let g = w.acceleration;
+    if f.lines < g.lines {
+        return g.lines;
+    }
+    f.lines
+}
+
+// What two files came to: their count, or that one could not be read.
+pub enum ServedPair {
+    Counted(Watching),
+    Broken,
+}
+
+fn served_pair(after: Onward, w: Watching) -> ServedPair {
+    match after {
+        Onward::Over => ServedPair::Counted(w),
+        Onward::Both(_, _) => ServedPair::Broken,
+        Onward::Broken => ServedPair::Broken,
+    }
+}
+
+// Counts two files of a record through a buffer for each, to their ends or until nothing changes the answer any more.
+// The turns are counted down as in `serve`.
+pub fn serve_pair(
+    start: Watching,
+    from: Sources,
+    roll: &mut [u8],
+    acceleration: &mut [u8],
+    shown: bool,
+) -> ServedPair {
+    let mut watch = start;
+    let mut p = Part {
+        at: 0,
+        end: 0,
+        more: true,
+    };
+    let mut q = p;
+    let mut turns = u64::MAX;
+    while turns > 0 {
+        let t = take_both(watch, &roll[..], p, &acceleration[..], q);
+        let w = t.watching;
+        show_progress(longer(watch), longer(w), shown);
+        watch = w;
+        if w.over {
+            return ServedPair::Counted(watch);
+        }
+        let next = t.next;
+        let after = read_on(
+            next,
+            from,
+            roll,
+            moved(p, t.roll),
+            acceleration,
+            moved(q, t.acceleration),
+        );
+        let Onward::Both(left, right) = after else {
+            return served_pair(after, watch);
+        };
+        p = left;
+        q = right;
+        turns -= 1;
+    }
+    ServedPair::Broken
 }

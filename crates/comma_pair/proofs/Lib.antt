@@ -1,0 +1,6 @@
+pub mod Few
+pub mod Front
+pub mod Joining
+pub mod Way
+pub mod Piece
+pub mod Text

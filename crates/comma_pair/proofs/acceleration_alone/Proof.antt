@@ -1,0 +1,18 @@
+-- `comma_pair::acceleration_alone` meets its contract, by its three cases. Assumes nothing.
+use borrow.Author.Needs.{needs}
+use Rattle.comma_pair.proofs.acceleration_alone.Statement.{statement}
+use Rattle.comma_pair.proofs.acceleration_alone.Tie as tie
+
+returns : tie.Need-returns
+returns c = rw (c .ended .ensures, c .before .stopped .ensures, c .before .before .if1 .taken)
+
+returns-2 : tie.Need-returns-2
+returns-2 c = rw (c .before .watched .ensures, c .before .before .if1 .left, c .if2 .taken)
+
+returns-3 : tie.Need-returns-3
+returns-3 c = rw (c .before .watched .ensures, c .before .before .if1 .left, c .if2 .left)
+
+pub acceleration-alone-spec : {M : Type 1} → statement M
+acceleration-alone-spec =
+    tie.close
+    (tie.spec (λ c κs. search needs) (λ c κs. search needs) returns (λ c κs. search needs) (λ c. search needs) returns-2 returns-3)

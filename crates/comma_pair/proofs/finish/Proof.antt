@@ -1,0 +1,21 @@
+-- `comma_pair::finish` meets its contract: without room nothing is written, and with it the line of what the files came to. Assumes nothing.
+use mathlib.Core.Path.{_≡_, ap}
+use denote.Ref.{now}
+use Rattle.desk_line.proofs.Put.{puts-same, finished, without}
+use Rattle.comma_pair.specs.Taking.{saidEnd, saying}
+use borrow.Author.Needs.{needs}
+use Rattle.comma_pair.proofs.finish.Statement.{statement}
+use Rattle.comma_pair.proofs.finish.Tie as tie
+
+returns : tie.Need-returns
+returns c = let s = c .before .before in without (saying (s .args .w)) (now (s .args .out)) (c .if1 .taken)
+
+returns-2 : tie.Need-returns-2
+unfolding saying
+returns-2 c =
+    let k = c .before .before .before .before in
+    let s = k .before .before .before in
+    finished (saying (s .args .w)) (k .before .if1 .left) (puts-same (ap saidEnd (k .came-to .ensures)) (c .before .before .put-end .ensures))
+
+pub finish-spec : {M : Type 1} → statement M
+finish-spec = tie.close (tie.spec returns (λ c κs. search needs) (λ c κs. search needs) (λ c. search needs) returns-2)

@@ -1,0 +1,4 @@
+pub mod Line
+pub mod Taking
+pub mod Step
+pub mod Pieces

@@ -19,6 +19,7 @@ pub mod Refusal9
 pub mod Request10
 pub mod JobSheet
 pub mod Desk
+pub mod DeskBeyond
 pub mod Figures
 pub mod Relations
 pub mod Ends

@@ -53,7 +53,7 @@ pub fn watched() -> bool {
 }
 
 // Progress for a terminal, once in a million lines: their number.
-fn show_progress(before: u64, lines: u64, shown: bool) {
+pub fn show_progress(before: u64, lines: u64, shown: bool) {
     if !shown {
         return;
     }
@@ -67,13 +67,13 @@ fn show_progress(before: u64, lines: u64, shown: bool) {
 }
 
 // What reading once comes to: where the bytes end, or that nothing can be read.
-enum Got {
+pub enum Got {
     Upto(usize),
     Broken,
 }
 
 // Reads once from the descriptor `from`, which is called `name`, after the first `kept` bytes of `text`.
-fn fill(from: i32, name: &[u8], text: &mut [u8], kept: usize) -> Got {
+pub fn fill(from: i32, name: &[u8], text: &mut [u8], kept: usize) -> Got {
     if text.len() < kept {
         return Got::Broken;
     }

@@ -183,6 +183,7 @@ explain() {
         [ "$2" != 0 ] || where=${items[$4]}
         ;;
     2) place=$(($2 - 1)) ;;
+    20) place=$4 ;;
     esac
     [ "$2" = 0 ] || where="$where, line $2"
     where="$speaker: ${where:+$where: }refusal $3: $(meaning "$3" "$place")${5-}"

@@ -1,6 +1,6 @@
 -- [14], computed of the definitions: the half-widths, the guide's table and document 001's own example, the letters at
--- and about A and B, every refusal and two at once, clipped records, and that the longest accepted standard alone need
--- not grow with the samples. And by these cases, three builders who do not keep the promise. Each declaration has the
+-- and about A and B, every refusal and two at once, clipped records, that the longest accepted standard alone need not
+-- grow with the samples, and the lines that bin/extrapolate writes. And by these cases, three builders who do not keep the promise. Each declaration has the
 -- name of its sentence. Assumes nothing.
 use mathlib.Core.Path.{_≡_, ap, refl, _∙_}
 use mathlib.Core.List.{List, [], _∷_, _++_}
@@ -23,6 +23,19 @@ use Rattle.peak_reach.specs.declared.Extrapolated.the-variants.{Found, Refused}
 use Rattle.peak_reach.specs.declared.Letter.{Letter}
 use Rattle.peak_reach.specs.declared.Letter.the-variants.{Accept, Continue, Reject}
 use Rattle.peak_reach.specs.declared.Times.{Times}
+use Rattle.sample_items.specs.Limits as limits
+use Rattle.decimal.specs.Decimal.{allDigits, digitsOf, digitsWithin, isNumber}
+use Rattle.decimal.specs.Field.{fieldText}
+use Rattle.decimal.specs.Leading.{leading}
+use Rattle.decimal.specs.Lines.{linesOf}
+use Rattle.comma_line.specs.Line.{isCommaLine, right}
+use Rattle.comma_line.specs.Text.{firstWrong}
+use Rattle.comma_peaks.specs.Judged.{comesTo}
+use Rattle.desk_line.specs.Said.{placesThen, refusedLine, whyText}
+use Rattle.reach_files.specs.declared.Job.{Job}
+use Rattle.reach_files.specs.Down.{downwards}
+use Rattle.reach_files.specs.Line.{aboveLevel, figuresLine, figuresOf, listSaid, lowLine, refusedList, rejectedText, saidBy}
+use Rattle.reach_files.specs.Files.{reachFrom, reachSaid}
 use Rattle.demands.proofs.Request14.{Answer, Keeps}
 
 abbrev three : ℕ → ℕ → ℕ → Times
@@ -242,6 +255,61 @@ accepted-need-not-grow = (
   ap (λ (t : Times). t .accepted)
       (of-list peaks 10 40000 500 11 28500 75071 _ refl ten (by-widths 28500 40000 10 75071 500 11 2132 707086 _ count-of-eleven shape-10 figures-of-eleven)),
 )
+
+-- ---- the lines that bin/extrapolate writes, byte for byte, every field with a figure of its own
+abbrev job : ℕ → ℕ → ℕ → Job
+job c k q = record { step = 500; ramp = 20; level = c; decorrelation = 35000; tail = k; standard = q }
+
+-- of the guide's small case from 80 files: 80 12 1000000 10 28500 75071 0 3569418850 356906209 - A
+bytes-accepted : figuresLine (figuresOf (job 40000 10 7200000) 80 1000000 peaks (three 3569418850 356906209 0) Accept)
+    ≡ 56 ∷ 48 ∷ 9 ∷ 49 ∷ 50 ∷ 9 ∷ 49 ∷ 48 ∷ 48 ∷ 48 ∷ 48 ∷ 48 ∷ 48 ∷ 9 ∷ 49 ∷ 48 ∷ 9 ∷ 50 ∷ 56 ∷ 53 ∷ 48 ∷ 48 ∷ 9 ∷ 55 ∷ 53 ∷ 48 ∷ 55 ∷ 49 ∷ 9 ∷ 48 ∷ 9 ∷ 51 ∷ 53 ∷ 54 ∷ 57 ∷ 52 ∷ 49 ∷ 56 ∷ 56 ∷ 53 ∷ 48 ∷ 9 ∷ 51 ∷ 53 ∷ 54 ∷ 57 ∷ 48 ∷ 54 ∷ 50 ∷ 48 ∷ 57 ∷ 9 ∷ 45 ∷ 9 ∷ 65 ∷ 10 ∷ []
+unfolding figuresLine aboveLevel rejectedText figures ourFigure doublings squarings fieldText digitsOf digitsWithin
+bytes-accepted = refl
+
+line-accepted : listSaid (job 40000 10 7200000) 80 1000000 peaks
+    ≡ record { line = 56 ∷ 48 ∷ 9 ∷ 49 ∷ 50 ∷ 9 ∷ 49 ∷ 48 ∷ 48 ∷ 48 ∷ 48 ∷ 48 ∷ 48 ∷ 9 ∷ 49 ∷ 48 ∷ 9 ∷ 50 ∷ 56 ∷ 53 ∷ 48 ∷ 48 ∷ 9 ∷ 55 ∷ 53 ∷ 48 ∷ 55 ∷ 49 ∷ 9 ∷ 48 ∷ 9 ∷ 51 ∷ 53 ∷ 54 ∷ 57 ∷ 52 ∷ 49 ∷ 56 ∷ 56 ∷ 53 ∷ 48 ∷ 9 ∷ 51 ∷ 53 ∷ 54 ∷ 57 ∷ 48 ∷ 54 ∷ 50 ∷ 48 ∷ 57 ∷ 9 ∷ 45 ∷ 9 ∷ 65 ∷ 10 ∷ []; end = 48 }
+line-accepted =
+    ap (λ (x : Extrapolated). saidBy (job 40000 10 7200000) 80 1000000 peaks x) accepted-case
+    ∙ ap (λ (l : List ℕ). record { line = l; end = 48 }) bytes-accepted
+
+-- at the level of the last peak, nine are above it and the standard is rejected: B is a number and the letter R
+bytes-rejected : figuresLine (figuresOf (job 28500 10 170706726) 3 1000000 peaks (three 50000000 29289438 170706726) Reject)
+    ≡ 51 ∷ 9 ∷ 49 ∷ 50 ∷ 9 ∷ 49 ∷ 48 ∷ 48 ∷ 48 ∷ 48 ∷ 48 ∷ 48 ∷ 9 ∷ 49 ∷ 48 ∷ 9 ∷ 50 ∷ 56 ∷ 53 ∷ 48 ∷ 48 ∷ 9 ∷ 55 ∷ 53 ∷ 48 ∷ 55 ∷ 49 ∷ 9 ∷ 57 ∷ 9 ∷ 53 ∷ 48 ∷ 48 ∷ 48 ∷ 48 ∷ 48 ∷ 48 ∷ 48 ∷ 9 ∷ 50 ∷ 57 ∷ 50 ∷ 56 ∷ 57 ∷ 52 ∷ 51 ∷ 56 ∷ 9 ∷ 49 ∷ 55 ∷ 48 ∷ 55 ∷ 48 ∷ 54 ∷ 55 ∷ 50 ∷ 54 ∷ 9 ∷ 82 ∷ 10 ∷ []
+unfolding figuresLine aboveLevel rejectedText figures ourFigure doublings squarings fieldText digitsOf digitsWithin
+bytes-rejected = refl
+
+line-rejected : listSaid (job 28500 10 170706726) 3 1000000 peaks
+    ≡ record { line = 51 ∷ 9 ∷ 49 ∷ 50 ∷ 9 ∷ 49 ∷ 48 ∷ 48 ∷ 48 ∷ 48 ∷ 48 ∷ 48 ∷ 9 ∷ 49 ∷ 48 ∷ 9 ∷ 50 ∷ 56 ∷ 53 ∷ 48 ∷ 48 ∷ 9 ∷ 55 ∷ 53 ∷ 48 ∷ 55 ∷ 49 ∷ 9 ∷ 57 ∷ 9 ∷ 53 ∷ 48 ∷ 48 ∷ 48 ∷ 48 ∷ 48 ∷ 48 ∷ 48 ∷ 9 ∷ 50 ∷ 57 ∷ 50 ∷ 56 ∷ 57 ∷ 52 ∷ 51 ∷ 56 ∷ 9 ∷ 49 ∷ 55 ∷ 48 ∷ 55 ∷ 48 ∷ 54 ∷ 55 ∷ 50 ∷ 54 ∷ 9 ∷ 82 ∷ 10 ∷ []; end = 48 }
+line-rejected =
+    ap (λ (x : Extrapolated). saidBy (job 28500 10 170706726) 3 1000000 peaks x) rejected-case
+    ∙ ap (λ (l : List ℕ). record { line = l; end = 48 }) bytes-rejected
+
+-- 20 has the last peak of the tail after it, 21 nothing: refused 0 0 20 4, refused 0 0 21
+line-low : listSaid (job 3 2 1) 1 2 (5 ∷ 4 ∷ []) ≡ record { line = 114 ∷ 101 ∷ 102 ∷ 117 ∷ 115 ∷ 101 ∷ 100 ∷ 9 ∷ 48 ∷ 9 ∷ 48 ∷ 9 ∷ 50 ∷ 48 ∷ 9 ∷ 52 ∷ 10 ∷ []; end = 49 }
+unfolding extrapolated reached itemOutside firstOutAfter refusedList lowLine fieldText digitsOf digitsWithin
+line-low = refl
+
+line-clipped : listSaid (job 5 2 1) 1 2 (4 ∷ 4 ∷ []) ≡ record { line = 114 ∷ 101 ∷ 102 ∷ 117 ∷ 115 ∷ 101 ∷ 100 ∷ 9 ∷ 48 ∷ 9 ∷ 48 ∷ 9 ∷ 50 ∷ 49 ∷ 10 ∷ []; end = 49 }
+unfolding extrapolated reached itemOutside firstOutAfter figures ourFigure doublings squarings refusedList refusedLine placesThen whyText fieldText digitsOf digitsWithin
+line-clipped = refl
+
+-- no files have no peaks: refused 0 0 16; a k of 1 goes before a malformed file, and so does the standard: refused 0 0 1 5
+line-of-none : reachSaid (job 40000 2 1) [] ≡ record { line = 114 ∷ 101 ∷ 102 ∷ 117 ∷ 115 ∷ 101 ∷ 100 ∷ 9 ∷ 48 ∷ 9 ∷ 48 ∷ 9 ∷ 49 ∷ 54 ∷ 10 ∷ []; end = 49 }
+unfolding reachSaid reachFrom limits.itemOutside downwards extrapolated itemOutside refusedList refusedLine placesThen whyText fieldText digitsOf digitsWithin
+line-of-none = refl
+
+line-of-k : reachSaid (job 40000 1 1) ((120 ∷ []) ∷ []) ≡ record { line = 114 ∷ 101 ∷ 102 ∷ 117 ∷ 115 ∷ 101 ∷ 100 ∷ 9 ∷ 48 ∷ 9 ∷ 48 ∷ 9 ∷ 49 ∷ 54 ∷ 10 ∷ []; end = 49 }
+unfolding reachSaid limits.itemOutside refusedLine placesThen whyText fieldText digitsOf digitsWithin
+line-of-k = refl
+
+line-of-standard : reachSaid (job 40000 1 0) ((120 ∷ []) ∷ []) ≡ record { line = 114 ∷ 101 ∷ 102 ∷ 117 ∷ 115 ∷ 101 ∷ 100 ∷ 9 ∷ 48 ∷ 9 ∷ 48 ∷ 9 ∷ 49 ∷ 9 ∷ 53 ∷ 10 ∷ []; end = 49 }
+unfolding reachSaid limits.itemOutside refusedLine placesThen whyText fieldText digitsOf digitsWithin
+line-of-standard = refl
+
+-- the first file at fault is named, and its line: refused 1 1 10
+line-of-file : reachSaid (job 40000 2 1) ((120 ∷ []) ∷ []) ≡ record { line = 114 ∷ 101 ∷ 102 ∷ 117 ∷ 115 ∷ 101 ∷ 100 ∷ 9 ∷ 49 ∷ 9 ∷ 49 ∷ 9 ∷ 49 ∷ 48 ∷ 10 ∷ []; end = 49 }
+unfolding reachSaid reachFrom comesTo linesOf firstWrong right isCommaLine isNumber leading allDigits limits.itemOutside refusedLine placesThen whyText fieldText digitsOf digitsWithin
+line-of-file = refl
 
 -- ---- builders
 -- one who answers C to everything, one who answers A to everything, and one whose times are all 0

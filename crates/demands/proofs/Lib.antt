@@ -20,6 +20,7 @@ pub mod Request10
 pub mod JobSheet
 pub mod Desk
 pub mod NextDay
+pub mod DeskBeyond
 pub mod Figures
 pub mod Relations
 pub mod Ends

@@ -56,7 +56,7 @@ pub fn watched() -> bool {
 }
 
 // Progress for a terminal, once in a million lines: their number.
-fn show_progress(before: u64, lines: u64, shown: bool) {
+pub fn show_progress(before: u64, lines: u64, shown: bool) {
     if !shown {
         return;
     }
@@ -76,7 +76,7 @@ pub enum Got {
 }
 
 // Reads once from the descriptor `from`, which is called `name`, after the first `kept` bytes of `text`.
-fn fill(from: i32, name: &[u8], text: &mut [u8], kept: usize) -> Got {
+pub fn fill(from: i32, name: &[u8], text: &mut [u8], kept: usize) -> Got {
     if text.len() < kept {
         return Got::Broken;
     }

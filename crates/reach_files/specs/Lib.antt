@@ -1,0 +1,6 @@
+pub mod Down
+pub mod Line
+pub mod Files
+pub mod Gathering
+pub mod Readings
+pub mod Steps

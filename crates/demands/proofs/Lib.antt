@@ -20,6 +20,7 @@ pub mod Request10
 pub mod JobSheet
 pub mod Desk
 pub mod NextDay
+pub mod Conditions
 pub mod Figures
 pub mod Relations
 pub mod Ends
@@ -36,3 +37,4 @@ pub mod BeyondCases
 pub mod ReportCases
 pub mod DeskCases
 pub mod NextDayCases
+pub mod ConditionCases

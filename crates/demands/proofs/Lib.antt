@@ -21,6 +21,7 @@ pub mod JobSheet
 pub mod Desk
 pub mod NextDay
 pub mod DeskBeyond
+pub mod Conditions
 pub mod Figures
 pub mod Relations
 pub mod Ends
@@ -37,3 +38,4 @@ pub mod BeyondCases
 pub mod ReportCases
 pub mod DeskCases
 pub mod NextDayCases
+pub mod ConditionCases

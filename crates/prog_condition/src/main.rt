@@ -2,37 +2,19 @@
 // design situation, and to standard output the report on all of them; or refused, the situation at fault, its line,
 // the refusal's number and, for 9, the column, and nothing of the report. The arguments are the sheets' lengths in
 // bytes, so their number is the number of situations. A sheet may have any length: it is read through a fixed buffer,
-// and only its campaign is kept. What a sheet comes to is `sheet_text::read`'s promise, what the report says is
-// `campaign_report::write`'s; here bytes are only carried. How it ended goes as a digit to a descriptor of its own,
-// where bin/program waits for it.
+// and only its campaign is kept. What a sheet comes to is `sheet_text::read`'s promise, what is written
+// `condition_sheets`', over the whole sheets however they come; here bytes are only carried.
 ghost use mathlib.Core.Path.{_≡_};
 ghost use Prim.Native.Nat.{_≤_, _<_};
 ghost use lib.ListN.{length};
 ghost use Rattle.sheet_line.specs.Form.{longestSheetLine};
 ghost use Rattle.prog_condition.specs.Left.{comingBy, keptBy};
 use campaign_state::Campaign;
+use condition_sheets::Situations;
 use libc::STDERR_FILENO;
 use libc::STDIN_FILENO;
-use libc::STDOUT_FILENO;
-use refusal::Refusal;
 use sheet_line::Sheet;
 use sheet_text::Reading;
-use text::Writing;
-
-const END_FILENO: i32 = 3;
-
-const READ: u8 = b'0';
-
-const REFUSED: u8 = b'1';
-
-const FAILED: u8 = b'2';
-
-const TAB: u8 = 9;
-
-const LF: u8 = 10;
-
-// The refusal that has a column.
-const MALFORMED: u64 = 9;
 
 // What a turn of a sheet's loop comes to.
 enum After {
@@ -117,67 +99,26 @@ fn one(size: u64, text: &mut [u8]) -> Reading
     sheet_text::read(sheet, &text[..kept], false)
 }
 
-// Writes the first `n` bytes of `out`; answers whether it could.
-fn write_to(to: i32, out: &[u8], n: usize) -> bool {
-    if out.len() < n {
-        return false;
+// Whether the sheet could not be read to its end.
+fn waits(r: Reading) -> bool {
+    match r {
+        Reading::Read(_) => false,
+        Reading::Stopped(_, _, _) => false,
+        Reading::Waiting(_, _) => true,
     }
-    io::write_all(to, &out[..n])
 }
 
-// Writes them to standard output, and answers how the program ends.
-fn answered(out: &[u8], n: usize, end: u8) -> u8 {
-    if !write_to(STDOUT_FILENO, out, n) {
-        os::fail(b"standard output");
-        return FAILED;
-    }
-    end
-}
-
-// Writes the refused line to standard output. Whoever waits at the other descriptor learns it too, after what the
-// refusal carries, so that a command can say it in words.
-fn declined(out: &[u8], n: usize, r: Refusal) -> u8 {
-    let mut carried = [0u8; 32];
-    let m = decimal::write_field(refusal::carried(r), LF, &mut carried, 0);
-    write_to(END_FILENO, &carried, m);
-    write_to(END_FILENO, out, n);
-    answered(out, n, REFUSED)
-}
-
-fn refused(situation: u64, line: u64, column: u64, r: Refusal) -> u8 {
-    let mut out = [0u8; 128];
-    let number = refusal::number(r);
-    let after_word = text::write_bytes(b"refused\t", &mut out, 0);
-    let after_situation = decimal::write_field(situation, TAB, &mut out, after_word);
-    let after_line = decimal::write_field(line, TAB, &mut out, after_situation);
-    if number == MALFORMED {
-        let after_number = decimal::write_field(number, TAB, &mut out, after_line);
-        let n = decimal::write_field(column, LF, &mut out, after_number);
-        return declined(&out, n, r);
-    }
-    let n = decimal::write_field(number, LF, &mut out, after_line);
-    declined(&out, n, r)
-}
-
-// The report. `out` has room for the longest: 40 bytes and 28 for each situation, as `campaign_report` shows.
-fn write_report(campaigns: [Campaign; 64], number: usize) -> u8 {
+// The report, or the refused line. `out` has room for the longest: 40 bytes and 28 for each situation, as
+// `campaign_report` shows.
+fn said(a: Situations, campaigns: [Campaign; 64]) -> u8 {
     let mut out = [0u8; 1832];
-    match campaign_report::write(campaigns, number, &mut out) {
-        Writing::Bytes(n) => answered(&out, n as usize, READ),
-        Writing::Refused(r) => refused(0, 0, 0, r),
-    }
+    let f = condition_sheets::finish(a, campaigns, &mut out);
+    prog_desk::answer(&out, f)
 }
 
-// The number of an argument; where it is none of at most 12 digits, more than any input has.
-fn size(i: usize) -> u64 {
-    let mut buffer = [0u8; 32];
-    let n = os::arg(i, &mut buffer);
-    decimal::number_or(&buffer[..n], u64::MAX)
-}
-
-// Sheet after sheet, up to the first that is refused; after the last the report.
+// Sheet after sheet, up to the first that is refused.
 fn all(number: usize, text: &mut [u8]) -> u8
-    requires { ⌜ (number ≤ 64) × (longestSheetLine ≤ length (now text)) ⌝ }
+    requires { ⌜ longestSheetLine ≤ length (now text) ⌝ }
 {
     let mut campaigns = [Campaign {
         standard: 0,
@@ -186,38 +127,34 @@ fn all(number: usize, text: &mut [u8]) -> u8
         exposure: 0,
         failed: false,
     }; 64];
+    let mut a = condition_sheets::open(number as u64);
     let mut i = 0;
     while i < number {
-        match one(size(i + 1), text) {
-            Reading::Read(c) => {
-                campaigns[i] = c;
-            }
-            Reading::Stopped(line, column, r) => {
-                return refused((i as u64) + 1, line, column, r);
-            }
-            Reading::Waiting(_, _) => {
-                return FAILED;
-            }
+        if condition_sheets::is_over(a) {
+            return said(a, campaigns);
         }
+        let r = one(prog_desk::item(i + 1), text);
+        if waits(r) {
+            return desk_line::FAILED;
+        }
+        let later = condition_sheets::place(campaigns, a, r);
+        campaigns = later;
+        a = condition_sheets::add(a, r);
         i += 1;
     }
-    write_report(campaigns, number)
+    said(a, campaigns)
 }
 
-// The first argument is the program's own name.
-fn run() -> u8 {
+// The first word is the program's own name.
+fn sheets() -> usize {
     let words = os::arg_count();
-    if words < 2 {
-        return refused(0, 0, 0, Refusal::Situations);
+    if words < 1 {
+        return 0;
     }
-    if words > campaign_condition::MOST_SITUATIONS + 1 {
-        return refused(0, 0, 0, Refusal::Situations);
-    }
-    let mut text = [0u8; 65536];
-    all(words - 1, &mut text)
+    words - 1
 }
 
 fn main() {
-    let end = [run(); 1];
-    io::write_all(END_FILENO, &end);
+    let mut text = [0u8; 65536];
+    prog_desk::end(all(sheets(), &mut text));
 }

@@ -1,5 +1,5 @@
--- `prog_condition::all` is safe and ends: there is a place for each of at most 64 campaigns, and the sheets that are
--- left fall. Assumes nothing.
+-- `prog_condition::all` is safe and ends: the sheets that are left fall, and the buffer keeps its length. Assumes
+-- nothing.
 use Prim.Native.Nat.{_-_, _≤_}
 use mathlib.Core.Path.{_≡_, refl, _∙_}
 use native.Mathlib.Omega.{arith}
@@ -10,35 +10,27 @@ use Rattle.prog_condition.proofs.all.Statement.{statement}
 use Rattle.prog_condition.proofs.all.Tie as tie
 
 abbrev Inv-loop : tie.InvT-loop
-Inv-loop number text₀ campaigns₀ i₀ text campaigns i = (length text ≡ length text₀) × (i ≤ number)
+Inv-loop number text₀ campaigns₀ a₀ i₀ text campaigns a i = (length text ≡ length text₀) × (i ≤ number)
 
 abbrev μ-loop : tie.MeasureT-loop
-μ-loop number text₀ campaigns₀ i₀ text campaigns i = number - i
+μ-loop number text₀ campaigns₀ a₀ i₀ text campaigns a i = number - i
 
 -- a sheet leaves the buffer as long as it was
-same : (c : tie.After-one Inv-loop μ-loop) → length (c .one .last .1 .0) ≡ length (now (c .before .before .before .before .before .before .args .text))
-same c = c .one .kept .1 .0 ∙ c .before .before .before .before .loop .inv .0
+same : (c : tie.After-one Inv-loop μ-loop)
+    → let l = c .before .before .before .before .before .before in length (c .one .last .1 .0) ≡ length (now (l .before .before .before .args .text))
+same c = c .one .kept .1 .0 ∙ c .before .before .before .before .before .before .loop .inv .0
 
 loop-holds : tie.Need-loop-holds Inv-loop μ-loop
 loop-holds c = (refl, omega arith)
 
-add-size : tie.Need-add-size Inv-loop μ-loop
-add-size c = omega arith
+same-length : tie.Need-same-length Inv-loop μ-loop
+same-length c = c .before .before .before .before .loop .inv .0
+
+add-item : tie.Need-add-item Inv-loop μ-loop
+add-item c = omega arith
 
 one-requires : tie.Need-one-requires Inv-loop μ-loop
 one-requires c κs = omega arith
-
-mul-campaigns : tie.Need-mul-campaigns Inv-loop μ-loop
-mul-campaigns c = omega arith
-
-array-set-from-campaigns : tie.Need-array-set-from-campaigns Inv-loop μ-loop
-array-set-from-campaigns c = omega arith
-
-add-refused : tie.Need-add-refused Inv-loop μ-loop
-add-refused c = omega arith
-
-same-length : tie.Need-same-length Inv-loop μ-loop
-same-length c = same (c .before .before .before .before .before .before)
 
 same-length-2 : tie.Need-same-length-2 Inv-loop μ-loop
 same-length-2 c = same (c .before .before .before .before)
@@ -50,7 +42,7 @@ loop-less : tie.Need-loop-less Inv-loop μ-loop
 loop-less c = omega arith
 
 loop-again : tie.Need-loop-again Inv-loop μ-loop
-loop-again c = (same (c .before .before .before .before .before), omega arith)
+loop-again c = (same (c .before .before .before .before .before .before), omega arith)
 
 same-length-3 : tie.Need-same-length-3 Inv-loop μ-loop
 same-length-3 c = c .before .before .loop .inv .0
@@ -58,7 +50,7 @@ same-length-3 c = c .before .before .loop .inv .0
 pub all-spec : {M : Type 1} → statement M
 all-spec =
     tie.close
-    (tie.spec Inv-loop μ-loop loop-holds add-size (λ c κs. search needs) one-requires (λ c. search needs) mul-campaigns
-    array-set-from-campaigns (λ c. search needs) add-refused (λ c κs. search needs) same-length (λ c. search needs)
-    (λ c. search needs) same-length-2 (λ c. search needs) add-i loop-less loop-again (λ c κs. search needs)
-    same-length-3 (λ c. search needs))
+    (tie.spec Inv-loop μ-loop (λ c κs. search needs) loop-holds (λ c κs. search needs) (λ c κs. search needs) same-length
+    (λ c. search needs) add-item (λ c κs. search needs) one-requires (λ c κs. search needs) same-length-2 (λ c. search needs)
+    (λ c κs. search needs) (λ c κs. search needs) add-i loop-less loop-again (λ c κs. search needs) same-length-3
+    (λ c. search needs))

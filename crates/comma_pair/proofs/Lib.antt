@@ -4,3 +4,5 @@ pub mod Joining
 pub mod Way
 pub mod Piece
 pub mod Text
+pub mod Whole
+pub mod Stands

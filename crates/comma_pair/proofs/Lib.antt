@@ -6,3 +6,5 @@ pub mod Piece
 pub mod Text
 pub mod Whole
 pub mod Stands
+pub mod Cut
+pub mod Unique

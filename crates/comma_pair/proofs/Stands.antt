@@ -152,12 +152,11 @@ module _ (i : Items) (ok : itemOutside i ≡ 0) where
     -- or a line is wrong
     pub goes-wrong : resting (Left D 0 text) more ≡ Wrong → (T .counting .over ≡ true) × (T .counting .answer ≡ Refused (CommaLine (length (R D text) + 1)))
     goes-wrong e =
-        let t : T ≡ by-rest Wrong = goes-alone ∙ ap by-rest e in
-        (
+        let t : T ≡ by-rest Wrong = goes-alone ∙ ap by-rest e in (
           ap (λ q. q .counting .over) t,
           ap (λ q. q .counting .answer) t
-          ∙ ap (λ f. Refused (CommaLine (f .lines + 1))) follow-end
-          ∙ ap (λ n. Refused (CommaLine (n + 1))) (lines-at D text (length (R D text)) (omega arith)),
+              ∙ ap (λ f. Refused (CommaLine (f .lines + 1))) follow-end
+              ∙ ap (λ n. Refused (CommaLine (n + 1))) (lines-at D text (length (R D text)) (omega arith)),
         )
 
   -- ---- a call from a lines of the roll and b of the acceleration

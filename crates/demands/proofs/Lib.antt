@@ -19,6 +19,7 @@ pub mod Refusal9
 pub mod Request10
 pub mod JobSheet
 pub mod Desk
+pub mod DeskPair
 pub mod Figures
 pub mod Relations
 pub mod Ends
@@ -34,3 +35,4 @@ pub mod TailCases
 pub mod BeyondCases
 pub mod ReportCases
 pub mod DeskCases
+pub mod DeskPairCases

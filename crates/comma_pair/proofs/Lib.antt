@@ -4,3 +4,7 @@ pub mod Joining
 pub mod Way
 pub mod Piece
 pub mod Text
+pub mod Whole
+pub mod Stands
+pub mod Cut
+pub mod Unique

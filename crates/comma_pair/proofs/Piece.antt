@@ -123,3 +123,31 @@ lines-few f text k = omega (arith, within f text k, some f text k)
 pub few-lines : (f g : Follow) (a : RecordAnswer) (x y : List ℕ) {s : Abreast} → s ≡ sideBySide f g a x y → (s .roll .lines ≤ f .lines + length x) × (s .acceleration .lines ≤ g .lines + length y)
 unfolding sideBySide
 few-lines f g a x y e = rw e (lines-few f x (pairsOf f g x y), lines-few g y (pairsOf f g x y))
+
+-- ---- and so of every call
+side-within : (f g : Follow) (a : RecordAnswer) (x y : List ℕ) → (sideBySide f g a x y .at ≤ length x) × (sideBySide f g a x y .beside ≤ length y)
+unfolding sideBySide
+side-within f g a x y = (within f x (pairsOf f g x y), within g y (pairsOf f g x y))
+
+either-way : (P : Took → Type 0) (b : Bool) (t u : Took) → P t → P u → P (cond b t u)
+either-way P true t u p q = p
+either-way P false t u p q = q
+
+judged-spare : (s : Abreast) (x : List ℕ) (xMore : Bool) (y : List ℕ) (yMore : Bool) → s .at ≤ length x → s .beside ≤ length y → Spare x y (judged s x xMore y yMore)
+unfolding judged
+judged-spare s x xMore y yMore h k =
+    either-way (Spare x y) (s .ahead) (accelerationBehind (resting (drop (s .beside) y) yMore) s x xMore (length y)) (rollBehind (resting (drop (s .at) x) xMore) s (length x) y yMore)
+    (acceleration-spare x y s h k xMore yMore (resting (drop (s .beside) y) yMore) refl)
+    (roll-spare x y s h k yMore xMore (resting (drop (s .at) x) xMore) refl)
+
+pub spare : (w : Watching) (x : List ℕ) (xMore : Bool) (y : List ℕ) (yMore : Bool) → Spare x y (taking w x xMore y yMore)
+unfolding taking
+spare w x xMore y yMore =
+    by-test (w .over)
+    (λ o. rw o (spare-ended x y))
+    (λ o.
+    by-test (soundFollow (w .roll) && soundFollow (w .acceleration))
+    (λ s.
+    let t = side-within (w .roll) (w .acceleration) (w .answer) x y in
+    rw (o, s) (judged-spare (sideBySide (w .roll) (w .acceleration) (w .answer) x y) x xMore y yMore (t .0) (t .1)))
+    (λ s. rw (o, s) (spare-ended x y)))

@@ -101,7 +101,7 @@ pub record Way (f g : Follow) (a : RecordAnswer) (x y : List ℕ) (r s : Follow)
   pub place : at ≡ bytesOf (take k (rightLines f x))
   pub other : beside ≡ bytesOf (take k (rightLines g y))
 
-after-none : (f : Follow) → afterLines f [] ≡ f
+pub after-none : (f : Follow) → afterLines f [] ≡ f
 unfolding afterLines firstBad
 after-none f = by-test (eqb (f .outside) 0) (λ e. rw e (λ j. record { step = f .step; lines = add-zero (f .lines) j; outside = f .outside })) (λ e. rw e (λ j. record { step = f .step; lines = add-zero (f .lines) j; outside = f .outside }))
 

@@ -22,6 +22,7 @@ pub mod Desk
 pub mod NextDay
 pub mod DeskBeyond
 pub mod Conditions
+pub mod DeskPair
 pub mod Figures
 pub mod Relations
 pub mod Ends
@@ -39,3 +40,4 @@ pub mod ReportCases
 pub mod DeskCases
 pub mod NextDayCases
 pub mod ConditionCases
+pub mod DeskPairCases

@@ -12,6 +12,7 @@ use Rattle.refusal.specs.declared.Refusal.the-variants.{CommaLine, Item, LowLev
 use Rattle.sample_items.specs.Limits.{itemOutside, mostInRange}
 use Rattle.sample_range.specs.Range.{firstBad}
 use Rattle.crossing_places.specs.Reading.{tooFew}
+use Rattle.text.specs.Pieces.{joined}
 use Rattle.decimal.specs.Lines.{linesOf}
 use Rattle.comma_line.specs.Text.{firstWrong, samplesOf}
 use Rattle.comma_peaks.specs.declared.Judged.{Judged}
@@ -29,8 +30,9 @@ use Rattle.reach_files.specs.Down.{downwards}
 use Rattle.reach_files.specs.Line.{figuresOf, listSaid, low, refusedList, told}
 use Rattle.reach_files.specs.Files.{grownThen, itemsOf, judgedThen, mostTimed, peaksOf, reachFrom, reachSaid, refusedIn, timedOf}
 use Rattle.reach_files.specs.Gathering.{gatheredSaid, opened}
-use Rattle.reach_files.specs.Readings.{AllRead, Readings, filesAfter}
+use Rattle.reach_files.specs.Readings.{AllCut, AllRead, Cut, Readings, filesAfter, readingsOf}
 use Rattle.reach_files.proofs.Anywhere.{reach-anywhere, textOf}
+use Rattle.reach_files.proofs.Cut.{reach-cut}
 use Rattle.reach_files.proofs.Down.{is-sorted}
 use Rattle.demands.proofs.Demand1.{Test, _gives_, decide}
 use Rattle.demands.proofs.Desk.{faultLine}
@@ -61,6 +63,11 @@ pub record DeskBeyond : Type 0 where
   pub pieces : (j : Job) (list : List ℕ) → longestList ≤ length list → (rs : List Readings) → AllRead (j .step) rs
       → let d = filesAfter j 1 (record { gathered = opened j; list = list }) rs in
       gatheredSaid j (d .gathered) (d .list) ≡ reachSaid j (map textOf rs)
+  -- so it does not depend on how each file is cut into pieces, where the right lines of a piece are taken at most 1,024 at a
+  -- time
+  pub cut : (j : Job) (list : List ℕ) → longestList ≤ length list → (cs : List Cut) → AllCut cs
+      → let d = filesAfter j 1 (record { gathered = opened j; list = list }) (map (readingsOf (j .step)) cs) in
+      gatheredSaid j (d .gathered) (d .list) ≡ reachSaid j (map (λ c. joined (c .pieces)) cs)
   -- what is asked goes before all files
   pub asked : (j : Job) (texts : List (List ℕ)) → reachSaid j texts ≡ decide (refusedIn 0 0) (askedTests j) (reachFrom j 0 [] 0 texts)
   -- file by file: the tests in their order, the file named by its number, and no sample of the ramp among P
@@ -111,6 +118,7 @@ unfolding reachFrom refusedList
 desk-beyond =
     record {
       pieces = reach-anywhere;
+      cut = reach-cut;
       asked = by-asked;
       file = by-file;
       sorted = is-sorted;

@@ -4,4 +4,5 @@ pub mod Down
 pub mod Keeping
 pub mod Second
 pub mod Anywhere
+pub mod Cut
 pub mod Unique

@@ -1,20 +1,21 @@
 -- Two readings of each of several files, as a program makes them: a file comes in pieces, which may be others at the second
 -- reading, and its samples in blocks, cut anywhere. Assumes nothing.
-use Prim.Native.Nat.{ℕ, _+_, _≤_, _<_}
+use Prim.Native.Nat.{ℕ, zero, suc, _+_, _≤_, _<_}
 use mathlib.Core.Path.{_≡_}
-use mathlib.Core.Bool.{not}
-use mathlib.Core.List.{List, [], _∷_, map}
+use mathlib.Core.Bool.{cond, not}
+use mathlib.Core.List.{List, [], _∷_, _++_, map}
 use lib.Dec.{eqb}
 use lib.IntN.{ℤ}
-use lib.ListN.{length}
+use lib.ListN.{length, take, drop}
 use Rattle.crossing_sets.specs.Parting.{together}
 use Rattle.text.specs.Pieces.{joined}
 use Rattle.decimal.specs.Lines.{linesOf}
 use Rattle.peak_stream.specs.declared.Surveying.{Surveying}
 use Rattle.peak_stream.specs.Survey.{none}
 use Rattle.peak_stream.specs.Hands.{begun, Pieces}
-use Rattle.comma_stream.specs.Follow.{held}
-use Rattle.comma_stream.specs.Pieces.{Passed, nothing, passing}
+use Rattle.comma_line.specs.Text.{samplesOf}
+use Rattle.comma_stream.specs.Follow.{held, rightLines}
+use Rattle.comma_stream.specs.Pieces.{Passed, nothing, passing, withPiece}
 use Rattle.comma_peaks.specs.declared.Judged.{Judged}
 use Rattle.comma_peaks.specs.Timed.{blocks}
 use Rattle.comma_peaks.specs.Judged.{judging}
@@ -42,6 +43,31 @@ pub record Read (D : ℕ) (r : Readings) : Type 0 where
 abbrev pub AllRead : ℕ → List Readings → Type 0
 AllRead D [] = Unit {0}
 AllRead D (r ∷ rs) = Read D r × AllRead D rs
+
+-- ---- a file cut into pieces at each reading, whose right lines are taken in blocks of at most 1,024: by their number, at
+-- most n at a time
+unfoldable pub chunks : ℕ → ℕ → List ℤ → List (List ℤ)
+chunks zero n xs = []
+chunks (suc turns) n xs = cond (eqb (length xs) 0) [] (take n xs ∷ chunks turns n (drop n xs))
+
+-- the samples of the right lines of what is left and a piece, one out of range as a 0
+abbrev pub heldOf : Passed → List ℕ → List ℤ
+heldOf p piece = map held (samplesOf (rightLines (p .stands) (p .left ++ piece)))
+
+unfoldable pub blocksIn : Passed → List (List ℕ) → List (List ℤ)
+blocksIn p [] = []
+blocksIn p (piece ∷ pieces) = chunks (length (heldOf p piece)) block (heldOf p piece) ++ blocksIn (withPiece p piece) pieces
+
+pub record Cut : Type 0 where
+  pub pieces : List (List ℕ)
+  pub again : List (List ℕ)
+
+abbrev pub readingsOf : ℕ → Cut → Readings
+readingsOf D c = record { pieces = c .pieces; again = c .again; blocks = blocksIn (nothing D) (c .pieces); blocks-again = blocksIn (nothing D) (c .again) }
+
+abbrev pub AllCut : List Cut → Type 0
+AllCut [] = Unit {0}
+AllCut (c ∷ cs) = ((joined (c .pieces) ≡ joined (c .again)) × (length (linesOf (joined (c .pieces))) < 18446744073709551615)) × AllCut cs
 
 -- ---- the second reading, block after block: how many peaks the list has then, and the list
 pub record Stands : Type 0 where

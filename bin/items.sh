@@ -178,7 +178,8 @@ holds_items() {
     ramp_in_steps
     for name in "${kept_names[@]}"; do
         [ -n "${item[$name]-}" ] || item[$name]=${kept[$name]-}
-        [ "${item[$name]}" = "${kept[$name]-}" ] || stop "${item_words[$name]} is ${kept[$name]:-not there} in $1, and ${item[$name]} was given"
+        [ "${item[$name]}" = "${kept[$name]-}" ] ||
+            stop "${item_words[$name]} is ${kept[$name]:-not there} in $1, and ${item[$name]} was given"
     done
 }
 

@@ -33,8 +33,10 @@ afterSheet (Waiting s left) situation go = refusedSituation situation 0 0 Broken
 -- the sheets after those whose campaigns are there; situations are numbered 1, 2, 3, ..
 unfoldable pub conditionFrom : List Campaign → List (List ℕ) → Said
 conditionFrom cs [] = reported cs
-conditionFrom cs (text ∷ texts) = afterSheet (meaning text .end) (length cs + 1) (λ c. conditionFrom (cs ++ (c ∷ [])) texts)
+conditionFrom cs (text ∷ texts) =
+    afterSheet (meaning text .end) (length cs + 1) (λ c. conditionFrom (cs ++ (c ∷ [])) texts)
 
 -- WHAT IS WRITTEN FOR THE TEXTS: 18 for none or more than 64 goes before all sheets
 unfoldable pub conditionSaid : List (List ℕ) → Said
-conditionSaid texts = cond (not (situationsInRange (length texts))) (refusedSituation 0 0 0 Situations) (conditionFrom [] texts)
+conditionSaid texts =
+    cond (not (situationsInRange (length texts))) (refusedSituation 0 0 0 Situations) (conditionFrom [] texts)

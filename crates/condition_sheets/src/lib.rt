@@ -1,6 +1,6 @@
 // The job sheets of a loading condition, one for each design situation, made into its report (document 02, [13]): what
-// `bin/condition` writes. Each sheet is read as it comes (`sheet_text`); what its reading came to goes here, its campaign
-// to the next of 64 places, and after the last sheet the report on them is written by its own writer
+// `bin/condition` writes. Each sheet is read as it comes (`sheet_text`); what its reading came to goes here, its
+// campaign to the next of 64 places, and after the last sheet the report on them is written by its own writer
 // (`campaign_report`). The first sheet that cannot be taken ends it, named by its number. The definition is
 // `Report.conditionSaid`, over the whole texts, and that it makes no difference how each sheet comes is the theorem
 // `Anywhere.condition-anywhere`.
@@ -20,8 +20,8 @@ use text::Writing;
 // The refusal that has a column.
 const MALFORMED: u64 = 9;
 
-// How many campaigns are in their places; or the number of the situation at fault, its sheet's line and column or 0, and
-// the refusal.
+// How many campaigns are in their places; or the number of the situation at fault, its sheet's line and column or 0,
+// and the refusal.
 pub enum Situations {
     Campaigns(u64),
     Refused(u64, u64, u64, Refusal),

@@ -146,8 +146,8 @@ fn each(s: Start, items: Items, names: &mut [u8], text: &mut [u8], records: &mut
     desk_line::FAILED
 }
 
-// What taking yesterday's sheet up comes to, or that it could not be read. The buffer holds as much of a sheet as decides
-// (`demands`' NextDay.first-bytes), and is free again when today's files come.
+// What taking yesterday's sheet up comes to, or that it could not be read. The buffer holds as much of a sheet as
+// decides (`demands`' NextDay.first-bytes), and is free again when today's files come.
 enum Morning {
     Up(TakenUp),
     Broken,

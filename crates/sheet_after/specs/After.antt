@@ -21,7 +21,8 @@ use Rattle.sheet_files.specs.Files.{sheetFrom}
 -- the refused line of the sheet: no record's, 0; its line; the number, after 9 the column, after 1 the item
 abbrev pub refusedOld : ℕ → ℕ → Refusal → Said
 refusedOld line column r =
-    refusedSheet 0 line (numberOf r) (eqb (numberOf r) 9 || eqb (numberOf r) 1) (cond (eqb (numberOf r) 9) column (valueOf r))
+    refusedSheet 0 line (numberOf r) (eqb (numberOf r) 9 || eqb (numberOf r) 1)
+    (cond (eqb (numberOf r) 9) column (valueOf r))
 
 -- a whole text never waits for more
 abbrev pub afterReading : Reading → Items → List ℕ → List (List ℕ) → Said

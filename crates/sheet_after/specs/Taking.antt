@@ -23,7 +23,8 @@ use Rattle.sheet_after.specs.After.{refusedOld}
 
 -- ---- the records that were read, counted
 unfoldable pub countedUp : ℕ → ℕ → List ℤ → TakenUp
-countedUp q n records = cond (ltb (length records) n) (up.Refused 0 0 (Room n)) (up.Records q n (failuresIn (take n records)))
+countedUp q n records =
+    cond (ltb (length records) n) (up.Refused 0 0 (Room n)) (up.Records q n (failuresIn (take n records)))
 
 abbrev pub upBy : Resumed → List ℤ → TakenUp
 upBy (Records q n) records = countedUp q n records
@@ -35,15 +36,19 @@ upOf (Records q n) sheet = up.Records q n (failuresIn (recordsOf sheet))
 upOf (Stopped line column r) sheet = up.Refused line column r
 
 unfoldable pub takingUp : Items → List ℕ → ℕ → TakenUp
-takingUp i sheet places = cond (eqb (itemOutside i) 0) (upOf (resuming sheet places) sheet) (up.Refused 0 0 (Item (itemOutside i)))
+takingUp i sheet places =
+    cond (eqb (itemOutside i) 0) (upOf (resuming sheet places) sheet)
+    (up.Refused 0 0 (Item (itemOutside i)))
 
 -- the lent records afterwards
 unfoldable pub takenLeft : Items → List ℕ → List ℤ → List ℤ
-takenLeft i sheet records = cond (eqb (itemOutside i) 0) (filledBy (resuming sheet (length records)) (recordsOf sheet) records) records
+takenLeft i sheet records =
+    cond (eqb (itemOutside i) 0) (filledBy (resuming sheet (length records)) (recordsOf sheet) records) records
 
 -- ---- today's files after the records, each in its pieces
 abbrev pub deskUp : Items → ℕ → ℕ → List ℤ → List (List (List ℕ)) → Desk
-deskUp i n failures records files = deskAfter i (n + 1) (record { filed = filed.Records n failures; records = records }) files
+deskUp i n failures records files =
+    deskAfter i (n + 1) (record { filed = filed.Records n failures; records = records }) files
 
 -- how it ends, and the lent bytes afterwards
 abbrev pub finishingDay : TakenUp → Items → List ℤ → List (List (List ℕ)) → List ℕ → Finished

@@ -8,10 +8,13 @@ use Rattle.desk_line.specs.Said.{Said, refusedDigit, refusedWord}
 
 -- the refusal's number, with one more after it or none
 unfoldable pub numberThen : ℕ → Bool → ℕ → List ℕ
-numberThen number told value = cond told (fieldText number tab ++ fieldText value lineFeed) (fieldText number lineFeed)
+numberThen number told value =
+    cond told (fieldText number tab ++ fieldText value lineFeed) (fieldText number lineFeed)
 
 unfoldable pub sheetFault : ℕ → ℕ → ℕ → Bool → ℕ → List ℕ
-sheetFault place line number told value = refusedWord ++ (fieldText place tab ++ (fieldText line tab ++ numberThen number told value))
+sheetFault place line number told value =
+    refusedWord ++ (fieldText place tab ++ (fieldText line tab ++ numberThen number told value))
 
 abbrev pub refusedSheet : ℕ → ℕ → ℕ → Bool → ℕ → Said
-refusedSheet place line number told value = record { line = sheetFault place line number told value; end = refusedDigit }
+refusedSheet place line number told value =
+    record { line = sheetFault place line number told value; end = refusedDigit }

@@ -1,5 +1,5 @@
-// The refused line of a job sheet that is one input among others (document 02, [10] and [13]): the word, the place of the
-// sheet among them, the sheet's line, the refusal's number and, where one is told, a number more: the column of a
+// The refused line of a job sheet that is one input among others (document 02, [10] and [13]): the word, the place of
+// the sheet among them, the sheet's line, the refusal's number and, where one is told, a number more: the column of a
 // malformed line, or an item. It goes to the start of lent bytes, which are to have room for any line.
 ghost use mathlib.Core.Path.{_≡_};
 ghost use Prim.Native.Nat.{_+_, _≤_};

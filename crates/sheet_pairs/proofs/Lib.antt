@@ -1,0 +1,4 @@
+pub mod Few
+pub mod Record
+pub mod Anywhere
+pub mod Unique

@@ -36,3 +36,4 @@ pub mod BeyondCases
 pub mod ReportCases
 pub mod DeskCases
 pub mod DeskPairCases
+pub mod DeskPairSheet

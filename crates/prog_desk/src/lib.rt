@@ -216,7 +216,8 @@ pub fn next_name(names: &mut [u8], at: usize, end: usize) -> Name {
 
 // ---- two files of one record
 
-// Where a file stands in its buffer: the bytes from `at` up to `end` are read and not used yet, and whether more follows.
+// Where a file stands in its buffer: the bytes from `at` up to `end` are read and not used yet, and whether more
+// follows.
 pub struct Part {
     at: usize,
     end: usize,

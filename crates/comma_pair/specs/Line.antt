@@ -8,7 +8,8 @@ use lib.Dec.{eqb, leb, ltb}
 use lib.IntN.{ℤ}
 use lib.ListN.{length}
 use Rattle.refusal.specs.declared.Refusal.{Refusal}
-use Rattle.refusal.specs.declared.Refusal.the-variants.{Item, Sample, TooLong, TooShort, CommaLine, Unequal, Acceleration}
+use Rattle.refusal.specs.declared.Refusal.the-variants.{Item, Sample, TooLong, TooShort, CommaLine, Unequal}
+use Rattle.refusal.specs.declared.Refusal.the-variants.{Acceleration}
 use Rattle.refusal.specs.Numbers.{numberOf}
 use Rattle.sample_channels.specs.declared.Moment.{Moment}
 use Rattle.sample_channels.specs.Channels.{moments, hasBad}
@@ -27,7 +28,8 @@ use Rattle.comma_pair.specs.declared.PairEnd.the-variants as end
 
 -- ---- the refused line with a channel: the word, the line at fault, the refusal's number, the channel
 unfoldable pub channelLine : ℕ → Refusal → ℕ → List ℕ
-channelLine line r channel = refusedWord ++ (fieldText line tab ++ (fieldText (numberOf r) tab ++ fieldText channel lineFeed))
+channelLine line r channel =
+    refusedWord ++ (fieldText line tab ++ (fieldText (numberOf r) tab ++ fieldText channel lineFeed))
 
 abbrev pub refusedOf : ℕ → Refusal → ℕ → Said
 refusedOf line r channel = record { line = channelLine line r channel; end = refusedDigit }
@@ -47,12 +49,16 @@ badRoll xs ys = hasBad xs && leb (firstBad xs) (firstBad ys)
 
 -- ---- the tests of both files in their order, each over all lines: 10, 12, 2, 3; `refuse` is told nothing but the
 -- refusal, `refuseOf` the line and the channel too
-abbrev pub pairThen : {X : Type 0} → Items → (Refusal → X) → (ℕ → Refusal → ℕ → X) → List (List ℕ) → List (List ℕ) → X → X
+abbrev pub pairThen : {X : Type 0} → Items → (Refusal → X) → (ℕ → Refusal → ℕ → X) → List (List ℕ) → List (List ℕ)
+    → X → X
 pairThen i refuse refuseOf ls ms proper =
-    cond (wrongRoll (i .step) ls ms) (refuseOf (firstWrong (i .step) 0 ls + 1) (CommaLine (firstWrong (i .step) 0 ls + 1)) 1)
-    (cond (anyWrong (i .step) ms) (refuseOf (firstWrong (i .step) 0 ms + 1) (CommaLine (firstWrong (i .step) 0 ms + 1)) 2)
+    cond (wrongRoll (i .step) ls ms)
+    (refuseOf (firstWrong (i .step) 0 ls + 1) (CommaLine (firstWrong (i .step) 0 ls + 1)) 1)
+    (cond (anyWrong (i .step) ms)
+    (refuseOf (firstWrong (i .step) 0 ms + 1) (CommaLine (firstWrong (i .step) 0 ms + 1)) 2)
     (cond (not (eqb (length ls) (length ms))) (refuse Unequal)
-    (cond (badRoll (samplesOf ls) (samplesOf ms)) (refuseOf (firstBad (samplesOf ls) + 1) (Sample (firstBad (samplesOf ls))) 1)
+    (cond (badRoll (samplesOf ls) (samplesOf ms))
+    (refuseOf (firstBad (samplesOf ls) + 1) (Sample (firstBad (samplesOf ls))) 1)
     (cond (hasBad (samplesOf ms)) (refuseOf (firstBad (samplesOf ms) + 1) (Acceleration (firstBad (samplesOf ms))) 2)
     (cond (ltb (mostSamples (i .step) (i .ramp)) (length ls)) (refuse TooLong)
     proper)))))

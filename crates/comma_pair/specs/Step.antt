@@ -20,7 +20,8 @@ pub record Some (f : Follow) (text : List ℕ) (slice : List ℤ) (g : Follow) (
   pub samples : take n later ≡ heldOf (take n (rightLines f text))
 
 -- the first n right lines of both texts, 1,024 at most, and whether the roll has one more among so many
-pub record Both (f g : Follow) (a : RecordAnswer) (x y : List ℕ) (f′ g′ : Follow) (b : RecordAnswer) (at beside n : ℕ) (ahead : Bool) : Type 0 where
+pub record Both (f g : Follow) (a : RecordAnswer) (x y : List ℕ) (f′ g′ : Follow)
+    (b : RecordAnswer) (at beside n : ℕ) (ahead : Bool) : Type 0 where
   pub number : n ≡ min 1024 (pairsOf f g x y)
   pub roll : f′ ≡ afterLines f (take n (rightLines f x))
   pub acceleration : g′ ≡ afterLines g (take n (rightLines g y))

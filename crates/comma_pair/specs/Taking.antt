@@ -83,7 +83,13 @@ stopped f g a channel = record { roll = f; acceleration = g; answer = a; channel
 -- ---- what is left after the lines side by side; x and y are the lengths of both texts
 -- a file has to be read first
 abbrev pub waiting : Next → Abreast → Took
-waiting n s = record { watching = watched (s .roll) (s .acceleration) (s .answer); roll = s .at; acceleration = s .beside; next = n }
+waiting n s =
+    record {
+      watching = watched (s .roll) (s .acceleration) (s .answer);
+      roll = s .at;
+      acceleration = s .beside;
+      next = n;
+    }
 
 -- all is used
 abbrev pub ended : Watching → ℕ → ℕ → Took
@@ -97,24 +103,38 @@ alone f = count.going f (Refused Unequal)
 abbrev pub rollAlone : one.Took → Abreast → Bool → ℕ → ℕ → Took
 rollAlone t s more x y =
     cond (t .counting .over) (ended (stopped (t .counting .follow) (s .acceleration) (t .counting .answer) 1) x y)
-    (record { watching = watched (t .counting .follow) (s .acceleration) (s .answer); roll = s .at + t .used; acceleration = s .beside; next = cond more next.Roll next.Neither })
+    (record {
+      watching = watched (t .counting .follow) (s .acceleration) (s .answer);
+      roll = s .at + t .used;
+      acceleration = s .beside;
+      next = cond more next.Roll next.Neither;
+    })
 
 abbrev pub accelerationAlone : one.Took → Abreast → Bool → ℕ → ℕ → Took
 accelerationAlone t s more x y =
     cond (t .counting .over) (ended (stopped (s .roll) (t .counting .follow) (t .counting .answer) 2) x y)
-    (record { watching = watched (s .roll) (t .counting .follow) (s .answer); roll = s .at; acceleration = s .beside + t .used; next = cond more next.Acceleration next.Neither })
+    (record {
+      watching = watched (s .roll) (t .counting .follow) (s .answer);
+      roll = s .at;
+      acceleration = s .beside + t .used;
+      next = cond more next.Acceleration next.Neither;
+    })
 
 -- the acceleration has no right line where the roll has one
 abbrev pub accelerationBehind : Rest → Abreast → List ℕ → Bool → ℕ → Took
 accelerationBehind (Waits n) s x more y = waiting next.Acceleration s
-accelerationBehind Over s x more y = rollAlone (count.taking (alone (s .roll)) (drop (s .at) x) more) s more (length x) y
-accelerationBehind Wrong s x more y = ended (stopped (s .roll) (s .acceleration) (Refused (CommaLine (s .acceleration .lines + 1))) 2) (length x) y
+accelerationBehind Over s x more y =
+    rollAlone (count.taking (alone (s .roll)) (drop (s .at) x) more) s more (length x) y
+accelerationBehind Wrong s x more y =
+    ended (stopped (s .roll) (s .acceleration) (Refused (CommaLine (s .acceleration .lines + 1))) 2) (length x) y
 
 -- the roll has none: of two wrong lines with one number its own is named
 abbrev pub rollBehind : Rest → Abreast → ℕ → List ℕ → Bool → Took
 rollBehind (Waits n) s x y more = waiting next.Roll s
-rollBehind Over s x y more = accelerationAlone (count.taking (alone (s .acceleration)) (drop (s .beside) y) more) s more x (length y)
-rollBehind Wrong s x y more = ended (stopped (s .roll) (s .acceleration) (Refused (CommaLine (s .roll .lines + 1))) 1) x (length y)
+rollBehind Over s x y more =
+    accelerationAlone (count.taking (alone (s .acceleration)) (drop (s .beside) y) more) s more x (length y)
+rollBehind Wrong s x y more =
+    ended (stopped (s .roll) (s .acceleration) (Refused (CommaLine (s .roll .lines + 1))) 1) x (length y)
 
 unfoldable pub judged : Abreast → List ℕ → Bool → List ℕ → Bool → Took
 judged s x xMore y yMore =
@@ -149,7 +169,8 @@ endOf w =
     cond (w .over) (endBy (w .channel) (w .answer))
     (cond (not (eqb (w .roll .lines) (w .acceleration .lines))) (end.Refused Unequal)
     (cond (rollOutside (w .roll) (w .acceleration)) (end.RefusedOf (w .roll .outside) (Sample (w .roll .outside - 1)) 1)
-    (cond (not (eqb (w .acceleration .outside) 0)) (end.RefusedOf (w .acceleration .outside) (Acceleration (w .acceleration .outside - 1)) 2)
+    (cond (not (eqb (w .acceleration .outside) 0))
+    (end.RefusedOf (w .acceleration .outside) (Acceleration (w .acceleration .outside - 1)) 2)
     (endBy 0 (w .answer)))))
 
 -- and what is said of it

@@ -1,8 +1,8 @@
 // The counter of two comma files of one record, the roll's and the acceleration's (document 02, [1], [8]): what
 // `bin/count` says of them, as a promise over bytes. The count is opened with a record's items, takes both files piece
 // by piece, and is finished with their line; the definition is `Line.pairSaid`, over both whole texts, and that neither
-// the pieces nor their order make a difference is the theorem `Cut.cut-anywhere`. Both files go side by side, so that no
-// sample is kept for the other's: what one file has more than the other stays unused. The state goes in by value and
+// the pieces nor their order make a difference is the theorem `Cut.cut-anywhere`. Both files go side by side, so that
+// no sample is kept for the other's: what one file has more than the other stays unused. The state goes in by value and
 // comes back.
 ghost use mathlib.Core.Path.{_≡_};
 ghost use mathlib.Core.Bool.{true, _&&_};
@@ -130,7 +130,8 @@ struct Lines {
 // The first right lines of a text, as many as there are places.
 fn some(f: Follow, text: &[u8], samples: &mut [i32]) -> Lines
     requires { ⌜ stepInRange (f .step) ≡ true ⌝ }
-    ensures { λ l. ⌜ Some f (now (text .entry)) (now (samples .entry)) (l .follow) (l .bytes) (l .number) (now (samples .exit)) ⌝ }
+    ensures { λ l. ⌜ Some f (now (text .entry)) (now (samples .entry)) (l .follow) (l .bytes) (l .number)
+        (now (samples .exit)) ⌝ }
 {
     match comma_stream::take(f, text, samples) {
         Followed::Taken(follow, bytes, number) => Lines {
@@ -157,8 +158,8 @@ struct Pairs {
     ahead: bool,
 }
 
-// The first right lines of both texts, as many of each. Where the acceleration has fewer, the roll's are taken once more.
-// The samples go through lent places.
+// The first right lines of both texts, as many of each. Where the acceleration has fewer, the roll's are taken once
+// more. The samples go through lent places.
 fn next_pairs(
     f: Follow,
     g: Follow,
@@ -421,9 +422,10 @@ fn roll_behind(s: Abreast, rest: Rest, x: usize, acceleration: &[u8], more: bool
 }
 
 // Takes the right lines of pieces of both files, of each of which it is said whether more of it follows. What is over
-// stays over. A line begun, and lines that the other file has not shown yet, are left unused, and `next` says which file
-// has to be read: of that one less than a line is left. A malformed line or one with a wrong time ends the count with
-// refusal 10, the lower one of both files, the roll's of two with one number. Or 8 for a count that was never handed out.
+// stays over. A line begun, and lines that the other file has not shown yet, are left unused, and `next` says which
+// file has to be read: of that one less than a line is left. A malformed line or one with a wrong time ends the count
+// with refusal 10, the lower one of both files, the roll's of two with one number. Or 8 for a count that was never
+// handed out.
 pub fn take(
     w: Watching,
     roll: &[u8],
@@ -557,9 +559,9 @@ fn put_end(e: PairEnd, out: &mut [u8]) -> Finished
     }
 }
 
-// Writes the line of both files to the start of `out`: samples, crossings, groups, largest set, time of the first failure
-// or a dash, exposure; or refused, the line at fault or 0, the refusal's number, after 1 the item, and after 10 and 2 the
-// channel. Without room for any line nothing is written, and the program ends as failed.
+// Writes the line of both files to the start of `out`: samples, crossings, groups, largest set, time of the first
+// failure or a dash, exposure; or refused, the line at fault or 0, the refusal's number, after 1 the item, and after 10
+// and 2 the channel. Without room for any line nothing is written, and the program ends as failed.
 pub fn finish(w: Watching, out: &mut [u8]) -> Finished
     ensures { λ f. ⌜ f ≡ putting (saying w) (now (out .entry)) ⌝ }
     ensures { λ _. ⌜ now (out .exit) ≡ putLeft (saying w) (now (out .entry)) ⌝ }

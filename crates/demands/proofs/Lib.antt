@@ -41,3 +41,4 @@ pub mod DeskCases
 pub mod NextDayCases
 pub mod ConditionCases
 pub mod DeskPairCases
+pub mod DeskPairSheet

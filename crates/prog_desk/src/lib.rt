@@ -236,7 +236,8 @@ pub fn read_whole(from: i32, name: &[u8], text: &mut [u8]) -> Got {
 
 // ---- two files of one record
 
-// Where a file stands in its buffer: the bytes from `at` up to `end` are read and not used yet, and whether more follows.
+// Where a file stands in its buffer: the bytes from `at` up to `end` are read and not used yet, and whether more
+// follows.
 pub struct Part {
     at: usize,
     end: usize,

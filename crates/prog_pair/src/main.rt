@@ -1,7 +1,7 @@
-// The clerk's counter of two channels (document 02, [8]): the comma files of one record, the roll's from standard input and
-// the acceleration's from a descriptor of its own, their one line to standard output, with the five items of the record as
-// arguments. What the line holds is `comma_pair`'s promise, over both whole files however they come; here bytes are only
-// carried.
+// The clerk's counter of two channels (document 02, [8]): the comma files of one record, the roll's from standard input
+// and the acceleration's from a descriptor of its own, their one line to standard output, with the five items of the
+// record as arguments. What the line holds is `comma_pair`'s promise, over both whole files however they come; here
+// bytes are only carried.
 use libc::STDIN_FILENO;
 use prog_desk::ServedPair;
 use prog_desk::Sources;

@@ -1,7 +1,7 @@
--- WHAT IS WRITTEN FOR THE FILES OF A CAMPAIGN WHOSE RECORDS HAVE TWO CHANNELS (documents 01, "The job sheet", and 02, [2],
--- [8]; docs/CLERK.md): each record has two files, the roll's and the acceleration's. The sheet of the records, or the
--- refused line of the first record at fault, after 10 and 2 with the channel, and a digit, over the whole texts. Assumes
--- nothing.
+-- WHAT IS WRITTEN FOR THE FILES OF A CAMPAIGN WHOSE RECORDS HAVE TWO CHANNELS (documents 01, "The job sheet", and 02,
+-- [2], [8]; docs/CLERK.md): each record has two files, the roll's and the acceleration's. The sheet of the records, or
+-- the refused line of the first record at fault, after 10 and 2 with the channel, and a digit, over the whole texts.
+-- Assumes nothing.
 use Prim.Native.Nat.{ℕ, _+_}
 use mathlib.Core.Bool.{cond, not}
 use mathlib.Core.List.{List, [], _∷_, _++_}
@@ -30,7 +30,11 @@ pub record Texts : Type 0 where
 -- the refused line with a channel: the word, the record, its line, the refusal's number, the channel
 unfoldable pub channelRecord : ℕ → ℕ → Refusal → ℕ → List ℕ
 channelRecord number line r channel =
-    refusedWord ++ (fieldText number tab ++ (fieldText line tab ++ (fieldText (numberOf r) tab ++ fieldText channel lineFeed)))
+    refusedWord
+    ++ (fieldText number tab
+    ++ (fieldText line tab
+    ++ (fieldText (numberOf r) tab
+    ++ fieldText channel lineFeed)))
 
 abbrev pub refusedRecordOf : ℕ → ℕ → Refusal → ℕ → Said
 refusedRecordOf number line r channel = record { line = channelRecord number line r channel; end = refusedDigit }

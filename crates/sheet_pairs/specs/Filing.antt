@@ -27,9 +27,11 @@ openedPairs q i = record { filed = openedSheet q i; channel = 0 }
 
 -- ---- a record's files: what they came to decides, unless one before was refused
 abbrev pub addingEnd : ℕ → Filed → PairEnd → ℕ → FiledPairs
-addingEnd number f (end.Counted r) places = record { filed = filedOf (stepIn number f (one.Counted r) places); channel = 0 }
+addingEnd number f (end.Counted r) places =
+    record { filed = filedOf (stepIn number f (one.Counted r) places); channel = 0 }
 addingEnd number f (end.Refused q) places = record { filed = filed.Refused number 0 q; channel = 0 }
-addingEnd number f (end.RefusedOf line q channel) places = record { filed = filed.Refused number line q; channel = channel }
+addingEnd number f (end.RefusedOf line q channel) places =
+    record { filed = filed.Refused number line q; channel = channel }
 
 abbrev pub endLeft : ℕ → Filed → PairEnd → List ℤ → List ℤ
 endLeft number f (end.Counted r) records = leftBy (stepIn number f (one.Counted r) (length records)) records
@@ -53,10 +55,14 @@ channelLeft q (filed.Records n failures) channel records out = files.finishLeft 
 channelLeft q (filed.Refused number line r) channel records out = putLeft (refusedRecordOf number line r channel) out
 
 abbrev pub finishing : ℕ → FiledPairs → List ℤ → List ℕ → Finished
-finishing q a records out = cond (eqb (a .channel) 0) (files.finishing q (a .filed) records out) (channelPut q (a .filed) (a .channel) records out)
+finishing q a records out =
+    cond (eqb (a .channel) 0) (files.finishing q (a .filed) records out)
+    (channelPut q (a .filed) (a .channel) records out)
 
 abbrev pub finishLeft : ℕ → FiledPairs → List ℤ → List ℕ → List ℕ
-finishLeft q a records out = cond (eqb (a .channel) 0) (files.finishLeft q (a .filed) records out) (channelLeft q (a .filed) (a .channel) records out)
+finishLeft q a records out =
+    cond (eqb (a .channel) 0) (files.finishLeft q (a .filed) records out)
+    (channelLeft q (a .filed) (a .channel) records out)
 
 -- ---- records one after the other from this number on, each in the turns in which its two files come
 pub record Comes : Type 0 where
@@ -70,7 +76,10 @@ pub record Desk : Type 0 where
 abbrev pub withPair : Items → ℕ → Desk → Comes → Desk
 withPair i number d c =
     let e = endOf (carrying (opening i) [] [] (c .turns) (c .rest)) in
-    record { filed = adding number (d .filed) e (length (d .records)); records = addingLeft number (d .filed) e (d .records) }
+    record {
+      filed = adding number (d .filed) e (length (d .records));
+      records = addingLeft number (d .filed) e (d .records);
+    }
 
 unfoldable pub deskAfter : Items → ℕ → Desk → List Comes → Desk
 deskAfter i number d [] = d

@@ -1,8 +1,9 @@
-// The files of one campaign whose records have two channels, a file of roll and one of acceleration for each record, made
-// into its job sheet (documents 01, "The job sheet", and 02, [2], [8]): what `bin/sheet` writes with an acceleration's
-// level. Each pair of files is counted as `comma_pair` counts it, and its record goes to its place as one file's does
-// (`sheet_files`); the refused line has the channel where the count names one. The definition is `Files.pairsSaid`, over
-// the whole texts, and that it makes no difference how each file comes is the theorem `Anywhere.pairs-anywhere`.
+// The files of one campaign whose records have two channels, a file of roll and one of acceleration for each record,
+// made into its job sheet (documents 01, "The job sheet", and 02, [2], [8]): what `bin/sheet` writes with an
+// acceleration's level. Each pair of files is counted as `comma_pair` counts it, and its record goes to its place as
+// one file's does (`sheet_files`); the refused line has the channel where the count names one. The definition is
+// `Files.pairsSaid`, over the whole texts, and that it makes no difference how each file comes is the theorem
+// `Anywhere.pairs-anywhere`.
 ghost use mathlib.Core.Path.{_≡_};
 ghost use mathlib.Core.Bool.{false};
 ghost use Prim.Native.Nat.{_≤_};
@@ -47,7 +48,8 @@ pub fn open(q: u64, items: Items) -> FiledPairs
 
 // A count of one file that came to this record.
 fn counted(r: Record) -> Counting
-    ensures { λ c. ⌜ c ≡ record { follow = record { step = 0; lines = 0; outside = 0 }; answer = Taken r; over = false } ⌝ }
+    ensures { λ c. ⌜ c
+        ≡ record { follow = record { step = 0; lines = 0; outside = 0 }; answer = Taken r; over = false } ⌝ }
 {
     Counting {
         follow: Follow {
@@ -81,8 +83,8 @@ fn add_end(number: u64, f: Filed, e: PairEnd, records: &mut [i32]) -> FiledPairs
 }
 
 // The records with that of two files, the one of this number, which were counted to their ends: it goes to its place in
-// `records`, whose rest stays. Or 10 with the line at fault and its channel, 12, 2 with the same, 3, then 4, 5, 6, 7 where
-// `records` has no place for it. What was refused stays.
+// `records`, whose rest stays. Or 10 with the line at fault and its channel, 12, 2 with the same, 3, then 4, 5, 6, 7
+// where `records` has no place for it. What was refused stays.
 pub fn add(number: u64, a: FiledPairs, w: Watching, records: &mut [i32]) -> FiledPairs
     ensures { λ b. ⌜ b ≡ adding number a (endOf w) (length (now (records .entry))) ⌝ }
     ensures { λ _. ⌜ now (records .exit) ≡ addingLeft number a (endOf w) (now (records .entry)) ⌝ }

@@ -63,7 +63,7 @@ class Declaration:
         """field -> its lines, the comment over it with them."""
         found, comment, name = {}, [], None
         for line in self.lines[1:]:
-            head = re.match(r"^ +(?:pub )?(\S+) :(?: |$)", line)
+            head = re.match(r"^ +(?:pub )?([^\s(]\S*) :(?: |$)", line)
             depth = len(line) - len(line.lstrip())
             if name is None or depth <= step:
                 if line.strip().startswith("--"):
@@ -115,7 +115,8 @@ def antt(crate, file, text):
         if depth == floor and re.match(r" *infix[lr]? ", line):
             infix = [line]
             continue
-        head = HEAD.match(line) if depth == floor and declares(line) else None
+        # the head of a record may go on over more lines, and has its colon there
+        head = HEAD.match(line) if depth == floor and (declares(line) or re.match(r" *(pub )?record ", line)) else None
         same = now and depth == floor and not head
         if head and head["name"] not in NOT_NAMES and not re.match(r"\s*(pub )?(use|mod|module)\b", line):
             now = Declaration((crate, file, head["name"]), head["marks"], comment, line, inside)

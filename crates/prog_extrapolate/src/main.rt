@@ -1,11 +1,12 @@
 // The clerk's rate beyond the records, for bin/extrapolate: the names of comma files come on a descriptor of their own,
 // one after the other, and their one line goes to standard output. A file is gone over twice, a piece at a time, as by
-// `prog_peaks`, and no samples are held: only the peaks of all files are, in one list. What cannot be read twice is written
-// to a temporary file on the way through, which has no name. What the lines say is `comma_stream`'s promise, what is
-// counted and judged `comma_peaks`'s, what is kept, added and written `reach_files`'s; here bytes are only carried.
+// `prog_peaks`, and no samples are held: only the peaks of all files are, in one list. What cannot be read twice is
+// written to a temporary file on the way through, which has no name. What the lines say is `comma_stream`'s promise,
+// what is counted and judged `comma_peaks`'s, what is kept, added and written `reach_files`'s; here bytes are only
+// carried.
 //
-// Arguments: the step, the ramp, the level, the decorrelation time, k, the standard; where a temporary file may be made,
-// ending in XXXXXX.
+// Arguments: the step, the ramp, the level, the decorrelation time, k, the standard; where a temporary file may be
+// made, ending in XXXXXX.
 ghost use Prim.Native.Nat.{_≤_};
 use comma_peaks::Judged;
 use comma_stream::Follow;
@@ -31,8 +32,8 @@ const NAME: usize = 4096;
 
 const SPOOL: usize = 7;
 
-// A pass over a file: its lines so far, what they count, what they hand out where it is the second, and whether a line is
-// wrong, so that nothing after it is read.
+// A pass over a file: its lines so far, what they count, what they hand out where it is the second, and whether a line
+// is wrong, so that nothing after it is read.
 struct Pass {
     follow: Follow,
     counted: Surveying,
@@ -199,8 +200,8 @@ enum Ran {
     Broken,
 }
 
-// A proved loop has to end, and nothing says that the input does; so it counts its turns down, from a number that no run
-// uses up.
+// A proved loop has to end, and nothing says that the input does; so it counts its turns down, from a number that no
+// run uses up.
 fn go_over(j: Job, start: Pass, from: i32, copy: i32, name: &[u8], list: &mut [u32]) -> Ran {
     let mut text = [0u8; BYTES];
     let shown = prog_desk::watched();
@@ -296,7 +297,8 @@ fn second_pass(
     Done::Added(reach_files::add(j, file, a, Judged::Peaks, f.lines, n))
 }
 
-// Makes a temporary file that has no name, and answers its descriptor or -1; `name` is room for the one it has at first.
+// Makes a temporary file that has no name, and answers its descriptor or -1; `name` is room for the one it has at
+// first.
 fn nameless(name: &mut [u8]) -> i32 {
     let n = os::arg(SPOOL, name);
     let fd = os::create_temp(&mut name[..n]);
@@ -464,8 +466,8 @@ fn how(n: Next) -> u8 {
     }
 }
 
-// File after file, up to the first that is refused. The turns are counted as in `prog_desk::serve`: the file's number is
-// up by one with each.
+// File after file, up to the first that is refused. The turns are counted as in `prog_desk::serve`: the file's number
+// is up by one with each.
 fn each(j: Job, names: &mut [u8], list: &mut [u32]) -> u8 {
     let mut gathering = reach_files::open(j);
     let mut at = 0;

@@ -1,6 +1,6 @@
--- WHAT IS SAID OF SEVERAL FILES ([14]; docs/CLERK.md, "Hulls that never reach the level"): one line and a digit, over the
--- whole texts, file by file in their order: each file's envelope peaks by its own mean ([11]), all of them in one list,
--- and its timed samples added up; then the list downwards, and what it comes to. Assumes nothing.
+-- WHAT IS SAID OF SEVERAL FILES ([14]; docs/CLERK.md, "Hulls that never reach the level"): one line and a digit, over
+-- the whole texts, file by file in their order: each file's envelope peaks by its own mean ([11]), all of them in one
+-- list, and its timed samples added up; then the list downwards, and what it comes to. Assumes nothing.
 use Prim.Native.Nat.{ℕ, _+_, _-_}
 use mathlib.Core.Bool.{cond, not}
 use mathlib.Core.List.{List, [], _∷_, _++_, map}
@@ -30,7 +30,13 @@ mostTimed = 100000000
 
 -- a file has one channel: the level stands for the other's too
 abbrev pub itemsOf : Job → Items
-itemsOf j = record { step = j .step; ramp = j .ramp; levels = record { roll = j .level; acceleration = j .level }; decorrelation = j .decorrelation }
+itemsOf j =
+    record {
+      step = j .step;
+      ramp = j .ramp;
+      levels = record { roll = j .level; acceleration = j .level };
+      decorrelation = j .decorrelation;
+    }
 
 -- the refused line names the file and its line
 abbrev pub refusedIn : ℕ → ℕ → Refusal → Said

@@ -57,12 +57,16 @@ outOf (handed.Refused f) sizes = []
 
 abbrev pub sizesBy : ℕ → ℕ → Handed → List ℤ → List ℕ
 sizesBy R lines (handed.Taken h k) xs =
-    outOf (handsOn h (timed.timedOf R lines (h .reading) xs) block block) (map sizeOf (closedBy h (timed.timedOf R lines (h .reading) xs)))
+    outOf (handsOn h (timed.timedOf R lines (h .reading) xs) block block)
+    (map sizeOf (closedBy h (timed.timedOf R lines (h .reading) xs)))
 sizesBy R lines (handed.Refused f) xs = []
 
 abbrev pub keptBy : ℕ → ℕ → Kept → List ℤ → Kept
 keptBy R lines k xs =
-    record { handed = handedBy R lines (k .handed) xs; peaks = countedTo (k .peaks) (length (sizesBy R lines (k .handed) xs)) }
+    record {
+      handed = handedBy R lines (k .handed) xs;
+      peaks = countedTo (k .peaks) (length (sizesBy R lines (k .handed) xs));
+    }
 
 abbrev pub listBy : ℕ → ℕ → Kept → List ℤ → List ℕ → List ℕ
 listBy R lines k xs list = putFrom (k .peaks) (sizesBy R lines (k .handed) xs) list
@@ -83,7 +87,8 @@ grownBy j file g lines peaks =
     (gathering.Of (record { files = file; peaks = peaks; samples = g .samples + (lines - j .ramp) }))
 
 abbrev pub addedIn : Job → ℕ → Gathering → Judged → ℕ → ℕ → Gathering
-addedIn j file (gathering.Of g) came lines peaks = judgedThen (gathering.Refused file) (grownBy j file g lines peaks) came
+addedIn j file (gathering.Of g) came lines peaks =
+    judgedThen (gathering.Refused file) (grownBy j file g lines peaks) came
 addedIn j file (gathering.Refused first line r) came lines peaks = gathering.Refused first line r
 
 abbrev pub isOver : Gathering → Bool

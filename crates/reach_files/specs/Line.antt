@@ -1,5 +1,5 @@
--- THE LINE ([14]; docs/CLERK.md, "Hulls that never reach the level"): files, peaks, timed samples, k, the k-th peak, the
--- Hill sum, the peaks above the level, the estimated mean time between failures, the longest standard accepted, the
+-- THE LINE ([14]; docs/CLERK.md, "Hulls that never reach the level"): files, peaks, timed samples, k, the k-th peak,
+-- the Hill sum, the peaks above the level, the estimated mean time between failures, the longest standard accepted, the
 -- shortest rejected or a dash, and the letter. And the refused line, which after 20 has the k-th peak. Assumes nothing.
 use Prim.Native.Nat.{ℕ, _+_}
 use mathlib.Core.Bool.{cond}

@@ -1,5 +1,5 @@
--- Two readings of each of several files, as a program makes them: a file comes in pieces, which may be others at the second
--- reading, and its samples in blocks, cut anywhere. Assumes nothing.
+-- Two readings of each of several files, as a program makes them: a file comes in pieces, which may be others at the
+-- second reading, and its samples in blocks, cut anywhere. Assumes nothing.
 use Prim.Native.Nat.{ℕ, zero, suc, _+_, _≤_, _<_}
 use mathlib.Core.Path.{_≡_}
 use mathlib.Core.Bool.{cond, not}
@@ -44,8 +44,8 @@ abbrev pub AllRead : ℕ → List Readings → Type 0
 AllRead D [] = Unit {0}
 AllRead D (r ∷ rs) = Read D r × AllRead D rs
 
--- ---- a file cut into pieces at each reading, whose right lines are taken in blocks of at most 1,024: by their number, at
--- most n at a time
+-- ---- a file cut into pieces at each reading, whose right lines are taken as a program does,
+-- in blocks: at most n at a time
 unfoldable pub chunks : ℕ → ℕ → List ℤ → List (List ℤ)
 chunks zero n xs = []
 chunks (suc turns) n xs = cond (eqb (length xs) 0) [] (take n xs ∷ chunks turns n (drop n xs))
@@ -56,18 +56,27 @@ heldOf p piece = map held (samplesOf (rightLines (p .stands) (p .left ++ piece))
 
 unfoldable pub blocksIn : Passed → List (List ℕ) → List (List ℤ)
 blocksIn p [] = []
-blocksIn p (piece ∷ pieces) = chunks (length (heldOf p piece)) block (heldOf p piece) ++ blocksIn (withPiece p piece) pieces
+blocksIn p (piece ∷ pieces) =
+    chunks (length (heldOf p piece)) block (heldOf p piece) ++ blocksIn (withPiece p piece) pieces
 
 pub record Cut : Type 0 where
   pub pieces : List (List ℕ)
   pub again : List (List ℕ)
 
 abbrev pub readingsOf : ℕ → Cut → Readings
-readingsOf D c = record { pieces = c .pieces; again = c .again; blocks = blocksIn (nothing D) (c .pieces); blocks-again = blocksIn (nothing D) (c .again) }
+readingsOf D c =
+    record {
+      pieces = c .pieces;
+      again = c .again;
+      blocks = blocksIn (nothing D) (c .pieces);
+      blocks-again = blocksIn (nothing D) (c .again);
+    }
 
 abbrev pub AllCut : List Cut → Type 0
 AllCut [] = Unit {0}
-AllCut (c ∷ cs) = ((joined (c .pieces) ≡ joined (c .again)) × (length (linesOf (joined (c .pieces))) < 18446744073709551615)) × AllCut cs
+AllCut (c ∷ cs) =
+    ((joined (c .pieces) ≡ joined (c .again)) × (length (linesOf (joined (c .pieces))) < 18446744073709551615))
+    × AllCut cs
 
 -- ---- the second reading, block after block: how many peaks the list has then, and the list
 pub record Stands : Type 0 where
@@ -76,8 +85,12 @@ pub record Stands : Type 0 where
 
 unfoldable pub secondFrom : ℕ → ℕ → Kept → List ℕ → List (List ℤ) → Stands
 secondFrom R lines k list [] =
-    record { peaks = countedTo (k .peaks) (length (lastSizes (k .handed))); list = putFrom (k .peaks) (lastSizes (k .handed)) list }
-secondFrom R lines k list (xs ∷ bs) = secondFrom R (lines + length xs) (keptBy R lines k xs) (listBy R lines k xs list) bs
+    record {
+      peaks = countedTo (k .peaks) (length (lastSizes (k .handed)));
+      list = putFrom (k .peaks) (lastSizes (k .handed)) list;
+    }
+secondFrom R lines k list (xs ∷ bs) =
+    secondFrom R (lines + length xs) (keptBy R lines k xs) (listBy R lines k xs list) bs
 
 -- ---- a file: the first reading is judged, and only if it has peaks there is a second
 abbrev pub passed : Job → Readings → Passed
@@ -92,10 +105,12 @@ counted j r = blocks (j .ramp) 0 (none (j .step)) (r .blocks)
 abbrev pub second : Job → ℕ → List ℕ → Readings → Stands
 second j peaks list r =
     secondFrom (j .ramp) 0
-    (record { handed = begun (j .step) (j .decorrelation) (counted j r .number) (counted j r .sum); peaks = peaks }) list (r .blocks-again)
+    (record { handed = begun (j .step) (j .decorrelation) (counted j r .number) (counted j r .sum); peaks = peaks })
+    list (r .blocks-again)
 
 abbrev pub secondIf : Job → ℕ → List ℕ → Readings → Stands
-secondIf j peaks list r = judgedThen (λ line q. record { peaks = peaks; list = list }) (second j peaks list r) (cameTo j r)
+secondIf j peaks list r =
+    judgedThen (λ line q. record { peaks = peaks; list = list }) (second j peaks list r) (cameTo j r)
 
 -- ---- the gathering and the list
 pub record Desk : Type 0 where
@@ -109,7 +124,10 @@ peaksIn (Rattle.reach_files.specs.declared.Gathering.the-variants.Refuse
 abbrev pub withFile : Job → ℕ → Desk → Readings → Desk
 withFile j file d r =
     let s = secondIf j (peaksIn (d .gathered)) (d .list) r in
-    record { gathered = addedIn j file (d .gathered) (cameTo j r) (passed j r .stands .lines) (s .peaks); list = s .list }
+    record {
+      gathered = addedIn j file (d .gathered) (cameTo j r) (passed j r .stands .lines) (s .peaks);
+      list = s .list;
+    }
 
 -- file after file, from this number on
 unfoldable pub filesAfter : Job → ℕ → Desk → List Readings → Desk

@@ -12,7 +12,8 @@ use Rattle.reach_files.specs.Gathering.{countedTo, putFrom, keptBy, list
 
 -- with an answer after a block: so many of the sizes go into the list
 abbrev pub keptWith : Handed → ℕ → List ℕ → Kept
-keptWith (handed.Taken h k) peaks sizes = record { handed = handed.Taken h k; peaks = countedTo peaks (length (take (min k (length sizes)) sizes)) }
+keptWith (handed.Taken h k) peaks sizes =
+    record { handed = handed.Taken h k; peaks = countedTo peaks (length (take (min k (length sizes)) sizes)) }
 keptWith (handed.Refused f) peaks sizes = record { handed = handed.Refused f; peaks = peaks }
 
 abbrev pub listWith : Handed → ℕ → List ℕ → List ℕ → List ℕ

@@ -1,9 +1,9 @@
-// Several files of hulls that never reach the level ([14]): what `bin/extrapolate` says of them. Each file is read twice,
-// as `bin/peaks` does: the first reading is judged and says which peaks are high, the second hands its peaks into a lent
-// list, which is one for all files; its timed samples are added up. After the last file the list is sorted downwards, and
-// its line written. The first file that cannot be taken ends it, named by its number. The definition is
-// `Files.reachSaid`, over the whole texts, and that it makes no difference how each file comes, in either reading, is the
-// theorem `Anywhere.reach-anywhere`.
+// Several files of hulls that never reach the level ([14]): what `bin/extrapolate` says of them. Each file is read
+// twice, as `bin/peaks` does: the first reading is judged and says which peaks are high, the second hands its peaks
+// into a lent list, which is one for all files; its timed samples are added up. After the last file the list is sorted
+// downwards, and its line written. The first file that cannot be taken ends it, named by its number. The definition is
+// `Files.reachSaid`, over the whole texts, and that it makes no difference how each file comes, in either reading, is
+// the theorem `Anywhere.reach-anywhere`.
 ghost use mathlib.Core.Path.{_≡_};
 ghost use mathlib.Core.Bool.{cond, false};
 ghost use Prim.Native.Nat.{_+_, _-_, _≤_, min};
@@ -16,8 +16,8 @@ ghost use Rattle.peak_tail.specs.Fitting.{tailOutside};
 ghost use Rattle.peak_reach.specs.declared.Extrapolated.the-variants.{Found};
 ghost use Rattle.sample_items.specs.Limits.{itemOutside};
 ghost use Rattle.reach_files.specs.Files.{itemsOf, mostTimed};
-ghost use Rattle.reach_files.specs.Line.{aboveLevel, rejectedText, letterText, figuresLine, told, low, refusedList};
-ghost use Rattle.reach_files.specs.Line.{figuresOf, extrapolatedFor, saidBy, listSaid};
+ghost use Rattle.reach_files.specs.Line.{aboveLevel, rejectedText, letterText, figuresLine, told, low};
+ghost use Rattle.reach_files.specs.Line.{refusedList, figuresOf, extrapolatedFor, saidBy, listSaid};
 ghost use Rattle.reach_files.specs.Gathering.{opened, countedTo, putFrom, keptBy, listBy, lastSizes, lastOne};
 ghost use Rattle.reach_files.specs.Gathering.{grownBy, addedIn, isOver, gatheredSaid, listLeft};
 ghost use Rattle.reach_files.specs.Steps.{keptWith, listWith, keptOn, listOn};
@@ -286,8 +286,8 @@ fn judged_by(j: Job, file: u64, g: Gathered, came: Judged, lines: u64, peaks: u6
 }
 
 // The gathering with a file, the one of that number: what its first reading came to, its lines, and how many peaks the
-// list has after its second. Or 10, 2, 3, 4 with the line at fault; 16 for a list that is too long, 19 for too many timed
-// samples. What was refused stays.
+// list has after its second. Or 10, 2, 3, 4 with the line at fault; 16 for a list that is too long, 19 for too many
+// timed samples. What was refused stays.
 pub fn add(j: Job, file: u64, a: Gathering, came: Judged, lines: u64, peaks: u64) -> Gathering
     ensures { λ b. ⌜ b ≡ addedIn j file a came lines peaks ⌝ }
 {
@@ -484,9 +484,10 @@ fn put_list(j: Job, g: Gathered, list: &mut [u32], out: &mut [u8]) -> Finished
 }
 
 // Writes the line of the files to the start of `out`: files, peaks, timed samples, k, the k-th peak, the Hill sum, the
-// peaks above the level, the estimate, the longest standard accepted and the shortest rejected in ms, and the letter; or
-// refused, the number of the file at fault or 0, its line or 0, the refusal's number, after 1 the item, and after 20 the
-// k-th peak. Without room for any line nothing is written, and the program ends as failed. The peaks are downwards then.
+// peaks above the level, the estimate, the longest standard accepted and the shortest rejected in ms, and the letter;
+// or refused, the number of the file at fault or 0, its line or 0, the refusal's number, after 1 the item, and after 20
+// the k-th peak. Without room for any line nothing is written, and the program ends as failed. The peaks are downwards
+// then.
 pub fn finish(j: Job, a: Gathering, list: &mut [u32], out: &mut [u8]) -> Finished
     ensures { λ f. ⌜ f ≡ putting (gatheredSaid j a (now (list .entry))) (now (out .entry)) ⌝ }
     ensures { λ _. ⌜ now (out .exit) ≡ putLeft (gatheredSaid j a (now (list .entry))) (now (out .entry)) ⌝ }

@@ -21,6 +21,7 @@ pub mod JobSheet
 pub mod Desk
 pub mod NextDay
 pub mod DeskBeyond
+pub mod DeskPeaks
 pub mod Conditions
 pub mod DeskPair
 pub mod Figures

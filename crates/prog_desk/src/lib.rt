@@ -408,3 +408,56 @@ pub fn serve_pair(
     }
     ServedPair::Broken
 }
+
+// ---- a file whose bytes may be copied on the way through
+
+// What is read of a file and not used yet, in its buffer: the bytes from `at` up to `end`, and whether more follows.
+pub struct Unused {
+    pub at: usize,
+    pub end: usize,
+    pub more: bool,
+}
+
+// What reading on comes to.
+pub enum Continued {
+    More(Unused),
+    Broken,
+}
+
+// Writes the bytes from `start` up to `end` to the descriptor `copy`; below 0 it is none.
+fn copy_to(copy: i32, text: &[u8], start: usize, end: usize) -> bool {
+    if copy < 0 {
+        return true;
+    }
+    let upto = least(end, text.len());
+    let from = least(start, upto);
+    if write_to(copy, &text[from..], upto - from) {
+        return true;
+    }
+    os::fail(b"the temporary file");
+    false
+}
+
+// Reads once, after the bytes that are not used yet, which go to the front; what is read goes to `copy` too.
+pub fn read_after(from: i32, name: &[u8], copy: i32, text: &mut [u8], u: Unused) -> Continued {
+    let end = least(u.end, text.len());
+    let at = least(u.at, end);
+    let kept = end - at;
+    text::keep(text, at, kept);
+    let Got::Upto(filled) = fill(from, name, text, kept) else {
+        return Continued::Broken;
+    };
+    if !copy_to(copy, &text[..], kept, filled) {
+        return Continued::Broken;
+    }
+    Continued::More(Unused {
+        at: 0,
+        end: filled,
+        more: kept < filled,
+    })
+}
+
+// Progress for a terminal, as `serve` shows it.
+pub fn show_lines(before: u64, lines: u64, shown: bool) {
+    show_progress(before, lines, shown);
+}

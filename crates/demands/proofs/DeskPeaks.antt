@@ -1,0 +1,69 @@
+-- What `bin/peaks` writes, over the bytes of its files: it makes no difference how either reading of a file is cut; an
+-- item goes before all files; a file is refused by the first of 10, 2, 3, 4, or its envelope peaks are written, line by
+-- line; and of several files the first that is refused ends it. Assumes nothing.
+use mathlib.Core.Path.{_≡_, refl, ap, _∙_}
+use mathlib.Core.Bool.{cond, false, true}
+use mathlib.Core.List.{List, [], _∷_, _++_, map}
+use Prim.Native.Nat.{ℕ, _+_}
+use lib.Dec.{eqb}
+use Rattle.refusal.specs.declared.Refusal.{Refusal}
+use Rattle.refusal.specs.declared.Refusal.the-variants.{Item}
+use Rattle.sample_items.specs.Limits.{itemOutside}
+use Rattle.decimal.specs.Lines.{linesOf}
+use Rattle.comma_line.specs.Text.{samplesOf}
+use Rattle.peak_groups.specs.Peaks.{handed}
+use Rattle.peak_lines.specs.Lines.{peaksText}
+use Rattle.desk_line.specs.Said.{Said, refused}
+use Rattle.comma_peaks.specs.declared.Judged.the-variants.{Refused, Peaks}
+use Rattle.comma_peaks.specs.Judged.{comesTo}
+use Rattle.peak_files.specs.Said.{placesOf, peaksRead, judgedSaid, fileSaid, thenSaid, filesFrom, searched, itemsSaid, peaksSaid, filesSaid}
+use Rattle.peak_files.specs.Reading.{Twice, ReadTwice, AllTwice, bothWrote, filesWrote}
+use Rattle.peak_files.proofs.Anywhere.{file-anywhere, files-anywhere}
+
+-- ---- the statement
+pub record DeskPeaks : Type 0 where
+  -- two readings of a text, each cut anywhere and called until it is over, write what is said of the text; and of
+  -- several files one after the other
+  pub peaks-pieces : (D R τ : ℕ) (t : Twice) → ReadTwice D R τ 0 t → thenSaid (itemsSaid D R τ) (bothWrote D R τ 0 t) ≡ peaksSaid D R τ (t .text)
+  pub files-pieces : (D R τ : ℕ) (ts : List Twice) → AllTwice D R τ 1 ts → thenSaid (itemsSaid D R τ) (filesWrote D R τ 1 ts) ≡ filesSaid D R τ (map (λ t. t .text) ts)
+  -- the lowest item outside its range is told before any file, as of one file
+  pub peaks-item : (D R τ : ℕ) (text : List ℕ) → eqb (itemOutside (searched D R τ)) 0 ≡ false → peaksSaid D R τ text ≡ refused (0 ∷ []) (Item (itemOutside (searched D R τ)))
+  pub files-item : (D R τ : ℕ) (texts : List (List ℕ)) → eqb (itemOutside (searched D R τ)) 0 ≡ false → filesSaid D R τ texts ≡ refused (0 ∷ []) (Item (itemOutside (searched D R τ)))
+  pub peaks-none : (D R τ : ℕ) (text : List ℕ) → eqb (itemOutside (searched D R τ)) 0 ≡ true → peaksSaid D R τ text ≡ fileSaid D R τ 0 text
+  pub files-none : (D R τ : ℕ) (texts : List (List ℕ)) → eqb (itemOutside (searched D R τ)) 0 ≡ true → filesSaid D R τ texts ≡ filesFrom D R τ 1 texts
+  -- a file: refused with its line or 0, after its number where there are several, or its envelope peaks in order
+  pub peaks-refused : (D R τ file : ℕ) (text : List ℕ) (line : ℕ) (r : Refusal) → comesTo D R (linesOf text) ≡ Refused line r → fileSaid D R τ file text ≡ refused (placesOf file line) r
+  pub peaks-written : (D R τ file : ℕ) (text : List ℕ) → comesTo D R (linesOf text) ≡ Peaks
+      → fileSaid D R τ file text ≡ record { line = peaksText file (handed D R τ (samplesOf (linesOf text))); end = 48 }
+  -- one file after the other, until one is refused
+  pub files-on : (D R τ file : ℕ) (text : List ℕ) (texts : List (List ℕ)) → eqb (fileSaid D R τ file text .end) 48 ≡ true
+      → filesFrom D R τ file (text ∷ texts) ≡ record { line = fileSaid D R τ file text .line ++ filesFrom D R τ (file + 1) texts .line; end = filesFrom D R τ (file + 1) texts .end }
+  pub files-stop : (D R τ file : ℕ) (text : List ℕ) (texts : List (List ℕ)) → eqb (fileSaid D R τ file text .end) 48 ≡ false
+      → filesFrom D R τ file (text ∷ texts) ≡ fileSaid D R τ file text
+  pub files-end : (D R τ file : ℕ) → filesFrom D R τ file [] ≡ record { line = []; end = 48 }
+
+-- ---- the proof
+first-item : (D R τ : ℕ) (s : Said) → eqb (itemOutside (searched D R τ)) 0 ≡ false → thenSaid (itemsSaid D R τ) s ≡ refused (0 ∷ []) (Item (itemOutside (searched D R τ)))
+unfolding thenSaid itemsSaid
+first-item D R τ s e = rw e
+
+no-item : (D R τ : ℕ) (s : Said) → eqb (itemOutside (searched D R τ)) 0 ≡ true → thenSaid (itemsSaid D R τ) s ≡ s
+unfolding thenSaid itemsSaid
+no-item D R τ s e = rw e
+
+pub deskPeaks : DeskPeaks
+unfolding peaksSaid filesSaid fileSaid filesFrom thenSaid
+deskPeaks =
+    record {
+      peaks-pieces = file-anywhere;
+      files-pieces = files-anywhere;
+      peaks-item = λ D R τ text e. first-item D R τ (fileSaid D R τ 0 text) e;
+      files-item = λ D R τ texts e. first-item D R τ (filesFrom D R τ 1 texts) e;
+      peaks-none = λ D R τ text e. no-item D R τ (fileSaid D R τ 0 text) e;
+      files-none = λ D R τ texts e. no-item D R τ (filesFrom D R τ 1 texts) e;
+      peaks-refused = λ D R τ file text line r e. ap (judgedSaid file (peaksRead file (handed D R τ (samplesOf (linesOf text))))) e;
+      peaks-written = λ D R τ file text e. ap (judgedSaid file (peaksRead file (handed D R τ (samplesOf (linesOf text))))) e;
+      files-on = λ D R τ file text texts e. rw e;
+      files-stop = λ D R τ file text texts e. rw e;
+      files-end = λ D R τ file. refl;
+    }

@@ -42,4 +42,5 @@ pub mod DeskCases
 pub mod NextDayCases
 pub mod ConditionCases
 pub mod DeskPairCases
+pub mod DeskPeaksCases
 pub mod DeskPairSheet

@@ -63,7 +63,8 @@ unfolding carrying
 stays-over w o kr ka [] (roll-goes pieces) = stays-roll w o kr ka pieces
 stays-over w o kr ka [] (acceleration-goes pieces) = stays-acceleration w o kr ka pieces
 stays-over w o kr ka (s ∷ turns) rest =
-    ap (λ t. carrying (t .watching) (drop (t .roll) (kr ++ s .roll)) (drop (t .acceleration) (ka ++ s .acceleration)) turns rest) (sym (taking-over w (kr ++ s .roll) true (ka ++ s .acceleration) true o))
+    ap (λ t. carrying (t .watching) (drop (t .roll) (kr ++ s .roll)) (drop (t .acceleration) (ka ++ s .acceleration))
+    turns rest) (sym (taking-over w (kr ++ s .roll) true (ka ++ s .acceleration) true o))
     ∙ stays-over w o _ _ turns rest
 
 module _ (i : Items) (ok : itemOutside i ≡ 0) where
@@ -189,7 +190,8 @@ module _ (i : Items) (ok : itemOutside i ≡ 0) where
     both-end = by-out (step i ok s)
 
   -- the same text, flags that fall
-  falling : {A : List ℕ} {mA : Bool} {B : List ℕ} {mB : Bool} {w : Watching} {x y : List ℕ} → At A mA B mB w x y → (mA′ mB′ : Bool) → (mA ≡ false → mA′ ≡ false) → (mB ≡ false → mB′ ≡ false) → At A mA′ B mB′ w x y
+  falling : {A : List ℕ} {mA : Bool} {B : List ℕ} {mB : Bool} {w : Watching} {x y : List ℕ} → At A mA B mB w x y →
+      (mA′ mB′ : Bool) → (mA ≡ false → mA′ ≡ false) → (mB ≡ false → mB′ ≡ false) → At A mA′ B mB′ w x y
   falling s mA′ mB′ fallsA fallsB =
       record {
         a = s .a;
@@ -233,7 +235,9 @@ module _ (i : Items) (ok : itemOutside i ≡ 0) where
       ∙ ap (λ z. Q z B) (append-assoc A piece (joined pieces))
 
   -- ---- the acceleration goes on after the roll has ended
-  acceleration-out : (pieces : List (List ℕ)) (A B x y : List ℕ) {t : Took} → ((v : Watching) (x′ y′ : List ℕ) → At A false B true v x′ y′ → endOf (accelerationGoes v x′ y′ pieces) ≡ Q A (B ++ joined pieces))
+  acceleration-out : (pieces : List (List ℕ)) (A B x y : List ℕ) {t : Took} →
+      ((v : Watching) (x′ y′ : List ℕ) → At A false B true v x′ y′ →
+      endOf (accelerationGoes v x′ y′ pieces) ≡ Q A (B ++ joined pieces))
       → Out i ok A false B true x y t → endOf (accelerationGoes (t .watching) (drop (t .roll) x) (drop (t .acceleration) y) pieces) ≡ Q A (B ++ joined pieces)
   acceleration-out pieces A B x y {t} later (goes u why) = later (t .watching) _ _ u
   acceleration-out pieces A B x y {t} later (wrong-roll f g e v o) =

@@ -242,7 +242,14 @@ module _ (i : Items) (ok : itemOutside i ≡ 0) where
         let f = after-them (count.fresh D) A a few-a in
         let g = after-them (count.fresh D) B b few-b in
         rw (f, g, length-drop a (R D A), length-drop b (R D B))
-        (λ j. record { roll = lines-on (count.fresh D) A a p j; acceleration = lines-on (count.fresh D) B b p j; answer = answer-on j; at = bytesOf us; beside = bytesOf vs; ahead = ltb (N - b) (U - a) })
+        (λ j. record {
+          roll = lines-on (count.fresh D) A a p j;
+          acceleration = lines-on (count.fresh D) B b p j;
+          answer = answer-on j;
+          at = bytesOf us;
+          beside = bytesOf vs;
+          ahead = ltb (N - b) (U - a);
+        })
 
     call : taking w x mA y mB ≡ judged S x mA y mB
     unfolding taking
@@ -328,7 +335,14 @@ module _ (i : Items) (ok : itemOutside i ≡ 0) where
       on-b eB g why =
           subst Result (sym (roll-goes Alone S mA (length x) (length y) (ap (λ q. q .counting .over) alone-is ∙ g .on)))
           (goes
-          (ends-stand (record { watching = watched (Alone .counting .follow) (after D B (b + p)) (answerAt A B (min a b + p)); roll = bytesOf us + Alone .used; acceleration = bytesOf vs; next = cond mA next.Roll next.Neither })
+          (ends-stand (record {
+            watching = watched (Alone .counting .follow) (after D B (b + p))
+                (answerAt A B (min a b + p));
+            roll = bytesOf us + Alone .used;
+            acceleration = bytesOf vs;
+            next = cond mA
+                next.Roll next.Neither;
+          })
           (λ j. watched ((ap (λ q. q .counting .follow) alone-is ∙ g .stands) j) (after D B (b-end j)) (answerAt A B (min-end j)))
           (sym (drop-drop (Alone .used) (bytesOf us) x) ∙ ap (drop (Alone .used)) (unread-on D A a p) ∙ ap (λ q. drop (q .used) (unread D A (a + p))) alone-is ∙ g .left)
           left-b
@@ -434,7 +448,14 @@ module _ (i : Items) (ok : itemOutside i ≡ 0) where
       on-a eA g why =
           subst Result (sym (acceleration-goes Other S mB (length x) (length y) (ap (λ q. q .counting .over) other-is ∙ g .on)))
           (goes
-          (ends-stand (record { watching = watched (after D A (a + p)) (Other .counting .follow) (answerAt A B (min a b + p)); roll = bytesOf us; acceleration = bytesOf vs + Other .used; next = cond mB next.Acceleration next.Neither })
+          (ends-stand (record {
+            watching = watched (after D A (a + p)) (Other .counting .follow)
+                (answerAt A B (min a b + p));
+            roll = bytesOf us;
+            acceleration = bytesOf vs + Other .used;
+            next = cond mB
+                next.Acceleration next.Neither;
+          })
           (λ j. watched (after D A (a-end j)) ((ap (λ q. q .counting .follow) other-is ∙ g .stands) j) (answerAt A B (min-all j)))
           left-a
           (sym (drop-drop (Other .used) (bytesOf vs) y) ∙ ap (drop (Other .used)) (unread-on D B b p) ∙ ap (λ q. drop (q .used) (unread D B (b + p))) other-is ∙ g .left)

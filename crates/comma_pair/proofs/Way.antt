@@ -103,7 +103,16 @@ pub record Way (f g : Follow) (a : RecordAnswer) (x y : List ℕ) (r s : Follow)
 
 pub after-none : (f : Follow) → afterLines f [] ≡ f
 unfolding afterLines firstBad
-after-none f = by-test (eqb (f .outside) 0) (λ e. rw e (λ j. record { step = f .step; lines = add-zero (f .lines) j; outside = f .outside })) (λ e. rw e (λ j. record { step = f .step; lines = add-zero (f .lines) j; outside = f .outside }))
+after-none f =
+    by-test (eqb (f .outside) 0) (λ e. rw e (λ j. record {
+      step = f .step;
+      lines = add-zero (f .lines) j;
+      outside = f .outside;
+    })) (λ e. rw e (λ j. record {
+      step = f .step;
+      lines = add-zero (f .lines) j;
+      outside = f .outside;
+    }))
 
 -- lines of both, as many of each, are fed in range
 pub good : (us vs : List (List ℕ)) → length us ≡ length vs → Good (heldOf us) (heldOf vs)

@@ -300,5 +300,10 @@ said-end i ls ms =
     goods ls ms same br ba =
         let gy = ltb-false (firstBad (samplesOf ms)) (length (samplesOf ms)) ba in
         by-order (firstBad (samplesOf ls)) (length ls)
-        (λ bx. absurd (true≢false (rw (lt-ltb (firstBad (samplesOf ls)) (length (samplesOf ls)) (omega (arith, samples-many ls)), le-leb (firstBad (samplesOf ls)) (firstBad (samplesOf ms)) (omega (arith, samples-many ms))) at br)))
+        (λ bx. absurd (true≢false (rw (
+          lt-ltb (firstBad (samplesOf ls)) (length (samplesOf ls))
+              (omega (arith, samples-many ls)),
+          le-leb (firstBad (samplesOf ls)) (firstBad (samplesOf ms))
+              (omega (arith, samples-many ms)),
+        ) at br)))
         (λ gx. (gx, omega (arith, samples-many ms)))

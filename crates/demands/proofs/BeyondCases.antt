@@ -262,24 +262,38 @@ job c k q = record { step = 500; ramp = 20; level = c; decorrelation = 35000; ta
 
 -- of the guide's small case from 80 files: 80 12 1000000 10 28500 75071 0 3569418850 356906209 - A
 bytes-accepted : figuresLine (figuresOf (job 40000 10 7200000) 80 1000000 peaks (three 3569418850 356906209 0) Accept)
-    ≡ 56 ∷ 48 ∷ 9 ∷ 49 ∷ 50 ∷ 9 ∷ 49 ∷ 48 ∷ 48 ∷ 48 ∷ 48 ∷ 48 ∷ 48 ∷ 9 ∷ 49 ∷ 48 ∷ 9 ∷ 50 ∷ 56 ∷ 53 ∷ 48 ∷ 48 ∷ 9 ∷ 55 ∷ 53 ∷ 48 ∷ 55 ∷ 49 ∷ 9 ∷ 48 ∷ 9 ∷ 51 ∷ 53 ∷ 54 ∷ 57 ∷ 52 ∷ 49 ∷ 56 ∷ 56 ∷ 53 ∷ 48 ∷ 9 ∷ 51 ∷ 53 ∷ 54 ∷ 57 ∷ 48 ∷ 54 ∷ 50 ∷ 48 ∷ 57 ∷ 9 ∷ 45 ∷ 9 ∷ 65 ∷ 10 ∷ []
+    ≡ 56 ∷ 48 ∷ 9 ∷ 49 ∷ 50 ∷ 9 ∷ 49 ∷ 48 ∷ 48 ∷ 48 ∷ 48 ∷ 48 ∷ 48 ∷ 9 ∷ 49 ∷ 48 ∷ 9 ∷ 50 ∷ 56 ∷ 53 ∷ 48 ∷ 48 ∷ 9 ∷ 55
+    ∷ 53 ∷ 48 ∷ 55 ∷ 49 ∷ 9 ∷ 48 ∷ 9 ∷ 51 ∷ 53 ∷ 54 ∷ 57 ∷ 52 ∷ 49 ∷ 56 ∷ 56 ∷ 53 ∷ 48 ∷ 9 ∷ 51 ∷ 53 ∷ 54 ∷ 57 ∷ 48 ∷
+    54 ∷ 50 ∷ 48 ∷ 57 ∷ 9 ∷ 45 ∷ 9 ∷ 65 ∷ 10 ∷ []
 unfolding figuresLine aboveLevel rejectedText figures ourFigure doublings squarings fieldText digitsOf digitsWithin
 bytes-accepted = refl
 
 line-accepted : listSaid (job 40000 10 7200000) 80 1000000 peaks
-    ≡ record { line = 56 ∷ 48 ∷ 9 ∷ 49 ∷ 50 ∷ 9 ∷ 49 ∷ 48 ∷ 48 ∷ 48 ∷ 48 ∷ 48 ∷ 48 ∷ 9 ∷ 49 ∷ 48 ∷ 9 ∷ 50 ∷ 56 ∷ 53 ∷ 48 ∷ 48 ∷ 9 ∷ 55 ∷ 53 ∷ 48 ∷ 55 ∷ 49 ∷ 9 ∷ 48 ∷ 9 ∷ 51 ∷ 53 ∷ 54 ∷ 57 ∷ 52 ∷ 49 ∷ 56 ∷ 56 ∷ 53 ∷ 48 ∷ 9 ∷ 51 ∷ 53 ∷ 54 ∷ 57 ∷ 48 ∷ 54 ∷ 50 ∷ 48 ∷ 57 ∷ 9 ∷ 45 ∷ 9 ∷ 65 ∷ 10 ∷ []; end = 48 }
+    ≡ record {
+      line = 56 ∷ 48 ∷ 9 ∷ 49 ∷ 50 ∷ 9 ∷ 49 ∷ 48 ∷ 48 ∷ 48 ∷ 48 ∷ 48 ∷ 48 ∷ 9 ∷ 49 ∷ 48 ∷ 9 ∷ 50 ∷ 56 ∷ 53 ∷
+          48 ∷ 48 ∷ 9 ∷ 55 ∷ 53 ∷ 48 ∷ 55 ∷ 49 ∷ 9 ∷ 48 ∷ 9 ∷ 51 ∷ 53 ∷ 54 ∷ 57 ∷ 52 ∷ 49 ∷ 56 ∷ 56 ∷ 53 ∷ 48 ∷ 9 ∷ 51 ∷ 53
+          ∷ 54 ∷ 57 ∷ 48 ∷ 54 ∷ 50 ∷ 48 ∷ 57 ∷ 9 ∷ 45 ∷ 9 ∷ 65 ∷ 10 ∷ [];
+      end = 48;
+    }
 line-accepted =
     ap (λ (x : Extrapolated). saidBy (job 40000 10 7200000) 80 1000000 peaks x) accepted-case
     ∙ ap (λ (l : List ℕ). record { line = l; end = 48 }) bytes-accepted
 
 -- at the level of the last peak, nine are above it and the standard is rejected: B is a number and the letter R
 bytes-rejected : figuresLine (figuresOf (job 28500 10 170706726) 3 1000000 peaks (three 50000000 29289438 170706726) Reject)
-    ≡ 51 ∷ 9 ∷ 49 ∷ 50 ∷ 9 ∷ 49 ∷ 48 ∷ 48 ∷ 48 ∷ 48 ∷ 48 ∷ 48 ∷ 9 ∷ 49 ∷ 48 ∷ 9 ∷ 50 ∷ 56 ∷ 53 ∷ 48 ∷ 48 ∷ 9 ∷ 55 ∷ 53 ∷ 48 ∷ 55 ∷ 49 ∷ 9 ∷ 57 ∷ 9 ∷ 53 ∷ 48 ∷ 48 ∷ 48 ∷ 48 ∷ 48 ∷ 48 ∷ 48 ∷ 9 ∷ 50 ∷ 57 ∷ 50 ∷ 56 ∷ 57 ∷ 52 ∷ 51 ∷ 56 ∷ 9 ∷ 49 ∷ 55 ∷ 48 ∷ 55 ∷ 48 ∷ 54 ∷ 55 ∷ 50 ∷ 54 ∷ 9 ∷ 82 ∷ 10 ∷ []
+    ≡ 51 ∷ 9 ∷ 49 ∷ 50 ∷ 9 ∷ 49 ∷ 48 ∷ 48 ∷ 48 ∷ 48 ∷ 48 ∷ 48 ∷ 9 ∷ 49 ∷ 48 ∷ 9 ∷ 50 ∷ 56 ∷ 53 ∷ 48 ∷ 48 ∷ 9 ∷ 55 ∷ 53
+    ∷ 48 ∷ 55 ∷ 49 ∷ 9 ∷ 57 ∷ 9 ∷ 53 ∷ 48 ∷ 48 ∷ 48 ∷ 48 ∷ 48 ∷ 48 ∷ 48 ∷ 9 ∷ 50 ∷ 57 ∷ 50 ∷ 56 ∷ 57 ∷ 52 ∷ 51 ∷ 56 ∷
+    9 ∷ 49 ∷ 55 ∷ 48 ∷ 55 ∷ 48 ∷ 54 ∷ 55 ∷ 50 ∷ 54 ∷ 9 ∷ 82 ∷ 10 ∷ []
 unfolding figuresLine aboveLevel rejectedText figures ourFigure doublings squarings fieldText digitsOf digitsWithin
 bytes-rejected = refl
 
 line-rejected : listSaid (job 28500 10 170706726) 3 1000000 peaks
-    ≡ record { line = 51 ∷ 9 ∷ 49 ∷ 50 ∷ 9 ∷ 49 ∷ 48 ∷ 48 ∷ 48 ∷ 48 ∷ 48 ∷ 48 ∷ 9 ∷ 49 ∷ 48 ∷ 9 ∷ 50 ∷ 56 ∷ 53 ∷ 48 ∷ 48 ∷ 9 ∷ 55 ∷ 53 ∷ 48 ∷ 55 ∷ 49 ∷ 9 ∷ 57 ∷ 9 ∷ 53 ∷ 48 ∷ 48 ∷ 48 ∷ 48 ∷ 48 ∷ 48 ∷ 48 ∷ 9 ∷ 50 ∷ 57 ∷ 50 ∷ 56 ∷ 57 ∷ 52 ∷ 51 ∷ 56 ∷ 9 ∷ 49 ∷ 55 ∷ 48 ∷ 55 ∷ 48 ∷ 54 ∷ 55 ∷ 50 ∷ 54 ∷ 9 ∷ 82 ∷ 10 ∷ []; end = 48 }
+    ≡ record {
+      line = 51 ∷ 9 ∷ 49 ∷ 50 ∷ 9 ∷ 49 ∷ 48 ∷ 48 ∷ 48 ∷ 48 ∷ 48 ∷ 48 ∷ 9 ∷ 49 ∷ 48 ∷ 9 ∷ 50 ∷ 56 ∷ 53 ∷ 48 ∷
+          48 ∷ 9 ∷ 55 ∷ 53 ∷ 48 ∷ 55 ∷ 49 ∷ 9 ∷ 57 ∷ 9 ∷ 53 ∷ 48 ∷ 48 ∷ 48 ∷ 48 ∷ 48 ∷ 48 ∷ 48 ∷ 9 ∷ 50 ∷ 57 ∷ 50 ∷ 56 ∷ 57
+          ∷ 52 ∷ 51 ∷ 56 ∷ 9 ∷ 49 ∷ 55 ∷ 48 ∷ 55 ∷ 48 ∷ 54 ∷ 55 ∷ 50 ∷ 54 ∷ 9 ∷ 82 ∷ 10 ∷ [];
+      end = 48;
+    }
 line-rejected =
     ap (λ (x : Extrapolated). saidBy (job 28500 10 170706726) 3 1000000 peaks x) rejected-case
     ∙ ap (λ (l : List ℕ). record { line = l; end = 48 }) bytes-rejected

@@ -55,7 +55,8 @@ unfolding conditionSaid conditionFrom meaning readingSheet linesOf stepping stan
 sheets-fault = refl
 
 -- only 9 has a column, and 1 no item, as 01 and 02 have them: 1 0 0 gives refused 1 2 4, standard 0 refused 1 1 1
-sheets-short : conditionSaid ((115 ∷ 116 ∷ 97 ∷ 110 ∷ 100 ∷ 97 ∷ 114 ∷ 100 ∷ 9 ∷ 53 ∷ 10 ∷ 49 ∷ 9 ∷ 48 ∷ 9 ∷ 48 ∷ 10 ∷ []) ∷ []) ≡ refused (114 ∷ 101 ∷ 102 ∷ 117 ∷ 115 ∷ 101 ∷ 100 ∷ 9 ∷ 49 ∷ 9 ∷ 50 ∷ 9 ∷ 52 ∷ 10 ∷ [])
+sheets-short : conditionSaid ((115 ∷ 116 ∷ 97 ∷ 110 ∷ 100 ∷ 97 ∷ 114 ∷ 100 ∷ 9 ∷ 53 ∷ 10 ∷ 49 ∷ 9 ∷ 48 ∷ 9 ∷ 48 ∷ 10 ∷
+    []) ∷ []) ≡ refused (114 ∷ 101 ∷ 102 ∷ 117 ∷ 115 ∷ 101 ∷ 100 ∷ 9 ∷ 49 ∷ 9 ∷ 50 ∷ 9 ∷ 52 ∷ 10 ∷ [])
 unfolding conditionSaid conditionFrom meaning readingSheet linesOf stepping standardLine recordLine standardColumn recordColumn
     recordFields howMany fieldThen endedBy startsWith begins fieldAt readAs faultIn leading fieldOf isNumber allDigits
     valueOf telling entering sound censored fieldText digitsOf digitsWithin sheetFault numberThen

@@ -109,7 +109,9 @@ by-file : (j : Job) (files : ℕ) (ys : List ℕ) (P : ℕ) (text : List ℕ) (t
 unfolding reachFrom decide comesTo
 by-file j files ys P text texts =
     let lines = linesOf text in
-    by-judged (refusedIn (files + 1)) (ltb (firstWrong (j .step) 0 lines) (length lines)) (ltb (firstBad (samplesOf lines)) (length lines)) (ltb (mostInRange (j .step) (j .ramp)) (length lines)) (tooFew (j .ramp) (length lines))
+    by-judged (refusedIn (files + 1)) (ltb (firstWrong (j .step) 0 lines) (length lines))
+    (ltb (firstBad (samplesOf lines)) (length lines)) (ltb (mostInRange (j .step) (j .ramp)) (length lines))
+    (tooFew (j .ramp) (length lines))
     (grownThen (refusedIn (files + 1)) (length (ys ++ peaksOf j lines)) (P + timedOf j lines) (reachFrom j (files + 1) (ys ++ peaksOf j lines) (P + timedOf j lines) texts))
     (firstWrong (j .step) 0 lines) (firstBad (samplesOf lines))
 

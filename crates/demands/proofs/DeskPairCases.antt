@@ -34,7 +34,12 @@ refused bytes = record { line = bytes; end = 49 }
 
 -- 8 samples from 0 to 3500 ms: the roll passes its level at 500 and 3000 ms, the acceleration at 1500 ms, and not again at
 -- 2000 ms, where it takes over from nobody: 3 crossings in 2 groups, the largest set 500 and 3000: 8 3 2 2 500 500
-pair-failed : pairSaid items (48 ∷ 44 ∷ 48 ∷ 10 ∷ 53 ∷ 48 ∷ 48 ∷ 44 ∷ 52 ∷ 49 ∷ 10 ∷ 49 ∷ 48 ∷ 48 ∷ 48 ∷ 44 ∷ 48 ∷ 10 ∷ 49 ∷ 53 ∷ 48 ∷ 48 ∷ 44 ∷ 48 ∷ 10 ∷ 50 ∷ 48 ∷ 48 ∷ 48 ∷ 44 ∷ 48 ∷ 10 ∷ 50 ∷ 53 ∷ 48 ∷ 48 ∷ 44 ∷ 48 ∷ 10 ∷ 51 ∷ 48 ∷ 48 ∷ 48 ∷ 44 ∷ 45 ∷ 52 ∷ 48 ∷ 46 ∷ 53 ∷ 10 ∷ 51 ∷ 53 ∷ 48 ∷ 48 ∷ 44 ∷ 48 ∷ 10 ∷ []) (48 ∷ 44 ∷ 48 ∷ 10 ∷ 53 ∷ 48 ∷ 48 ∷ 44 ∷ 48 ∷ 10 ∷ 49 ∷ 48 ∷ 48 ∷ 48 ∷ 44 ∷ 48 ∷ 10 ∷ 49 ∷ 53 ∷ 48 ∷ 48 ∷ 44 ∷ 49 ∷ 48 ∷ 10 ∷ 50 ∷ 48 ∷ 48 ∷ 48 ∷ 44 ∷ 57 ∷ 46 ∷ 56 ∷ 49 ∷ 49 ∷ 10 ∷ 50 ∷ 53 ∷ 48 ∷ 48 ∷ 44 ∷ 48 ∷ 10 ∷ 51 ∷ 48 ∷ 48 ∷ 48 ∷ 44 ∷ 48 ∷ 10 ∷ 51 ∷ 53 ∷ 48 ∷ 48 ∷ 44 ∷ 48 ∷ 10 ∷ [])
+pair-failed : pairSaid items (48 ∷ 44 ∷ 48 ∷ 10 ∷ 53 ∷ 48 ∷ 48 ∷ 44 ∷ 52 ∷ 49 ∷ 10 ∷ 49 ∷ 48 ∷ 48 ∷ 48 ∷ 44 ∷ 48 ∷ 10
+    ∷ 49 ∷ 53 ∷ 48 ∷ 48 ∷ 44 ∷ 48 ∷ 10 ∷ 50 ∷ 48 ∷ 48 ∷ 48 ∷ 44 ∷ 48 ∷ 10 ∷ 50 ∷ 53 ∷ 48 ∷ 48 ∷ 44 ∷ 48 ∷ 10 ∷ 51 ∷ 48
+    ∷ 48 ∷ 48 ∷ 44 ∷ 45 ∷ 52 ∷ 48 ∷ 46 ∷ 53 ∷ 10 ∷ 51 ∷ 53 ∷ 48 ∷ 48 ∷ 44 ∷ 48 ∷ 10 ∷ [])
+    (48 ∷ 44 ∷ 48 ∷ 10 ∷ 53 ∷ 48 ∷ 48 ∷ 44 ∷ 48 ∷ 10 ∷ 49 ∷ 48 ∷ 48 ∷ 48 ∷ 44 ∷ 48 ∷ 10 ∷ 49 ∷ 53 ∷ 48 ∷ 48 ∷ 44 ∷ 49
+    ∷ 48 ∷ 10 ∷ 50 ∷ 48 ∷ 48 ∷ 48 ∷ 44 ∷ 57 ∷ 46 ∷ 56 ∷ 49 ∷ 49 ∷ 10 ∷ 50 ∷ 53 ∷ 48 ∷ 48 ∷ 44 ∷ 48 ∷ 10 ∷ 51 ∷ 48 ∷ 48
+    ∷ 48 ∷ 44 ∷ 48 ∷ 10 ∷ 51 ∷ 53 ∷ 48 ∷ 48 ∷ 44 ∷ 48 ∷ 10 ∷ [])
     ≡ read (56 ∷ 9 ∷ 51 ∷ 9 ∷ 50 ∷ 9 ∷ 50 ∷ 9 ∷ 53 ∷ 48 ∷ 48 ∷ 9 ∷ 53 ∷ 48 ∷ 48 ∷ 10 ∷ [])
 unfolding pairSaidOfLines linesOf firstWrong right isCommaLine isNumber allDigits leading valueOf isSize sizeLength filled
     size digitsOf digitsWithin fieldText firstBad itemOutside moments passing firstOf groups attach walk later figuresLine

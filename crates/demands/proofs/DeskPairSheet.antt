@@ -100,11 +100,19 @@ abbrev failing : Texts
 failing = record { roll = 48 ∷ 44 ∷ 48 ∷ 10 ∷ 53 ∷ 48 ∷ 48 ∷ 44 ∷ 48 ∷ 10 ∷ []; acceleration = 48 ∷ 44 ∷ 48 ∷ 10 ∷ 53 ∷ 48 ∷ 48 ∷ 44 ∷ 49 ∷ 50 ∷ 46 ∷ 53 ∷ 10 ∷ [] }
 
 abbrev calm : Texts
-calm = record { roll = 48 ∷ 44 ∷ 48 ∷ 10 ∷ 53 ∷ 48 ∷ 48 ∷ 44 ∷ 48 ∷ 10 ∷ 49 ∷ 48 ∷ 48 ∷ 48 ∷ 44 ∷ 48 ∷ 10 ∷ []; acceleration = 48 ∷ 44 ∷ 48 ∷ 10 ∷ 53 ∷ 48 ∷ 48 ∷ 44 ∷ 48 ∷ 10 ∷ 49 ∷ 48 ∷ 48 ∷ 48 ∷ 44 ∷ 48 ∷ 10 ∷ [] }
+calm =
+    record {
+      roll = 48 ∷ 44 ∷ 48 ∷ 10 ∷ 53 ∷ 48 ∷ 48 ∷ 44 ∷ 48 ∷ 10 ∷ 49 ∷ 48 ∷ 48 ∷ 48 ∷ 44 ∷ 48 ∷ 10 ∷ [];
+      acceleration = 48 ∷ 44 ∷ 48 ∷ 10 ∷ 53 ∷ 48 ∷ 48 ∷ 44 ∷ 48 ∷ 10 ∷ 49 ∷ 48 ∷ 48 ∷ 48 ∷ 44 ∷ 48 ∷ 10 ∷ [];
+    }
 
 -- a record for each pair: 1 1 500 and 2 0 1000
 pair-sheet-written : pairsSaid 7200000 items (failing ∷ calm ∷ [])
-    ≡ record { line = 115 ∷ 116 ∷ 97 ∷ 110 ∷ 100 ∷ 97 ∷ 114 ∷ 100 ∷ 9 ∷ 55 ∷ 50 ∷ 48 ∷ 48 ∷ 48 ∷ 48 ∷ 48 ∷ 10 ∷ 49 ∷ 9 ∷ 49 ∷ 9 ∷ 53 ∷ 48 ∷ 48 ∷ 10 ∷ 50 ∷ 9 ∷ 48 ∷ 9 ∷ 49 ∷ 48 ∷ 48 ∷ 48 ∷ 10 ∷ []; end = 48 }
+    ≡ record {
+      line = 115 ∷ 116 ∷ 97 ∷ 110 ∷ 100 ∷ 97 ∷ 114 ∷ 100 ∷ 9 ∷ 55 ∷ 50 ∷ 48 ∷ 48 ∷ 48 ∷ 48 ∷ 48 ∷ 10 ∷ 49 ∷ 9
+          ∷ 49 ∷ 9 ∷ 53 ∷ 48 ∷ 48 ∷ 10 ∷ 50 ∷ 9 ∷ 48 ∷ 9 ∷ 49 ∷ 48 ∷ 48 ∷ 48 ∷ 10 ∷ [];
+      end = 48;
+    }
 unfolding pairsSaid pairsFrom sheetText linesFrom failuresIn linesOf firstWrong right isCommaLine isNumber allDigits leading
     valueOf isSize sizeLength filled size digitsOf digitsWithin fieldText firstBad itemOutside moments passing firstOf groups
     attach walk later resultFor

@@ -79,7 +79,9 @@ module _ (R : ℕ) where
       let t : T ≡ A = take-all (mostInRange (h .reading .step) 0 - h .reading .n) A (omega (arith, s .room)) in
       let z = length-replicate {A = ℕ} 1024 0 in
       let r : Taken (foldl moved h A) (length (closedBy h A)) ≡ handsOn h A 1024 1024 =
-      no-refusal h A (replicate 1024 0) (replicate 1024 0) (ready-set h (length A + length B) s) (omega (arith, s .room)) (both-long 1024 _ _ (length A) (omega (arith, w .0, length-drop (R - lines) x)) (omega (arith, z)) (omega (arith, z)))
+      no-refusal h A (replicate 1024 0) (replicate 1024 0) (ready-set h (length A + length B) s)
+      (omega (arith, s .room)) (both-long 1024 _ _ (length A) (omega (arith, w .0, length-drop (R - lines) x))
+      (omega (arith, z)) (omega (arith, z)))
       ∙ ap (λ m. handsOn h A m m) z in
       let q : handsOn h T 1024 1024 ≡ Taken (foldl moved h A) (length (closedBy h A)) = ap (λ l. handsOn h l 1024 1024) t ∙ sym r in
       let f = foldl moved h A in
@@ -180,7 +182,9 @@ module _ (D R τ file : ℕ) (step : stepInRange D ≡ true) (late : decorrelati
           (c .number ∙ ap (λ l. length (Rattle.peak_groups.specs.Runs.peaks D (drop R l))) z ∙ sym (d .number))
           (c .sum ∙ ap (λ l. Rattle.peak_groups.specs.Peaks.sum (Rattle.peak_groups.specs.Runs.peaks D (drop R l))) z ∙ sym (d .sum)) in
           both-true
-          (ap (λ s. alikeBy (one .pass .follow) s (two .pass .follow) (two .pass .counted)) (counted-is p) ∙ ap (λ s. alikeBy (one .pass .follow) (survey.Taken (blocks R 0 (none D) (p .cs))) (two .pass .follow) s) (counted-is q) ∙ a)
+          (ap (λ s. alikeBy (one .pass .follow) s (two .pass .follow) (two .pass .counted)) (counted-is p) ∙ ap
+          (λ s. alikeBy (one .pass .follow) (survey.Taken (blocks R 0 (none D) (p .cs))) (two .pass .follow) s)
+          (counted-is q) ∙ a)
           (ap not (done-right (two .pass) text (q .vs) (q .end) ok .0))
 
     module _ {h₁ : Handed} {b₁ : List ℕ} {one two : Run} (p : Ran D file R 0 (started D) h₁ b₁ text [] one) (q : Ran D file R 0 (started D) (begunBy D τ (one .pass .counted)) [] text [] two) where
@@ -307,7 +311,9 @@ module _ (D R τ : ℕ) where
   all-so : (stepInRange D ≡ true) × (decorrelationInRange τ ≡ true) → (file : ℕ) (ts : List Twice) → AllTwice D R τ file ts → filesWrote D R τ file ts ≡ filesFrom D R τ file (map (λ t. t .text) ts)
   unfolding filesWrote filesFrom
   all-so i file [] w = refl
-  all-so i file (t ∷ ts) w = ap (λ s. thenSaid s (filesWrote D R τ (file + 1) ts)) (file-so D R τ file (i .0) (i .1) t (w .0)) ∙ ap (thenSaid (fileSaid D R τ file (t .text))) (all-so i (file + 1) ts (w .1))
+  all-so i file (t ∷ ts) w =
+      ap (λ s. thenSaid s (filesWrote D R τ (file + 1) ts)) (file-so D R τ file (i .0) (i .1) t (w .0)) ∙ ap
+      (thenSaid (fileSaid D R τ file (t .text))) (all-so i (file + 1) ts (w .1))
 
   -- AND SEVERAL, one after the other
   pub files-anywhere : (ts : List Twice) → AllTwice D R τ 1 ts → thenSaid (itemsSaid D R τ) (filesWrote D R τ 1 ts) ≡ filesSaid D R τ (map (λ t. t .text) ts)

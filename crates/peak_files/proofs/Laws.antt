@@ -41,7 +41,8 @@ use Rattle.desk_line.specs.Said.{Puts, readDigit, failedDigit, longestSaid}
 use Rattle.peak_files.specs.declared.Pass.{Pass}
 use Rattle.peak_files.specs.declared.Took.{Took}
 use Rattle.peak_files.specs.Said.{peaksRead}
-use Rattle.peak_files.specs.Passing.{handsOver, handsOut, unlessRefused, numberOf, Gives, Passes, withSamples, givenText, endedAs, Called, rested, tookBy, linesIn, samplesIn, restOf, calling, Calls, mostLines, roomAsked}
+use Rattle.peak_files.specs.Passing.{handsOver, handsOut, unlessRefused, numberOf, Gives, Passes, withSamples, givenText, endedAs}
+use Rattle.peak_files.specs.Passing.{Called, rested, tookBy, linesIn, samplesIn, restOf, calling, Calls, mostLines, roomAsked}
 
 -- ---- lines written from the start, with room for each
 module _ (file : ℕ) (sizes times out : List ℕ) (same : length sizes ≡ length times) (room : length sizes * 48 ≤ length out) (small : file < 18446744073709551616) where
@@ -79,7 +80,8 @@ tests false false false x y z g f i k e = cc
 taken-number : (h f : Handing) (xs : List ℤ) (k m n : ℕ) → handsOn h xs m n ≡ Taken f k → k ≡ length (closedBy h xs)
 unfolding handsOn
 taken-number h f xs k m n e =
-    sym (tests (not (ready h)) (ltb (mostInRange (h .reading .step) 0) (h .reading .n + length xs)) (short m n (length xs)) BrokenState TooLong (Room (length xs)) (foldl moved h xs) f (length (closedBy h xs)) k e)
+    sym (tests (not (ready h)) (ltb (mostInRange (h .reading .step) 0) (h .reading .n + length xs))
+    (short m n (length xs)) BrokenState TooLong (Room (length xs)) (foldl moved h xs) f (length (closedBy h xs)) k e)
 
 module _ (h : Handing) (R lines : ℕ) (xs : List ℤ) where
   abbrev T : List ℤ
@@ -137,7 +139,9 @@ gives-none file out q = record { next-is = refl; put-is = refl; left = sym (laid
 -- what a reading that goes on comes to
 pub going-on : (p : Pass) (text : List ℕ) (more : Bool) (room : ℕ) → p .over ≡ false → 49152 ≤ room → stepInRange (p .follow .step) ≡ true
     → calling p text more room
-    ≡ rested (restOf (length (linesIn p text)) (drop (bytesOf (linesIn p text)) text) more) (withSamples p (afterLines (p .follow) (linesIn p text)) (samplesIn p text)) (bytesOf (linesIn p text)) (length text) (givenText p (samplesIn p text))
+    ≡ rested (restOf (length (linesIn p text)) (drop (bytesOf (linesIn p text)) text) more)
+    (withSamples p (afterLines (p .follow) (linesIn p text)) (samplesIn p text)) (bytesOf (linesIn p text))
+    (length text) (givenText p (samplesIn p text))
 unfolding calling
 going-on p text more room o h s = rw (o, le-ltb room 49152 h, s) refl
 
@@ -206,7 +210,8 @@ module _ (p : Pass) (text : List ℕ) (more : Bool) (out : List ℕ) where
           let at-is : bytes ≡ bytesOf L = k .place ∙ ap bytesOf same in
           let n-is : n ≡ length L = k .number ∙ ap length same in
           let xs-is : take n later ≡ samplesIn p text = k .samples ∙ ap (λ us. map held (samplesOf us)) same in
-          let q-is : q ≡ withSamples p (afterLines (p .follow) L) (samplesIn p text) = w .pass-is ∙ ap (λ x. withSamples p x (take n later)) f-is ∙ ap (withSamples p (afterLines (p .follow) L)) xs-is in
+          let q-is : q ≡ withSamples p (afterLines (p .follow) L) (samplesIn p text) = w .pass-is ∙ ap
+          (λ x. withSamples p x (take n later)) f-is ∙ ap (withSamples p (afterLines (p .follow) L)) xs-is in
           let rest-is : rest ≡ restOf (length L) (drop (bytesOf L) text) more = g ∙ ap (λ m. restOf m (drop bytes text) more) n-is ∙ ap (λ m. restOf (length L) (drop m text) more) at-is in
           let text-is = ap (givenText p) xs-is in
           let t-is : t ≡ tookBy (restOf (length L) (drop (bytesOf L) text) more) (withSamples p (afterLines (p .follow) L) (samplesIn p text)) (bytesOf L) (length text) put =
@@ -215,5 +220,6 @@ module _ (p : Pass) (text : List ℕ) (more : Bool) (out : List ℕ) where
           let next = withSamples p (afterLines (p .follow) L) (samplesIn p text) in
           subst (λ x. Calls x out t outLater) (sym (going-on p text more (length out) o room s))
           (subst (λ x. Calls (rested rest₁ next (bytesOf L) (length text) (givenText p (samplesIn p text))) out x outLater) (sym t-is)
-          (rests rest₁ next (bytesOf L) put (givenText p (samplesIn p text)) (w .put-is ∙ ap length text-is) (w .left ∙ ap (laid out 0) text-is) (subst (λ x. length x ≤ length out) text-is (w .fits)))))
+          (rests rest₁ next (bytesOf L) put (givenText p (samplesIn p text)) (w .put-is ∙ ap length text-is)
+          (w .left ∙ ap (laid out 0) text-is) (subst (λ x. length x ≤ length out) text-is (w .fits)))))
           (λ s. absurd (never-taken (length slice) s e i))

@@ -141,7 +141,10 @@ module _ (D : ℕ) where
       by-rest Wrong q = before (p .file) (p .ramp) (p .follow .lines) (p .counted) (p .handing) bytes text us L r L-few q
 
       after-call : (more : Bool) → let c = calling p (kept ++ piece) more roomAsked in RanOf (c .pass) (bytes ++ c .bytes) text (us ++ L) r → RanOf p bytes text us r
-      after-call more q = by-rest (restOf (length L) (drop (bytesOf L) (kept ++ piece)) more) (subst (λ c. RanOf (c .pass) (bytes ++ c .bytes) text (us ++ L) r) (on-is D step p kept a piece us at more) q)
+      after-call more q =
+          by-rest (restOf (length L) (drop (bytesOf L) (kept ++ piece)) more)
+          (subst (λ c. RanOf (c .pass) (bytes ++ c .bytes) text (us ++ L) r) (on-is D step p kept a piece us at more)
+          q)
 
     -- what is over stays
     abbrev Stays : Run → Run → Type 0
@@ -199,7 +202,8 @@ module _ (D : ℕ) where
     ran [] k r a us at o = subst (λ x. RanOf (r .pass) (r .bytes) x us (atLast k r)) (sym (append-nil a)) (ran-last k r a us at o)
     ran (piece ∷ pieces) k r a us at o =
         after-call (r .pass) (r .kept) a piece (r .bytes) us at (a ++ (piece ++ joined pieces)) (running pieces k (onCall true r piece)) true
-        (by-call (λ at2. ran pieces k (onCall true r piece) (a ++ piece) (us ++ linesIn (r .pass) (r .kept ++ piece)) at2 o) (call D step (r .pass) (r .kept) a piece us at true (joined pieces) (λ z. absurd (true≢false z))))
+        (by-call (λ at2. ran pieces k (onCall true r piece) (a ++ piece) (us ++ linesIn (r .pass) (r .kept ++ piece))
+        at2 o) (call D step (r .pass) (r .kept) a piece us at true (joined pieces) (λ z. absurd (true≢false z))))
       where
         by-call : let n = onCall true r piece in let L′ = linesIn (r .pass) (r .kept ++ piece) in
             (At D (n .pass) (n .kept) (a ++ piece) (us ++ L′) → RanOf (n .pass) (n .bytes) ((a ++ piece) ++ joined pieces) (us ++ L′) (running pieces k n))
@@ -213,4 +217,5 @@ module _ (D : ℕ) where
             let n = onCall true r piece in
             let L′ = linesIn (r .pass) (r .kept ++ piece) in
             let s = stay pieces k n (d .over) in
-            over-so (n .pass) (n .bytes) (a ++ (piece ++ joined pieces)) (us ++ L′) (running pieces k n) (s .0) (s .1) (subst (λ x. Done D (n .pass) x (us ++ L′)) (append-assoc a piece (joined pieces)) d)
+            over-so (n .pass) (n .bytes) (a ++ (piece ++ joined pieces)) (us ++ L′) (running pieces k n) (s .0) (s .1)
+            (subst (λ x. Done D (n .pass) x (us ++ L′)) (append-assoc a piece (joined pieces)) d)

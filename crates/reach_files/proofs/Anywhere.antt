@@ -125,8 +125,12 @@ module _ (j : Job) (d : stepInRange (j .step) ≡ true) (t : decorrelationInRang
       peaks-are =
           let z = length-replicate {A = ℕ} block 0 in
           ap (map sizeOf)
-          (subst (λ (n : ℕ). handingBlocks (j .ramp) n n 0 (r .blocks-again) (begun (j .step) (j .decorrelation) (counted j r .number) (counted j r .sum)) ≡ handed (j .step) (j .ramp) (j .decorrelation) (samplesOf lines)) z
-          (file-peaks block Z Z (omega (arith, z)) (omega (arith, z)) (j .step) (j .ramp) (j .decorrelation) (r .pieces) (r .again) (r .blocks) (r .blocks-again) (ok .same) d t e (ok .samples) (ok .samples-again) (ok .few)))
+          (subst (λ (n : ℕ). handingBlocks (j .ramp) n n 0 (r .blocks-again)
+          (begun (j .step) (j .decorrelation) (counted j r .number) (counted j r .sum)) ≡ handed (j .step) (j .ramp)
+          (j .decorrelation) (samplesOf lines)) z
+          (file-peaks block Z Z (omega (arith, z)) (omega (arith, z)) (j .step) (j .ramp) (j .decorrelation)
+          (r .pieces) (r .again) (r .blocks) (r .blocks-again) (ok .same) d t e (ok .samples) (ok .samples-again)
+          (ok .few)))
 
       few-samples : length (drop (j .ramp) (together (r .blocks-again))) ≤ mostInRange (j .step) 0
       few-samples =

@@ -86,7 +86,10 @@ module _ (R lines : ℕ) (h : Handing) (peaks : ℕ) (xs : List ℤ) (list : Lis
 
   keeps : (Z : List ℕ) → Keeps peaks figures-of Z list (handsOn h t block block)
   unfolding handsOn
-  keeps Z = keeps-by peaks figures-of Z list (not (ready h)) (ltb (mostInRange (h .reading .step) 0) (h .reading .n + length t)) (short block block (length t)) BrokenState TooLong (Room (length t)) _ (length (closedBy h t)) (sym (length-map (closedBy h t) sizeOf))
+  keeps Z =
+      keeps-by peaks figures-of Z list (not (ready h))
+      (ltb (mostInRange (h .reading .step) 0) (h .reading .n + length t)) (short block block (length t)) BrokenState
+      TooLong (Room (length t)) _ (length (closedBy h t)) (sym (length-map (closedBy h t) sizeOf))
 
   pub block-kept : (Z W : List ℕ) → length Z ≡ block → length W ≡ block → {a : Handed} {sizes times : List ℕ} → HandsOver h t Z W a sizes times
       → (keptWith a peaks sizes ≡ keptOn R lines h peaks xs) × (listWith a peaks sizes list ≡ listOn R lines h peaks xs list)

@@ -77,7 +77,8 @@ slice-aggregate-some-2 c = sym (size₁ (c .before .before .before .before))
 slice-aggregate-onward : tie.Need-slice-aggregate-onward
 slice-aggregate-onward c =
     let k = c .before .before .before in
-    sym (length-take-le (M (second k)) (later₃ k ++ drop (M (second k)) (later₁ (first (second k)))) (omega (arith, length-append (later₃ k) (drop (M (second k)) (later₁ (first (second k)))), long₃ k)))
+    sym (length-take-le (M (second k)) (later₃ k ++ drop (M (second k)) (later₁ (first (second k))))
+    (omega (arith, length-append (later₃ k) (drop (M (second k)) (later₁ (first (second k)))), long₃ k)))
 
 slice-aggregate-onward-2 : tie.Need-slice-aggregate-onward-2
 slice-aggregate-onward-2 c = sym (size₂ (second (c .before .before .before .before)) _)

@@ -25,7 +25,8 @@ returns-2 c =
     let s = k .before .before .before .before .before .before .before in
     let a = s .args .s in
     let goes = k .alone .ensures .0 ∙ ap (λ t. count.taking (alone (a .acceleration)) t (s .args .more)) (from (now (s .args .acceleration)) (a .beside)) in
-    c .acceleration-alone .ensures ∙ ap (λ t. accelerationAlone t a (s .args .more) (s .args .x) (length (now (s .args .acceleration)))) goes ∙ sym (ap (by-rest s) (k .before .before .enum-told2 .given .1))
+    c .acceleration-alone .ensures ∙ ap (λ t. accelerationAlone t a (s .args .more) (s .args .x)
+    (length (now (s .args .acceleration)))) goes ∙ sym (ap (by-rest s) (k .before .before .enum-told2 .given .1))
 
 returns-3 : tie.Need-returns-3
 returns-3 c =

@@ -38,18 +38,23 @@ module _ (c : tie.After-next-pairs Inv-loop μ-loop) where
   abbrev L : tie.At-loop Inv-loop μ-loop
   L = c .before .before .before .before .before
 
-  abbrev w : Way (start L .args .f) (start L .args .g) (start L .args .before) (now (start L .args .roll)) (now (start L .args .acceleration)) (L .loop .r) (L .loop .s) (L .loop .answer) (L .loop .at) (L .loop .beside)
+  abbrev w : Way (start L .args .f) (start L .args .g) (start L .args .before) (now (start L .args .roll))
+      (now (start L .args .acceleration)) (L .loop .r) (L .loop .s) (L .loop .answer) (L .loop .at) (L .loop .beside)
   w = L .loop .inv .4
 
   taken : Both (L .loop .r) (L .loop .s) (L .loop .answer) (drop (L .loop .at) (now (start L .args .roll))) (drop (L .loop .beside) (now (start L .args .acceleration)))
-      (c .next-pairs .result .roll) (c .next-pairs .result .acceleration) (c .next-pairs .result .answer) (c .next-pairs .result .at) (c .next-pairs .result .beside) (c .next-pairs .result .number) (c .next-pairs .result .ahead)
+      (c .next-pairs .result .roll) (c .next-pairs .result .acceleration) (c .next-pairs .result .answer)
+      (c .next-pairs .result .at) (c .next-pairs .result .beside) (c .next-pairs .result .number)
+      (c .next-pairs .result .ahead)
   taken =
       let p = c .next-pairs .result in
       let x = now (start L .args .roll) in
       let y = now (start L .args .acceleration) in
       subst (λ v. Both (L .loop .r) (L .loop .s) (L .loop .answer) (drop (L .loop .at) x) v (p .roll) (p .acceleration) (p .answer) (p .at) (p .beside) (p .number) (p .ahead))
       (from y (L .loop .beside))
-      (subst (λ u. Both (L .loop .r) (L .loop .s) (L .loop .answer) u (take (length y - L .loop .beside) (drop (L .loop .beside) y)) (p .roll) (p .acceleration) (p .answer) (p .at) (p .beside) (p .number) (p .ahead))
+      (subst (λ u. Both (L .loop .r) (L .loop .s) (L .loop .answer) u
+      (take (length y - L .loop .beside) (drop (L .loop .beside) y)) (p .roll) (p .acceleration) (p .answer) (p .at)
+      (p .beside) (p .number) (p .ahead))
       (from x (L .loop .at))
       (c .next-pairs .ensures))
 

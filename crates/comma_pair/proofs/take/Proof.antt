@@ -49,7 +49,8 @@ returns : tie.Need-returns
 returns c =
     let s = c .before .before .before .before .before .before in
     let a = s .args in
-    let r = whole s (c .ended .ensures) (taking-over (a .w) (now (a .roll)) (a .roll-more) (now (a .acceleration)) (a .acceleration-more) (c .before .if1 .taken)) (spare-ended (now (a .roll)) (now (a .acceleration))) in
+    let r = whole s (c .ended .ensures) (taking-over (a .w) (now (a .roll)) (a .roll-more) (now (a .acceleration))
+    (a .acceleration-more) (c .before .if1 .taken)) (spare-ended (now (a .roll)) (now (a .acceleration))) in
     (r .0, (r .1 .0, r .1 .1))
 
 returns-2 : tie.Need-returns-2
@@ -57,7 +58,9 @@ returns-2 c =
     let k = c .before .before .before in
     let a = start k .args in
     let broken = said-no (k .sound .ensures) (c .before .before .if2 .taken) in
-    let r = whole (start k) (c .ended2 .ensures ∙ rw (c .before .stopped .ensures)) (taking-broken (a .w) (now (a .roll)) (a .roll-more) (now (a .acceleration)) (a .acceleration-more) (k .before .if1 .left) broken) (spare-ended (now (a .roll)) (now (a .acceleration))) in
+    let r = whole (start k) (c .ended2 .ensures ∙ rw (c .before .stopped .ensures))
+    (taking-broken (a .w) (now (a .roll)) (a .roll-more) (now (a .acceleration)) (a .acceleration-more)
+    (k .before .if1 .left) broken) (spare-ended (now (a .roll)) (now (a .acceleration))) in
     (r .0, (r .1 .0, r .1 .1))
 
 side-by-side-requires : tie.Need-side-by-side-requires
@@ -74,7 +77,12 @@ returns-3 c =
     let l = c .before in
     let k = l .before .before in
     let a = S k .args in
-    let r = whole (S k) (c .acceleration-behind .ensures) (taking-ahead (a .w) (now (a .roll)) (a .roll-more) (now (a .acceleration)) (a .acceleration-more) (k .before .before .before .if1 .left) (well (k .before)) (k .side-by-side .ensures .0) (l .before .if3 .taken) (l .left .ensures .0)) (acceleration-spare (now (a .roll)) (now (a .acceleration)) (k .side-by-side .result) (k .side-by-side .ensures .1 .0) (k .side-by-side .ensures .1 .1) (a .roll-more) (a .acceleration-more) (l .left .result) (l .left .ensures .0)) in
+    let r = whole (S k) (c .acceleration-behind .ensures)
+    (taking-ahead (a .w) (now (a .roll)) (a .roll-more) (now (a .acceleration)) (a .acceleration-more)
+    (k .before .before .before .if1 .left) (well (k .before)) (k .side-by-side .ensures .0) (l .before .if3 .taken)
+    (l .left .ensures .0)) (acceleration-spare (now (a .roll)) (now (a .acceleration)) (k .side-by-side .result)
+    (k .side-by-side .ensures .1 .0) (k .side-by-side .ensures .1 .1) (a .roll-more) (a .acceleration-more)
+    (l .left .result) (l .left .ensures .0)) in
     (r .0, (r .1 .0, r .1 .1))
 
 roll-behind-requires : tie.Need-roll-behind-requires
@@ -85,7 +93,12 @@ returns-4 c =
     let l = c .before in
     let k = l .before .before in
     let a = S k .args in
-    let r = whole (S k) (c .roll-behind .ensures) (taking-not-ahead (a .w) (now (a .roll)) (a .roll-more) (now (a .acceleration)) (a .acceleration-more) (k .before .before .before .if1 .left) (well (k .before)) (k .side-by-side .ensures .0) (l .before .if3 .left) (l .left2 .ensures .0)) (roll-spare (now (a .roll)) (now (a .acceleration)) (k .side-by-side .result) (k .side-by-side .ensures .1 .0) (k .side-by-side .ensures .1 .1) (a .acceleration-more) (a .roll-more) (l .left2 .result) (l .left2 .ensures .0)) in
+    let r = whole (S k) (c .roll-behind .ensures)
+    (taking-not-ahead (a .w) (now (a .roll)) (a .roll-more) (now (a .acceleration)) (a .acceleration-more)
+    (k .before .before .before .if1 .left) (well (k .before)) (k .side-by-side .ensures .0) (l .before .if3 .left)
+    (l .left2 .ensures .0)) (roll-spare (now (a .roll)) (now (a .acceleration)) (k .side-by-side .result)
+    (k .side-by-side .ensures .1 .0) (k .side-by-side .ensures .1 .1) (a .acceleration-more) (a .roll-more)
+    (l .left2 .result) (l .left2 .ensures .0)) in
     (r .0, (r .1 .0, r .1 .1))
 
 pub take-spec : {M : Type 1} → statement M

@@ -37,12 +37,19 @@ module _ (c : tie.After-number-of) where
   times-long : length times-later ≡ 1024
   times-long = search needs
 
-  over : HandsOver (s .args .h) (timedOf (s .args .ramp) (s .args .lines) (s .args .h .reading) (now (s .args .samples))) (replicate 1024 0) (replicate 1024 0) (o .hand .result) sizes-later times-later
+  over : HandsOver (s .args .h) (timedOf (s .args .ramp) (s .args .lines) (s .args .h .reading)
+      (now (s .args .samples))) (replicate 1024 0) (replicate 1024 0) (o .hand .result) sizes-later times-later
   over = o .hand .ensures
 
   number : c .number-of .result ≤ 1024
   number =
-      omega (arith, c .number-of .ensures, number-few (s .args .h) (s .args .ramp) (s .args .lines) (now (s .args .samples)) (replicate 1024 0) (replicate 1024 0) (length-replicate {A = ℕ} 1024 0) (length-replicate {A = ℕ} 1024 0) (s .pre .0) (o .hand .result) over)
+      omega (
+        arith,
+        c .number-of .ensures,
+        number-few (s .args .h) (s .args .ramp) (s .args .lines)
+            (now (s .args .samples)) (replicate 1024 0) (replicate 1024 0) (length-replicate {A = ℕ} 1024 0)
+            (length-replicate {A = ℕ} 1024 0) (s .pre .0) (o .hand .result) over,
+      )
 
 array-share-prefix-sizes : tie.Need-array-share-prefix-sizes
 array-share-prefix-sizes c = omega (arith, number c, sizes-long c)
@@ -62,8 +69,13 @@ returns c =
     let n = w .before .before .before .before in
     let t = s n in
     let a = t .args in
-    gives (a .h) (a .ramp) (a .lines) (now (a .samples)) (replicate 1024 0) (replicate 1024 0) (length-replicate {A = ℕ} 1024 0) (length-replicate {A = ℕ} 1024 0) (t .pre .0) (a .file) (now (a .out)) (o n .hand .result) (file-small t) (t .pre .1) (sizes-long n) (times-long n) (over n)
+    gives (a .h) (a .ramp) (a .lines) (now (a .samples)) (replicate 1024 0) (replicate 1024 0)
+    (length-replicate {A = ℕ} 1024 0) (length-replicate {A = ℕ} 1024 0) (t .pre .0) (a .file) (now (a .out))
+    (o n .hand .result) (file-small t) (t .pre .1) (sizes-long n) (times-long n) (over n)
     (rw (n .number-of .ensures) at (w .write .ensures .0)) (rw (n .number-of .ensures) at (w .write .ensures .1))
 
 pub hand-spec : {M : Type 1} → statement M
-hand-spec = tie.close (tie.spec (λ c. search needs) (λ c. search needs) (λ c κs. search needs) (λ c κs. search needs) array-share-prefix-sizes slice-aggregate-write array-share-prefix-times slice-aggregate-write-2 (λ c κs. search needs) (λ c. search needs) returns)
+hand-spec =
+    tie.close (tie.spec (λ c. search needs) (λ c. search needs) (λ c κs. search needs) (λ c κs. search needs)
+    array-share-prefix-sizes slice-aggregate-write array-share-prefix-times slice-aggregate-write-2
+    (λ c κs. search needs) (λ c. search needs) returns)

@@ -14,7 +14,9 @@ use Rattle.peak_files.proofs.handed_on.Tie as tie
 
 abbrev By : tie.Start → Handed → Handed → ℕ → List ℕ → Type 0
 By s a h put later =
-    Gives (handedOn a (s .args .ramp) (s .args .lines) (now (s .args .samples))) (peaksText (s .args .file) (givenBy a (s .args .ramp) (s .args .lines) (now (s .args .samples)))) (now (s .args .out)) h put later
+    Gives (handedOn a (s .args .ramp) (s .args .lines) (now (s .args .samples)))
+    (peaksText (s .args .file) (givenBy a (s .args .ramp) (s .args .lines) (now (s .args .samples))))
+    (now (s .args .out)) h put later
 
 returns : tie.Need-returns
 returns c =

@@ -52,8 +52,12 @@ returns-2 c =
     let k = w .before .before .before in
     let u = s k in
     let a = u .args in
-    calls-taken (a .p) (now (a .text)) (a .more) (now (a .out)) (u .pre .0) (u .pre .1) (replicate 1024 (pos 0)) (length-replicate 1024 (pos 0)) (t k .take .ensures .0) (t k .take .ensures .1 .0) (k .before .f .given .1)
+    calls-taken (a .p) (now (a .text)) (a .more) (now (a .out)) (u .pre .0) (u .pre .1) (replicate 1024 (pos 0))
+    (length-replicate 1024 (pos 0)) (t k .take .ensures .0) (t k .take .ensures .1 .0) (k .before .f .given .1)
     (w .with-samples .ensures) (o .rest-of .ensures) (c .rested .ensures)
 
 pub lines-spec : {M : Type 1} → statement M
-lines-spec = tie.close (tie.spec (λ c. search needs) (λ c κs. search needs) (λ c. search needs) (λ c. search needs) (λ c κs. search needs) returns array-share-prefix-samples slice-aggregate-with-samples with-samples-requires (λ c κs. search needs) (λ c κs. search needs) (λ c. search needs) returns-2)
+lines-spec =
+    tie.close (tie.spec (λ c. search needs) (λ c κs. search needs) (λ c. search needs) (λ c. search needs)
+    (λ c κs. search needs) returns array-share-prefix-samples slice-aggregate-with-samples with-samples-requires
+    (λ c κs. search needs) (λ c κs. search needs) (λ c. search needs) returns-2)

@@ -44,5 +44,7 @@ serve-pair-spec =
     (λ c. search needs) (λ c. search needs) (λ c. search needs) (λ c κs. search needs) (λ c κs. search needs)
     (λ c κs. search needs) (λ c. search needs) (λ c κs. search needs)
     (λ c. both (c .before .before .before .before .before .before) .0) (λ c. both (c .before .before .before .before .before .before) .1) (λ c. search needs)
-    (λ c. some (c .before .before .before .before .before .before .before)) (λ c. less (c .before .before .before .before .before .before .before)) (λ c. both (c .before .before .before .before .before .before .before))
+    (λ c. some (c .before .before .before .before .before .before .before))
+    (λ c. less (c .before .before .before .before .before .before .before))
+    (λ c. both (c .before .before .before .before .before .before .before))
     (λ c. c .before .loop .inv .0) (λ c. c .before .loop .inv .1) (λ c. search needs))

@@ -23,7 +23,8 @@ add-t11 c =
 returns-3 : tie.Need-returns-3
 returns-3 c =
     let a = c .before .before .before .before .before .args in
-    grows (a .j) (a .file) (a .g) (a .lines) (a .peaks) (c .before .before .before .before .if1 .left) (c .before .before .before .timed .ensures) (sym (c .before .before .passes .ensures) ∙ c .before .if2 .left)
+    grows (a .j) (a .file) (a .g) (a .lines) (a .peaks) (c .before .before .before .before .if1 .left)
+    (c .before .before .before .timed .ensures) (sym (c .before .before .passes .ensures) ∙ c .before .if2 .left)
 
 pub grown-by-spec : {M : Type 1} → statement M
 grown-by-spec = tie.close (tie.spec returns (λ c κs. search needs) (λ c κs. search needs) returns-2 add-t11 returns-3)

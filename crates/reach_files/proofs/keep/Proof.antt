@@ -10,7 +10,10 @@ returns : tie.Need-returns
 returns c = let a = c .before .before .before .args in keep-none (a .at) (now (a .sizes)) (now (a .list)) (c .if1 .taken)
 
 returns-2 : tie.Need-returns-2
-returns-2 c = let a = c .before .before .before .before .before .before .before .args in keep-all (a .at) (now (a .sizes)) (now (a .list)) (c .before .before .before .before .if1 .left) (c .before .before .put-all .ensures)
+returns-2 c =
+    let a = c .before .before .before .before .before .before .before .args in
+    keep-all (a .at) (now (a .sizes)) (now (a .list)) (c .before .before .before .before .if1 .left)
+    (c .before .before .put-all .ensures)
 
 pub keep-spec : {M : Type 1} → statement M
 keep-spec =

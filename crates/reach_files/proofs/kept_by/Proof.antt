@@ -18,7 +18,13 @@ slice-aggregate-keep : tie.Need-slice-aggregate-keep
 slice-aggregate-keep c = sym (length-take-le _ _ (omega (arith, c .before .least .ensures)))
 
 keep-requires : tie.Need-keep-requires
-keep-requires c κs = omega (arith, c .before .before .before .before .before .before .before .before .pre, length-take (c .before .before .least .result) (now (c .before .before .before .before .before .before .before .before .args .sizes)))
+keep-requires c κs =
+    omega (
+      arith,
+      c .before .before .before .before .before .before .before .before .pre,
+      length-take
+          (c .before .before .least .result) (now (c .before .before .before .before .before .before .before .before .args .sizes)),
+    )
 
 returns : tie.Need-returns
 returns c =

@@ -10,16 +10,25 @@ returns : tie.Need-returns
 returns c = opens-item (c .before .before .args .j) (c .before .items-outside .ensures) (c .if1 .taken)
 
 returns-2 : tie.Need-returns-2
-returns-2 c = opens-standard (c .before .before .before .before .before .before .args .j) (sym (c .before .before .before .before .before .items-outside .ensures) ∙ c .before .before .before .before .if1 .left) (said-no (c .before .both .ensures) (c .if2 .taken))
+returns-2 c =
+    opens-standard (c .before .before .before .before .before .before .args .j)
+    (sym (c .before .before .before .before .before .items-outside .ensures) ∙
+    c .before .before .before .before .if1 .left) (said-no (c .before .both .ensures) (c .if2 .taken))
 
 returns-3 : tie.Need-returns-3
 returns-3 c =
-    opens-tail (c .before .before .before .before .before .before .before .before .args .j) (sym (c .before .before .before .before .before .before .before .items-outside .ensures) ∙ c .before .before .before .before .before .before .if1 .left) (said-yes (c .before .before .before .both .ensures) (c .before .before .if2 .left))
+    opens-tail (c .before .before .before .before .before .before .before .before .args .j)
+    (sym (c .before .before .before .before .before .before .before .items-outside .ensures) ∙
+    c .before .before .before .before .before .before .if1 .left)
+    (said-yes (c .before .before .before .both .ensures) (c .before .before .if2 .left))
     (sym (c .before .tail-outside .ensures) ∙ c .if3 .taken)
 
 returns-4 : tie.Need-returns-4
 returns-4 c =
-    opens (c .before .before .before .before .before .before .before .before .args .j) (sym (c .before .before .before .before .before .before .before .items-outside .ensures) ∙ c .before .before .before .before .before .before .if1 .left) (said-yes (c .before .before .before .both .ensures) (c .before .before .if2 .left))
+    opens (c .before .before .before .before .before .before .before .before .args .j)
+    (sym (c .before .before .before .before .before .before .before .items-outside .ensures) ∙
+    c .before .before .before .before .before .before .if1 .left)
+    (said-yes (c .before .before .before .both .ensures) (c .before .before .if2 .left))
     (sym (c .before .tail-outside .ensures) ∙ c .if3 .left)
 
 pub open-spec : {M : Type 1} → statement M

@@ -15,8 +15,32 @@ use Rattle.reach_files.proofs.put_figures.Tie as tie
 
 -- after the ninth number
 module _ (w : tie.After-write-field9) where
+  abbrev w8 : tie.After-write-field8
+  w8 = w .before .before .before .before
+
+  abbrev w7 : tie.After-write-field7
+  w7 = w8 .before .before .before .before
+
+  abbrev w6 : tie.After-write-field6
+  w6 = w7 .before .before .before .before
+
+  abbrev w5 : tie.After-write-field5
+  w5 = w6 .before .before .before .before
+
+  abbrev w4 : tie.After-write-field4
+  w4 = w5 .before .before .before .before
+
+  abbrev w3 : tie.After-write-field3
+  w3 = w4 .before .before .before .before
+
+  abbrev w2 : tie.After-write-field2
+  w2 = w3 .before .before .before .before
+
+  abbrev w1 : tie.After-write-field
+  w1 = w2 .before .before .before .before
+
   abbrev start : tie.Start
-  start = w .before .before .before .before .before .before .before .before .before .before .before .before .before .before .before .before .before .before .before .before .before .before .before .before .before .before .before .before .before .before .before .before .before .before .before .before
+  start = w1 .before .before .before .before
 
   abbrev F : Figures
   F = start .args .f
@@ -39,14 +63,14 @@ module _ (w : tie.After-write-field9) where
       (left-next (fieldText (F .tail) tab) _
       (left-next (fieldText (F .samples) tab) _
       (left-next (fieldText (F .peaks) tab) _
-      (left-next (fieldText (F .files) tab) _ room (w .before .before .before .before .before .before .before .before .before .before .before .before .before .before .before .before .before .before .before .before .before .before .before .before .before .before .before .before .before .before .before .before .write-field .ensures))
-      (w .before .before .before .before .before .before .before .before .before .before .before .before .before .before .before .before .before .before .before .before .before .before .before .before .before .before .before .before .write-field2 .ensures))
-      (w .before .before .before .before .before .before .before .before .before .before .before .before .before .before .before .before .before .before .before .before .before .before .before .before .write-field3 .ensures))
-      (w .before .before .before .before .before .before .before .before .before .before .before .before .before .before .before .before .before .before .before .before .write-field4 .ensures))
-      (w .before .before .before .before .before .before .before .before .before .before .before .before .before .before .before .before .write-field5 .ensures))
-      (w .before .before .before .before .before .before .before .before .before .before .before .before .write-field6 .ensures))
-      (w .before .before .before .before .before .before .before .before .write-field7 .ensures))
-      (w .before .before .before .before .write-field8 .ensures))
+      (left-next (fieldText (F .files) tab) _ room (w1 .write-field .ensures))
+      (w2 .write-field2 .ensures))
+      (w3 .write-field3 .ensures))
+      (w4 .write-field4 .ensures))
+      (w5 .write-field5 .ensures))
+      (w6 .write-field6 .ensures))
+      (w7 .write-field7 .ensures))
+      (w8 .write-field8 .ensures))
       (w .write-field9 .ensures)
 
 left10 : (p : tie.After-put-rejected) → let w = p .before .before .before .before in Stands w (letterText (F w .letter)) (p .put-rejected .last .1 .0) (p .put-rejected .result)
@@ -62,7 +86,9 @@ same-length : tie.Need-same-length
 same-length c =
     let p = c .before .before .before .before .before .before in
     let l = letterText (F (p .before .before .before .before) .letter) in
-    left-length (left-next l [] (subst (λ (rest : List ℕ). Stands (p .before .before .before .before) rest (p .put-rejected .last .1 .0) (p .put-rejected .result)) (sym (append-nil l)) (left10 p)) (c .before .before .put-letter .ensures))
+    left-length (left-next l [] (subst (λ (rest : List ℕ). Stands (p .before .before .before .before) rest
+    (p .put-rejected .last .1 .0) (p .put-rejected .result)) (sym (append-nil l)) (left10 p))
+    (c .before .before .put-letter .ensures))
 
 returns : tie.Need-returns
 returns c =

@@ -15,13 +15,22 @@ is-letter : {l m : Letter} {later : List ℕ} {next : ℕ} (out : List ℕ) (at 
 is-letter {later = later} {next = next} out at e w = subst (λ t. Wrote out at t later next) (sym (ap letterText e)) w
 
 returns : tie.Need-returns
-returns c = let a = c .before .before .before .before .before .before .before .before .args in is-letter (now (a .out)) (a .at) (c .before .before .before .before .before .enum-told .given .1) (c .before .before .write-bytes .ensures)
+returns c =
+    let a = c .before .before .before .before .before .before .before .before .args in
+    is-letter (now (a .out)) (a .at) (c .before .before .before .before .before .enum-told .given .1)
+    (c .before .before .write-bytes .ensures)
 
 returns-2 : tie.Need-returns-2
-returns-2 c = let a = c .before .before .before .before .before .before .before .before .args in is-letter (now (a .out)) (a .at) (c .before .before .before .before .before .enum-told2 .given .1) (c .before .before .write-bytes2 .ensures)
+returns-2 c =
+    let a = c .before .before .before .before .before .before .before .before .args in
+    is-letter (now (a .out)) (a .at) (c .before .before .before .before .before .enum-told2 .given .1)
+    (c .before .before .write-bytes2 .ensures)
 
 returns-3 : tie.Need-returns-3
-returns-3 c = let a = c .before .before .before .before .before .before .before .before .args in is-letter (now (a .out)) (a .at) (c .before .before .before .before .before .enum-told3 .given .1) (c .before .before .write-bytes3 .ensures)
+returns-3 c =
+    let a = c .before .before .before .before .before .before .before .before .args in
+    is-letter (now (a .out)) (a .at) (c .before .before .before .before .before .enum-told3 .given .1)
+    (c .before .before .write-bytes3 .ensures)
 
 pub put-letter-spec : {M : Type 1} → statement M
 put-letter-spec =

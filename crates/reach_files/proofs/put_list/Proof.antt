@@ -45,4 +45,6 @@ returns c =
 pub put-list-spec : {M : Type 1} → statement M
 put-list-spec =
     tie.close
-    (tie.spec (λ c κs. search needs) (λ c. search needs) slice-aggregate-sort (λ c κs. search needs) (λ c. search needs) slice-aggregate-put-sorted (λ c κs. search needs) (λ c. search needs) (λ c. search needs) returns)
+    (tie.spec (λ c κs. search needs) (λ c. search needs) slice-aggregate-sort (λ c κs. search needs)
+    (λ c. search needs) slice-aggregate-put-sorted (λ c κs. search needs) (λ c. search needs) (λ c. search needs)
+    returns)

@@ -25,7 +25,9 @@ returns-3 : tie.Need-returns-3
 returns-3 c =
     let a = c .before .before .before .before .before .before .before .before .before .args in
     let e = refuses-low (a .q) (sym (c .before .before .before .before .before .before .before .number .ensures) ∙ c .before .before .before .before .before .before .if1 .left) in
-    finished (refusedList (a .q)) (c .before .before .before .before .before .if2 .left) (puts-same (ap low (c .before .before .before .before .carried .ensures) ∙ e) (c .before .before .put-low .ensures))
+    finished (refusedList (a .q)) (c .before .before .before .before .before .if2 .left)
+    (puts-same (ap low (c .before .before .before .before .carried .ensures) ∙ e)
+    (c .before .before .put-low .ensures))
 
 pub put-refused-spec : {M : Type 1} → statement M
 put-refused-spec =

@@ -1,5 +1,6 @@
 """Why the prover refused a crate, read from what it said: for a fact that does not hold, or because the proof files no longer fit the code (a need, a field or a
-name that is missing, a parse error, another number or kind of arguments), which shows nothing of the promise. Used by tests/edits and tests/mutants."""
+name that is missing, a parse error, another number or kind of arguments), which shows nothing of the promise. And which functions and
+declarations it refused for a fact of their own. Used by tests/edits, tests/idle and tests/mutants."""
 import re
 
 # What only follows from an earlier error.
@@ -31,3 +32,20 @@ def reason(log):
             if sign.search(line):
                 return kind, line
     return "nothing", "no error in its log"
+
+
+def refused(log, folder):
+    """The names of the functions and declarations that were refused for a fact, in the crate of this folder."""
+    found = set()
+    for line in log.splitlines():
+        if FOLLOWS.search(line) or SHAPE.search(line):
+            continue
+        place = re.search(r"/(?:(\w+)/Proof|\w+)\.antt:\d+:\d+: error: `([^`]*)`", line)
+        if place:
+            found |= {place[1] or place[2]}
+        place = re.match(r"note: \S*/(src/\w+\.rt):(\d+):\d+: it is not proved that", line)
+        if place:
+            # the note is of the line on which the function's declaration starts
+            rest = (folder / place[1]).read_text().split("\n")[int(place[2]) - 1 :]
+            found |= {name[1] for name in [re.search(r"\bfn (\w+)", "\n".join(rest))] if name}
+    return found

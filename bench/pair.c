@@ -1,7 +1,7 @@
-/* bench/pair.c STEP RAMP LEVEL DECORRELATION ACCELERATION: what bench/pair measures the program for two files against, in
- * plain C with the same promise: the roll's comma file on standard input and the acceleration's on descriptor 4, each
- * through a buffer of 64 KiB, a line of each in turn; one line to standard output. It refuses what the program refuses,
- * in the same order: 1, 10, 12, 2, 3, 4. */
+/* bench/pair.c STEP RAMP LEVEL DECORRELATION ACCELERATION: what bench/pair measures the program for two files against,
+ * in plain C with the same promise: the roll's comma file on standard input and the acceleration's on descriptor 4,
+ * each through a buffer of 64 KiB, a line of each in turn; one line to standard output. It refuses what the program
+ * refuses, in the same order: 1, 10, 12, 2, 3, 4. */
 #include <stdbool.h>
 #include <stdint.h>
 #include <stdio.h>
@@ -97,7 +97,8 @@ int main(int argc, char **argv) {
     if (i > ramp + 1 + 10000000 / step) return refused(0, 3, 0);
     if (i < ramp + 2) return refused(0, 4, 0);
     uint64_t last = (crossings ? first : i - 1) - ramp;
-    printf("%llu\t%llu\t%llu\t%llu\t", (unsigned long long)i, (unsigned long long)crossings, (unsigned long long)groups, (unsigned long long)largest);
+    printf("%llu\t%llu\t%llu\t%llu\t", (unsigned long long)i, (unsigned long long)crossings,
+           (unsigned long long)groups, (unsigned long long)largest);
     if (crossings)
         printf("%llu\t", (unsigned long long)((first - ramp) * step));
     else

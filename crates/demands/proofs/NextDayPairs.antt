@@ -8,7 +8,7 @@ use mathlib.Core.List.{List, [], _∷_, _++_, append-nil, map}
 use native.Mathlib.Omega.{arith}
 use lib.Dec.{eqb, leb, ltb}
 use lib.IntN.{ℤ, pos}
-use lib.ListN.{length, drop, replicate, take, length-append, length-drop, length-replicate}
+use lib.ListN.{length, drop, replicate, take, length-append, length-drop, length-replicate, take-append-drop}
 use borrow.Author.Tests.{eqb-true, le-ltb, not-false}
 use Rattle.truth.proofs.Cases.{by-test}
 use Rattle.refusal.specs.declared.Refusal.{Refusal}
@@ -22,9 +22,10 @@ use Rattle.campaign_state.specs.State.{mostRecords, standardInRange}
 use Rattle.text.specs.Pieces.{joined}
 use Rattle.decimal.specs.Lines.{linesOf}
 use Rattle.comma_line.specs.Text.{samplesOf}
+use Rattle.sheet_line.specs.declared.Sheet.the-variants.{Fresh}
 use Rattle.sheet_text.specs.declared.Reading.{Reading}
 use Rattle.sheet_text.specs.declared.Reading.the-variants.{Read, Stopped, Waiting}
-use Rattle.sheet_text.specs.Sheet.{meaning}
+use Rattle.sheet_text.specs.Sheet.{meaning, readingSheet}
 use Rattle.sheet_records.specs.declared.Resumed.{Resumed}
 use Rattle.sheet_records.specs.Ledger.{sheetText}
 use Rattle.sheet_records.specs.Records.{filledBy, recordsOf, resumedFrom, resuming}
@@ -43,11 +44,13 @@ use Rattle.sheet_after.specs.declared.TakenUp.the-variants as up
 use Rattle.sheet_after.specs.After.{refusedOld}
 use Rattle.sheet_after.specs.Taking.{takenLeft, takingUp, upOf}
 use Rattle.sheet_after.proofs.Anywhere.{puts-whole}
+use Rattle.sheet_after.proofs.Front.{enoughOfASheet, fresh-few, never-read, over, take-short}
 use Rattle.sheet_after.proofs.NextDay.{filed-clean, past-end, standard-is}
 use Rattle.sheet_after.proofs.Old.{front-is, old-clean, old-few, old-many}
 use Rattle.sheet_pairs.specs.Files.{Texts, pairsFrom, pairsSaid, recordOfBoth}
 use Rattle.sheet_pairs.specs.Filing.{Comes, Desk, deskAfter, finishing, finishLeft}
-use Rattle.sheet_pairs.proofs.Anywhere.{channelSaid, deskOf, deskSaid, desk-well, files-said, finished-by, from, textsOf, well-after}
+use Rattle.sheet_pairs.proofs.Anywhere.{channelSaid, deskOf, deskSaid, desk-well, files-said}
+use Rattle.sheet_pairs.proofs.Anywhere.{finished-by, from, textsOf, well-after}
 
 -- ---- the statement
 -- what is written for the sheet and the files after it: the items go before the sheet, and the sheet before the files
@@ -57,25 +60,34 @@ afterReading (Stopped line column r) i old pairs = refusedOld line column r
 afterReading (Waiting s left) i old pairs = refusedOld 0 0 BrokenState
 
 abbrev pub pairsAfter : Items → List ℕ → List Texts → Said
-pairsAfter i old pairs = cond (not (eqb (itemOutside i) 0)) (refusedOld 0 0 (Item (itemOutside i))) (afterReading (meaning old .end) i old pairs)
+pairsAfter i old pairs =
+    cond (not (eqb (itemOutside i) 0)) (refusedOld 0 0 (Item (itemOutside i)))
+    (afterReading (meaning old .end) i old pairs)
 
 -- today's files after the records that were taken up, each in the turns in which its two files come
 abbrev pub deskUp : Items → ℕ → ℕ → List ℤ → List Comes → Desk
-deskUp i n failures records pairs = deskAfter i (n + 1) (record { filed = record { filed = filed.Records n failures; channel = 0 }; records = records }) pairs
+deskUp i n failures records pairs =
+    deskAfter i (n + 1)
+    (record { filed = record { filed = filed.Records n failures; channel = 0 }; records = records }) pairs
 
 -- how it ends, and the lent bytes afterwards
 abbrev pub finishingDay : TakenUp → Items → List ℤ → List Comes → List ℕ → Finished
-finishingDay (up.Records q n failures) i records pairs out = let d = deskUp i n failures records pairs in finishing q (d .filed) (d .records) out
+finishingDay (up.Records q n failures) i records pairs out =
+    let d = deskUp i n failures records pairs in
+    finishing q (d .filed) (d .records) out
 finishingDay (up.Refused line column r) i records pairs out = putting (refusedOld line column r) out
 
 abbrev pub dayLeft : TakenUp → Items → List ℤ → List Comes → List ℕ → List ℕ
-dayLeft (up.Records q n failures) i records pairs out = let d = deskUp i n failures records pairs in finishLeft q (d .filed) (d .records) out
+dayLeft (up.Records q n failures) i records pairs out =
+    let d = deskUp i n failures records pairs in
+    finishLeft q (d .filed) (d .records) out
 dayLeft (up.Refused line column r) i records pairs out = putLeft (refusedOld line column r) out
 
 pub record NextDayPairs : Type 0 where
   -- the sheet of some pairs of files, taken up and followed by others, is the sheet of all of them; and where the files
   -- after it are at fault it is refused as the sheet of all would be
-  pub next-day : (q : ℕ) (i : Items) (xs ys : List Texts) → pairsSaid q i xs .end ≡ 48 → pairsAfter i (pairsSaid q i xs .line) ys ≡ pairsSaid q i (xs ++ ys)
+  pub next-day : (q : ℕ) (i : Items) (xs ys : List Texts) → pairsSaid q i xs .end ≡ 48
+      → pairsAfter i (pairsSaid q i xs .line) ys ≡ pairsSaid q i (xs ++ ys)
   -- what is written does not depend on how today's files come; it is put whole where there is room for it, with the
   -- records in a lent slice that has a place for each
   pub pieces : (i : Items) (old : List ℕ) (pairs : List Comes) (records : List ℤ) (out : List ℕ)
@@ -85,6 +97,9 @@ pub record NextDayPairs : Type 0 where
       mostRecords ≤ length records → longestSaid ≤ length out → length (s .line) ≤ length out
       → (finishingDay a i later pairs out ≡ record { put = length (s .line); end = s .end })
       × (dayLeft a i later pairs out ≡ s .line ++ drop (length (s .line)) out)
+  -- of a sheet of any length the first 1,800,086 bytes decide
+  pub first-bytes : (i : Items) (pairs : List Texts) (n : ℕ) → 1800086 ≤ n → (old : List ℕ)
+      → pairsAfter i (take n old) pairs ≡ pairsAfter i old pairs
 
 -- ---- files that made a sheet made records, and the files after them go on from those
 record Through (q : ℕ) (i : Items) (before : List ℤ) (xs ys : List Texts) : Type 0 where
@@ -103,7 +118,8 @@ passed : (q : ℕ) (i : Items) (before : List ℤ) (t : Texts) → let ls = line
 unfolding pairsFrom
 passed q i before t a b c d f g h k l rest = rw (a, b, c, d, f, g, h, k, l)
 
-went-through : (q : ℕ) (i : Items) (ys xs : List Texts) (before : List ℤ) → pairsFrom q i before xs .end ≡ readDigit → Through q i before xs ys
+went-through : (q : ℕ) (i : Items) (ys xs : List Texts) (before : List ℤ)
+    → pairsFrom q i before xs .end ≡ readDigit → Through q i before xs ys
 unfolding pairsFrom
 went-through q i ys [] before e = record { after = before; is = refl; on = refl }
 went-through q i ys (t ∷ xs) before e =
@@ -132,24 +148,34 @@ whole-is t = λ j. record { roll = append-nil (t .roll) j; acceleration = append
 
 whole-files : (xs : List Texts) → map textsOf (map whole xs) ≡ xs
 whole-files [] = refl
-whole-files (t ∷ xs) = ap (λ u. u ∷ map textsOf (map whole xs)) (whole-is t) ∙ ap (λ l. t ∷ l) (whole-files xs)
+whole-files (t ∷ xs) =
+    ap (λ u. u ∷ map textsOf (map whole xs)) (whole-is t) ∙ ap (λ l. t ∷ l) (whole-files xs)
 
-said-clean : (q : ℕ) (f : Filed) (channel : ℕ) (b : Bool) (rs after : List ℤ) → Well q f rs → cond b (filedSaid q f rs) (channelSaid q f channel rs) ≡ written q after → Clean q after
+said-clean : (q : ℕ) (f : Filed) (channel : ℕ) (b : Bool) (rs after : List ℤ) → Well q f rs
+    → cond b (filedSaid q f rs) (channelSaid q f channel rs) ≡ written q after → Clean q after
 said-clean q f channel true rs after w e = filed-clean q f rs after w e
-said-clean q (filed.Records n failures) channel false rs after w e = filed-clean q (filed.Records n failures) rs after w e
-said-clean q (filed.Refused number line r) channel false rs after w e = let z : refusedDigit ≡ readDigit = ap (λ (s : Said). s .end) e in absurd (omega (arith, z))
+said-clean q (filed.Records n failures) channel false rs after w e =
+    filed-clean q (filed.Records n failures) rs after w e
+said-clean q (filed.Refused number line r) channel false rs after w e =
+    let z : refusedDigit ≡ readDigit = ap (λ (s : Said). s .end) e in
+    absurd (omega (arith, z))
 
 abbrev places : List ℤ
 places = replicate mostRecords (pos 0)
 
-made-clean : (q : ℕ) (i : Items) (xs : List Texts) (after : List ℤ) → pairsSaid q i xs ≡ written q after → Clean q after
+made-clean : (q : ℕ) (i : Items) (xs : List Texts) (after : List ℤ) → pairsSaid q i xs ≡ written q after
+    → Clean q after
 made-clean q i xs after e =
     let d = deskOf q i places (map whole xs) in
-    said-clean q (d .filed .filed) (d .filed .channel) (eqb (d .filed .channel) 0) (d .records) after (desk-well q i places (map whole xs))
-    (files-said q i places (map whole xs) (omega (arith, length-replicate mostRecords (pos 0))) ∙ ap (pairsSaid q i) (whole-files xs) ∙ e)
+    said-clean q (d .filed .filed) (d .filed .channel) (eqb (d .filed .channel) 0) (d .records) after
+    (desk-well q i places (map whole xs))
+    (files-said q i places (map whole xs) (omega (arith, length-replicate mostRecords (pos 0)))
+    ∙ ap (pairsSaid q i) (whole-files xs)
+    ∙ e)
 
 -- ---- a sheet that was written of clean records, taken up
-taken-up : (q : ℕ) (i : Items) → eqb (itemOutside i) 0 ≡ true → (rs : List ℤ) → Clean q rs → (ys : List Texts) → pairsAfter i (sheetText q rs) ys ≡ pairsFrom q i rs ys
+taken-up : (q : ℕ) (i : Items) → eqb (itemOutside i) 0 ≡ true → (rs : List ℤ) → Clean q rs → (ys : List Texts)
+    → pairsAfter i (sheetText q rs) ys ≡ pairsFrom q i rs ys
 taken-up q i ok rs k ys =
     rw ok
     (ap (λ r. afterReading r i (sheetText q rs) ys) (read-back q rs (k .campaign) (k .taken))
@@ -158,18 +184,21 @@ taken-up q i ok rs k ys =
 
 -- ---- a standard and items in range leave it to the files
 module _ (q : ℕ) (i : Items) where
-  opens : (xs : List Texts) → pairsSaid q i xs .end ≡ readDigit → (not (standardInRange q) ≡ false) × (not (eqb (itemOutside i) 0) ≡ false)
+  opens : (xs : List Texts) → pairsSaid q i xs .end ≡ readDigit
+      → (not (standardInRange q) ≡ false) × (not (eqb (itemOutside i) 0) ≡ false)
   unfolding pairsSaid
   opens xs e =
       let (a, e1) = past-end (not (standardInRange q)) _ _ e refl in
       let (b, e2) = past-end (not (eqb (itemOutside i) 0)) _ _ e1 refl in
       (a, b)
 
-  said-from : not (standardInRange q) ≡ false → not (eqb (itemOutside i) 0) ≡ false → (xs : List Texts) → pairsSaid q i xs ≡ pairsFrom q i [] xs
+  said-from : not (standardInRange q) ≡ false → not (eqb (itemOutside i) 0) ≡ false → (xs : List Texts)
+      → pairsSaid q i xs ≡ pairsFrom q i [] xs
   unfolding pairsSaid
   said-from a b xs = rw (a, b)
 
-by-days : (q : ℕ) (i : Items) (xs ys : List Texts) → pairsSaid q i xs .end ≡ readDigit → pairsAfter i (pairsSaid q i xs .line) ys ≡ pairsSaid q i (xs ++ ys)
+by-days : (q : ℕ) (i : Items) (xs ys : List Texts) → pairsSaid q i xs .end ≡ readDigit
+    → pairsAfter i (pairsSaid q i xs .line) ys ≡ pairsSaid q i (xs ++ ys)
 by-days q i xs ys e =
     let (a, b) = opens q i xs e in
     let is = said-from q i a b in
@@ -193,7 +222,9 @@ module _ (i : Items) (ok : itemOutside i ≡ 0) (old : List ℕ) (c : Campaign) 
   later = recordsOf old ++ drop n records
 
   long : length later ≡ length records
-  long = length-append (recordsOf old) (drop n records) ∙ omega (arith, old-many old c e, length-drop n records, old-few old c e, big)
+  long =
+      length-append (recordsOf old) (drop n records)
+      ∙ omega (arith, old-many old c e, length-drop n records, old-few old c e, big)
 
   front : take n later ≡ recordsOf old
   front = front-is (recordsOf old) (drop n records) n (old-many old c e)
@@ -214,24 +245,34 @@ module _ (i : Items) (ok : itemOutside i ≡ 0) (old : List ℕ) (c : Campaign) 
       ∙ ap (λ l. pairsFrom q i l (map textsOf pairs)) front
 
   read-writes : (out : List ℕ) → let s = pairsFrom q i (recordsOf old) (map textsOf pairs) in
-      longestSaid ≤ length out → length (s .line) ≤ length out → Writes s out (finishing q (d .filed) (d .records) out) (finishLeft q (d .filed) (d .records) out)
+      longestSaid ≤ length out → length (s .line) ≤ length out
+      → Writes s out (finishing q (d .filed) (d .records) out) (finishLeft q (d .filed) (d .records) out)
   read-writes out room fits =
-      subst (λ s. Writes s out (finishing q (d .filed) (d .records) out) (finishLeft q (d .filed) (d .records) out)) said
+      subst
+      (λ s. Writes s out (finishing q (d .filed) (d .records) out) (finishLeft q (d .filed) (d .records) out))
+      said
       (finished-by q (d .filed .filed) (d .filed .channel) (eqb (d .filed .channel) 0) (d .records) out
-      (well-after q i pairs (n + 1) (record { filed = record { filed = filed.Records n (failuresIn (recordsOf old)); channel = 0 }; records = later }) kept)
+      (well-after q i pairs (n + 1)
+      (record { filed = record { filed = filed.Records n (failuresIn (recordsOf old)); channel = 0 }; records = later })
+      kept)
       room (subst (λ s. length (s .line) ≤ length out) (sym said) fits))
 
 -- ---- whatever the sheet reads as
-by-reading : (i : Items) → itemOutside i ≡ 0 → (old : List ℕ) (r : Reading) → meaning old .end ≡ r → (records : List ℤ) → mostRecords ≤ length records
-    → (pairs : List Comes) (out : List ℕ) → let s = afterReading r i old (map textsOf pairs) in
+by-reading : (i : Items) → itemOutside i ≡ 0 → (old : List ℕ) (r : Reading) → meaning old .end ≡ r
+    → (records : List ℤ) → mostRecords ≤ length records → (pairs : List Comes) (out : List ℕ)
+    → let s = afterReading r i old (map textsOf pairs) in
     let m = resumedFrom r (length records) in
     longestSaid ≤ length out → length (s .line) ≤ length out
-    → Writes s out (finishingDay (upOf m old) i (filledBy m (recordsOf old) records) pairs out) (dayLeft (upOf m old) i (filledBy m (recordsOf old) records) pairs out)
+    → Writes s out (finishingDay (upOf m old) i (filledBy m (recordsOf old) records) pairs out)
+    (dayLeft (upOf m old) i (filledBy m (recordsOf old) records) pairs out)
 unfolding filledBy
 by-reading i ok old (Read c) e records big pairs out room fits =
-    rw (le-ltb (length records) (c .records) (omega (arith, old-few old c e, big))) (read-writes i ok old c e records big pairs out room fits)
-by-reading i ok old (Stopped line column r) e records big pairs out room fits = puts-whole (refusedOld line column r) out room fits
-by-reading i ok old (Waiting s left) e records big pairs out room fits = puts-whole (refusedOld 0 0 BrokenState) out room fits
+    rw (le-ltb (length records) (c .records) (omega (arith, old-few old c e, big)))
+    (read-writes i ok old c e records big pairs out room fits)
+by-reading i ok old (Stopped line column r) e records big pairs out room fits =
+    puts-whole (refusedOld line column r) out room fits
+by-reading i ok old (Waiting s left) e records big pairs out room fits =
+    puts-whole (refusedOld 0 0 BrokenState) out room fits
 
 by-pieces : (i : Items) (old : List ℕ) (pairs : List Comes) (records : List ℤ) (out : List ℕ)
     → let s = pairsAfter i old (map textsOf pairs) in
@@ -245,5 +286,31 @@ by-pieces i old pairs records out big =
     (λ z. rw z (by-reading i (eqb-true (itemOutside i) 0 z) old (meaning old .end) refl records big pairs out))
     (λ z. rw z (puts-whole (refusedOld 0 0 (Item (itemOutside i))) out))
 
+-- ---- the first bytes decide: a sheet that goes on past them has stopped within them
+module _ (i : Items) (pairs : List Texts) where
+  stopped : (old : List ℕ) (line column : ℕ) (r : Refusal) → meaning old .end ≡ Stopped line column r
+      → pairsAfter i old pairs
+      ≡ cond (not (eqb (itemOutside i) 0)) (refusedOld 0 0 (Item (itemOutside i))) (refusedOld line column r)
+  stopped old line column r e = rw e
+
+  by-front : (n : ℕ) → enoughOfASheet ≤ n → (old : List ℕ) (r : Reading)
+      → readingSheet true (linesOf (take n old)) Fresh .end ≡ r
+      → pairsAfter i (take n old) pairs ≡ pairsAfter i old pairs
+  by-front n h old (Read c) e = absurd (never-read (linesOf (take n old)) Fresh c e)
+  by-front n h old (Waiting s left) e =
+      ap (λ (l : List ℕ). pairsAfter i l pairs)
+      (take-short n old (omega (arith, h, fresh-few (take n old) s left e)))
+  by-front n h old (Stopped line column r) e =
+      stopped (take n old) line column r
+      (ap (λ (l : List ℕ). meaning l .end) (sym (append-nil (take n old))) ∙ over (take n old) [] line column r e)
+      ∙ sym
+      (stopped old line column r
+      (ap (λ (l : List ℕ). meaning l .end) (sym (take-append-drop n old))
+      ∙ over (take n old) (drop n old) line column r e))
+
+  front-decides : (n : ℕ) → enoughOfASheet ≤ n → (old : List ℕ)
+      → pairsAfter i (take n old) pairs ≡ pairsAfter i old pairs
+  front-decides n h old = by-front n h old (readingSheet true (linesOf (take n old)) Fresh .end) refl
+
 pub next-days : NextDayPairs
-next-days = record { next-day = by-days; pieces = by-pieces }
+next-days = record { next-day = by-days; pieces = by-pieces; first-bytes = front-decides }

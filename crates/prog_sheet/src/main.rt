@@ -3,8 +3,8 @@
 // the standard and the items are arguments. What is written is `sheet_files`' promise, over the whole files however
 // they come, and with two files a record, roll and acceleration, `sheet_pairs`'; here names and bytes are only carried.
 // A file alone has one channel, so that any level in range will do for the other.
-// Yesterday's sheet, where it is asked for, is on standard input, and is taken up first (`sheet_after`): its standard is
-// today's, and its records go before today's files.
+// Yesterday's sheet, where it is asked for, is on standard input, and is taken up first (`sheet_after`): its standard
+// is today's, and its records go before today's files.
 ghost use mathlib.Core.Path.{_≡_};
 ghost use lib.ListN.{length};
 use libc::STDERR_FILENO;
@@ -266,8 +266,8 @@ fn next_day(
     }
 }
 
-// The program's own name, the standard, four items, and 1 where yesterday's sheet is on standard input; the level of the
-// acceleration after these asks for two files a record.
+// The program's own name, the standard, four items, and 1 where yesterday's sheet is on standard input; the level of
+// the acceleration after these asks for two files a record.
 const WORDS: usize = 7;
 
 const SHEETS: usize = 6;

@@ -119,8 +119,6 @@ thousandths() {
 # that was meant in degrees is 0.040 degrees there.
 says_items() {
     local name said=''
-    # bin/sheet says them itself, once for all records
-    [ -z "${CHIMENICKEL_WHY-}" ] || return 0
     [ -n "$verbose" ] || [ -t 2 ] || return 0
     for name; do
         # a number that no item has is refused, and needs no words

@@ -5,8 +5,8 @@ unset CDPATH # or `cd` would look elsewhere, and say where it went
 here=${self%/*}
 root=${here%/*}
 me=${self##*/}
-# bin/sheet lets bin/count speak in its place
-speaker=${CHIMENICKEL_SPEAKER:-$me}
+# who speaks: bin/sheet names the record, too
+speaker=$me
 lf=$'\n' tab=$'\t'
 
 # stop WORDS: ends with 2, and says why.
@@ -171,9 +171,8 @@ meaning() {
     esac
 }
 
-# explain WHERE LINE NUMBER CARRIED [MORE]: the sentence of a refusal, on standard error, or in the file that bin/sheet
-# names, which may know an earlier one. A line of 0 is none; an item without a line came with the command. Places of
-# samples are counted from 0, lines from 1.
+# explain WHERE LINE NUMBER CARRIED [MORE]: the sentence of a refusal, on standard error. A line of 0 is none; an item
+# without a line came with the command. Places of samples are counted from 0, lines from 1.
 explain() {
     local where=$1 place=$2 items
     items=('' 'the step' 'the ramp' 'the level' 'the decorrelation time' 'the standard' 'the level of the acceleration')
@@ -186,12 +185,7 @@ explain() {
     20) place=$4 ;;
     esac
     [ "$2" = 0 ] || where="$where, line $2"
-    where="$speaker: ${where:+$where: }refusal $3: $(meaning "$3" "$place")${5-}"
-    if [ -n "${CHIMENICKEL_WHY-}" ]; then
-        echo "$where" >"$CHIMENICKEL_WHY"
-    else
-        echo "$where" >&2
-    fi
+    echo "$speaker: ${where:+$where: }refusal $3: $(meaning "$3" "$place")${5-}" >&2
 }
 
 # comma_fault FILE LINE STEP: where the line of a comma file goes wrong, and what was wanted there, after the sentence of

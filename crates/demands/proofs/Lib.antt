@@ -44,3 +44,4 @@ pub mod ConditionCases
 pub mod DeskPairCases
 pub mod DeskPeaksCases
 pub mod DeskPairSheet
+pub mod NextDayPairs

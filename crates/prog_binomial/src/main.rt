@@ -3,8 +3,7 @@
 // holds is `binomial_files`' promise, over the whole files however they come; here names and bytes are only carried. A
 // file has one channel, so that any level in range will do for the other.
 use binomial_files::Added;
-use prog_desk::Name;
-use prog_desk::Served;
+use prog_desk::NextFile;
 use sample_channels::Levels;
 use sample_items::Items;
 
@@ -17,11 +16,6 @@ fn said(a: Added) -> u8 {
     prog_desk::answer(&out, f)
 }
 
-// The file of this name, counted from its first byte.
-fn counted(name: &[u8], items: Items, text: &mut [u8], shown: bool) -> Served {
-    prog_desk::serve_named(name, comma_count::open(items), text, shown)
-}
-
 // What a turn comes to: a file was added, and where the bytes of the next name are; or the program ends so.
 enum After {
     On(Added, usize, usize),
@@ -29,11 +23,11 @@ enum After {
 }
 
 // There is no name more: the list is over, or could not be read.
-fn listed(added: Added, n: Name) -> u8 {
-    match n {
-        Name::Over => said(added),
-        Name::At(_, _, _) => desk_line::FAILED,
-        Name::Broken => desk_line::FAILED,
+fn no_file(added: Added, f: NextFile) -> u8 {
+    match f {
+        NextFile::Over => said(added),
+        NextFile::Counted(_, _, _) => desk_line::FAILED,
+        NextFile::Broken => desk_line::FAILED,
     }
 }
 
@@ -50,22 +44,11 @@ fn turn(
     if binomial_files::is_over(added) {
         return After::Ended(said(added));
     }
-    let name = prog_desk::next_name(names, at, end);
-    let Name::At(first, stop, upto) = name else {
-        return After::Ended(listed(added, name));
+    let f = prog_desk::serve_next(comma_count::open(items), names, at, end, text);
+    let NextFile::Counted(c, next, upto) = f else {
+        return After::Ended(no_file(added, f));
     };
-    if names.len() < stop {
-        return After::Ended(desk_line::FAILED);
-    }
-    if stop < first {
-        return After::Ended(desk_line::FAILED);
-    }
-    let shown = prog_desk::watched();
-    let Served::Counted(c) = counted(&names[first..stop], items, text, shown) else {
-        return After::Ended(desk_line::FAILED);
-    };
-    prog_desk::show_files(file, shown);
-    let next = std::num::wrapping_add_usize(stop, 1);
+    prog_desk::show_files(file, prog_desk::watched());
     After::On(binomial_files::add(file, added, c), next, upto)
 }
 

@@ -143,11 +143,23 @@ pub fn show_files(files: u64, shown: bool) {
     write_to(STDERR_FILENO, &out, n);
 }
 
-// Counts the file of this name.
-pub fn serve_named(name: &[u8], start: Counting, text: &mut [u8], shown: bool) -> Served {
+// Opens the file of this name; below 0 it could not be. An empty name stands for a file that the script could not find,
+// and says so itself.
+fn open_named(name: &[u8]) -> i32 {
+    if name.len() == 0 {
+        return -1;
+    }
     let from = os::open_read(name);
     if from < 0 {
         os::fail(name);
+    }
+    from
+}
+
+// Counts the file of this name.
+fn serve_named(name: &[u8], start: Counting, text: &mut [u8], shown: bool) -> Served {
+    let from = open_named(name);
+    if from < 0 {
         return Served::Broken;
     }
     let s = serve(from, name, start, text, shown);
@@ -212,6 +224,81 @@ pub fn next_name(names: &mut [u8], at: usize, end: usize) -> Name {
         turns -= 1;
     }
     Name::Broken
+}
+
+// What the next file of the list came to: its count, and where the bytes of the names after its own start and end; or
+// the list is over; or something could not be read.
+pub enum NextFile {
+    Counted(Counting, usize, usize),
+    Over,
+    Broken,
+}
+
+fn no_file(n: Name) -> NextFile {
+    match n {
+        Name::Over => NextFile::Over,
+        Name::At(_, _, _) => NextFile::Broken,
+        Name::Broken => NextFile::Broken,
+    }
+}
+
+// Counts the file that stands next in the list, of whose names the bytes from `at` up to `end` are read and not used
+// yet.
+pub fn serve_next(
+    start: Counting,
+    names: &mut [u8],
+    at: usize,
+    end: usize,
+    text: &mut [u8],
+) -> NextFile {
+    let name = next_name(names, at, end);
+    let Name::At(first, stop, upto) = name else {
+        return no_file(name);
+    };
+    if names.len() < stop {
+        return NextFile::Broken;
+    }
+    if stop < first {
+        return NextFile::Broken;
+    }
+    let Served::Counted(c) = serve_named(&names[first..stop], start, text, watched()) else {
+        return NextFile::Broken;
+    };
+    NextFile::Counted(c, std::num::wrapping_add_usize(stop, 1), upto)
+}
+
+// The next file of the list, opened: its descriptor, and where the bytes of the names after its own start and end.
+enum Opened {
+    File(i32, usize, usize),
+    Over,
+    Broken,
+}
+
+fn unopened(n: Name) -> Opened {
+    match n {
+        Name::Over => Opened::Over,
+        Name::At(_, _, _) => Opened::Broken,
+        Name::Broken => Opened::Broken,
+    }
+}
+
+// Opens the file that stands next in the list.
+fn open_next(names: &mut [u8], at: usize, end: usize) -> Opened {
+    let name = next_name(names, at, end);
+    let Name::At(first, stop, upto) = name else {
+        return unopened(name);
+    };
+    if names.len() < stop {
+        return Opened::Broken;
+    }
+    if stop < first {
+        return Opened::Broken;
+    }
+    let from = open_named(&names[first..stop]);
+    if from < 0 {
+        return Opened::Broken;
+    }
+    Opened::File(from, std::num::wrapping_add_usize(stop, 1), upto)
 }
 
 // Reads from the descriptor `from`, which is called `name`, to its end, or until `text` is full.
@@ -407,6 +494,73 @@ pub fn serve_pair(
         turns -= 1;
     }
     ServedPair::Broken
+}
+
+// Counts two open files, and closes them.
+fn serve_both(
+    start: Watching,
+    from: Sources,
+    roll: &mut [u8],
+    acceleration: &mut [u8],
+    shown: bool,
+) -> ServedPair {
+    let s = serve_pair(start, from, roll, acceleration, shown);
+    libc::close(from.roll);
+    libc::close(from.acceleration);
+    s
+}
+
+// What the next two files of the list came to: their count, and where the bytes of the names after theirs start and
+// end; or the list is over; or one could not be read.
+pub enum NextPair {
+    Counted(Watching, usize, usize),
+    Over,
+    Broken,
+}
+
+fn no_pair(o: Opened) -> NextPair {
+    match o {
+        Opened::Over => NextPair::Over,
+        Opened::File(_, _, _) => NextPair::Broken,
+        Opened::Broken => NextPair::Broken,
+    }
+}
+
+// The acceleration's file is the next of the list, and the roll's is open.
+fn serve_beside(
+    start: Watching,
+    roll: i32,
+    names: &mut [u8],
+    at: usize,
+    end: usize,
+    text: &mut [u8],
+    other: &mut [u8],
+) -> NextPair {
+    let Opened::File(acceleration, next, upto) = open_next(names, at, end) else {
+        return NextPair::Broken;
+    };
+    let from = Sources { roll, acceleration };
+    let ServedPair::Counted(w) = serve_both(start, from, text, other, watched()) else {
+        return NextPair::Broken;
+    };
+    NextPair::Counted(w, next, upto)
+}
+
+// Counts the two files of a record that stand next in the list, the roll's and then the acceleration's. The first is
+// opened before the second is looked for, since the bytes of its name may go then.
+pub fn serve_next_pair(
+    start: Watching,
+    names: &mut [u8],
+    at: usize,
+    end: usize,
+    text: &mut [u8],
+    other: &mut [u8],
+) -> NextPair {
+    let o = open_next(names, at, end);
+    let Opened::File(roll, next, upto) = o else {
+        return no_pair(o);
+    };
+    serve_beside(start, roll, names, next, upto, text, other)
 }
 
 // ---- a file whose bytes may be copied on the way through

@@ -51,7 +51,7 @@ took : (step : Step) (go : Sheet → Account) (r : Reading) (s : Sheet) (left : 
 took (Next t) go r s left w e = (t, refl, e)
 took (Stop line column x) go r s left w e = impossible (cc)
 
-never-read : (lines : List (List ℕ)) (s : Sheet) (c : Campaign) → ¬ (readingSheet true lines s .end ≡ Read c)
+pub never-read : (lines : List (List ℕ)) (s : Sheet) (c : Campaign) → ¬ (readingSheet true lines s .end ≡ Read c)
 unfolding readingSheet
 never-read [] s c = λ e. impossible (cc)
 never-read (line ∷ lines) s c =
@@ -166,7 +166,7 @@ module _ (text : List ℕ) (s : Sheet) (left : ℕ) (some : 0 < length text) whe
   head-turn true w f = omega (arith, waits-short text w)
   head-turn false w f = head-taken f
 
-fresh-few : (text : List ℕ) (s : Sheet) (left : ℕ) → readingSheet true (linesOf text) Fresh .end ≡ Waiting s left → length text ≤ 1800085
+pub fresh-few : (text : List ℕ) (s : Sheet) (left : ℕ) → readingSheet true (linesOf text) Fresh .end ≡ Waiting s left → length text ≤ 1800085
 fresh-few [] s left e = omega arith
 fresh-few (b ∷ text) s left e =
     head-turn (b ∷ text) s left (omega arith) (waits true (firstLine (b ∷ text))) refl
@@ -174,7 +174,7 @@ fresh-few (b ∷ text) s left e =
 
 -- ---- the first bytes decide
 -- a front that is shorter than was asked for is all
-take-short : (n : ℕ) (text : List ℕ) → length (take n text) < n → take n text ≡ text
+pub take-short : (n : ℕ) (text : List ℕ) → length (take n text) < n → take n text ≡ text
 take-short zero text h = absurd (omega arith)
 take-short (suc n) [] h = refl
 take-short (suc n) (b ∷ text) h = ap (λ (l : List ℕ). b ∷ l) (take-short n text (omega arith))
@@ -183,7 +183,7 @@ abbrev pub enoughOfASheet : ℕ
 enoughOfASheet = 1800086
 
 -- a reading that is over stays so
-over : (a b : List ℕ) (line column : ℕ) (r : Refusal) → readingSheet true (linesOf a) Fresh .end ≡ Stopped line column r → meaning (a ++ b) .end ≡ Stopped line column r
+pub over : (a b : List ℕ) (line column : ℕ) (r : Refusal) → readingSheet true (linesOf a) Fresh .end ≡ Stopped line column r → meaning (a ++ b) .end ≡ Stopped line column r
 unfolding meaning
 over a b line column r e =
     ap (λ (x : Account). x .end)

@@ -41,7 +41,7 @@ use Rattle.sheet_files.proofs.Anywhere.{Kept, Well, deskOf, deskSaid, desk-well
 use Rattle.sheet_after.specs.After.{afterReading, sheetAfter}
 
 -- ---- what was not refused came through every test
-past-end : (b : Bool) (r a : Said) → cond b r a .end ≡ readDigit → r .end ≡ refusedDigit → (b ≡ false) × (a .end ≡ readDigit)
+pub past-end : (b : Bool) (r a : Said) → cond b r a .end ≡ readDigit → r .end ≡ refusedDigit → (b ≡ false) × (a .end ≡ readDigit)
 past-end true r a e f = let z : refusedDigit ≡ readDigit = sym f ∙ e in absurd (omega (arith, z))
 past-end false r a e f = (refl, e)
 
@@ -84,7 +84,7 @@ whole-files (x ∷ xs) = ap (λ l. l ∷ map joined (map (λ y. y ∷ []) xs)) (
 same-records : (q : ℕ) (xs ys : List ℤ) → written q xs ≡ written q ys → xs ≡ ys
 same-records q xs ys e = sym (records-back q xs) ∙ ap (λ (s : Said). recordsOf (s .line)) e ∙ records-back q ys
 
-filed-clean : (q : ℕ) (a : Filed) (rs after : List ℤ) → Well q a rs → filedSaid q a rs ≡ written q after → Clean q after
+pub filed-clean : (q : ℕ) (a : Filed) (rs after : List ℤ) → Well q a rs → filedSaid q a rs ≡ written q after → Clean q after
 filed-clean q (filed.Records n failures) rs after w e = subst (Clean q) (same-records q (take n rs) after e) (w .clean)
 filed-clean q (filed.Refused number line r) rs after w e = let z : refusedDigit ≡ readDigit = ap (λ (s : Said). s .end) e in absurd (omega (arith, z))
 
@@ -100,7 +100,7 @@ made-clean q i xs after e =
 
 -- ---- a sheet that was written of clean records, taken up
 module _ (q : ℕ) (i : Items) (ok : eqb (itemOutside i) 0 ≡ true) (rs : List ℤ) (k : Clean q rs) (ys : List (List ℕ)) where
-  standard-is : k .campaign .standard ≡ q
+  pub standard-is : k .campaign .standard ≡ q
   unfolding campaignOf
   standard-is = ap (λ (c : Campaign). c .standard) (judged-campaign q rs (k .campaign) (k .taken))
 

@@ -68,7 +68,7 @@ well-add q number a e records w =
     (λ o. rw o w)
     (λ o. rw o (well-end q number (a .filed) e records w o))
 
-well-after : (q : ℕ) (i : Items) (pairs : List Comes) (number : ℕ) (d : Desk) → Well q (d .filed .filed) (d .records)
+pub well-after : (q : ℕ) (i : Items) (pairs : List Comes) (number : ℕ) (d : Desk) → Well q (d .filed .filed) (d .records)
     → let l = deskAfter i number d pairs in Well q (l .filed .filed) (l .records)
 unfolding deskAfter
 well-after q i [] number d w = w
@@ -76,7 +76,7 @@ well-after q i (c ∷ pairs) number d w =
     well-after q i pairs (number + 1) (withPair i number d c) (well-add q number (d .filed) (endOf (carrying (opening i) [] [] (c .turns) (c .rest))) (d .records) w)
 
 -- ---- what is said of what was filed
-abbrev channelSaid : ℕ → Filed → ℕ → List ℤ → Said
+abbrev pub channelSaid : ℕ → Filed → ℕ → List ℤ → Said
 channelSaid q (filed.Records n failures) channel records = written q (take n records)
 channelSaid q (filed.Refused number line r) channel records = refusedRecordOf number line r channel
 
@@ -102,7 +102,7 @@ ending-as r n x s e g =
 
 module _ (q : ℕ) (i : Items) (ok : itemOutside i ≡ 0) where
   -- what is said after so many records, whatever they are
-  abbrev Later : ℕ → List Comes → Type 0
+  abbrev pub Later : ℕ → List Comes → Type 0
   Later number pairs =
       (n failures : ℕ) (records : List ℤ) → Kept q n failures records → mostRecords ≤ length records → number ≡ n + 1
       → deskSaid q (deskAfter i number (record { filed = record { filed = filed.Records n failures; channel = 0 }; records = records }) pairs) ≡ pairsFrom q i (take n records) (map textsOf pairs)
@@ -212,7 +212,7 @@ module _ (q : ℕ) (i : Items) (ok : itemOutside i ≡ 0) where
         let num : number ≡ length (take n records) + 1 = e ∙ ap (λ m. m + 1) many in
         λ j. Said-by (num j) (many j) (k .fails j)
 
-  from : (pairs : List Comes) (number : ℕ) → Later number pairs
+  pub from : (pairs : List Comes) (number : ℕ) → Later number pairs
   unfolding deskAfter pairsFrom
   from [] number n failures records k big e = refl
   from (c ∷ pairs) number n failures records k big e =
@@ -257,7 +257,7 @@ channel-finished q (filed.Refused number line r) channel records out w room h =
     let text = refusedRecordOf number line r channel .line in
     rw (le-ltb (length out) longestSaid room) (refl, written-fits out 0 text (omega (arith, h)) ∙ laid-front out text)
 
-finished-by : (q : ℕ) (f : Filed) (channel : ℕ) (b : Bool) (records : List ℤ) (out : List ℕ) → Well q f records → longestSaid ≤ length out
+pub finished-by : (q : ℕ) (f : Filed) (channel : ℕ) (b : Bool) (records : List ℤ) (out : List ℕ) → Well q f records → longestSaid ≤ length out
     → length (cond b (filedSaid q f records) (channelSaid q f channel records) .line) ≤ length out
     → Writes (cond b (filedSaid q f records) (channelSaid q f channel records)) out
     (cond b (files.finishing q f records out) (Filing.channelPut q f channel records out))

@@ -8,14 +8,16 @@ use Rattle.prog_sheet.proofs.each.Statement.{statement}
 use Rattle.prog_sheet.proofs.each.Tie as tie
 
 abbrev Inv-loop : tie.InvT-loop
-Inv-loop items names₀ text₀ records₀ q filed₀ at₀ end₀ number₀ names text records filed at end number =
-    (length names ≡ length names₀) × (length text ≡ length text₀) × (length records ≡ length records₀)
+Inv-loop j names₀ text₀ other₀ records₀ filed₀ at₀ end₀ number₀ names text other records filed at end number =
+    (length names ≡ length names₀) × (length text ≡ length text₀) × (length other ≡ length other₀)
+    × (length records ≡ length records₀)
 
 abbrev μ-loop : tie.MeasureT-loop
-μ-loop items names₀ text₀ records₀ q filed₀ at₀ end₀ number₀ names text records filed at end number = 18446744073709551615 - number
+μ-loop j names₀ text₀ other₀ records₀ filed₀ at₀ end₀ number₀ names text other records filed at end number =
+    18446744073709551615 - number
 
 loop-holds : tie.Need-loop-holds Inv-loop μ-loop
-loop-holds c = (refl, refl, refl)
+loop-holds c = (refl, refl, refl, refl)
 
 pub each-spec : {M : Type 1} → statement M
 each-spec =
@@ -23,4 +25,4 @@ each-spec =
     (tie.spec Inv-loop μ-loop loop-holds (λ c κs. search needs) (λ c. search needs)
     (λ c. search needs) (λ c κs. search needs) (λ c. search needs) (λ c. search needs) (λ c. search needs)
     (λ c. search needs) (λ c. search needs) (λ c. search needs) (λ c. search needs) (λ c. search needs)
-    (λ c. search needs) (λ c. search needs) (λ c. search needs))
+    (λ c. search needs) (λ c. search needs) (λ c. search needs) (λ c. search needs) (λ c. search needs))

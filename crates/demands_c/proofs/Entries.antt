@@ -495,10 +495,10 @@ pub record Entries : Type 0 where
 -- ---- the proof
 -- arrays of another length
 module _ {A : Type 0} (s : List ℕ) (n : ℕ) (tell : A → Told) (a : A) where
-  abbrev kept : Told
+  abbrev pub kept : Told
   kept = cond (eqb (length s) n) (tell a) (record { number = 8; carried = 0; lent = s })
 
-  in-array : {ts : List Test} {answer : ℕ} {after : List ℕ} → Tells ts s answer after (array (tell a))
+  pub in-array : {ts : List Test} {answer : ℕ} {after : List ℕ} → Tells ts s answer after (array (tell a))
       → Tells (otherLength s n ts) s answer after (array kept)
   in-array t =
       tested-first t (not (eqb (length s) n)) BrokenState (array kept) (other (eqb (length s) n) refl)

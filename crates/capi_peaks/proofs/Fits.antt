@@ -32,6 +32,9 @@ peak-small s i e =
     (and-true (leb (numberAt s i) 1) _ e .1) in
     (leb-true (numberAt s (i + 1)) sampleLimit (g .0), leb-true (numberAt s (i + 2)) longestTime (g .1))
 
+pub peak-flag : (s : List ℕ) (i : ℕ) → peakFits s i ≡ true → leb (numberAt s i) 1 ≡ true
+peak-flag s i e = and-true (leb (numberAt s i) 1) _ e .0
+
 pub record ReadingSmall (s : List ℕ) : Type 0 where
   pub step : numberAt s 0 ≤ 10000
   pub n : numberAt s 1 ≤ most32

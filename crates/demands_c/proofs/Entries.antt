@@ -6,7 +6,8 @@
 --
 -- recordOf, campaignOf, resultOf and sumOf are the states that arrays stand for, ofRecord .. the numbers of a state
 -- (capi's specs, Numbers; capi_sum's, Told); recordFed, campaignEntered .. are what the functions' contracts say (Told
--- of each crate). Header has the places and codes as numbers, Request9 the table of two bureaus.
+-- of each crate). Header has the places and codes as numbers, Request9 the table of two bureaus, Pieces the peaks of a
+-- record in pieces: chim_peaks_survey, chim_peaks_take, chim_peaks_begin, chim_peaks_hand_over and chim_peaks_last.
 -- chim_record_first_crossing, chim_upper_row and chim_lower_row never refuse: their contracts say all of them. Assumes
 -- nothing.
 use mathlib.Core.Path.{_≡_, refl, ap, sym, _∙_}

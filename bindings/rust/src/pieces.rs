@@ -47,8 +47,8 @@ impl PeakSurvey {
         Ok(())
     }
 
-    /// The second pass over the same samples, for a decorrelation time in ms (item 4, 0 to 10,000,000). The first stays as
-    /// it is and serves other times too. Refuses 8, 1 with item 4, 4.
+    /// The second pass over the same samples, for a decorrelation time in ms (item 4, 0 to 10,000,000). The first stays
+    /// as it is and serves other times too. Refuses 8, 1 with item 4, 4.
     pub fn begin(&self, decorrelation: u64) -> Result<PeakPass, Refusal> {
         let (survey, mut s) = (&self.numbers, [0; 24]);
         answer(|carried| unsafe {
@@ -68,17 +68,17 @@ impl PeakSurvey {
     }
 }
 
-/// The second pass, which [`PeakSurvey::begin`] starts: fed the same samples, however they are cut now, it hands out the
-/// peaks that `envelope_peaks` finds in the whole record.
+/// The second pass, which [`PeakSurvey::begin`] starts: fed the same samples, however they are cut now, it hands out
+/// the peaks that `envelope_peaks` finds in the whole record.
 #[derive(Clone, Debug, PartialEq, Eq)]
 pub struct PeakPass {
     numbers: [u64; 24],
 }
 
 impl PeakPass {
-    /// The next piece: the peaks that it settled, in order, magnitudes from the start of `sizes` and times from the start
-    /// of `times`, whose other places stay; answers their number. Refuses 8, 2, 3, 7 if either has fewer places than the
-    /// piece has samples after the ramp.
+    /// The next piece: the peaks that it settled, in order, magnitudes from the start of `sizes` and times from the
+    /// start of `times`, whose other places stay; answers their number. Refuses 8, 2, 3, 7 if either has fewer places
+    /// than the piece has samples after the ramp.
     pub fn feed_into(&mut self, samples: &[i32], sizes: &mut [u32], times: &mut [u32]) -> Result<usize, Refusal> {
         let s = &mut self.numbers;
         let k = answer(|carried| unsafe {
@@ -108,7 +108,9 @@ impl PeakPass {
     /// After the last piece: the peak that the record's end settles. The pass stays as it is.
     pub fn last(&self) -> Result<Option<Peak>, Refusal> {
         let (s, mut size, mut time) = (&self.numbers, 0, 0);
-        let found = answer(|carried| unsafe { c::chim_peaks_last(s.as_ptr(), s.len(), &mut size, &mut time, carried) })?;
+        let found = answer(|carried| unsafe {
+            c::chim_peaks_last(s.as_ptr(), s.len(), &mut size, &mut time, carried)
+        })?;
         Ok((found == 1).then_some(Peak { size, time }))
     }
 

@@ -17,7 +17,7 @@ use Rattle.peak_groups.specs.Groups.{larger}
 use Rattle.peak_groups.specs.Machine.{gave, turned}
 use Rattle.peak_groups.specs.Peaks.{high}
 use Rattle.peak_machine.specs.declared.Envelope.{Envelope}
-use Rattle.peak_machine.specs.Step.{chained, chainsAfter, met, stepped}
+use Rattle.peak_machine.specs.Step.{chained, met, stepped}
 use Rattle.peak_stream.proofs.Bounds.{soon}
 use Rattle.peak_stream.proofs.Passing.{read-grows}
 use Rattle.peak_stream.specs.declared.Handing.{Handing}

@@ -1,5 +1,5 @@
--- A record in pieces cut anywhere, once for each pass, from any two arrays of the right length: no call is refused where
--- the whole record is not, and the peaks are the record's (`in-pieces`). Assumes nothing.
+-- A record in pieces cut anywhere, once for each pass, from any two arrays of the right length: no call is refused
+-- where the whole record is not, and the peaks are the record's (`in-pieces`). Assumes nothing.
 use Prim.Native.Nat.{ℕ, suc, zero, _+_, _-_, _≤_}
 use mathlib.Core.Path.{_≡_, ap, refl, subst, sym, _∙_}
 use mathlib.Core.Bool.{Bool, cond, false, true}
@@ -13,27 +13,24 @@ use Rattle.crossing_sets.specs.Parting.{together}
 use Rattle.sample_items.specs.Limits.{decorrelationInRange, mostInRange, mostSamples, rampInRange, stepInRange}
 use Rattle.sample_range.specs.Range.{firstBad}
 use Rattle.peak_groups.specs.declared.Peak.{Peak}
-use Rattle.peak_groups.specs.Groups.{nothing}
 use Rattle.peak_groups.specs.Peaks.{handed}
-use Rattle.peak_stream.proofs.Anywhere.{both-long, fresh-ready}
+use Rattle.peak_stream.proofs.Anywhere.{both-long}
 use Rattle.peak_stream.proofs.Coming.{handed-anywhere, outs}
 use Rattle.peak_stream.proofs.Passing.{totals}
-use Rattle.peak_stream.proofs.Pieces.{none-sound}
 use Rattle.peak_stream.specs.declared.Handing.{Handing}
-use Rattle.peak_stream.specs.declared.Handed.the-variants.{Taken}
 use Rattle.peak_stream.specs.declared.Surveying.{Surveying}
-use Rattle.peak_stream.specs.declared.Surveyed.the-variants as survey
 use Rattle.peak_stream.specs.Hands.{Pieces, atEnd, closedBy, moved, waiting}
 use Rattle.peak_stream.specs.Survey.{Totalled, none}
 use Rattle.peak_stream.specs.Survey as first
 use Rattle.capi.specs.Told.{Told, told}
 use Rattle.capi_peaks.specs.Calls.{AllHanded, AllTaken, begun, givenOut, surveyAfter, surveyed}
-use Rattle.capi_peaks.specs.Numbers.{handingNumbers, handingOf, ofHanding, ofSurvey, surveyNumbers}
+use Rattle.capi_peaks.specs.Numbers.{handingNumbers, ofHanding, ofSurvey, surveyNumbers}
 use Rattle.capi_peaks.specs.Told.{begunFrom, handingKept, handingTold, openedAt, peaksBegun, peaksHanded}
 use Rattle.capi_peaks.specs.Told.{peaksSurveyed, surveyKept, surveyTold}
-use Rattle.capi_peaks.proofs.Bounds.{InRange, Within, in-range, range-left, range-right}
+use Rattle.capi_peaks.proofs.Bounds.{InRange, in-range, range-left, range-right}
 use Rattle.capi_peaks.proofs.States.{HandingOk, SurveyOk, hand-grows, hand-ok, hand-told, handing-back}
-use Rattle.capi_peaks.proofs.States.{survey-back, survey-number, take-grows, take-ok, take-told}
+use Rattle.capi_peaks.proofs.States.{none-ok, survey-back, survey-number, take-grows, take-ok, take-told}
+use Rattle.capi_peaks.proofs.States.{waiting-ok}
 
 -- ---- the ramp over two pieces
 drop-join : (L : ℕ) (xs ys : List ℤ) → drop L (xs ++ ys) ≡ drop L xs ++ drop (L - length xs) ys
@@ -152,27 +149,6 @@ module _ (n : ℕ) (sizes times : List ℕ) (a : n ≤ length sizes) (b : n ≤ 
     pub hands : AllHanded sizes times (begun D R τ s h ps) qs
     pub peaks : givenOut sizes times (begun D R τ s h ps) qs ≡ handed D R τ xs
 
-  none-within : Within nothing
-  none-within = (omega arith, omega arith)
-
-  none-ok : (D R : ℕ) → stepInRange D ≡ true → rampInRange R ≡ true → SurveyOk (none D) R R
-  none-ok D R d r =
-      record { step = d; keeps = none-sound D; best = none-within; ramp = r; left = r; idle = λ i. refl }
-
-  waiting-ok : (D R τ m z : ℕ) → stepInRange D ≡ true → rampInRange R ≡ true → decorrelationInRange τ ≡ true
-      → m ≤ 4294967295 → HandingOk (waiting D τ m z) R
-  waiting-ok D R τ m z d r t l =
-      record {
-        step = d;
-        keeps = fresh-ready D τ m z;
-        best = none-within;
-        held = ((none-within, none-within), (none-within, none-within));
-        decorrelation = t;
-        number = l;
-        left = r;
-        idle = λ i. refl;
-      }
-
   opens-told : (D R : ℕ) (s : List ℕ) → stepInRange D ≡ true → rampInRange R ≡ true → length s ≡ surveyNumbers
       → peaksSurveyed D R s ≡ told 0 0 (ofSurvey (none D) R R)
   unfolding surveyKept surveyTold openedAt
@@ -206,9 +182,12 @@ module _ (n : ℕ) (sizes times : List ℕ) (a : n ≤ length sizes) (b : n ≤ 
       let B = ap (λ (x : List ℕ). peaksBegun x τ h) E
       ∙ begins-told S R (R - length (together ps)) τ h (T .ok) t (omega (arith, v .0, lx, many)) lh in
       let H = waiting (S .reading .step) τ (S .number) (S .sum) in
-      let ok = waiting-ok (S .reading .step) R τ (S .number) (S .sum) (T .ok .step) r t (survey-number S (T .ok .keeps)) in
-      let lq : length (drop R (together qs)) ≡ length xs - R = ap (λ (l : List ℤ). length (drop R l)) f ∙ length-drop R xs in
-      let N = hands H R qs ok (subst InRange (sym f) g) (rw (v .1) (omega (arith, lq, room-after D R (length xs) d most))) w in
+      let ok = waiting-ok (S .reading .step) R τ (S .number) (S .sum) (T .ok .step) r t
+      (survey-number S (T .ok .keeps)) in
+      let lq : length (drop R (together qs)) ≡ length xs - R
+      = ap (λ (l : List ℤ). length (drop R l)) f ∙ length-drop R xs in
+      let N = hands H R qs ok (subst InRange (sym f) g)
+      (rw (v .1) (omega (arith, lq, room-after D R (length xs) d most))) w in
       let y : X ≡ together (timed R qs) = ex ∙ sym (timed-all R qs ∙ ap (drop R) f) in
       record {
         opens = ap (λ (x : Told). x .number) o;

@@ -1,8 +1,8 @@
 -- Numbers that are a peak, a reading or a pass fit the fields that they are read into; and a first pass that took two
 -- samples has a step in range. Assumes nothing.
 use Prim.Native.Nat.{ℕ, _+_, _-_, _≤_, min}
-use mathlib.Core.Path.{_≡_, ap, refl, sym, _∙_}
-use mathlib.Core.Bool.{false, true}
+use mathlib.Core.Path.{_≡_, ap, sym, _∙_}
+use mathlib.Core.Bool.{true}
 use mathlib.Core.List.{List}
 use native.Mathlib.Omega.{arith}
 use lib.Dec.{leb}
@@ -36,6 +36,7 @@ pub peak-flag : (s : List ℕ) (i : ℕ) → peakFits s i ≡ true → leb (numb
 peak-flag s i e = and-true (leb (numberAt s i) 1) _ e .0
 
 pub record ReadingSmall (s : List ℕ) : Type 0 where
+  pub in-range : stepInRange (numberAt s 0) ≡ true
   pub step : numberAt s 0 ≤ 10000
   pub n : numberAt s 1 ≤ most32
   pub opened : numberAt s 2 ≤ most32
@@ -47,6 +48,7 @@ reading-small s e =
     let b = and-true (leb (numberAt s 1) most32) _ (a .1) in
     let d = and-true (leb (numberAt s 2) most32) (peakFits s 3) (b .1) in
     record {
+      in-range = a .0;
       step = high 1 10000 (numberAt s 0) (a .0);
       n = leb-true (numberAt s 1) most32 (b .0);
       opened = leb-true (numberAt s 2) most32 (d .0);
@@ -70,6 +72,7 @@ pub record HandingSmall (s : List ℕ) : Type 0 where
   pub reading : readingFits s ≡ true
   pub stretches : groupFits s 6 ≡ true
   pub chains : groupFits s 13 ≡ true
+  pub in-range : decorrelationInRange (numberAt s 20) ≡ true
   pub decorrelation : numberAt s 20 ≤ 10000000
   pub number : numberAt s 21 ≤ most32
   pub left : leftFits s 23 ≡ true
@@ -85,6 +88,7 @@ handing-small s e =
       reading = a .0;
       stretches = b .0;
       chains = d .0;
+      in-range = f .0;
       decorrelation = high 0 10000000 (numberAt s 20) (f .0);
       number = leb-true (numberAt s 21) most32 (k .0);
       left = k .1;

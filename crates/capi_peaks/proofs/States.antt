@@ -1,40 +1,43 @@
 -- Arrays and passes: numbers that are no pass stand for one that is refused by 8; what an entry leaves in an array is
 -- the pass that it answers, and the next call finds it. Assumes nothing.
 use Prim.Native.Nat.{ℕ, _+_, _-_, _≤_}
-use mathlib.Core.Path.{_≡_, ap, refl, sym, subst, _∙_}
-use mathlib.Core.Bool.{Bool, cond, false, true, _||_}
-use mathlib.Core.List.{List, [], _∷_, foldl}
+use mathlib.Core.Path.{_≡_, ap, refl, sym, _∙_}
+use mathlib.Core.Bool.{Bool, false, true, _||_}
+use mathlib.Core.List.{List, foldl}
 use native.Mathlib.Omega.{arith}
 use lib.Dec.{eqb, leb}
 use lib.IntN.{ℤ}
 use lib.ListN.{drop, drop-of-length-le, length}
-use borrow.Author.Tests.{eq-eqb, le-leb, leb-true, ne-eqb}
-use Rattle.truth.proofs.Cases.{by-order}
-use Rattle.truth.proofs.Laws.{and-true, both-true}
+use borrow.Author.Tests.{eq-eqb, eqb-true, le-leb, leb-true, ne-eqb}
+use Rattle.truth.proofs.Cases.{by-order, by-test}
+use Rattle.truth.proofs.Laws.{and-true, both-true, true≢false}
 use Rattle.sample_items.proofs.Ranges.{high}
 use Rattle.sample_items.specs.Limits.{decorrelationInRange, mostInRange, rampInRange, stepInRange}
 use Rattle.peak_groups.specs.declared.Peak.{Peak}
+use Rattle.peak_groups.specs.Groups.{nothing}
 use Rattle.peak_groups.specs.Peaks.{short}
-use Rattle.peak_stream.proofs.Anywhere.{set-fold}
+use Rattle.peak_stream.proofs.Anywhere.{fresh-ready, set-fold}
 use Rattle.peak_stream.proofs.Bounds.{most-few}
-use Rattle.peak_stream.proofs.Coming.{Set, ready-set, set-out}
+use Rattle.peak_stream.proofs.Coming.{ready-set, set-out}
 use Rattle.peak_stream.proofs.Over.{no-refusal}
-use Rattle.peak_stream.proofs.Passing.{Good, good}
-use Rattle.peak_stream.proofs.Pieces.{fits, goes, sound-good, taken-all}
+use Rattle.peak_stream.proofs.Passing.{good}
+use Rattle.peak_stream.proofs.Pieces.{fits, goes, none-sound, sound-good, taken-all}
 use Rattle.peak_stream.specs.declared.Handing.{Handing}
 use Rattle.peak_stream.specs.declared.Handed.the-variants as handing
 use Rattle.peak_stream.specs.declared.Reading.{Reading}
 use Rattle.peak_stream.specs.declared.Surveying.{Surveying}
 use Rattle.peak_stream.specs.declared.Surveyed.the-variants as survey
-use Rattle.peak_stream.specs.Hands.{closedBy, moved, ready}
+use Rattle.peak_stream.specs.Hands.{closedBy, moved, ready, waiting}
 use Rattle.peak_stream.specs.Reading.{readable}
-use Rattle.peak_stream.specs.Survey.{sound, surveyed}
-use Rattle.capi.specs.Numbers.{flag}
+use Rattle.peak_stream.specs.Survey.{none, sound, surveyed}
+use Rattle.capi.specs.Numbers.{flag, numberAt}
 use Rattle.capi.specs.Told.{told}
-use Rattle.capi_peaks.specs.Numbers.{handingFits, handingOf, isHanding, isSurvey, leftFits, most32, ofHanding}
-use Rattle.capi_peaks.specs.Numbers.{ofSurvey, surveyFits, surveyOf}
+use Rattle.capi_peaks.specs.Numbers.{handingFits, handingLeft, handingNumbers, handingOf, isHanding, isSurvey}
+use Rattle.capi_peaks.specs.Numbers.{most32, ofHanding, ofSurvey, rampLeft, rampOf, surveyFits, surveyNumbers}
+use Rattle.capi_peaks.specs.Numbers.{surveyOf}
 use Rattle.capi_peaks.specs.Told.{handedIn, handingKept, handingTold, peaksHanded, peaksTaken, surveyKept}
 use Rattle.capi_peaks.specs.Told.{surveyTold, takenIn}
+use Rattle.capi_peaks.proofs.Fits.{group-small, handing-small, peak-small, reading-small, survey-small}
 use Rattle.capi_peaks.proofs.Bounds.{Held, InRange, Within, handing-reads, hands-same, hands-within}
 use Rattle.capi_peaks.proofs.Bounds.{not-bad, range-drop, range-small, reads, survey-reads}
 
@@ -154,6 +157,28 @@ survey-number t e =
     let g = good t 0 e (omega (arith, fits t e)) in
     omega (arith, most-few (t .reading .step), g .room, g .number)
 
+-- ---- before the first sample
+none-within : Within nothing
+none-within = (omega arith, omega arith)
+
+pub none-ok : (D R : ℕ) → stepInRange D ≡ true → rampInRange R ≡ true → SurveyOk (none D) R R
+none-ok D R d r =
+    record { step = d; keeps = none-sound D; best = none-within; ramp = r; left = r; idle = λ i. refl }
+
+pub waiting-ok : (D R τ m z : ℕ) → stepInRange D ≡ true → rampInRange R ≡ true → decorrelationInRange τ ≡ true
+    → m ≤ 4294967295 → HandingOk (waiting D τ m z) R
+waiting-ok D R τ m z d r t l =
+    record {
+      step = d;
+      keeps = fresh-ready D τ m z;
+      best = none-within;
+      held = ((none-within, none-within), (none-within, none-within));
+      decorrelation = t;
+      number = l;
+      left = r;
+      idle = λ i. refl;
+    }
+
 -- ---- one piece more
 -- what is left of the ramp after a piece
 left-range : (L m : ℕ) → rampInRange L ≡ true → rampInRange (L - m) ≡ true
@@ -243,3 +268,54 @@ module _ (sizes times : List ℕ) (h : Handing) (L : ℕ) (p : List ℤ) (k : Ha
         left = left-range L (length p) (k .left);
         idle = idle-next L (h .reading .n) p _ (k .idle) (ap (λ (r : Reading). r .n) e ∙ a .n);
       }
+
+-- ---- an array that is taken, whoever made it: what a call leaves in it is the pass that it answers
+idle-is : (L n : ℕ) → (eqb L 0 || eqb n 0) ≡ true → Idle L n
+idle-is L n e h = go (eqb L 0) refl e
+  where
+    go : (b : Bool) → eqb L 0 ≡ b → (b || eqb n 0) ≡ true → n ≡ 0
+    go true t e = let z = eqb-true L 0 t in absurd (omega arith)
+    go false t e = eqb-true n 0 e
+
+not-one : {A : Type 0} {b : Bool} → b ≡ true → b ≡ false → A
+not-one h e = absurd (true≢false (sym h ∙ e))
+
+pub survey-ok : (s : List ℕ) → sound (surveyOf s) ≡ true → SurveyOk (surveyOf s) (rampOf s) (rampLeft s)
+unfolding surveyOf
+survey-ok s h =
+    by-test (isSurvey s)
+    (λ t.
+    let q = survey-small s (and-true (eqb (length s) surveyNumbers) (surveyFits s) t .1) in
+    let r = reading-small s (q .reading) in
+    let l = and-true (rampInRange (numberAt s 9)) _ (q .left) in
+    rw t (record {
+      step = r .in-range;
+      keeps = rw t at h;
+      best = peak-small s 3 (r .best);
+      ramp = q .ramp;
+      left = l .0;
+      idle = idle-is (numberAt s 9) (numberAt s 1) (l .1);
+    }))
+    (λ t. not-one h (other-survey s t))
+
+pub handing-ok : (s : List ℕ) → ready (handingOf s) ≡ true → HandingOk (handingOf s) (handingLeft s)
+unfolding handingOf
+handing-ok s h =
+    by-test (isHanding s)
+    (λ t.
+    let q = handing-small s (and-true (eqb (length s) handingNumbers) (handingFits s) t .1) in
+    let r = reading-small s (q .reading) in
+    let a = group-small s 6 (q .stretches) in
+    let b = group-small s 13 (q .chains) in
+    let l = and-true (rampInRange (numberAt s 23)) _ (q .left) in
+    rw t (record {
+      step = r .in-range;
+      keeps = rw t at h;
+      best = peak-small s 3 (r .best);
+      held = ((peak-small s 7 (a .0), peak-small s 10 (a .1)), (peak-small s 14 (b .0), peak-small s 17 (b .1)));
+      decorrelation = q .in-range;
+      number = q .number;
+      left = l .0;
+      idle = idle-is (numberAt s 23) (numberAt s 1) (l .1);
+    }))
+    (λ t. not-one h (other-handing s t))

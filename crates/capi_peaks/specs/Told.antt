@@ -8,7 +8,6 @@ use lib.Dec.{ltb}
 use lib.IntN.{ℤ}
 use lib.ListN.{length, drop}
 use Rattle.refusal.specs.Numbers.{numberOf, valueOf}
-use Rattle.refusal.specs.declared.Refusal.{Refusal}
 use Rattle.refusal.specs.declared.Refusal.the-variants.{BrokenState, Item, Sample, TooShort}
 use Rattle.sample_range.specs.Range.{firstBad}
 use Rattle.sample_items.specs.Limits.{stepInRange, rampInRange, decorrelationInRange}
@@ -119,4 +118,6 @@ lastSaid None = lastTold 0 0 0 0
 
 -- or 8, and the two numbers as they stood
 unfoldable pub peakLast : List ℕ → ℕ → ℕ → LastTold
-peakLast s x t = cond (not (ready (handingOf s))) (lastTold (numberOf BrokenState) (valueOf BrokenState) x t) (lastSaid (lastOf (handingOf s)))
+peakLast s x t =
+    cond (not (ready (handingOf s))) (lastTold (numberOf BrokenState) (valueOf BrokenState) x t)
+    (lastSaid (lastOf (handingOf s)))

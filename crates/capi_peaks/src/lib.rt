@@ -1,8 +1,8 @@
 // Envelope peaks of a record that comes in pieces, for C: two passes over its samples, each a state in a lent array,
 // ten numbers for the first and twenty-four for the second. Each function answers 0 or the refusal number and writes
-// what goes with it to `carried`; a refusal leaves everything else that was lent as it stood. Any numbers are an answer,
-// 8 where they are no pass. That samples are in range is judged here, and the ramp's are left out here: `peak_stream`
-// takes the timed ones.
+// what goes with it to `carried`; a refusal leaves everything else that was lent as it stood. Any numbers are an
+// answer, 8 where they are no pass. That samples are in range is judged here, and the ramp's are left out here:
+// `peak_stream` takes the timed ones.
 ghost use mathlib.Core.Path.{_≡_};
 ghost use mathlib.Core.Bool.{true};
 ghost use mathlib.Core.List.{map};

@@ -50,8 +50,8 @@ use Rattle.peak_stream.specs.Hands as second
 use Rattle.peak_stream.specs.Survey as first
 use Rattle.capi_peaks.proofs.Fits.{group-small, handing-small, peak-flag, reading-small, survey-small}
 use Rattle.capi_peaks.proofs.States.{other-handing, other-survey}
-use Rattle.capi_peaks.specs.Numbers.{handingFits, handingLeft, handingNumbers, handingOf, isHanding, isSurvey, ofHanding}
-use Rattle.capi_peaks.specs.Numbers.{ofSurvey, rampLeft, rampOf, surveyFits, surveyNumbers, surveyOf}
+use Rattle.capi_peaks.specs.Numbers.{handingFits, handingLeft, handingNumbers, handingOf, isHanding, isSurvey}
+use Rattle.capi_peaks.specs.Numbers.{ofHanding, ofSurvey, rampLeft, rampOf, surveyFits, surveyNumbers, surveyOf}
 use Rattle.capi_bureau.specs.Rows.{ofPlace, placeOf}
 use Rattle.capi_condition.specs.Told.{standingCode}
 use Rattle.demands_c.specs.Header.{CHIM-ACCELERATION, CHIM-ACCEPT, CHIM-ACCEPTED, CHIM-BENCH-PLACES}

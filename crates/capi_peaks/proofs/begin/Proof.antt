@@ -25,7 +25,8 @@ returns-3 : tie.Need-returns-3
 unfolding begunFrom
 returns-3 c =
     rw (
-      said-yes (c .before .before .before .before .before .before .sound .ensures) (c .before .before .before .before .before .if1 .left),
+      said-yes (c .before .before .before .before .before .before .sound .ensures)
+          (c .before .before .before .before .before .if1 .left),
       said-yes (c .before .before .before .before .both .ensures) (c .before .before .before .if2 .left),
       lt-ltb _ 2 (c .if3 .taken),
     )

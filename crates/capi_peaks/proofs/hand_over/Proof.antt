@@ -1,6 +1,5 @@
 -- `capi_peaks::hand_over` meets its contract, test by test, and the part after the ramp is handed over. Assumes
 -- nothing.
-use Prim.Native.Nat.{ℕ}
 use mathlib.Core.Path.{refl, subst}
 use mathlib.Core.List.{List}
 use lib.IntN.{ℤ}

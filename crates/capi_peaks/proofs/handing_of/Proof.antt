@@ -22,7 +22,8 @@ returns-2 c =
     )
 
 handing-at-requires : tie.Need-handing-at-requires
-handing-at-requires c κs = (omega (arith, c .before .before .if1 .left), said-yes (c .before .handing-fits .ensures) (c .if2 .left))
+handing-at-requires c κs =
+    (omega (arith, c .before .before .if1 .left), said-yes (c .before .handing-fits .ensures) (c .if2 .left))
 
 returns-3 : tie.Need-returns-3
 unfolding handingOf

@@ -22,7 +22,8 @@ returns-2 c =
     )
 
 survey-at-requires : tie.Need-survey-at-requires
-survey-at-requires c κs = (omega (arith, c .before .before .if1 .left), said-yes (c .before .survey-fits .ensures) (c .if2 .left))
+survey-at-requires c κs =
+    (omega (arith, c .before .before .if1 .left), said-yes (c .before .survey-fits .ensures) (c .if2 .left))
 
 returns-3 : tie.Need-returns-3
 unfolding surveyOf

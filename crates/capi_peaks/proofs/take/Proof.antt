@@ -29,7 +29,8 @@ returns-3 c =
     let e = d .before .before in
     let a = e .before .args in
     let r = c .before .before .ramp-end in
-    rw (said-yes (e .sound .ensures) (d .before .if1 .left), ← d .first-bad .ensures, le-ltb _ _ (c .before .before .before .if2 .left))
+    let g = le-ltb _ _ (c .before .before .before .if2 .left) in
+    rw (said-yes (e .sound .ensures) (d .before .if1 .left), ← d .first-bad .ensures, g)
     (c .take .ensures ∙ ap (taken (a .s)) (timed-is (a .left) (a .samples .now) (r .result) (r .ensures)))
 
 pub take-spec : {M : Type 1} → statement M

@@ -4,8 +4,9 @@ A Record is roll and acceleration watched together, fed whole or in pieces; a re
 Campaign, which gives the verdict. A job of one channel gives None for the other. Rolls and their level are in
 thousandths of a degree, accelerations and theirs in mm/s2, times in ms, rates in failures a second. Campaigns, one for
 each design situation, make a loading condition (judge_condition, write_report). Records that go on past a failure are
-added up in a Sum. What the library cannot take raises Refusal, and then nothing has changed. A number that is no 64-bit
-whole number, or a sample that is no 32-bit one, raises OverflowError before the library is asked.
+added up in a Sum. The envelope peaks of a record that is not held are found in two passes, a PeakSurvey and a PeakPass.
+What the library cannot take raises Refusal, and then nothing has changed. A number that is no 64-bit whole number, or a
+sample that is no 32-bit one, raises OverflowError before the library is asked.
 
 Samples, peaks and records are whole numbers in one dimension: a list, a tuple, what yields them, or an array of 16, 32
 or 64 bits, also what numpy takes for one, such as a Series of pandas. Anything else raises TypeError, and a table

@@ -10,8 +10,8 @@
  *                                                                               slices the lower, and *channel says whose
  *   3    the timed length of the record would pass 10,000,000 ms, on a sheet an exposure;   0
  *        the last time of a comma file would need more than 12 digits
- *   4    ending, adding, listing or finding peaks with fewer than ramp + 2 samples;   0
- *        on a sheet exposure 0
+ *   4    ending, adding, listing or finding peaks with fewer than ramp + 2 samples,   0
+ *        or beginning a second pass after so few; on a sheet exposure 0
  *   5    entering into a campaign of 100,000 records                            0
  *   6    entering into a campaign with 64 failures                              0
  *   7    more counted times, peaks, samples, records or bytes than the slice has the number of places needed
@@ -70,6 +70,24 @@
  * A sum, 3 numbers, adds up records by the binomial method: the step of them all in ms (0), the counted failures N (1), 0 to 10,000, and the timed samples P (2), 0 to
  * 100,000,000, N at most P.
  *
+ * Peaks in pieces need two passes over a record's samples, each a state of its own.
+ *
+ *   first pass, 10 numbers                               second pass, 24 numbers
+ *   0  step, ms                   1 to 10,000            0 to 5  as in the first pass
+ *   1  samples after the ramp so far, n                  6  stretches of peaks opened, 0 to n
+ *   2  runs of one sign opened    0 to n                 7 to 9    the last peak
+ *   3 to 5  the largest sample of the open run           10 to 12  the largest of the open stretch
+ *   6  peaks so far               0 to n                 13 chains of kept peaks opened, 0 to n
+ *   7  their sum                                         14 to 16  the last kept peak
+ *   8  ramp, samples              0 to 1,000,000         17 to 19  the largest of the open chain
+ *   9  how many of the ramp's samples are to come;       20 decorrelation time, ms, 0 to 10,000,000
+ *      0 once there is a sample after it                 21 peaks of the record, from the first pass
+ *                                                        22 their sum, from the first pass
+ *                                                        23 as number 9 of the first pass
+ *
+ * Three numbers for a sample or a peak: 1 below zero, else 0; its magnitude, 0 to 1,000,000; its time in ms after the
+ * ramp, 0 to 10,000,000.
+ *
  * Rolls and their level are in thousandths of a degree, accelerations and theirs in mm/s2, times in ms, rates in failures a second. Items 1 to 4 are a record's
  * first four numbers, item 5 is the standard, item 6 a record's number 12.
  *
@@ -91,15 +109,15 @@
 #include <stddef.h>
 #include <stdint.h>
 
-/* 3.0.0, each of the last two in three digits. The first number is that of the library's name for the loader,
+/* 3.1.0, each of the last two in three digits. The first number is that of the library's name for the loader,
  * libchimenickel.so.3, and grows when an array's length does; the second when a function is added. */
-#define CHIM_VERSION 3000000
+#define CHIM_VERSION 3001000
 
 #ifdef __cplusplus
 extern "C" {
 #endif
 
-enum { CHIM_RECORD_NUMBERS = 14, CHIM_RESULT_NUMBERS = 5, CHIM_CAMPAIGN_NUMBERS = 5, CHIM_SUM_NUMBERS = 3, CHIM_BOUNDS_NUMBERS = 4, CHIM_TIMES_NUMBERS = 3, CHIM_BENCH_PLACES = 32, CHIM_PLACE_NUMBERS = 6 };
+enum { CHIM_RECORD_NUMBERS = 14, CHIM_RESULT_NUMBERS = 5, CHIM_CAMPAIGN_NUMBERS = 5, CHIM_SUM_NUMBERS = 3, CHIM_BOUNDS_NUMBERS = 4, CHIM_TIMES_NUMBERS = 3, CHIM_SURVEY_NUMBERS = 10, CHIM_HANDING_NUMBERS = 24, CHIM_BENCH_PLACES = 32, CHIM_PLACE_NUMBERS = 6 };
 
 /* The most situations of a loading condition, and room for the report of any. */
 enum { CHIM_MOST_SITUATIONS = 64, CHIM_REPORT_BYTES = 1832 };
@@ -282,6 +300,35 @@ uint64_t chim_sheet_records(const uint8_t *text, size_t text_len, int32_t *recor
  * places stay; *carried is their number. Refuses 1 (items 1, 2 and 4; there is no level), 2, 3, 4, 7 if either slice is too short. */
 uint64_t chim_envelope_find(uint64_t step, uint64_t ramp, uint64_t decorrelation, const int32_t *samples, size_t samples_len, uint32_t *sizes, size_t sizes_len,
                             uint32_t *times, size_t times_len, uint64_t *carried);
+
+/* ---- the envelope peaks of a record that comes in pieces, for records that are not held: its samples are handed over
+ * twice, from the first one on, the ramp's too, and cut anywhere, each pass in its own way. The first pass finds how many
+ * peaks there are and their sum, which say what is high; the second hands out each peak as it is settled. Whatever the
+ * cuts, these are the peaks of chim_envelope_find, and no call is refused where that refuses nothing. That both passes
+ * are lent the same samples is the caller's to see to. */
+
+/* Puts a first pass without samples into `state`. Refuses 8 (the array's length), 1 with the lower of items 1 and 2. */
+uint64_t chim_peaks_survey(uint64_t step, uint64_t ramp, uint64_t *state, size_t state_len, uint64_t *carried);
+
+/* The first pass with the next piece. Refuses 8, 2, 3. */
+uint64_t chim_peaks_take(uint64_t *state, size_t state_len, const int32_t *samples, size_t samples_len,
+                         uint64_t *carried);
+
+/* Puts the second pass without samples into `state`, once the first, in `survey`, has had all of them; it is read and not
+ * changed, so that one first pass serves several decorrelation times. Refuses 8 (the array's length, the first pass), 1
+ * with item 4, 4. */
+uint64_t chim_peaks_begin(const uint64_t *survey, size_t survey_len, uint64_t decorrelation, uint64_t *state,
+                          size_t state_len, uint64_t *carried);
+
+/* The second pass with the next piece: the magnitudes and times of the peaks that it settled, in order, to the start of
+ * `sizes` and `times`, whose other places stay; *carried is their number. Refuses 8, 2, 3, 7 with the number of the
+ * piece's samples after the ramp if either slice has fewer places, however many peaks there are. */
+uint64_t chim_peaks_hand_over(uint64_t *state, size_t state_len, const int32_t *samples, size_t samples_len,
+                              uint32_t *sizes, size_t sizes_len, uint32_t *times, size_t times_len, uint64_t *carried);
+
+/* After the last piece: the peak that the record's end settles, in *size and *time, and 1 in *carried; where there is none
+ * all three are 0. The second pass is read and not changed. Refuses 8. */
+uint64_t chim_peaks_last(const uint64_t *state, size_t state_len, uint32_t *size, uint32_t *time, uint64_t *carried);
 
 /* ---- the tail of a list of peaks, thousandths of a degree or mm/s2 */
 

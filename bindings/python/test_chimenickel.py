@@ -32,6 +32,8 @@ from chimenickel import (
     Channel,
     Record,
     Refusal,
+    PeakPass,
+    PeakSurvey,
     Standing,
     Sum,
     counted_times,
@@ -428,6 +430,38 @@ class Records(unittest.TestCase):
         self.refused(4, 0, envelope_peaks, 500, 18, 0, roll)
         self.assertRaises(OverflowError, envelope_peaks, 500, -1, 0, roll)
 
+    def test_peaks_in_pieces(self):
+        roll = [9, 0, 3, 5, 0, 5, -2, -7, 0, -7, 1, -9, 8, -1, 9, -9, 1, -8, 2]
+        for cut in range(len(roll) + 1):
+            survey = PeakSurvey(500, 1)
+            survey.feed(roll[:cut])
+            survey.feed(array("i", roll[cut:]))
+            for decorrelation in (1_499, 1_500):
+                second = survey.begin(decorrelation)
+                found = second.feed(roll[cut:][:0]) + second.feed(roll[: cut // 2]) + second.feed(roll[cut // 2 :])
+                found += [peak for peak in [second.last()] if peak]
+                self.assertEqual(found, envelope_peaks(500, 1, decorrelation, roll), cut)
+                self.assertEqual(pickle.loads(pickle.dumps(second)), second)
+        self.assertEqual(PeakSurvey.from_numbers(survey.numbers), survey)
+        flat = PeakSurvey(500, 0)
+        flat.feed([0, 0, 0])
+        still = flat.begin(0)
+        self.assertEqual((still.feed([0, 0, 0]), still.last()), ([], None))
+        before = survey.numbers
+        self.refused(1, 1, PeakSurvey, 0, 0)
+        self.refused(1, 2, PeakSurvey, 500, 1_000_001)
+        self.refused(2, 1, survey.feed, [0, 1_000_001])
+        self.refused(3, 0, survey.feed, [0] * 20_001)
+        self.refused(1, 4, survey.begin, 10_000_001)
+        self.refused(4, 0, PeakSurvey(500, 0).begin, 0)
+        self.refused(8, 0, PeakSurvey.from_numbers([1] * 10).feed, [])
+        self.refused(8, 0, PeakPass.from_numbers([1] * 24).feed, [])
+        self.refused(8, 0, PeakPass.from_numbers([0] * 24).last)
+        self.refused(8, 0, PeakPass.from_numbers, [0] * 23)
+        self.assertEqual(survey.numbers, before)
+        self.assertRaises(OverflowError, PeakSurvey, 500, -1)
+        self.assertRaises(TypeError, survey.feed, [1.5])
+
     def test_tail(self):
         tail = fit_tail([1, 4, 2, 8], 3)
         self.assertEqual((tail.sorted, tail.sum), ([8, 4, 2, 1], 3 * 65_536))
@@ -503,6 +537,7 @@ class Records(unittest.TestCase):
         ("roll", lambda row: first_crossing(row, None, 0, 1, 1)),
         ("acceleration", lambda row: first_crossing(None, row, 0, 1, 1)),
         ("samples", lambda row: envelope_peaks(500, 0, 0, row)),
+        ("samples", lambda row: PeakSurvey(500, 0).feed(row)),
         ("peaks", lambda row: fit_tail(row, 2)),
         ("samples", lambda row: write_comma(row, 500)),
         ("records", lambda row: write_sheet(7_200_000, row)),

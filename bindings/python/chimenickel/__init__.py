@@ -4,8 +4,9 @@ A Record is roll and acceleration watched together, fed whole or in pieces; a re
 Campaign, which gives the verdict. A job of one channel gives None for the other. Rolls and their level are in
 thousandths of a degree, accelerations and theirs in mm/s2, times in ms, rates in failures a second. Campaigns, one for
 each design situation, make a loading condition (judge_condition, write_report). Records that go on past a failure are
-added up in a Sum. What the library cannot take raises Refusal, and then nothing has changed. A number that is no 64-bit
-whole number, or a sample that is no 32-bit one, raises OverflowError before the library is asked.
+added up in a Sum. The envelope peaks of a record that is not held are found in two passes, a PeakSurvey and a PeakPass.
+What the library cannot take raises Refusal, and then nothing has changed. A number that is no 64-bit whole number, or a
+sample that is no 32-bit one, raises OverflowError before the library is asked.
 
 Samples, peaks and records are whole numbers in one dimension: a list, a tuple, what yields them, or an array of 16, 32
 or 64 bits, also what numpy takes for one, such as a Series of pandas. Anything else raises TypeError, and a table
@@ -13,7 +14,7 @@ ValueError, before the library is asked. Record.feed and first_crossing read an 
 they run no other thread may write to it. Nothing else is shared by calls: those on different states may run at the same
 time, two on one state may not. While the library works other threads of Python go on.
 
-States (Record, Campaign, Sum, Bench) compare by their numbers, print as what makes them again, and pickle.
+States (Record, Campaign, Sum, Bench, PeakSurvey, PeakPass) compare by their numbers, print as what makes them again, and pickle.
 
 The library is looked for in the folder that CHIMENICKEL_LIB names; else beside this module, where a wheel carries it;
 else, in a source tree, where bin/build-lib writes it; else among the system's libraries.
@@ -62,7 +63,7 @@ if TYPE_CHECKING:
 else:
     _Memory = _Words = Any
 
-__version__ = "3.0.0"
+__version__ = "3.1.0"
 
 __all__ = [
     "Bench",
@@ -73,6 +74,8 @@ __all__ = [
     "Channel",
     "FileRefusal",
     "Peak",
+    "PeakPass",
+    "PeakSurvey",
     "Rates",
     "Record",
     "Refusal",
@@ -169,6 +172,11 @@ for _name, _result, _parameters in [
     ("chim_condition_judge", _u64, [_campaigns, _size, _numbers]),
     ("chim_condition_report", _u64, [_campaigns, _size, ctypes.c_char_p, _size, _numbers]),
     ("chim_envelope_find", _u64, [_u64, _u64, _u64, _samples, _size, _times, _size, _times, _size, _numbers]),
+    ("chim_peaks_survey", _u64, [_u64, _u64, _numbers, _size, _numbers]),
+    ("chim_peaks_take", _u64, [_numbers, _size, _samples, _size, _numbers]),
+    ("chim_peaks_begin", _u64, [_numbers, _size, _u64, _numbers, _size, _numbers]),
+    ("chim_peaks_hand_over", _u64, [_numbers, _size, _samples, _size, _times, _size, _times, _size, _numbers]),
+    ("chim_peaks_last", _u64, [_numbers, _size, _times, _times, _numbers]),
     ("chim_tail_fit", _u64, [_times, _size, _u64, _times, _size, _numbers]),
     ("chim_extrapolate", _u64, [_times, _size, _u64, _u64, _u64, _u64, _u64, _numbers, _size, _numbers]),
     ("chim_sheet_write", _u64, [_u64, _samples, _size, ctypes.c_char_p, _size, _numbers]),
@@ -992,6 +1000,52 @@ def envelope_peaks(step: Whole, ramp: Whole, decorrelation: Whole, samples: Row)
             if refusal.number != 7:
                 raise
             places = refusal.carried
+
+
+class PeakSurvey(_State):
+    """The first of two passes over a record that is not held: how many peaks its pieces have, and their sum. Samples are
+    fed from the first one on, the ramp's too, and cut anywhere. The step is 1 to 10,000 ms, the ramp 0 to 1,000,000
+    samples."""
+
+    LENGTH = 10
+
+    def __init__(self, step: Whole, ramp: Whole) -> None:
+        super().__init__([0] * self.LENGTH)
+        _ask(_lib.chim_peaks_survey, *_items(step=step, ramp=ramp), self._state, self.LENGTH)
+
+    def feed(self, samples: Row) -> None:
+        """The next piece. Refuses 2 with the place in the piece, 3."""
+        xs, n, _owner = _own("samples", samples)
+        _ask(_lib.chim_peaks_take, self._state, self.LENGTH, xs, n)
+
+    def begin(self, decorrelation: Whole) -> PeakPass:
+        """The second pass over the same samples, for a decorrelation time of 0 to 10,000,000 ms; the first stays as it is
+        and serves other times too. Refuses 1 with item 4, 4 after fewer than two samples past the ramp."""
+        second = PeakPass.from_numbers([0] * PeakPass.LENGTH)
+        items = _items(decorrelation=decorrelation)
+        _ask(_lib.chim_peaks_begin, self._state, self.LENGTH, *items, second._state, second.LENGTH)
+        return second
+
+
+class PeakPass(_State):
+    """The second pass, which PeakSurvey.begin starts. Fed the same samples, however they are cut now, it hands out the
+    peaks that envelope_peaks finds in the whole record."""
+
+    LENGTH = 24
+
+    def feed(self, samples: Row) -> List[Peak]:
+        """The next piece: the peaks that it settled, in order of time. Refuses 2 with the place in the piece, 3."""
+        xs, n, _owner = _own("samples", samples)
+        sizes, times = (ctypes.c_uint32 * max(n, 1))(), (ctypes.c_uint32 * max(n, 1))()
+        k = _ask(_lib.chim_peaks_hand_over, self._state, self.LENGTH, xs, n, sizes, n, times, n)
+        return [Peak(size, time) for size, time in zip(sizes[:k], times[:k])]
+
+    def last(self) -> Optional[Peak]:
+        """After the last piece: the peak that the record's end settles, None where there is none. The pass stays as it
+        is."""
+        size, time = ctypes.c_uint32(), ctypes.c_uint32()
+        found = _ask(_lib.chim_peaks_last, self._state, self.LENGTH, ctypes.byref(size), ctypes.byref(time))
+        return Peak(size.value, time.value) if found else None
 
 
 class Tail(NamedTuple):

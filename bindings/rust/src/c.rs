@@ -129,6 +129,28 @@ extern "C" {
         times_len: usize,
         carried: *mut u64,
     ) -> u64;
+    pub fn chim_peaks_survey(step: u64, ramp: u64, state: *mut u64, state_len: usize, carried: *mut u64) -> u64;
+    pub fn chim_peaks_take(state: *mut u64, state_len: usize, samples: *const i32, samples_len: usize, carried: *mut u64) -> u64;
+    pub fn chim_peaks_begin(
+        survey: *const u64,
+        survey_len: usize,
+        decorrelation: u64,
+        state: *mut u64,
+        state_len: usize,
+        carried: *mut u64,
+    ) -> u64;
+    pub fn chim_peaks_hand_over(
+        state: *mut u64,
+        state_len: usize,
+        samples: *const i32,
+        samples_len: usize,
+        sizes: *mut u32,
+        sizes_len: usize,
+        times: *mut u32,
+        times_len: usize,
+        carried: *mut u64,
+    ) -> u64;
+    pub fn chim_peaks_last(state: *const u64, state_len: usize, size: *mut u32, time: *mut u32, carried: *mut u64) -> u64;
     pub fn chim_tail_fit(peaks: *const u32, peaks_len: usize, k: u64, sorted: *mut u32, sorted_len: usize, carried: *mut u64) -> u64;
     pub fn chim_extrapolate(
         peaks: *const u32,

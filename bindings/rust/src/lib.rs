@@ -121,9 +121,11 @@ extern crate std;
 mod beyond;
 #[allow(dead_code)] // without std some are not asked
 mod c;
+mod pieces;
 
 #[cfg(feature = "std")]
 pub use beyond::{extrapolate, Beyond, Letter};
+pub use pieces::{PeakPass, PeakSurvey};
 
 use core::fmt;
 #[cfg(feature = "std")]
@@ -271,7 +273,7 @@ impl fmt::Display for Refusal {
 #[cfg(feature = "std")]
 impl std::error::Error for Refusal {}
 
-/// The version of the library that is linked, as `CHIM_VERSION` of its header has it: 3,000,000 for 3.0.0.
+/// The version of the library that is linked, as `CHIM_VERSION` of its header has it: 3,001,000 for 3.1.0.
 pub fn version() -> u64 {
     unsafe { c::chim_version() }
 }

@@ -6,7 +6,8 @@
 --
 -- recordOf, campaignOf, resultOf and sumOf are the states that arrays stand for, ofRecord .. the numbers of a state
 -- (capi's specs, Numbers; capi_sum's, Told); recordFed, campaignEntered .. are what the functions' contracts say (Told
--- of each crate). Header has the places and codes as numbers, Request9 the table of two bureaus.
+-- of each crate). Header has the places and codes as numbers, Request9 the table of two bureaus, Pieces the peaks of a
+-- record in pieces: chim_peaks_survey, chim_peaks_take, chim_peaks_begin, chim_peaks_hand_over and chim_peaks_last.
 -- chim_record_first_crossing, chim_upper_row and chim_lower_row never refuse: their contracts say all of them. Assumes
 -- nothing.
 use mathlib.Core.Path.{_≡_, refl, ap, sym, _∙_}
@@ -495,10 +496,10 @@ pub record Entries : Type 0 where
 -- ---- the proof
 -- arrays of another length
 module _ {A : Type 0} (s : List ℕ) (n : ℕ) (tell : A → Told) (a : A) where
-  abbrev kept : Told
+  abbrev pub kept : Told
   kept = cond (eqb (length s) n) (tell a) (record { number = 8; carried = 0; lent = s })
 
-  in-array : {ts : List Test} {answer : ℕ} {after : List ℕ} → Tells ts s answer after (array (tell a))
+  pub in-array : {ts : List Test} {answer : ℕ} {after : List ℕ} → Tells ts s answer after (array (tell a))
       → Tells (otherLength s n ts) s answer after (array kept)
   in-array t =
       tested-first t (not (eqb (length s) n)) BrokenState (array kept) (other (eqb (length s) n) refl)

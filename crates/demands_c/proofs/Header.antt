@@ -42,11 +42,22 @@ use Rattle.capi.proofs.States.{other-campaign, other-record}
 use Rattle.capi_verdict.specs.Told.{judgement, verdictTold}
 use Rattle.capi_binomial.specs.Told.{ofBounds, ofSum, sumNumbers, sumOf}
 use Rattle.capi_reach.specs.Told.{letterCode, ofTimes}
+use Rattle.peak_groups.specs.declared.Group.{Group}
+use Rattle.peak_groups.specs.declared.Peak.{Peak as Top}
+use Rattle.peak_stream.specs.declared.Handing.{Handing}
+use Rattle.peak_stream.specs.declared.Surveying.{Surveying}
+use Rattle.peak_stream.specs.Hands as second
+use Rattle.peak_stream.specs.Survey as first
+use Rattle.capi_peaks.proofs.Fits.{group-small, handing-small, peak-flag, reading-small, survey-small}
+use Rattle.capi_peaks.proofs.States.{other-handing, other-survey}
+use Rattle.capi_peaks.specs.Numbers.{handingFits, handingLeft, handingNumbers, handingOf, isHanding, isSurvey}
+use Rattle.capi_peaks.specs.Numbers.{ofHanding, ofSurvey, rampLeft, rampOf, surveyFits, surveyNumbers, surveyOf}
 use Rattle.capi_bureau.specs.Rows.{ofPlace, placeOf}
 use Rattle.capi_condition.specs.Told.{standingCode}
 use Rattle.demands_c.specs.Header.{CHIM-ACCELERATION, CHIM-ACCEPT, CHIM-ACCEPTED, CHIM-BENCH-PLACES}
 use Rattle.demands_c.specs.Header.{CHIM-BOUNDS-NUMBERS, CHIM-BROKEN-STATE, CHIM-BUREAU-FULL, CHIM-CAMPAIGN-FULL}
 use Rattle.demands_c.specs.Header.{CHIM-ESTIMATED, CHIM-LONGEST-ACCEPTED, CHIM-LOW-LEVEL, CHIM-NO-SPREAD}
+use Rattle.demands_c.specs.Header.{CHIM-HANDING-NUMBERS, CHIM-SURVEY-NUMBERS}
 use Rattle.demands_c.specs.Header.{CHIM-SHORTEST-REJECTED, CHIM-TIMED-SAMPLES, CHIM-TIMES-NUMBERS}
 use Rattle.demands_c.specs.Header.{CHIM-CAMPAIGN-NUMBERS, CHIM-COMMA-LINE, CHIM-CONDITION, CHIM-CONTINUE}
 use Rattle.demands_c.specs.Header.{CHIM-COUNTED, CHIM-CROSSINGS, CHIM-ESTIMATE, CHIM-EXPOSURE, CHIM-FIRST}
@@ -114,6 +125,43 @@ pub record TimesPlaces (t : Times) : Type 0 where
   pub longest-accepted : numberAt (ofTimes t) CHIM-LONGEST-ACCEPTED ≡ t .accepted
   pub shortest-rejected : numberAt (ofTimes t) CHIM-SHORTEST-REJECTED ≡ t .rejected
 
+-- a peak from place i of an array on, and a group
+pub record PeakPlaces (p : Top) (i : ℕ) (s : List ℕ) : Type 0 where
+  pub below : numberAt s i ≡ cond (p .below) 1 0
+  pub size : numberAt s (i + 1) ≡ p .size
+  pub time : numberAt s (i + 2) ≡ p .time
+
+pub record GroupPlaces (g : Group) (i : ℕ) (s : List ℕ) : Type 0 where
+  pub opened : numberAt s i ≡ g .opened
+  pub last : PeakPlaces (g .last) (i + 1) s
+  pub largest : PeakPlaces (g .best) (i + 4) s
+
+-- "first pass, 10 numbers": the ramp R, of which L samples are still to come
+pub record SurveyPlaces (t : Surveying) (R L : ℕ) : Type 0 where
+  pub long : length (ofSurvey t R L) ≡ CHIM-SURVEY-NUMBERS
+  pub step : numberAt (ofSurvey t R L) 0 ≡ t .reading .step
+  pub samples : numberAt (ofSurvey t R L) 1 ≡ t .reading .n
+  pub runs : numberAt (ofSurvey t R L) 2 ≡ t .reading .opened
+  pub largest : PeakPlaces (t .reading .best) 3 (ofSurvey t R L)
+  pub peaks : numberAt (ofSurvey t R L) 6 ≡ t .number
+  pub sum : numberAt (ofSurvey t R L) 7 ≡ t .sum
+  pub ramp : numberAt (ofSurvey t R L) 8 ≡ R
+  pub left : numberAt (ofSurvey t R L) 9 ≡ L
+
+-- "second pass, 24 numbers"
+pub record HandingPlaces (h : Handing) (L : ℕ) : Type 0 where
+  pub long : length (ofHanding h L) ≡ CHIM-HANDING-NUMBERS
+  pub step : numberAt (ofHanding h L) 0 ≡ h .reading .step
+  pub samples : numberAt (ofHanding h L) 1 ≡ h .reading .n
+  pub runs : numberAt (ofHanding h L) 2 ≡ h .reading .opened
+  pub largest : PeakPlaces (h .reading .best) 3 (ofHanding h L)
+  pub stretches : GroupPlaces (h .envelope .stretches) 6 (ofHanding h L)
+  pub chains : GroupPlaces (h .envelope .chains) 13 (ofHanding h L)
+  pub decorrelation : numberAt (ofHanding h L) 20 ≡ h .decorrelation
+  pub peaks : numberAt (ofHanding h L) 21 ≡ h .number
+  pub sum : numberAt (ofHanding h L) 22 ≡ h .sum
+  pub left : numberAt (ofHanding h L) 23 ≡ L
+
 -- a row of the table: the owner, then the five of its campaign
 pub record RowPlaces (p : Place) : Type 0 where
   pub long : length (ofPlace p) ≡ CHIM-PLACE-NUMBERS
@@ -175,6 +223,8 @@ pub record Exactly : Type 0 where
   pub a-record : (s : List ℕ) → recording.sound (recordOf s) ≡ true → ofRecord (recordOf s) ≡ s
   pub a-campaign : (s : List ℕ) → campaigning.sound (campaignOf s) ≡ true → ofCampaign (campaignOf s) ≡ s
   pub a-sum : (s : List ℕ) → summing.sound (sumOf s) ≡ true → ofSum (sumOf s) ≡ s
+  pub first-pass : (s : List ℕ) → first.sound (surveyOf s) ≡ true → ofSurvey (surveyOf s) (rampOf s) (rampLeft s) ≡ s
+  pub second-pass : (s : List ℕ) → second.ready (handingOf s) ≡ true → ofHanding (handingOf s) (handingLeft s) ≡ s
   pub a-result : (s : List ℕ) → length s ≡ CHIM-RESULT-NUMBERS → ofResult (resultOf s) ≡ s
   pub a-row : (s : List ℕ) → length s ≡ CHIM-PLACE-NUMBERS → placeKept (placeOf s) ≡ true → ofPlace (placeOf s) ≡ s
 
@@ -185,6 +235,8 @@ pub record Header : Type 0 where
   pub a-sum : (s : Sum) → SumPlaces s
   pub bounds : (b : Bounds) → BoundsPlaces b
   pub times : (t : Times) → TimesPlaces t
+  pub first-pass : (t : Surveying) (R L : ℕ) → SurveyPlaces t R L
+  pub second-pass : (h : Handing) (L : ℕ) → HandingPlaces h L
   pub a-row : (p : Place) → RowPlaces p
   pub refusals : Refusals
   pub codes : Codes
@@ -247,6 +299,40 @@ sum-exactly s h =
     (λ t. rw t (all 3 s (eqb-true (length s) sumNumbers t)))
     (λ t. taken-so h (rw t))
 
+survey-exactly : (s : List ℕ) → first.sound (surveyOf s) ≡ true → ofSurvey (surveyOf s) (rampOf s) (rampLeft s) ≡ s
+unfolding surveyOf numbers
+survey-exactly s h =
+    by-test (isSurvey s)
+    (λ t.
+    let g = and-true (eqb (length s) surveyNumbers) (surveyFits s) t in
+    let r = survey-small s (g .1) in
+    let f = flag-back (numberAt s 3) (peak-flag s 3 (reading-small s (r .reading) .best)) in
+    rw t (rw f (all 10 s (eqb-true (length s) surveyNumbers (g .0)))))
+    (λ t. taken-so h (other-survey s t))
+
+handing-exactly : (s : List ℕ) → second.ready (handingOf s) ≡ true → ofHanding (handingOf s) (handingLeft s) ≡ s
+unfolding handingOf numbers
+handing-exactly s h =
+    by-test (isHanding s)
+    (λ t.
+    let g = and-true (eqb (length s) handingNumbers) (handingFits s) t in
+    let r = handing-small s (g .1) in
+    let a = group-small s 6 (r .stretches) in
+    let b = group-small s 13 (r .chains) in
+    rw t (
+    rw (
+      flag-back (numberAt s 3) (peak-flag s 3 (reading-small s (r .reading) .best)),
+      flag-back (numberAt s 7) (peak-flag s 7 (a .0)),
+      flag-back (numberAt s 10) (peak-flag s 10 (a .1)),
+      flag-back (numberAt s 14) (peak-flag s 14 (b .0)),
+      flag-back (numberAt s 17) (peak-flag s 17 (b .1)),
+    ) (all 24 s (eqb-true (length s) handingNumbers (g .0)))))
+    (λ t. taken-so h (other-handing s t))
+
+at-peak : (p : Top) (i : ℕ) (s : List ℕ) → numberAt s i ≡ cond (p .below) 1 0 → numberAt s (i + 1) ≡ p .size
+    → numberAt s (i + 2) ≡ p .time → PeakPlaces p i s
+at-peak p i s a b d = record { below = a; size = b; time = d }
+
 result-exactly : (s : List ℕ) → length s ≡ CHIM-RESULT-NUMBERS → ofResult (resultOf s) ≡ s
 unfolding resultOf numbers
 result-exactly s l = rw (eq-eqb (length s) resultNumbers l) (all 5 s l)
@@ -290,6 +376,46 @@ header =
       a-sum = λ s. record { long = refl; step = refl; failures = refl; samples = refl };
       bounds = λ b. record { long = refl; estimate = refl; lower = refl; upper = refl; time = refl };
       times = λ t. record { long = refl; estimated = refl; longest-accepted = refl; shortest-rejected = refl };
+      first-pass =
+          λ t R L.
+          record {
+            long = refl;
+            step = refl;
+            samples = refl;
+            runs = refl;
+            largest = at-peak (t .reading .best) 3 (ofSurvey t R L) refl refl refl;
+            peaks = refl;
+            sum = refl;
+            ramp = refl;
+            left = refl;
+          };
+      second-pass =
+          λ h L.
+          let s = ofHanding h L in
+          let e = h .envelope in
+          record {
+            long = refl;
+            step = refl;
+            samples = refl;
+            runs = refl;
+            largest = at-peak (h .reading .best) 3 s refl refl refl;
+            stretches =
+                record {
+                  opened = refl;
+                  last = at-peak (e .stretches .last) 7 s refl refl refl;
+                  largest = at-peak (e .stretches .best) 10 s refl refl refl;
+                };
+            chains =
+                record {
+                  opened = refl;
+                  last = at-peak (e .chains .last) 14 s refl refl refl;
+                  largest = at-peak (e .chains .best) 17 s refl refl refl;
+                };
+            decorrelation = refl;
+            peaks = refl;
+            sum = refl;
+            left = refl;
+          };
       a-row = λ p. record { long = refl; owner = refl; campaign = refl };
       refusals =
           record {
@@ -338,6 +464,8 @@ header =
             a-record = record-exactly;
             a-campaign = campaign-exactly;
             a-sum = sum-exactly;
+            first-pass = survey-exactly;
+            second-pass = handing-exactly;
             a-result = result-exactly;
             a-row = row-exactly;
           };

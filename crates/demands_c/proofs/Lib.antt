@@ -1,4 +1,5 @@
 pub mod Telling
 pub mod Entries
+pub mod Pieces
 pub mod Header
 pub mod Request9

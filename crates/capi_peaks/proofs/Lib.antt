@@ -1,0 +1,5 @@
+pub mod Fits
+pub mod Bounds
+pub mod States
+pub mod Cut
+pub mod Unique

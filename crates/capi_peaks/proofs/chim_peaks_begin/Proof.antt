@@ -1,0 +1,17 @@
+-- `capi_peaks::chim_peaks_begin` meets its contract: the second pass that the first leads to is kept in the array.
+-- Assumes nothing.
+use borrow.Author.Needs.{needs}
+use Rattle.capi_peaks.proofs.chim_peaks_begin.Statement.{statement}
+use Rattle.capi_peaks.proofs.chim_peaks_begin.Tie as tie
+
+returns : tie.Need-returns
+returns c =
+    let b = c .before .before .before .before .before in
+    rw (← b .before .before .survey-of .ensures, ← b .before .number-at .ensures, ← b .begin .ensures)
+    (c .before .before .keep-handing .ensures)
+
+pub chim-peaks-begin-spec : {M : Type 1} → statement M
+chim-peaks-begin-spec =
+    tie.close
+    (tie.spec (λ c κs. search needs) (λ c κs. search needs) (λ c κs. search needs) (λ c κs. search needs)
+    (λ c. search needs) returns)

@@ -1,0 +1,13 @@
+-- `capi_peaks::of_survey` meets its contract: a flag between the numbers. Assumes nothing.
+use borrow.Author.Needs.{needs}
+use Rattle.capi_peaks.proofs.of_survey.Statement.{statement}
+use Rattle.capi_peaks.proofs.of_survey.Tie as tie
+
+returns : tie.Need-returns
+returns c = rw (c .before .before .before .flag .ensures)
+
+pub of-survey-spec : {M : Type 1} → statement M
+of-survey-spec =
+    tie.close
+    (tie.spec (λ c. search needs) (λ c. search needs) (λ c. search needs) (λ c κs. search needs) (λ c. search needs)
+    (λ c. search needs) (λ c. search needs) returns)

@@ -1,0 +1,23 @@
+-- `capi_peaks::survey_fits` meets its contract: its tests are those of the definition. Assumes nothing.
+use borrow.Author.Needs.{needs}
+use Rattle.capi_peaks.proofs.survey_fits.Statement.{statement}
+use Rattle.capi_peaks.proofs.survey_fits.Tie as tie
+
+returns : tie.Need-returns
+returns c =
+    let b = c .before .before .before in
+    rw (
+      c .both4 .ensures,
+      c .before .both3 .ensures,
+      c .before .before .both2 .ensures,
+      b .left-fits .ensures,
+      b .before .both .ensures,
+      b .before .before .before .before .before .reading-fits .ensures,
+    )
+
+pub survey-fits-spec : {M : Type 1} → statement M
+survey-fits-spec =
+    tie.close
+    (tie.spec (λ c κs. search needs) (λ c. search needs) (λ c. search needs) (λ c. search needs)
+    (λ c κs. search needs) (λ c κs. search needs) (λ c κs. search needs) (λ c κs. search needs) (λ c κs. search needs)
+    returns)

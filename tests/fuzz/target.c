@@ -2,7 +2,7 @@
  * to hold whatever comes: a refusal leaves every lent array as it stood, what is handed out is never refused as broken, a piece cut anywhere leads to
  * the same record, a record's channels changed for each other give the same failures, a sheet's campaign is that of its records, a bureau's call leaves the other's
  * places, a comma file that is read is written and read again, a sheet's records are refused as the sheet is, and written they are the sheet, envelope peaks are samples
- * of the record, apart as they have to be, a loading condition is what its campaigns are told one by one, and a sum has the groups and the samples of the records that
+ * of the record, apart as they have to be, and the same in two passes cut anywhere, a pass of any numbers is refused and left or goes on, a loading condition is what its campaigns are told one by one, and a sum has the groups and the samples of the records that
  * were added. */
 #include <inttypes.h>
 #include <stdint.h>
@@ -434,6 +434,56 @@ static void beyond(void) {
     }
 }
 
+/* the same samples in two passes, cut at a place in each: refused where the whole record is, and else handed out as its peaks */
+static void two_passes(uint64_t step, uint64_t ramp, uint64_t tau, const int32_t *samples, size_t n, size_t cut, size_t other) {
+    enum { MOST = 256 };
+    uint64_t first[CHIM_SURVEY_NUMBERS], second[CHIM_HANDING_NUMBERS], carried, k;
+    uint32_t sizes[MOST], times[MOST], ours[MOST + 1], when[MOST + 1];
+    uint64_t whole = chim_envelope_find(step, ramp, tau, samples, n, sizes, MOST, times, MOST, &k);
+    uint64_t refused = chim_peaks_survey(step, ramp, first, CHIM_SURVEY_NUMBERS, &carried);
+    if (refused == CHIM_TAKEN)
+        refused = chim_peaks_take(first, CHIM_SURVEY_NUMBERS, samples, cut, &carried);
+    if (refused == CHIM_TAKEN)
+        refused = chim_peaks_take(first, CHIM_SURVEY_NUMBERS, samples + cut, n - cut, &carried);
+    if (refused == CHIM_TAKEN)
+        refused = chim_peaks_begin(first, CHIM_SURVEY_NUMBERS, tau, second, CHIM_HANDING_NUMBERS, &carried);
+    hold(refused == whole);
+    if (refused != CHIM_TAKEN)
+        return;
+    uint64_t found, more, last;
+    hold(chim_peaks_hand_over(second, CHIM_HANDING_NUMBERS, samples, other, ours, MOST, when, MOST, &found) == CHIM_TAKEN);
+    hold(chim_peaks_hand_over(second, CHIM_HANDING_NUMBERS, samples + other, n - other, ours + found, MOST - found, when + found, MOST - found, &more) ==
+         CHIM_TAKEN);
+    hold(chim_peaks_last(second, CHIM_HANDING_NUMBERS, ours + found + more, when + found + more, &last) == CHIM_TAKEN);
+    hold(found + more + last == k);
+    hold(memcmp(ours, sizes, k * sizeof *ours) == 0 && memcmp(when, times, k * sizeof *when) == 0);
+}
+
+/* passes of any numbers: refused and left as they stood, or taken, and then taken again */
+static void any_pass(void) {
+    enum { MOST = 64 };
+    int32_t samples[MOST];
+    size_t n = 0;
+    uint64_t first[CHIM_SURVEY_NUMBERS], second[CHIM_HANDING_NUMBERS], before[CHIM_HANDING_NUMBERS], carried;
+    uint32_t sizes[MOST], times[MOST], size = 5, time = 6;
+    for (size_t i = 0; i < CHIM_SURVEY_NUMBERS; i++)
+        first[i] = number(i == 7 ? 3 : i % 2 + 1);
+    for (size_t i = 0; i < CHIM_HANDING_NUMBERS; i++)
+        second[i] = number(i == 22 ? 3 : i == 3 || i == 7 || i == 10 || i == 14 || i == 17 ? 1 : i % 2 + 1);
+    while (left > 0 && n < MOST)
+        samples[n++] = (int32_t)number(1) - 128;
+    memcpy(before, first, sizeof first);
+    if (chim_peaks_take(first, CHIM_SURVEY_NUMBERS, samples, n, &carried) == CHIM_TAKEN)
+        hold(chim_peaks_take(first, CHIM_SURVEY_NUMBERS, samples, 0, &carried) == CHIM_TAKEN);
+    else
+        hold(memcmp(before, first, sizeof first) == 0);
+    memcpy(before, second, sizeof second);
+    if (chim_peaks_hand_over(second, CHIM_HANDING_NUMBERS, samples, n, sizes, MOST, times, MOST, &carried) == CHIM_TAKEN)
+        hold(carried <= n && chim_peaks_last(second, CHIM_HANDING_NUMBERS, &size, &time, &carried) == CHIM_TAKEN);
+    else
+        hold(memcmp(before, second, sizeof second) == 0);
+}
+
 /* the envelope peaks of any samples, into slices of any lengths: more than the decorrelation time apart, each a sample of that size at that time, and nothing
  * beyond; with places enough the same call is taken */
 static void envelope(void) {
@@ -442,6 +492,10 @@ static void envelope(void) {
     uint32_t sizes[MOST + 1], times[MOST + 1];
     uint64_t step = number(2), ramp = number(1), tau = number(2), few = number(1), many = number(1), carried = 0, again = 0;
     size_t n = 0;
+    if (few == 255) {
+        any_pass();
+        return;
+    }
     while (left > 0 && n < MOST)
         samples[n++] = (int32_t)number(1) - 128;
     memset(sizes, 0xa5, sizeof sizes);
@@ -461,6 +515,7 @@ static void envelope(void) {
     }
     if (answer == CHIM_ROOM)
         hold(chim_envelope_find(step, ramp, tau, samples, n, sizes, MOST, times, MOST, &again) == CHIM_TAKEN && again == carried);
+    two_passes(step, ramp, tau, samples, n, few % (n + 1), many % (n + 1));
 }
 
 /* one campaign of a condition: any numbers, or one that records were entered into */

@@ -3,8 +3,8 @@
 -- stands for after a call; and that a record cut anywhere, once for each pass, is answered with the peaks that
 -- chim_envelope_find finds in the whole. surveyOf and handingOf are the passes that arrays stand for, ofSurvey and
 -- ofHanding the numbers of a pass (capi_peaks's specs, Numbers); peaksTaken .. are what the contracts say (Told),
--- givenOut and AllTaken .. calls one after the other (Calls). D is the step, R the ramp, τ the decorrelation time.
--- Assumes nothing.
+-- givenOut and AllTaken .. calls one after the other (Calls). Request11Pieces of demands has the same for the library.
+-- D is the step, R the ramp, τ the decorrelation time. Assumes nothing.
 use Prim.Native.Nat.{ℕ, _+_, _-_, _≤_}
 use mathlib.Core.Path.{_≡_, ap, refl, sym}
 use mathlib.Core.Bool.{Bool, false, not, true, _||_}

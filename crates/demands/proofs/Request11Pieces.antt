@@ -94,18 +94,59 @@ pub record Request11Pieces : Type 0 where
       → HandsOver h xs sizes times x s u → HandsOver h xs sizes times y t v → (x ≡ y) × (s ≡ t) × (u ≡ v)
 
 -- ---- the proof
+by-survey : (D : ℕ) → Decides Refused (not (stepInRange D) gives Item 1 ∷ []) (Taken (none D)) (started D)
+unfolding decide started
+by-survey D = decided Refused (Taken (none D)) (λ r s e. cc) (λ r e. impossible (cc)) _ (started D) refl
+
+by-take : (s : Surveying) (xs : List ℤ)
+    → Decides Refused
+    (not (sound s) gives BrokenState
+    ∷ (ltb (mostInRange (s .reading .step) 0) (s .reading .n + length xs) gives TooLong
+    ∷ []))
+    (Taken (foldl surveyed s xs)) (taken s xs)
+unfolding decide taken
+by-take s xs = decided Refused (Taken (foldl surveyed s xs)) (λ r t e. cc) (λ r e. impossible (cc)) _ (taken s xs) refl
+
+by-begin : (D τ n s : ℕ)
+    → Decides handing.Refused (not (stepInRange D) gives Item 1 ∷ (not (decorrelationInRange τ) gives Item 4 ∷ []))
+    (handing.Taken (waiting D τ n s) 0) (begun D τ n s)
+unfolding decide begun
+by-begin D τ n s =
+    decided handing.Refused (handing.Taken (waiting D τ n s) 0) (λ r t e. cc) (λ r e. impossible (cc)) _ (begun D τ n s) refl
+
+by-hand-over : (h : Handing) (xs : List ℤ) (sizes times : ℕ)
+    → Decides handing.Refused
+    (not (ready h) gives BrokenState
+    ∷ (ltb (mostInRange (h .reading .step) 0) (h .reading .n + length xs) gives TooLong
+    ∷ ((ltb sizes (length xs) || ltb times (length xs)) gives Room (length xs)
+    ∷ [])))
+    (handing.Taken (foldl moved h xs) (length (closedBy h xs))) (handsOn h xs sizes times)
+unfolding decide handsOn
+by-hand-over h xs sizes times =
+    decided handing.Refused (handing.Taken (foldl moved h xs) (length (closedBy h xs))) (λ r t e. cc)
+    (λ r e. impossible (cc)) _ (handsOn h xs sizes times) refl
+
+by-stays : (h : Handing) (xs : List ℤ) (sizes times s t : List ℕ) (f : Refusal)
+    → HandsOver h xs sizes times (handing.Refused f) s t → (s ≡ sizes) × (t ≡ times)
+unfolding noted
+by-stays h xs sizes times s t f p = (p .sizes-left, p .times-left)
+
+by-given : (h g : Handing) (xs : List ℤ) (sizes times s t : List ℕ) (k : ℕ) → HandsOver h xs sizes times (handing.Taken g k) s t
+    → (s ≡ map sizeOf (closedBy h xs) ++ drop k sizes) × (t ≡ map momentOf (closedBy h xs) ++ drop k times)
+unfolding noted
+by-given h g xs sizes times s t k p = (p .sizes-left, p .times-left)
+
 pub request-11-pieces : Request11Pieces
-unfolding decide started taken begun handsOn noted
 request-11-pieces =
     record {
-      survey = λ D. decided Refused (Taken (none D)) (λ r s e. cc) (λ r e. impossible (cc)) _ (started D) refl;
-      take = λ s xs. decided Refused (Taken (foldl surveyed s xs)) (λ r t e. cc) (λ r e. impossible (cc)) _ (taken s xs) refl;
+      survey = by-survey;
+      take = by-take;
       totals = λ D ps d m l. let a = survey-anywhere D ps d m l in (a .0, a .1, a .2 .number, a .2 .sum);
       too-long = survey-too-long;
-      begin = λ D τ n s. decided handing.Refused (handing.Taken (waiting D τ n s) 0) (λ r t e. cc) (λ r e. impossible (cc)) _ (begun D τ n s) refl;
-      hand-over = λ h xs sizes times. decided handing.Refused (handing.Taken (foldl moved h xs) (length (closedBy h xs))) (λ r t e. cc) (λ r e. impossible (cc)) _ (handsOn h xs sizes times) refl;
-      stays = λ h xs sizes times s t f p. (p .sizes-left, p .times-left);
-      given = λ h g xs sizes times s t k p. (p .sizes-left, p .times-left);
+      begin = by-begin;
+      hand-over = by-hand-over;
+      stays = by-stays;
+      given = by-given;
       few = λ h xs sizes times s t x p. p .few;
       passes = passes-anywhere;
       judged = file-judged;

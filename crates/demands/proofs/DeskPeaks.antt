@@ -2,7 +2,7 @@
 -- item goes before all files; a file is refused by the first of 10, 2, 3, 4, or its envelope peaks are written, line by
 -- line; and of several files the first that is refused ends it. Assumes nothing.
 use mathlib.Core.Path.{_≡_, refl, ap, _∙_}
-use mathlib.Core.Bool.{cond, false, true}
+use mathlib.Core.Bool.{cond, false, not, true, _&&_}
 use mathlib.Core.List.{List, [], _∷_, _++_, map}
 use Prim.Native.Nat.{ℕ, _+_}
 use lib.Dec.{eqb, ltb}
@@ -21,6 +21,10 @@ use Rattle.comma_peaks.specs.declared.Judged.the-variants.{Refused, Peaks}
 use Rattle.comma_peaks.specs.declared.Judged.{Judged}
 use Rattle.comma_peaks.specs.Judged.{comesTo}
 use Rattle.peak_files.specs.Said.{placesOf, peaksRead, judgedSaid, fileSaid, thenSaid, filesFrom, searched, itemsSaid, peaksSaid, filesSaid}
+use Rattle.peak_stream.specs.declared.Surveying.{Surveying}
+use Rattle.peak_stream.specs.declared.Surveyed.the-variants as survey
+use Rattle.peak_files.specs.declared.Pass.{Pass}
+use Rattle.peak_files.specs.Passing.{finishing, lastBy}
 use Rattle.peak_files.specs.Reading.{Twice, ReadTwice, AllTwice, bothWrote, filesWrote}
 use Rattle.peak_files.proofs.Anywhere.{file-anywhere, files-anywhere}
 use Rattle.demands.proofs.Demand1.{Test, _gives_, decide}
@@ -57,6 +61,14 @@ pub record DeskPeaks : Type 0 where
       → filesFrom D R τ file (text ∷ texts) ≡ record { line = fileSaid D R τ file text .line ++ filesFrom D R τ (file + 1) texts .line; end = filesFrom D R τ (file + 1) texts .end }
   pub files-stop : (D R τ file : ℕ) (text : List ℕ) (texts : List (List ℕ)) → eqb (fileSaid D R τ file text .end) 48 ≡ false
       → filesFrom D R τ file (text ∷ texts) ≡ fileSaid D R τ file text
+  -- a file that has changed between its readings: they differ in their lines, in the first sample out of range, in the
+  -- number of peaks or in their sum, or the second has a wrong line. Nothing more is written, and '2'
+  pub peaks-changed : (a b : Pass) (s t : Surveying) → a .counted ≡ survey.Taken s → b .counted ≡ survey.Taken t
+      → let f = a .follow in
+      let g = b .follow in
+      finishing a b
+      ≡ cond (((eqb (f .lines) (g .lines) && eqb (f .outside) (g .outside)) && (eqb (s .number) (t .number) && eqb (s .sum) (t .sum))) && not (b .wrong))
+      (peaksRead (b .file) (lastBy (b .handing))) (record { line = []; end = 50 })
   pub files-end : (D R τ file : ℕ) → filesFrom D R τ file [] ≡ record { line = []; end = 48 }
 
 -- ---- the proof
@@ -71,6 +83,15 @@ first-item D R τ s e = rw e
 no-item : (D R τ : ℕ) (s : Said) → eqb (itemOutside (searched D R τ)) 0 ≡ true → thenSaid (itemsSaid D R τ) s ≡ s
 unfolding thenSaid itemsSaid
 no-item D R τ s e = rw e
+
+by-changed : (a b : Pass) (s t : Surveying) → a .counted ≡ survey.Taken s → b .counted ≡ survey.Taken t
+    → let f = a .follow in
+    let g = b .follow in
+    finishing a b
+    ≡ cond (((eqb (f .lines) (g .lines) && eqb (f .outside) (g .outside)) && (eqb (s .number) (t .number) && eqb (s .sum) (t .sum))) && not (b .wrong))
+    (peaksRead (b .file) (lastBy (b .handing))) (record { line = []; end = 50 })
+unfolding finishing
+by-changed a b s t e h = rw (e, h)
 
 pub deskPeaks : DeskPeaks
 unfolding peaksSaid filesSaid fileSaid filesFrom thenSaid
@@ -87,5 +108,6 @@ deskPeaks =
       peaks-written = λ D R τ file text e. ap (judgedSaid file (peaksRead file (handed D R τ (samplesOf (linesOf text))))) e;
       files-on = λ D R τ file text texts e. rw e;
       files-stop = λ D R τ file text texts e. rw e;
+      peaks-changed = by-changed;
       files-end = λ D R τ file. refl;
     }

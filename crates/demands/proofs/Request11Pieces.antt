@@ -3,11 +3,11 @@
 -- that the whole record hands out; the same for a comma file, whose text and samples are cut anywhere in either
 -- reading. D is the step, R the ramp, τ the decorrelation time, xs all samples. The proof only puts together what
 -- `peak_stream` and `comma_peaks` have. Assumes nothing.
-use Prim.Native.Nat.{ℕ, _+_, _≤_, _<_}
+use Prim.Native.Nat.{ℕ, _+_, _*_, _≤_, _<_}
 use mathlib.Core.Path.{_≡_, refl}
-use mathlib.Core.Bool.{true, not, _||_}
+use mathlib.Core.Bool.{Bool, true, not, _&&_, _||_}
 use mathlib.Core.List.{List, [], _∷_, _++_, foldl, map}
-use lib.Dec.{eqb, ltb}
+use lib.Dec.{eqb, leb, ltb}
 use lib.IntN.{ℤ}
 use lib.ListN.{length, drop}
 use Rattle.truth.proofs.Laws.{impossible}
@@ -18,13 +18,14 @@ use Rattle.crossing_sets.specs.Parting.{together}
 use Rattle.peak_groups.specs.Peaks.{handed, sum}
 use Rattle.peak_groups.specs.Runs.{peaks}
 use Rattle.peak_machine.specs.Step.{momentOf, sizeOf}
+use Rattle.peak_stream.specs.declared.Reading.{Reading}
 use Rattle.peak_stream.specs.declared.Surveying.{Surveying}
 use Rattle.peak_stream.specs.declared.Surveyed.the-variants.{Taken, Refused}
 use Rattle.peak_stream.specs.declared.Handing.{Handing}
 use Rattle.peak_stream.specs.declared.Handed.{Handed}
 use Rattle.peak_stream.specs.declared.Handed.the-variants as handing
-use Rattle.peak_stream.specs.Survey.{none, started, surveyed, sound, taken, onwards, Totalled, Small}
-use Rattle.peak_stream.specs.Hands.{waiting, begun, moved, closedBy, ready, handsOn, handingOut, noted}
+use Rattle.peak_stream.specs.Survey.{none, started, surveyed, taken, onwards, Totalled, Small}
+use Rattle.peak_stream.specs.Hands.{waiting, begun, moved, closedBy, handsOn, handingOut, noted}
 use Rattle.peak_stream.specs.Hands.{HandsOver, Pieces}
 use Rattle.peak_stream.proofs.Pieces.{survey-anywhere, survey-too-long}
 use Rattle.peak_stream.proofs.Anywhere.{passes-anywhere}
@@ -42,12 +43,26 @@ use Rattle.comma_peaks.proofs.Peaks.{file-peaks}
 use Rattle.demands.proofs.Demand1.{Decides, _gives_, decide, decided}
 
 -- ---- the statement
+-- the relations of 8: no more samples than a record may have, no more runs than samples; of a first pass no more peaks
+-- than samples, and no larger a sum than as many numbers of 32 bits as there are samples can have; of a second no more
+-- stretches and no more chains than samples
+abbrev pub readingKept : Reading → Bool
+readingKept r = leb (r .n) (mostInRange (r .step) 0) && leb (r .opened) (r .n)
+
+abbrev pub firstKept : Surveying → Bool
+firstKept s = readingKept (s .reading) && (leb (s .number) (s .reading .n) && leb (s .sum) (s .reading .n * 4294967295))
+
+abbrev pub secondKept : Handing → Bool
+secondKept h =
+    readingKept (h .reading)
+    && (leb (h .envelope .stretches .opened) (h .reading .n) && leb (h .envelope .chains .opened) (h .reading .n))
+
 pub record Request11Pieces : Type 0 where
   -- the first pass
   pub survey : (D : ℕ) → Decides Refused (not (stepInRange D) gives Item 1 ∷ []) (Taken (none D)) (started D)
   pub take : (s : Surveying) (xs : List ℤ)
       → Decides Refused
-      (not (sound s) gives BrokenState
+      (not (firstKept s) gives BrokenState
       ∷ (ltb (mostInRange (s .reading .step) 0) (s .reading .n + length xs) gives TooLong
       ∷ []))
       (Taken (foldl surveyed s xs)) (taken s xs)
@@ -63,7 +78,7 @@ pub record Request11Pieces : Type 0 where
       (handing.Taken (waiting D τ n s) 0) (begun D τ n s)
   pub hand-over : (h : Handing) (xs : List ℤ) (sizes times : ℕ)
       → Decides handing.Refused
-      (not (ready h) gives BrokenState
+      (not (secondKept h) gives BrokenState
       ∷ (ltb (mostInRange (h .reading .step) 0) (h .reading .n + length xs) gives TooLong
       ∷ ((ltb sizes (length xs) || ltb times (length xs)) gives Room (length xs)
       ∷ [])))
@@ -100,7 +115,7 @@ by-survey D = decided Refused (Taken (none D)) (λ r s e. cc) (λ r e. impossibl
 
 by-take : (s : Surveying) (xs : List ℤ)
     → Decides Refused
-    (not (sound s) gives BrokenState
+    (not (firstKept s) gives BrokenState
     ∷ (ltb (mostInRange (s .reading .step) 0) (s .reading .n + length xs) gives TooLong
     ∷ []))
     (Taken (foldl surveyed s xs)) (taken s xs)
@@ -116,7 +131,7 @@ by-begin D τ n s =
 
 by-hand-over : (h : Handing) (xs : List ℤ) (sizes times : ℕ)
     → Decides handing.Refused
-    (not (ready h) gives BrokenState
+    (not (secondKept h) gives BrokenState
     ∷ (ltb (mostInRange (h .reading .step) 0) (h .reading .n + length xs) gives TooLong
     ∷ ((ltb sizes (length xs) || ltb times (length xs)) gives Room (length xs)
     ∷ [])))

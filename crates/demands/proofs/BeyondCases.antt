@@ -24,10 +24,16 @@ use Rattle.peak_reach.specs.declared.Letter.{Letter}
 use Rattle.peak_reach.specs.declared.Letter.the-variants.{Accept, Continue, Reject}
 use Rattle.peak_reach.specs.declared.Times.{Times}
 use Rattle.sample_items.specs.Limits as limits
-use Rattle.decimal.specs.Decimal.{allDigits, digitsOf, digitsWithin, isNumber}
+use Rattle.sample_range.specs.Range.{firstBad}
+use Rattle.crossing_sets.specs.Groups.{attach, groups}
+use Rattle.peak_groups.specs.Groups.{larger, largest, those, tops}
+use Rattle.peak_groups.specs.Runs as runs
+use Rattle.peak_groups.specs.Peaks.{sum}
+use Rattle.decimal.specs.Decimal.{allDigits, digitsOf, digitsWithin, isNumber, valueOf}
 use Rattle.decimal.specs.Field.{fieldText}
 use Rattle.decimal.specs.Leading.{leading}
 use Rattle.decimal.specs.Lines.{linesOf}
+use Rattle.degrees.specs.Degrees.{filled, isSize, size, sizeLength}
 use Rattle.comma_line.specs.Line.{isCommaLine, right}
 use Rattle.comma_line.specs.Text.{firstWrong}
 use Rattle.comma_peaks.specs.Judged.{comesTo}
@@ -324,6 +330,15 @@ line-of-standard = refl
 line-of-file : reachSaid (job 40000 2 1) ((120 ∷ []) ∷ []) ≡ record { line = 114 ∷ 101 ∷ 102 ∷ 117 ∷ 115 ∷ 101 ∷ 100 ∷ 9 ∷ 49 ∷ 9 ∷ 49 ∷ 9 ∷ 49 ∷ 48 ∷ 10 ∷ []; end = 49 }
 unfolding reachSaid reachFrom comesTo linesOf firstWrong right isCommaLine isNumber leading allDigits limits.itemOutside refusedLine placesThen whyText fieldText digitsOf digitsWithin
 line-of-file = refl
+
+-- of several files the number comes first, then the line: after two calm samples, refused 2 1 10
+line-of-second : reachSaid (record { step = 500; ramp = 0; level = 40000; decorrelation = 0; tail = 2; standard = 1 })
+    ((48 ∷ 44 ∷ 48 ∷ 10 ∷ 53 ∷ 48 ∷ 48 ∷ 44 ∷ 48 ∷ 10 ∷ []) ∷ (120 ∷ []) ∷ [])
+    ≡ record { line = 114 ∷ 101 ∷ 102 ∷ 117 ∷ 115 ∷ 101 ∷ 100 ∷ 9 ∷ 50 ∷ 9 ∷ 49 ∷ 9 ∷ 49 ∷ 48 ∷ 10 ∷ []; end = 49 }
+unfolding reachSaid reachFrom comesTo linesOf firstWrong right isCommaLine isNumber leading allDigits valueOf isSize
+    sizeLength filled size firstBad limits.mostInRange runs.peaks runs.points runs.started attach groups those larger
+    largest tops sum limits.itemOutside refusedLine placesThen whyText fieldText digitsOf digitsWithin
+line-of-second = refl
 
 -- ---- builders
 -- one who answers C to everything, one who answers A to everything, and one whose times are all 0

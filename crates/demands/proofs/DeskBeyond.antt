@@ -4,7 +4,7 @@
 use mathlib.Core.Path.{_≡_, refl}
 use mathlib.Core.Bool.{Bool, cond, false, not, true}
 use mathlib.Core.List.{List, [], _∷_, _++_, map}
-use Prim.Native.Nat.{ℕ, _+_, _≤_}
+use Prim.Native.Nat.{ℕ, _+_, _-_, _≤_}
 use lib.Dec.{eqb, ltb}
 use lib.ListN.{length}
 use Rattle.refusal.specs.declared.Refusal.{Refusal}
@@ -18,7 +18,9 @@ use Rattle.comma_line.specs.Text.{firstWrong, samplesOf}
 use Rattle.comma_peaks.specs.declared.Judged.{Judged}
 use Rattle.comma_peaks.specs.declared.Judged.the-variants as judged
 use Rattle.comma_peaks.specs.Judged.{comesTo}
-use Rattle.desk_line.specs.Said.{Said}
+use Rattle.peak_groups.specs.Peaks.{handed}
+use Rattle.peak_machine.specs.Step.{sizeOf}
+use Rattle.desk_line.specs.Said.{Said, refused}
 use Rattle.sorting.specs.Sorting.{Sorted}
 use Rattle.peak_tail.specs.Fitting.{longestList, tailOutside}
 use Rattle.peak_reach.specs.declared.Times.{Times}
@@ -28,7 +30,7 @@ use Rattle.peak_reach.specs.Answers.{extrapolated, standardInRange}
 use Rattle.reach_files.specs.declared.Job.{Job}
 use Rattle.reach_files.specs.Down.{downwards}
 use Rattle.reach_files.specs.Line.{figuresOf, listSaid, low, refusedList, told}
-use Rattle.reach_files.specs.Files.{grownThen, itemsOf, judgedThen, mostTimed, peaksOf, reachFrom, reachSaid, refusedIn, timedOf}
+use Rattle.reach_files.specs.Files.{grownThen, itemsOf, judgedThen, peaksOf, reachFrom, reachSaid, refusedIn, timedOf}
 use Rattle.reach_files.specs.Gathering.{gatheredSaid, opened}
 use Rattle.reach_files.specs.Readings.{AllCut, AllRead, Cut, Readings, filesAfter, readingsOf}
 use Rattle.reach_files.proofs.Anywhere.{reach-anywhere, textOf}
@@ -46,16 +48,23 @@ askedTests j =
     ∷ (tailOutside longestList (j .tail) gives Tail
     ∷ []))
 
+-- the magnitudes of a file's envelope peaks ([11]), and the refused line: the file's number, then its line
+abbrev pub sizesIn : Job → List (List ℕ) → List ℕ
+sizesIn j lines = map sizeOf (handed (j .step) (j .ramp) (j .decorrelation) (samplesOf lines))
+
+abbrev pub refusedAs : ℕ → ℕ → Refusal → Said
+refusedAs file line r = refused (file ∷ line ∷ []) r
+
 -- of one file after those whose peaks are ys and whose timed samples P: 10, 2, 3, 4 over all its lines, then 16 and 19 with
--- its peaks and its samples
+-- its peaks and its samples, those of the ramp not among them
 abbrev pub reachTests : Job → List ℕ → ℕ → List (List ℕ) → List Test
 reachTests j ys P lines =
     ltb (firstWrong (j .step) 0 lines) (length lines) gives CommaLine (firstWrong (j .step) 0 lines + 1)
     ∷ (ltb (firstBad (samplesOf lines)) (length lines) gives Sample (firstBad (samplesOf lines))
     ∷ (ltb (mostInRange (j .step) (j .ramp)) (length lines) gives TooLong
     ∷ (tooFew (j .ramp) (length lines) gives TooShort
-    ∷ (ltb longestList (length (ys ++ peaksOf j lines)) gives Tail
-    ∷ (ltb mostTimed (P + timedOf j lines) gives TimedSamples
+    ∷ (ltb longestList (length (ys ++ sizesIn j lines)) gives Tail
+    ∷ (ltb 100000000 (P + (length lines - j .ramp)) gives TimedSamples
     ∷ [])))))
 
 pub record DeskBeyond : Type 0 where
@@ -69,12 +78,13 @@ pub record DeskBeyond : Type 0 where
       → let d = filesAfter j 1 (record { gathered = opened j; list = list }) (map (readingsOf (j .step)) cs) in
       gatheredSaid j (d .gathered) (d .list) ≡ reachSaid j (map (λ c. joined (c .pieces)) cs)
   -- what is asked goes before all files
-  pub asked : (j : Job) (texts : List (List ℕ)) → reachSaid j texts ≡ decide (refusedIn 0 0) (askedTests j) (reachFrom j 0 [] 0 texts)
+  pub asked : (j : Job) (texts : List (List ℕ)) → reachSaid j texts ≡ decide (refusedAs 0 0) (askedTests j) (reachFrom j 0 [] 0 texts)
   -- file by file: the tests in their order, the file named by its number, and no sample of the ramp among P
   pub file : (j : Job) (files : ℕ) (ys : List ℕ) (P : ℕ) (text : List ℕ) (texts : List (List ℕ))
       → let lines = linesOf text in
       reachFrom j files ys P (text ∷ texts)
-      ≡ decide (λ r. refusedIn (files + 1) (faultLine r) r) (reachTests j ys P lines) (reachFrom j (files + 1) (ys ++ peaksOf j lines) (P + timedOf j lines) texts)
+      ≡ decide (λ r. refusedAs (files + 1) (faultLine r) r) (reachTests j ys P lines)
+      (reachFrom j (files + 1) (ys ++ sizesIn j lines) (P + (length lines - j .ramp)) texts)
   -- after the last file the peaks are sorted downwards, and the line is what they come to
   pub sorted : (ys : List ℕ) → Sorted ys (downwards ys)
   pub end : (j : Job) (files : ℕ) (ys : List ℕ) (P : ℕ) → reachFrom j files ys P [] ≡ listSaid j files P (downwards ys)
@@ -86,7 +96,7 @@ pub record DeskBeyond : Type 0 where
   pub low-level : (u : ℕ) → refusedList (LowLevel u) ≡ low u
 
 -- ---- the proof
-by-asked : (j : Job) (texts : List (List ℕ)) → reachSaid j texts ≡ decide (refusedIn 0 0) (askedTests j) (reachFrom j 0 [] 0 texts)
+by-asked : (j : Job) (texts : List (List ℕ)) → reachSaid j texts ≡ decide (refusedAs 0 0) (askedTests j) (reachFrom j 0 [] 0 texts)
 unfolding reachSaid decide
 by-asked j texts = refl
 
@@ -105,7 +115,8 @@ by-judged refuse false false false false proper m n = refl
 by-file : (j : Job) (files : ℕ) (ys : List ℕ) (P : ℕ) (text : List ℕ) (texts : List (List ℕ))
     → let lines = linesOf text in
     reachFrom j files ys P (text ∷ texts)
-    ≡ decide (λ r. refusedIn (files + 1) (faultLine r) r) (reachTests j ys P lines) (reachFrom j (files + 1) (ys ++ peaksOf j lines) (P + timedOf j lines) texts)
+    ≡ decide (λ r. refusedAs (files + 1) (faultLine r) r) (reachTests j ys P lines)
+    (reachFrom j (files + 1) (ys ++ sizesIn j lines) (P + (length lines - j .ramp)) texts)
 unfolding reachFrom decide comesTo
 by-file j files ys P text texts =
     let lines = linesOf text in

@@ -7,16 +7,17 @@ use Rattle.binomial_bounds.proofs.bounds_of.Tie as tie
 
 add-t5 : tie.Need-add-t5
 add-t5 c =
-    let k = c .before .before .before .pre in
+    let start : tie.Start = search needs in let k = start .pre in
     omega (arith, c .before .half-width .ensures, width-is _ k, width-small _ k)
 
 mul-t6 : tie.Need-mul-t6
-mul-t6 c = omega (arith, small _ (c .before .before .before .before .pre) .time)
+mul-t6 c = let start : tie.Start = search needs in omega (arith, small _ (start .pre) .time)
 
 returns : tie.Need-returns
 returns c =
-    let k = c .before .before .before .before .pre in
-    rw (c .before .less .ensures, c .before .before .half-width .ensures, width-is _ k)
+    let start : tie.Start = search needs in let after-half-width : tie.After-half-width = search needs in
+    let k = start .pre in
+    rw (c .before .less .ensures, after-half-width .half-width .ensures, width-is _ k)
 
 pub bounds-of-spec : {M : Type 1} → statement M
 bounds-of-spec =

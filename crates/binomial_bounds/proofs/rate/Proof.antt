@@ -16,15 +16,19 @@ returns c = rw (said-no (c .before .sound .ensures) (c .if1 .taken))
 
 returns-2 : tie.Need-returns-2
 unfolding rating
-returns-2 c = rw (said-yes (c .before .before .before .sound .ensures) (c .before .before .if1 .left), eq-eqb _ _ (c .if2 .taken))
+returns-2 c =
+    let after-sound : tie.After-sound = search needs in let else1 : tie.Else1 = search needs in
+    rw (said-yes (after-sound .sound .ensures) (else1 .if1 .left), eq-eqb _ _ (c .if2 .taken))
 
 three-requires : tie.Need-three-requires
-three-requires c κs = kept-from _ (holds (said-yes (c .before .before .before .sound .ensures) (c .before .before .if1 .left)))
+three-requires c κs =
+    let after-sound : tie.After-sound = search needs in let else1 : tie.Else1 = search needs in
+    kept-from _ (holds (said-yes (after-sound .sound .ensures) (else1 .if1 .left)))
 
 returns-3 : tie.Need-returns-3
 unfolding rating
 returns-3 c =
-    let b = c .before .before .before in
+    let b : tie.Else1 = search needs in
     rw (said-yes (b .before .sound .ensures) (b .if1 .left), ne-eqb _ _ (c .before .if2 .left)) (ap (Given true) (c .three .ensures))
 
 pub rate-spec : {M : Type 1} → statement M

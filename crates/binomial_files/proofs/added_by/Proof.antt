@@ -7,11 +7,11 @@ use Rattle.binomial_files.proofs.added_by.Tie as tie
 
 returns : tie.Need-returns
 returns c =
-    let s = c .before .before .before .before in
-    c .added-to .ensures ∙ sym (ap (addedBy (s .args .file) (s .args .s)) (c .before .before .e .given .1))
+    let after-e : tie.After-e = search needs in let s : tie.Start = search needs in
+    c .added-to .ensures ∙ sym (ap (addedBy (s .args .file) (s .args .s)) (after-e .e .given .1))
 
 returns-2 : tie.Need-returns-2
-returns-2 c = let s = c .before .before .before in sym (ap (addedBy (s .args .file) (s .args .s)) (c .before .e2 .given .1))
+returns-2 c = let s : tie.Start = search needs in sym (ap (addedBy (s .args .file) (s .args .s)) (c .before .e2 .given .1))
 
 pub added-by-spec : {M : Type 1} → statement M
 added-by-spec =

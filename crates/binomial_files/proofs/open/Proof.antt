@@ -12,13 +12,13 @@ use Rattle.binomial_files.proofs.open.Tie as tie
 returns : tie.Need-returns
 unfolding openedFiles
 returns c =
-    let s = c .before .before in
+    let s : tie.Start = search needs in
     rw (eq-eqb (itemOutside (s .args .items)) 0 (sym (c .before .item-outside .ensures) ∙ c .if1 .taken))
 
 returns-2 : tie.Need-returns-2
 unfolding openedFiles
 returns-2 c =
-    let s = c .before .before in
+    let s : tie.Start = search needs in
     let is = c .before .item-outside .ensures in
     rw (ne-eqb (itemOutside (s .args .items)) 0 (λ z. c .if1 .left (is ∙ z))) (ap (λ n. added.Refused 0 0 (Item n)) is)
 

@@ -9,15 +9,17 @@ use Rattle.binomial_files.proofs.put_bounded.Tie as tie
 
 returns : tie.Need-returns
 returns c =
-    let s = c .before .before .before .before .before .before .before .before in
-    puts-same (sym (ap (saidBounded (s .args .s)) (c .before .before .before .before .before .b .given .1))) (c .before .before .put-sum .ensures)
+    let after-b : tie.After-b = search needs in let after-put-sum : tie.After-put-sum = search needs in
+    let s : tie.Start = search needs in
+    puts-same (sym (ap (saidBounded (s .args .s)) (after-b .b .given .1))) (after-put-sum .put-sum .ensures)
 
 returns-2 : tie.Need-returns-2
 returns-2 c =
-    let s = c .before .before .before .before .before .before .before .before in
-    let e = c .before .before .before .before .before .b2 .given in
+    let after-b2 : tie.After-b2 = search needs in let after-refuse-in : tie.After-refuse-in = search needs in
+    let s : tie.Start = search needs in
+    let e = after-b2 .b2 .given in
     puts-same (sym (ap (saidBounded (s .args .s)) (e .1)))
-    (with-room (refusedIn 0 0 (e .0 .0)) (s .pre) (c .before .before .refuse-in .ensures .0) (c .before .before .refuse-in .ensures .1))
+    (with-room (refusedIn 0 0 (e .0 .0)) (s .pre) (after-refuse-in .refuse-in .ensures .0) (after-refuse-in .refuse-in .ensures .1))
 
 pub put-bounded-spec : {M : Type 1} → statement M
 put-bounded-spec =

@@ -6,7 +6,9 @@ use Rattle.binomial_sum.proofs.sound.Tie as tie
 
 returns : tie.Need-returns
 unfolding sound
-returns c = rw (c .both4 .ensures, c .before .before .before .before .before .before .both .ensures, c .before .both3 .ensures, c .before .before .both2 .ensures)
+returns c =
+    let after-both : tie.After-both = search needs in let after-both2 : tie.After-both2 = search needs in
+    rw (c .both4 .ensures, after-both .both .ensures, c .before .both3 .ensures, after-both2 .both2 .ensures)
 
 pub sound-spec : {M : Type 1} → statement M
 sound-spec =

@@ -7,7 +7,9 @@ returns : tie.Need-returns
 returns c = rw (← c .before .either .ensures, c .if1 .taken)
 
 returns-2 : tie.Need-returns-2
-returns-2 c = rw (← c .before .before .before .either .ensures, c .before .before .if1 .left)
+returns-2 c =
+    let after-either : tie.After-either = search needs in let else1 : tie.Else1 = search needs in
+    rw (← after-either .either .ensures, else1 .if1 .left)
 
 pub take-spec : {M : Type 1} → statement M
 take-spec =

@@ -7,7 +7,9 @@ use Rattle.bureau_choice.proofs.choose.Tie as tie
 
 returns : tie.Need-returns
 unfolding chosen
-returns c = rw (said-no (c .before .before .fine .ensures) (c .before .if1 .taken)) (c .refusing .ensures)
+returns c =
+    let after-fine : tie.After-fine = search needs in
+    rw (said-no (after-fine .fine .ensures) (c .before .if1 .taken)) (c .refusing .ensures)
 
 returns-2 : tie.Need-returns-2
 unfolding chosen

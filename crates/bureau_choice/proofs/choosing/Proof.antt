@@ -4,7 +4,7 @@ use Rattle.bureau_choice.proofs.choosing.Statement.{statement}
 use Rattle.bureau_choice.proofs.choosing.Tie as tie
 
 returns : tie.Need-returns
-returns c = rw (c .before .before .ask .given .1) (c .taking .ensures)
+returns c = let after-ask : tie.After-ask = search needs in rw (after-ask .ask .given .1) (c .taking .ensures)
 
 returns-2 : tie.Need-returns-2
 returns-2 c = rw (c .before .ask2 .given .1)

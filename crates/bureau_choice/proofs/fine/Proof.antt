@@ -17,7 +17,9 @@ both-requires-3 c κs = search needs
 
 -- src/lib.rt:183:1
 returns : tie.Need-returns
-returns c = rw (c .both3 .ensures, c .before .both2 .ensures, c .before .before .both .ensures)
+returns c =
+    let after-both : tie.After-both = search needs in
+    rw (c .both3 .ensures, c .before .both2 .ensures, after-both .both .ensures)
 
 pub fine-spec : {M : Type 1} → statement M
 fine-spec = tie.close (tie.spec both-requires both-requires-2 both-requires-3 returns)

@@ -8,7 +8,7 @@ returns : tie.Need-returns
 returns c = rw (ne-eqb _ _ (c .if1 .taken))
 
 returns-2 : tie.Need-returns-2
-returns-2 c = rw (eq-eqb _ _ (c .before .before .if1 .left)) (c .work .ensures)
+returns-2 c = let else1 : tie.Else1 = search needs in rw (eq-eqb _ _ (else1 .if1 .left)) (c .work .ensures)
 
 pub working-spec : {M : Type 1} → statement M
 working-spec = tie.close (tie.spec returns (λ c κs. search needs) returns-2)

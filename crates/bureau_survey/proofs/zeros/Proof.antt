@@ -21,7 +21,9 @@ both-requires-4 c κs = search needs
 
 -- src/lib.rt:47:1
 returns : tie.Need-returns
-returns c = rw (c .both4 .ensures, c .before .both3 .ensures, c .before .before .both2 .ensures, c .before .before .before .both .ensures)
+returns c =
+    let after-both2 : tie.After-both2 = search needs in let after-both : tie.After-both = search needs in
+    rw (c .both4 .ensures, c .before .both3 .ensures, after-both2 .both2 .ensures, after-both .both .ensures)
 
 pub zeros-spec : {M : Type 1} → statement M
 zeros-spec = tie.close (tie.spec both-requires both-requires-2 both-requires-3 both-requires-4 returns)

@@ -36,13 +36,13 @@ returns-3 c =
 
 returns-4 : tie.Need-returns-4
 returns-4 c =
-    let l = c .before .before .before .before in
-    all-good _ _ (as-many (l .before)) (l .look .ensures) (c .before .before .if2 .left) (c .before .if3 .left) (c .if4 .taken)
+    let else2 : tie.Else2 = search needs in let l : tie.After-look = search needs in
+    all-good _ _ (as-many (l .before)) (l .look .ensures) (else2 .if2 .left) (c .before .if3 .left) (c .if4 .taken)
 
 returns-5 : tie.Need-returns-5
 returns-5 c =
-    let l = c .before .before .before .before in
-    all-open _ _ (as-many (l .before)) (l .look .ensures) (c .before .before .if2 .left) (c .before .if3 .left) (c .if4 .left)
+    let else2 : tie.Else2 = search needs in let l : tie.After-look = search needs in
+    all-open _ _ (as-many (l .before)) (l .look .ensures) (else2 .if2 .left) (c .before .if3 .left) (c .if4 .left)
 
 pub judge-spec : {M : Type 1} → statement M
 judge-spec = tie.close (tie.spec (λ c κs. search needs) returns look-requires returns-2 returns-3 returns-4 returns-5)

@@ -40,9 +40,9 @@ loop-less c = omega arith
 
 loop-again : tie.Need-loop-again Inv-loop μ-loop
 loop-again c =
-    let b = c .before .before in
-    let x = b .before .before in
-    let l = x .before .before in
+    let b : tie.After-said Inv-loop μ-loop = search needs in
+    let x : tie.After-c Inv-loop μ-loop = search needs in
+    let l : tie.At-loop Inv-loop μ-loop = search needs in
     let a = l .before .args in
     let room : a .number ≤ length (a .t1) = search needs in
     let next = on _ _ (front-next (a .t1) (a .number) room (l .loop .i) (empty 0) (x .before .loop-test .taken)) (l .loop .inv .1) in

@@ -12,14 +12,15 @@ use Rattle.campaign_condition.proofs.said.Tie as tie
 returns : tie.Need-returns
 unfolding rejected accepted
 returns c =
-    let v = c .before .before .before in
-    let is = sym (v .v .given .1) ∙ only _ _ (v .before .before .judge .ensures) in
+    let after-judge : tie.After-judge = search needs in let v : tie.After-v = search needs in
+    let is = sym (v .v .given .1) ∙ only _ _ (after-judge .judge .ensures) in
     rw (c .before .rejection .ensures ∙ ap (holdsIn rejection) is, c .acceptance .ensures ∙ ap (holdsIn acceptance) is)
 
 returns-2 : tie.Need-returns-2
 unfolding rejected accepted
 returns-2 c =
-    let is = sym (c .enum-told .given .1) ∙ only _ _ (c .before .before .judge .ensures) in
+    let after-judge : tie.After-judge = search needs in
+    let is = sym (c .enum-told .given .1) ∙ only _ _ (after-judge .judge .ensures) in
     let tells : Judged → Told = λ j. record { rejected = holdsIn rejection j; accepted = holdsIn acceptance j } in
     ap tells is
 

@@ -10,13 +10,13 @@ use Rattle.campaign_report.proofs.letter.Tie as tie
 returns : tie.Need-returns
 unfolding letterFor
 returns c =
-    let v = c .before .before in
-    let j = v .before .before in
+    let v : tie.After-v = search needs in
+    let j : tie.After-judge = search needs in
     c .verdict-letter .ensures ∙ ap verdictLetter (has-verdict _ (j .before .pre) (j .judge .result) (j .judge .ensures) (v .v .given .1))
 
 returns-2 : tie.Need-returns-2
 returns-2 c =
-    let j = c .before .before in
+    let j : tie.After-judge = search needs in
     absurd (not-refused _ (j .before .pre) (j .judge .result) (j .judge .ensures) (c .enum-told .given .1))
 
 pub letter-spec : {M : Type 1} → statement M

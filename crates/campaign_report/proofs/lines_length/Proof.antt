@@ -29,7 +29,7 @@ abbrev μ-loop : tie.MeasureT-loop
 -- the campaign that is due
 due-at : (c : tie.In-loop Inv-loop μ-loop) → let a = c .before .before .args in Due (a .t1) (a .number) (c .before .loop .i)
 due-at c =
-    let a = c .before .before .args in
+    let start : tie.Start Inv-loop μ-loop = search needs in let a = start .args in
     let room : a .number ≤ length (a .t1) = search needs in
     due (a .t1) (a .number) _ room (c .loop-test .taken) (c .before .loop .inv .1)
 
@@ -49,7 +49,9 @@ line-length-requires : tie.Need-line-length-requires Inv-loop μ-loop
 line-length-requires c κs = due-at (c .before) .good
 
 add-total : tie.Need-add-total Inv-loop μ-loop
-add-total c = omega (arith, c .line-length .ensures .1, c .before .before .before .before .pre .0)
+add-total c =
+    let start : tie.Start Inv-loop μ-loop = search needs in
+    omega (arith, c .line-length .ensures .1, start .pre .0)
 
 add-i : tie.Need-add-i Inv-loop μ-loop
 add-i c = omega arith
@@ -59,7 +61,7 @@ loop-less c = omega arith
 
 loop-again : tie.Need-loop-again Inv-loop μ-loop
 loop-again c =
-    let t = c .before .before in
+    let t : tie.In-loop Inv-loop μ-loop = search needs in
     let l = t .before in
     let a = l .before .args in
     let i = l .loop .i in

@@ -30,25 +30,34 @@ module _ (s : tie.Start) where
 
 -- the places on the way back
 abbrev start : tie.After-write-field → tie.Start
-start c = c .before .before .before
+start c = search needs
 
 abbrev first-of : tie.After-write-field2 → tie.After-write-field
-first-of c = c .before .before .before .before
+first-of c = search needs
 
 abbrev second-of : tie.After-write-field3 → tie.After-write-field2
-second-of c = c .before .before .before .before
+second-of c = search needs
 
 left1 : (c : tie.After-write-field) → Stands (start c) (BCD (start c)) (c .write-field .last .1 .1 .0) (c .write-field .result)
-left1 c = left-next (fieldText (start c .args .a) tab) _ (left0 (start c)) (c .write-field .ensures)
+left1 c =
+    let start : tie.Start = search needs in
+    left-next (fieldText (start .args .a) tab) _ (left0 start) (c .write-field .ensures)
 
 left2 : (c : tie.After-write-field2) → let s = start (first-of c) in Stands s (CD s) (c .write-field2 .last .1 .1 .0) (c .write-field2 .result)
-left2 c = left-next (fieldText (start (first-of c) .args .b) tab) _ (left1 (first-of c)) (c .write-field2 .ensures)
+left2 c =
+    let start : tie.Start = search needs in let after-write-field : tie.After-write-field = search needs in
+    left-next (fieldText (start .args .b) tab) _ (left1 after-write-field) (c .write-field2 .ensures)
 
 left3 : (c : tie.After-write-field3) → let s = start (first-of (second-of c)) in Stands s (D s) (c .write-field3 .last .1 .1 .0) (c .write-field3 .result)
-left3 c = left-next (fieldText (start (first-of (second-of c)) .args .c) tab) _ (left2 (second-of c)) (c .write-field3 .ensures)
+left3 c =
+    let start : tie.Start = search needs in let after-write-field2 : tie.After-write-field2 = search needs in
+    left-next (fieldText (start .args .c) tab) _ (left2 after-write-field2) (c .write-field3 .ensures)
 
 returns : tie.Need-returns
-returns c = left-last (left3 (c .before .before .before .before .before .before)) (c .before .before .write-field4 .ensures)
+returns c =
+    let after-write-field3 : tie.After-write-field3 = search needs in
+    let after-write-field4 : tie.After-write-field4 = search needs in
+    left-last (left3 after-write-field3) (after-write-field4 .write-field4 .ensures)
 
 pub put-four-spec : {M : Type 1} → statement M
 put-four-spec =

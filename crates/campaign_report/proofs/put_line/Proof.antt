@@ -18,7 +18,7 @@ use Rattle.campaign_report.proofs.put_line.Tie as tie
 -- these
 module _ (c : tie.After-blocks2) where
   abbrev start : tie.Start
-  start = c .before .before .before .before
+  start = search needs
 
   abbrev Four : List ℕ
   Four = fourText (start .args .number) (start .args .c .failures) (c .before .before .censored .result) (start .args .c .exposure)
@@ -40,22 +40,28 @@ module _ (c : tie.After-blocks2) where
 
 -- the places on the way back
 abbrev blocks-of : tie.After-put-four → tie.After-blocks2
-blocks-of c = c .before .before
+blocks-of c = search needs
 
 abbrev four-of : tie.After-write-byte → tie.After-put-four
-four-of c = c .before .before .before .before
+four-of c = search needs
 
 abbrev mark-of : tie.After-write-byte2 → tie.After-write-byte
-mark-of c = c .before .before .before .before
+mark-of c = search needs
 
 left1 : (c : tie.After-put-four) → let b = blocks-of c in Stands b (Mark b ∷ tab ∷ Blocks b) (c .put-four .last .1 .1 .1 .1 .0) (c .put-four .result)
-left1 c = left-next (Four (blocks-of c)) _ (left0 (blocks-of c)) (c .put-four .ensures)
+left1 c =
+    let after-blocks2 : tie.After-blocks2 = search needs in
+    left-next (Four after-blocks2) _ (left0 after-blocks2) (c .put-four .ensures)
 
 left2 : (c : tie.After-write-byte) → let b = blocks-of (four-of c) in Stands b (tab ∷ Blocks b) (c .write-byte .last .1 .0) (c .write-byte .result)
-left2 c = left-next (Mark (blocks-of (four-of c)) ∷ []) _ (left1 (four-of c)) (c .write-byte .ensures)
+left2 c =
+    let after-blocks2 : tie.After-blocks2 = search needs in let after-put-four : tie.After-put-four = search needs in
+    left-next (Mark after-blocks2 ∷ []) _ (left1 after-put-four) (c .write-byte .ensures)
 
 left3 : (c : tie.After-write-byte2) → let b = blocks-of (four-of (mark-of c)) in Stands b (Blocks b) (c .write-byte2 .last .1 .0) (c .write-byte2 .result)
-left3 c = left-next (tab ∷ []) _ (left2 (mark-of c)) (c .write-byte2 .ensures)
+left3 c =
+    let after-write-byte : tie.After-write-byte = search needs in
+    left-next (tab ∷ []) _ (left2 after-write-byte) (c .write-byte2 .ensures)
 
 blocks-requires : tie.Need-blocks-requires
 blocks-requires c κs = let s = c .before .before .before in kept-from (s .args .c) (holds (s .pre .0)) .failures-rows
@@ -65,8 +71,9 @@ put-four-requires c κs = left-room (Four (c .before)) _ (left0 (c .before))
 
 returns : tie.Need-returns
 returns c =
-    let t = c .before .before .before .before .before .before in
-    rw (whole (blocks-of (four-of (mark-of t)))) (left-last (left3 t) (c .before .before .write-field .ensures))
+    let after-blocks2 : tie.After-blocks2 = search needs in
+    let after-write-field : tie.After-write-field = search needs in let t : tie.After-write-byte2 = search needs in
+    rw (whole after-blocks2) (left-last (left3 t) (after-write-field .write-field .ensures))
 
 pub put-line-spec : {M : Type 1} → statement M
 put-line-spec =

@@ -33,7 +33,7 @@ module _ (c : tie.In-loop Inv-loop μ-loop) where
   loop = c .before
 
   abbrev start : tie.Start Inv-loop μ-loop
-  start = loop .before .before
+  start = search needs
 
   abbrev Situations : List Campaign
   Situations = take (start .args .number) (start .args .t1)
@@ -69,7 +69,7 @@ add-put-line c = omega arith
 
 put-line-requires : tie.Need-put-line-requires Inv-loop μ-loop
 put-line-requires c κs =
-    let l = c .before .before in
+    let l : tie.In-loop Inv-loop μ-loop = search needs in
     (due-at l .good, left-room (situationText (loop l .loop .i + 1) (X l)) _ (here l))
 
 add-i : tie.Need-add-i Inv-loop μ-loop
@@ -80,8 +80,8 @@ loop-less c = omega arith
 
 loop-again : tie.Need-loop-again Inv-loop μ-loop
 loop-again c =
-    let p = c .before .before in
-    let l = p .before .before .before in
+    let p : tie.After-put-line Inv-loop μ-loop = search needs in
+    let l : tie.In-loop Inv-loop μ-loop = search needs in
     (omega arith, due-at l .whole, left-next (situationText (loop l .loop .i + 1) (X l)) _ (here l) (p .put-line .ensures))
 
 same-length : tie.Need-same-length Inv-loop μ-loop
@@ -89,8 +89,8 @@ same-length c = left-length (c .before .loop .inv .2)
 
 returns : tie.Need-returns Inv-loop μ-loop
 returns c =
-    let l = c .before in
-    let a = l .before .before .args in
+    let start : tie.Start Inv-loop μ-loop = search needs in let l = c .before in
+    let a = start .args in
     let room : a .number ≤ length (a .t1) = search needs in
     let none : linesFrom (l .loop .i + 1) (drop (l .loop .i) (take (a .number) (a .t1))) ≡ [] =
     ap (linesFrom (l .loop .i + 1)) (front-end (a .t1) (a .number) room (l .loop .i) (c .loop-test .left)) ∙

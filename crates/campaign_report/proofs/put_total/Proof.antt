@@ -27,28 +27,37 @@ module _ (s : tie.Start) where
 
 -- the places on the way back
 abbrev start : tie.After-write-bytes → tie.Start
-start c = c .before .before .before .before
+start c = search needs
 
 abbrev word-of : tie.After-put-four → tie.After-write-bytes
-word-of c = c .before .before .before .before
+word-of c = search needs
 
 abbrev sums-of : tie.After-write-byte → tie.After-put-four
-sums-of c = c .before .before .before .before
+sums-of c = search needs
 
 left1 : (c : tie.After-write-bytes) → Stands (start c) (Sums (start c) ++ Mark (start c)) (c .write-bytes .last .1 .0) (c .write-bytes .result)
-left1 c = left-next totalWord _ (left0 (start c)) (c .write-bytes .ensures)
+left1 c = let start : tie.Start = search needs in left-next totalWord _ (left0 start) (c .write-bytes .ensures)
 
 left2 : (c : tie.After-put-four) → let s = start (word-of c) in Stands s (Mark s) (c .put-four .last .1 .1 .1 .1 .0) (c .put-four .result)
-left2 c = left-next (Sums (start (word-of c))) _ (left1 (word-of c)) (c .put-four .ensures)
+left2 c =
+    let start : tie.Start = search needs in let after-write-bytes : tie.After-write-bytes = search needs in
+    left-next (Sums start) _ (left1 after-write-bytes) (c .put-four .ensures)
 
 left3 : (c : tie.After-write-byte) → let s = start (word-of (sums-of c)) in Stands s (lineFeed ∷ []) (c .write-byte .last .1 .0) (c .write-byte .result)
-left3 c = left-next (start (word-of (sums-of c)) .args .letter ∷ []) _ (left2 (sums-of c)) (c .write-byte .ensures)
+left3 c =
+    let start : tie.Start = search needs in let after-put-four : tie.After-put-four = search needs in
+    left-next (start .args .letter ∷ []) _ (left2 after-put-four) (c .write-byte .ensures)
 
 put-four-requires : tie.Need-put-four-requires
-put-four-requires c κs = let w = c .before .before .before in left-room (Sums (start w)) _ (left1 w)
+put-four-requires c κs =
+    let start : tie.Start = search needs in
+    let w : tie.After-write-bytes = search needs in left-room (Sums start) _ (left1 w)
 
 returns : tie.Need-returns
-returns c = left-last (left3 (c .before .before .before .before .before .before)) (c .before .before .write-byte2 .ensures)
+returns c =
+    let after-write-byte : tie.After-write-byte = search needs in
+    let after-write-byte2 : tie.After-write-byte2 = search needs in
+    left-last (left3 after-write-byte) (after-write-byte2 .write-byte2 .ensures)
 
 pub put-total-spec : {M : Type 1} → statement M
 put-total-spec =

@@ -51,8 +51,8 @@ array-copy-out-c c = omega arith
 
 add-records : tie.Need-add-records Inv-loop μ-loop
 add-records c =
-    let t = c .before .before in
-    omega (arith, kept t .records, t .before .loop .inv .2 .few-records, t .before .before .pre .0)
+    let start : tie.Start Inv-loop μ-loop = search needs in let t : tie.In-loop Inv-loop μ-loop = search needs in
+    omega (arith, kept t .records, t .before .loop .inv .2 .few-records, start .pre .0)
 
 add-failures : tie.Need-add-failures Inv-loop μ-loop
 add-failures c =

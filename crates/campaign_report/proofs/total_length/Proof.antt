@@ -8,8 +8,8 @@ use Rattle.campaign_report.proofs.total_length.Tie as tie
 
 returns : tie.Need-returns
 returns c =
-    let b = c .before .before in
-    let s = b .before .before in
+    let b : tie.After-digits2 = search needs in
+    let s : tie.Start = search needs in
     let d1 = b .before .digits .ensures in
     let d2 = b .digits2 .ensures in
     let d3 = c .before .digits3 .ensures in

@@ -22,12 +22,12 @@ use Rattle.campaign_report.proofs.write.Tie as tie
 
 -- ways back to earlier places of the function
 abbrev put-lines : tie.After-put-total-arg → tie.After-put-lines
-put-lines c = c .before .before .before
+put-lines c = search needs
 
 -- the condition has its standing
 module _ (c : tie.After-known-told2) where
   abbrev start : tie.Start
-  start = c .before .before .before .before .before
+  start = search needs
 
   abbrev Number : ℕ
   Number = start .args .number
@@ -42,7 +42,7 @@ module _ (c : tie.After-known-told2) where
   S = c .before .s .given .0 .0
 
   given : judging Number Situations ≡ Given S
-  given = sym (c .before .before .before .judge .ensures) ∙ c .before .s .given .1
+  given = let after-judge : tie.After-judge = search needs in sym (after-judge .judge .ensures) ∙ c .before .s .given .1
 
   stands : Stood Number Situations S
   stands = stood Number Situations S given
@@ -50,13 +50,19 @@ module _ (c : tie.After-known-told2) where
 -- the sums, the letter and the bytes needed are those of the report
 module _ (c : tie.After-total-length) where
   abbrev judged : tie.After-known-told2
-  judged = c .before .before .before .before
+  judged = search needs
 
   abbrev Last : List ℕ
-  Last = totalText (c .before .before .before .sum .result) (c .before .before .standing-letter .result)
+  Last =
+      let after-sum : tie.After-sum = search needs in
+      let after-standing-letter : tie.After-standing-letter = search needs in
+      totalText (after-sum .sum .result) (after-standing-letter .standing-letter .result)
 
   whole : reportText (Situations judged) ≡ linesFrom 1 (Situations judged) ++ Last
-  whole = report-parts (Situations judged) _ (S judged) _ (c .before .before .before .sum .ensures) (stands judged .is) (c .before .before .standing-letter .ensures)
+  whole =
+      let after-sum : tie.After-sum = search needs in
+      let after-standing-letter : tie.After-standing-letter = search needs in
+      report-parts (Situations judged) _ (S judged) _ (after-sum .sum .ensures) (stands judged .is) (after-standing-letter .standing-letter .ensures)
 
   bytes : c .before .lines-length .result + c .total-length .result ≡ length (reportText (Situations judged))
   bytes = omega (arith, c .before .lines-length .ensures .0, c .total-length .ensures .0, ap length whole ∙ length-append (linesFrom 1 (Situations judged)) Last)
@@ -73,13 +79,13 @@ module _ (c : tie.Else1) where
 
 left1 : (c : tie.After-put-lines) → let e = c .before .before in let j = judged (e .before) in
     Left (Out j) 0 (reportText (Situations j)) (Last (e .before)) (c .put-lines .last .1 .1 .0) (c .put-lines .result)
-left1 c = left-next _ _ (left0 (c .before .before)) (c .put-lines .ensures)
+left1 c = let else1 : tie.Else1 = search needs in left-next _ _ (left0 else1) (c .put-lines .ensures)
 
 sum-requires : tie.Need-sum-requires
 sum-requires c κs = (stands c .few, stands c .whole)
 
 lines-length-requires : tie.Need-lines-length-requires
-lines-length-requires c κs = let j = c .before .before in (stands j .few, stands j .whole)
+lines-length-requires c κs = let j : tie.After-known-told2 = search needs in (stands j .few, stands j .whole)
 
 returns : tie.Need-returns
 unfolding laidBy
@@ -90,12 +96,12 @@ returns c =
 
 put-lines-requires : tie.Need-put-lines-requires
 put-lines-requires c κs =
-    let t = c .before .before in
+    let t : tie.After-total-length = search needs in
     let j = judged t in
     (stands j .few, stands j .whole, omega (arith, room (c .before), ap length (whole t) ∙ length-append (linesFrom 1 (Situations j)) (Last t)))
 
 put-total-requires : tie.Need-put-total-requires
-put-total-requires c κs = left-fits (left1 (put-lines c))
+put-total-requires c κs = let after-put-lines : tie.After-put-lines = search needs in left-fits (left1 after-put-lines)
 
 returns-2 : tie.Need-returns-2
 unfolding laidBy

@@ -4,7 +4,9 @@ use Rattle.campaign_state.proofs.figures_kept.Statement.{statement}
 use Rattle.campaign_state.proofs.figures_kept.Tie as tie
 
 returns : tie.Need-returns
-returns c = rw (c .both3 .ensures, c .before .before .before .before .before .both .ensures, c .before .both2 .ensures)
+returns c =
+    let after-both : tie.After-both = search needs in
+    rw (c .both3 .ensures, after-both .both .ensures, c .before .both2 .ensures)
 
 pub figures-kept-spec : {M : Type 1} → statement M
 figures-kept-spec =

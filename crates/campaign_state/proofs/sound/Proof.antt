@@ -13,14 +13,15 @@ returns c = rw (lt-leb _ _ (c .if1 .taken))
 returns-2 : tie.Need-returns-2
 unfolding sound
 returns-2 c =
-    let b = c .before .before .before in
+    let else1 : tie.Else1 = search needs in let after-last-kept : tie.After-last-kept = search needs in
+    let b : tie.After-figures-kept = search needs in
     rw (
-      le-leb _ _ (b .before .before .before .before .if1 .left),
+      le-leb _ _ (else1 .if1 .left),
       c .both3 .ensures,
       b .before .both .ensures,
       c .before .both2 .ensures,
       b .figures-kept .ensures,
-      c .before .before .last-kept .ensures,
+      after-last-kept .last-kept .ensures,
     )
 
 pub sound-spec : {M : Type 1} → statement M

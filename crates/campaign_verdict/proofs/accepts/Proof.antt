@@ -10,7 +10,7 @@ mul-result : tie.Need-mul-result
 mul-result c = omega (arith, mul-le-mul (c .before .pre .2) (c .before .pre .0 .standard-high))
 
 returns : tie.Need-returns
-returns c = rw (← c .before .before .pre .1)
+returns c = let start : tie.Start = search needs in rw (← start .pre .1)
 
 pub accepts-spec : {M : Type 1} → statement M
 accepts-spec = tie.close (tie.spec mul-result (λ c. search needs) returns)

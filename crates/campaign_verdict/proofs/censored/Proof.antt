@@ -17,7 +17,9 @@ censored-of-requires c κs = kept-from _ (holds (said-yes (c .before .sound .ens
 
 returns-2 : tie.Need-returns-2
 unfolding counting
-returns-2 c = rw (said-yes (c .before .before .sound .ensures) (c .before .if1 .left)) (ap Count (c .censored-of .ensures))
+returns-2 c =
+    let after-sound : tie.After-sound = search needs in
+    rw (said-yes (after-sound .sound .ensures) (c .before .if1 .left)) (ap Count (c .censored-of .ensures))
 
 pub censored-spec : {M : Type 1} → statement M
 censored-spec = tie.close (tie.spec (λ c κs. search needs) returns censored-of-requires returns-2)

@@ -11,15 +11,19 @@ returns : tie.Need-returns
 returns c = (said-no (c .before .sound .ensures) (c .if1 .taken), refl)
 
 returns-2 : tie.Need-returns-2
-returns-2 c = (said-yes (c .before .before .before .sound .ensures) (c .before .before .if1 .left), c .if2 .taken)
+returns-2 c =
+    let after-sound : tie.After-sound = search needs in let else1 : tie.Else1 = search needs in
+    (said-yes (after-sound .sound .ensures) (else1 .if1 .left), c .if2 .taken)
 
 weigh-requires : tie.Need-weigh-requires
-weigh-requires c κs = (kept-from _ (holds (said-yes (c .before .before .before .sound .ensures) (c .before .before .if1 .left))), omega arith)
+weigh-requires c κs =
+    let after-sound : tie.After-sound = search needs in let else1 : tie.Else1 = search needs in
+    (kept-from _ (holds (said-yes (after-sound .sound .ensures) (else1 .if1 .left))), omega arith)
 
 returns-3 : tie.Need-returns-3
 returns-3 c =
-    let b = c .before .before .before in
-    (said-yes (b .before .sound .ensures) (b .if1 .left), c .weigh .ensures)
+    let after-sound : tie.After-sound = search needs in let b : tie.Else1 = search needs in
+    (said-yes (after-sound .sound .ensures) (b .if1 .left), c .weigh .ensures)
 
 pub judge-spec : {M : Type 1} → statement M
 judge-spec = tie.close (tie.spec (λ c κs. search needs) returns returns-2 weigh-requires returns-3)

@@ -7,10 +7,11 @@ use Rattle.campaign_verdict.proofs.rejects.Statement.{statement}
 use Rattle.campaign_verdict.proofs.rejects.Tie as tie
 
 mul-result-2 : tie.Need-mul-result-2
-mul-result-2 c = let p = c .before .before .pre in omega (arith, mul-le-mul (p .2) (p .0 .standard-high))
+mul-result-2 c =
+    let start : tie.Start = search needs in let p = start .pre in omega (arith, mul-le-mul (p .2) (p .0 .standard-high))
 
 returns : tie.Need-returns
-returns c = rw (← c .before .before .pre .1)
+returns c = let start : tie.Start = search needs in rw (← start .pre .1)
 
 pub rejects-spec : {M : Type 1} → statement M
 rejects-spec = tie.close (tie.spec (λ c. search needs) mul-result-2 returns)

@@ -5,8 +5,9 @@ use Rattle.campaign_verdict.proofs.three.Tie as tie
 
 returns : tie.Need-returns
 returns c =
-    let b = c .before .before in
-    rw (b .before .before .quotient .ensures, b .rate-of .ensures, b .before .low .ensures .0, c .rate-of2 .ensures, c .before .high .ensures .0)
+    let after-quotient : tie.After-quotient = search needs in let after-low : tie.After-low = search needs in
+    let b : tie.After-rate-of = search needs in
+    rw (after-quotient .quotient .ensures, b .rate-of .ensures, after-low .low .ensures .0, c .rate-of2 .ensures, c .before .high .ensures .0)
 
 pub three-spec : {M : Type 1} → statement M
 three-spec =

@@ -12,13 +12,15 @@ returns c = rw (ne-eqb _ campaignNumbers (c .before .if1 .taken), c .no-campaign
 
 returns-2 : tie.Need-returns-2
 unfolding campaignOf
-returns-2 c = rw (eq-eqb _ campaignNumbers (c .before .before .before .if1 .left), lt-leb _ 1 (c .before .if2 .taken), c .no-campaign2 .ensures)
+returns-2 c =
+    let else1 : tie.Else1 = search needs in
+    rw (eq-eqb _ campaignNumbers (else1 .if1 .left), lt-leb _ 1 (c .before .if2 .taken), c .no-campaign2 .ensures)
 
 returns-3 : tie.Need-returns-3
 unfolding campaignOf
 returns-3 c =
-    let b = c .before .before .before .before .before in
-    rw (eq-eqb _ campaignNumbers (b .before .before .if1 .left), le-leb _ 1 (b .if2 .left))
+    let else1 : tie.Else1 = search needs in let b : tie.Else2 = search needs in
+    rw (eq-eqb _ campaignNumbers (else1 .if1 .left), le-leb _ 1 (b .if2 .left))
 
 pub campaign-of-spec : {M : Type 1} → statement M
 campaign-of-spec =

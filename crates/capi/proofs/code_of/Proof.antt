@@ -7,18 +7,18 @@ use Rattle.capi.proofs.code_of.Tie as tie
 
 sub-result : tie.Need-sub-result
 sub-result c =
-    let e = toZ-ofZ (c .before .before .fits .x) in
-    rw (c .before .magnitude .ensures, e) (code-negative (c .before .before .args .x) (rw e at (c .if1 .taken)) .0)
+    let start : tie.Start = search needs in let e = toZ-ofZ (start .fits .x) in
+    rw (c .before .magnitude .ensures, e) (code-negative (start .args .x) (rw e at (c .if1 .taken)) .0)
 
 returns : tie.Need-returns
 returns c =
-    let e = toZ-ofZ (c .before .before .fits .x) in
-    rw (c .before .magnitude .ensures, e) (code-negative (c .before .before .args .x) (rw e at (c .if1 .taken)) .1)
+    let start : tie.Start = search needs in let e = toZ-ofZ (start .fits .x) in
+    rw (c .before .magnitude .ensures, e) (code-negative (start .args .x) (rw e at (c .if1 .taken)) .1)
 
 returns-2 : tie.Need-returns-2
 returns-2 c =
-    let e = toZ-ofZ (c .before .before .fits .x) in
-    rw (c .before .magnitude .ensures, e) (code-other (c .before .before .args .x) (rw e at (c .if1 .left)))
+    let start : tie.Start = search needs in let e = toZ-ofZ (start .fits .x) in
+    rw (c .before .magnitude .ensures, e) (code-other (start .args .x) (rw e at (c .if1 .left)))
 
 pub code-of-spec : {M : Type 1} → statement M
 code-of-spec =

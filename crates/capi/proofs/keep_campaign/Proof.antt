@@ -10,15 +10,15 @@ use Rattle.capi.proofs.keep_campaign.Tie as tie
 returns : tie.Need-returns
 unfolding campaignKept campaignTold
 returns c =
-    let k = c .before .before in
-    let o = k .before .before .before .before in
-    rw (k .keep .ensures, o .of-campaign .ensures, o .before .before .a .given .1)
+    let after-a : tie.After-a = search needs in let k : tie.After-keep = search needs in
+    let o : tie.After-of-campaign = search needs in
+    rw (k .keep .ensures, o .of-campaign .ensures, after-a .a .given .1)
 
 returns-2 : tie.Need-returns-2
 unfolding campaignKept campaignTold
 returns-2 c =
-    let p = c .before .before in
-    rw (c .refuse .ensures .0, c .refuse .ensures .1, p .for-places .ensures, p .before .before .a2 .given .1) (refused-there _ campaignNumbers _)
+    let after-a2 : tie.After-a2 = search needs in let p : tie.After-for-places = search needs in
+    rw (c .refuse .ensures .0, c .refuse .ensures .1, p .for-places .ensures, after-a2 .a2 .given .1) (refused-there _ campaignNumbers _)
 
 pub keep-campaign-spec : {M : Type 1} → statement M
 keep-campaign-spec =

@@ -9,10 +9,11 @@ use Rattle.capi.proofs.of_record.Tie as tie
 
 returns : tie.Need-returns
 returns c =
-    let last = c .before .before .before .before .before .before .before .args .r .last in
+    let start : tie.Start = search needs in let after-code-of : tie.After-code-of = search needs in
+    let last = start .args .r .last in
     let roll : SFits w32 (last .roll) = search needs in
     let acceleration : SFits w32 (last .acceleration) = search needs in
-    rw (c .before .before .code-of .ensures, c .code-of2 .ensures, toZ-ofZ roll, toZ-ofZ acceleration)
+    rw (after-code-of .code-of .ensures, c .code-of2 .ensures, toZ-ofZ roll, toZ-ofZ acceleration)
 
 pub of-record-spec : {M : Type 1} → statement M
 of-record-spec = tie.close (tie.spec (λ c κs. search needs) (λ c κs. search needs) returns)

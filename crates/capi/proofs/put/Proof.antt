@@ -28,10 +28,10 @@ loop-holds c = (search needs, c .if1 .left, refl)
 
 loop-again : tie.Need-loop-again Inv-loop μ-loop
 loop-again c =
-    let b = c .before .before in
+    let start : tie.Start Inv-loop μ-loop = search needs in let b : tie.At-loop Inv-loop μ-loop = search needs in
     let i = b .loop .i in
     let to = b .loop .to in
-    let from = b .before .before .args .from .now in
+    let from = start .args .from .now in
     let v = b .loop .inv in
     let e : take i to ≡ take i from = v .2 in
     let h : i < length from = c .before .loop-test .taken in
@@ -40,12 +40,13 @@ loop-again c =
 
 returns-2 : tie.Need-returns-2 Inv-loop μ-loop
 returns-2 c =
+    let start : tie.Start Inv-loop μ-loop = search needs in let else1 : tie.Else1 Inv-loop μ-loop = search needs in
     let l = c .before .loop in
     let i = l .i in
     let v = l .inv in
     let to = l .to in
-    let from = c .before .before .before .args .from .now in
-    rw (placed-right from _ (c .before .before .if1 .left))
+    let from = start .args .from .now in
+    rw (placed-right from _ (else1 .if1 .left))
     (sym (take-all i to (omega (arith, v .1))) ∙ v .2 ∙ take-all i from (omega arith))
 
 pub put-spec : {M : Type 1} → statement M

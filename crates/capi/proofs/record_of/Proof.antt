@@ -15,28 +15,33 @@ returns c = rw (ne-eqb _ recordNumbers (c .before .if1 .taken), c .no-record .en
 
 returns-2 : tie.Need-returns-2
 unfolding recordOf
-returns-2 c = rw (eq-eqb _ recordNumbers (c .before .before .before .if1 .left), lt-leb _ highestCode (c .before .if2 .taken), c .no-record2 .ensures)
+returns-2 c =
+    let else1 : tie.Else1 = search needs in
+    rw (eq-eqb _ recordNumbers (else1 .if1 .left), lt-leb _ highestCode (c .before .if2 .taken), c .no-record2 .ensures)
 
 returns-3 : tie.Need-returns-3
 unfolding recordOf
 returns-3 c =
-    let b = c .before .before .before in
-    rw (eq-eqb _ recordNumbers (b .before .before .if1 .left), le-leb _ highestCode (b .if2 .left), lt-leb _ highestCode (c .before .if3 .taken), c .no-record3 .ensures)
+    let else1 : tie.Else1 = search needs in let b : tie.Else2 = search needs in
+    rw (eq-eqb _ recordNumbers (else1 .if1 .left), le-leb _ highestCode (b .if2 .left), lt-leb _ highestCode (c .before .if3 .taken), c .no-record3 .ensures)
 
 returns-4 : tie.Need-returns-4
 unfolding recordOf
 returns-4 c =
-    let roll : SFits w32 (c .before .before .before .before .before .before .before .before .before .sample-of .result) = search needs in
-    let acceleration : SFits w32 (c .before .before .before .before .before .before .before .sample-of2 .result) = search needs in
+    let after-sample-of : tie.After-sample-of = search needs in
+    let after-sample-of2 : tie.After-sample-of2 = search needs in let else1 : tie.Else1 = search needs in
+    let else2 : tie.Else2 = search needs in let else3 : tie.Else3 = search needs in
+    let roll : SFits w32 (after-sample-of .sample-of .result) = search needs in
+    let acceleration : SFits w32 (after-sample-of2 .sample-of2 .result) = search needs in
     rw (
       eq-eqb _ recordNumbers
-          (c .before .before .before .before .before .before .before .before .before .before .before .before .before .before .before .before .before .before .before .before .if1 .left),
-      le-leb _ highestCode (c .before .before .before .before .before .before .before .before .before .before .before .before .before .before .before .before .before .before .if2 .left),
-      le-leb _ highestCode (c .before .before .before .before .before .before .before .before .before .before .before .before .before .before .before .before .if3 .left),
+          (else1 .if1 .left),
+      le-leb _ highestCode (else2 .if2 .left),
+      le-leb _ highestCode (else3 .if3 .left),
       toZ-ofZ roll,
       toZ-ofZ acceleration,
-      c .before .before .before .before .before .before .before .before .before .sample-of .ensures,
-      c .before .before .before .before .before .before .before .sample-of2 .ensures,
+      after-sample-of .sample-of .ensures,
+      after-sample-of2 .sample-of2 .ensures,
     )
 
 pub record-of-spec : {M : Type 1} → statement M

@@ -6,8 +6,9 @@ use Rattle.capi_binomial.proofs.chim_sum_add.Tie as tie
 
 returns : tie.Need-returns
 returns c =
-    let b = c .before .before .before .before .before in
-    rw (← b .before .before .sum-of .ensures, ← b .before .record-of .ensures, ← b .add .ensures) (c .before .before .keep-sum .ensures)
+    let after-sum-of : tie.After-sum-of = search needs in let after-keep-sum : tie.After-keep-sum = search needs in
+    let b : tie.After-add = search needs in
+    rw (← after-sum-of .sum-of .ensures, ← b .before .record-of .ensures, ← b .add .ensures) (after-keep-sum .keep-sum .ensures)
 
 pub chim-sum-add-spec : {M : Type 1} → statement M
 chim-sum-add-spec =

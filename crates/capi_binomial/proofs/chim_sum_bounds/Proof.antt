@@ -11,24 +11,28 @@ use Rattle.capi_binomial.proofs.chim_sum_bounds.Tie as tie
 
 returns : tie.Need-returns
 unfolding sumBounded
-returns c = rw (ne-eqb _ _ (c .before .before .if1 .taken), c .refuse .ensures .0, c .refuse .ensures .1)
+returns c =
+    let then1 : tie.Then1 = search needs in
+    rw (ne-eqb _ _ (then1 .if1 .taken), c .refuse .ensures .0, c .refuse .ensures .1)
 
 returns-2 : tie.Need-returns-2
 unfolding sumBounded boundsTold
 returns-2 c =
-    let b = c .before .before .before .before .before .before .before .before in
-    let d = b .before .before .before .before in
-    let l = d .before .before .if1 .left in
+    let else1 : tie.Else1 = search needs in let after-a : tie.After-a = search needs in
+    let after-flag : tie.After-flag = search needs in let after-put : tie.After-put = search needs in
+    let b : tie.After-of-bounds = search needs in
+    let d : tie.After-bound = search needs in
+    let l = else1 .if1 .left in
     let e = b .of-bounds .ensures in
     rw (
       eq-eqb _ _ l,
       ← d .before .sum-of .ensures,
       ← d .bound .ensures,
-      b .before .before .a .given .1,
+      after-a .a .given .1,
       c .give .ensures .0,
       c .give .ensures .1,
-      c .before .before .flag .ensures,
-      c .before .before .before .before .before .put .ensures,
+      after-flag .flag .ensures,
+      after-put .put .ensures,
       placed-right _ _ (l ∙ sym (ap length e)),
       e,
     )
@@ -36,8 +40,9 @@ returns-2 c =
 returns-3 : tie.Need-returns-3
 unfolding sumBounded boundsTold
 returns-3 c =
-    let b = c .before .before .before .before .before in
-    rw (eq-eqb _ _ (b .before .before .if1 .left), ← b .before .sum-of .ensures, ← b .bound .ensures, c .before .before .before .a2 .given .1, c .refuse2 .ensures .0, c .refuse2 .ensures .1)
+    let else1 : tie.Else1 = search needs in let after-a2 : tie.After-a2 = search needs in
+    let b : tie.After-bound = search needs in
+    rw (eq-eqb _ _ (else1 .if1 .left), ← b .before .sum-of .ensures, ← b .bound .ensures, after-a2 .a2 .given .1, c .refuse2 .ensures .0, c .refuse2 .ensures .1)
 
 pub chim-sum-bounds-spec : {M : Type 1} → statement M
 chim-sum-bounds-spec =

@@ -12,7 +12,7 @@ returns c = rw (ne-eqb _ sumNumbers (c .before .if1 .taken), c .no-sum .ensures)
 
 returns-2 : tie.Need-returns-2
 unfolding sumOf
-returns-2 c = rw (eq-eqb _ sumNumbers (c .before .before .before .if1 .left))
+returns-2 c = let else1 : tie.Else1 = search needs in rw (eq-eqb _ sumNumbers (else1 .if1 .left))
 
 pub sum-of-spec : {M : Type 1} → statement M
 sum-of-spec =

@@ -5,8 +5,8 @@ use Rattle.capi_bureau.proofs.chim_bench_enter.Tie as tie
 
 returns : tie.Need-returns
 returns c =
-    let b = c .before .before .before in
-    rw (← b .before .before .outcome-of .ensures) (rw (← b .serve .ensures .0) (c .tell .ensures), b .serve .ensures .1)
+    let after-outcome-of : tie.After-outcome-of = search needs in let b : tie.After-serve = search needs in
+    rw (← after-outcome-of .outcome-of .ensures) (rw (← b .serve .ensures .0) (c .tell .ensures), b .serve .ensures .1)
 
 pub chim-bench-enter-spec : {M : Type 1} → statement M
 chim-bench-enter-spec =

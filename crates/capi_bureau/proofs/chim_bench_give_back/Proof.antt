@@ -4,7 +4,9 @@ use Rattle.capi_bureau.proofs.chim_bench_give_back.Statement.{statement
 use Rattle.capi_bureau.proofs.chim_bench_give_back.Tie as tie
 
 returns : tie.Need-returns
-returns c = let e = c .before .before .before .serve .ensures in (rw (← e .0) (c .tell .ensures), e .1)
+returns c =
+    let after-serve : tie.After-serve = search needs in
+    let e = after-serve .serve .ensures in (rw (← e .0) (c .tell .ensures), e .1)
 
 pub chim-bench-give-back-spec : {M : Type 1} → statement M
 chim-bench-give-back-spec = tie.close (tie.spec (λ c κs. search needs) (λ c κs. search needs) (λ c. search needs)

@@ -35,8 +35,8 @@ loop-less c = omega arith
 
 loop-again : tie.Need-loop-again Inv-loop μ-loop
 loop-again c =
-    let b = c .before .before .before .before in
-    let rows = b .before .before .args .table .now in
+    let start : tie.Start Inv-loop μ-loop = search needs in let b : tie.At-loop Inv-loop μ-loop = search needs in
+    let rows = start .args .table .now in
     let i = b .loop .i in
     let s = b .loop .s in (
       omega arith,
@@ -45,7 +45,9 @@ loop-again c =
     )
 
 returns : tie.Need-returns Inv-loop μ-loop
-returns c = let l = c .before .loop in sym (look-all (l .s) (l .i) (c .before .before .before .args .table .now) (omega arith)) ∙ l .inv .1
+returns c =
+    let start : tie.Start Inv-loop μ-loop = search needs in
+    let l = c .before .loop in sym (look-all (l .s) (l .i) (start .args .table .now) (omega arith)) ∙ l .inv .1
 
 pub look-spec : {M : Type 1} → statement M
 look-spec =

@@ -12,7 +12,7 @@ returns c = rw (← c .before .same-place .ensures, c .if1 .taken)
 
 returns-2 : tie.Need-returns-2
 returns-2 c =
-    let b = c .before .before in
+    let b : tie.After-same-place = search needs in
     rw (← b .same-place .ensures, c .before .if1 .left) (ap (λ (r : List ℕ). set (b .before .args .table .now) (b .before .args .i) r) (c .row-of .ensures))
 
 pub put-spec : {M : Type 1} → statement M

@@ -5,8 +5,9 @@ use Rattle.capi_bureau.proofs.same_campaign.Tie as tie
 
 returns : tie.Need-returns
 returns c =
-    let b = c .before .before .before in
-    rw (c .both4 .ensures, c .before .both3 .ensures, c .before .before .both2 .ensures, b .both .ensures, b .before .before .flag .ensures, b .before .flag2 .ensures)
+    let after-both2 : tie.After-both2 = search needs in let after-flag : tie.After-flag = search needs in
+    let b : tie.After-both = search needs in
+    rw (c .both4 .ensures, c .before .both3 .ensures, after-both2 .both2 .ensures, b .both .ensures, after-flag .flag .ensures, b .before .flag2 .ensures)
 
 pub same-campaign-spec : {M : Type 1} → statement M
 same-campaign-spec =

@@ -12,14 +12,15 @@ use Rattle.capi_bureau.proofs.serve.Tie as tie
 
 -- ways back to earlier places of the function
 abbrev start : tie.After-choose → tie.Start
-start c = c .before .before .before
+start c = search needs
 
 returns : tie.Need-returns
 returns c =
-    let d = c .before .before .before .before in let b = d .before .before .before in
-    let x = start (b .before) .args in
+    let start : tie.Start = search needs in let after-look : tie.After-look = search needs in
+    let d : tie.After-act = search needs in let b : tie.Then1 = search needs in
+    let x = start .args in
     let rows = x .table .now in
-    let looks = b .before .before .look in
+    let looks = after-look .look in
     let chose = b .before .choose in
     let place = d .before .place-of in
     let w = d .act in
@@ -30,8 +31,8 @@ returns c =
 
 returns-2 : tie.Need-returns-2
 returns-2 c =
-    let x = start (c .before) .args in
-    let looks = c .before .before .look in
+    let start : tie.Start = search needs in let after-look : tie.After-look = search needs in let x = start .args in
+    let looks = after-look .look in
     let chose = c .before .choose in
     none-chosen (x .table .now) (x .c) (looks .result) (chose .result) (looks .ensures) (chose .ensures) (c .if1 .left)
 

@@ -8,15 +8,21 @@ use Rattle.capi_campaign.proofs.chim_campaign_enter.Tie as tie
 
 returns : tie.Need-returns
 unfolding campaignEntered
-returns c = rw (lt-leb _ 1 (c .before .before .if1 .taken), c .refuse .ensures .0, c .refuse .ensures .1)
+returns c =
+    let then1 : tie.Then1 = search needs in
+    rw (lt-leb _ 1 (then1 .if1 .taken), c .refuse .ensures .0, c .refuse .ensures .1)
 
 returns-2 : tie.Need-returns-2
 unfolding campaignEntered
-returns-2 c = rw (
-  le-leb _ 1 (c .before .before .before .before .before .before .before .before .if1 .left),
-  ← c .before .before .before .before .before .before .campaign-of .ensures,
-  ← c .before .before .before .before .before .enter .ensures,
-) (c .before .before .keep-campaign .ensures)
+returns-2 c =
+    let else1 : tie.Else1 = search needs in let after-campaign-of : tie.After-campaign-of = search needs in
+    let after-enter : tie.After-enter = search needs in
+    let after-keep-campaign : tie.After-keep-campaign = search needs in
+    rw (
+      le-leb _ 1 (else1 .if1 .left),
+      ← after-campaign-of .campaign-of .ensures,
+      ← after-enter .enter .ensures,
+    ) (after-keep-campaign .keep-campaign .ensures)
 
 pub chim-campaign-enter-spec : {M : Type 1} → statement M
 chim-campaign-enter-spec =

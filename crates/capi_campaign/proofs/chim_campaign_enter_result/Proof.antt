@@ -6,10 +6,10 @@ use Rattle.capi_campaign.proofs.chim_campaign_enter_result.Tie as tie
 
 returns : tie.Need-returns
 returns c =
-    let entering = c .before .before .before .before .before in
-    let read = entering .before .before in
+    let after-keep-campaign : tie.After-keep-campaign = search needs in let entering : tie.After-enter = search needs in
+    let read : tie.After-result-of = search needs in
     rw (← read .before .campaign-of .ensures, ← read .result-of .ensures, ← entering .before .outcome .ensures)
-    (rw (← entering .enter .ensures) (c .before .before .keep-campaign .ensures))
+    (rw (← entering .enter .ensures) (after-keep-campaign .keep-campaign .ensures))
 
 pub chim-campaign-enter-result-spec : {M : Type 1} → statement M
 chim-campaign-enter-result-spec =

@@ -12,7 +12,7 @@ returns c = rw (ne-eqb _ resultNumbers (c .before .if1 .taken), c .no-result .en
 
 returns-2 : tie.Need-returns-2
 unfolding resultOf
-returns-2 c = rw (eq-eqb _ resultNumbers (c .before .before .before .before .before .if1 .left))
+returns-2 c = let else1 : tie.Else1 = search needs in rw (eq-eqb _ resultNumbers (else1 .if1 .left))
 
 pub result-of-spec : {M : Type 1} → statement M
 result-of-spec =

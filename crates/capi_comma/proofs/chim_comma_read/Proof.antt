@@ -8,16 +8,18 @@ use Rattle.capi_comma.proofs.chim_comma_read.Tie as tie
 returns : tie.Need-returns
 unfolding readTold
 returns c =
-    let e = c .before .before .before .before .before .before .read .ensures in (
-      rw (← e .0, c .before .before .before .n .given .1, c .give .ensures .0, c .give .ensures .1),
+    let after-read : tie.After-read = search needs in let after-n : tie.After-n = search needs in
+    let e = after-read .read .ensures in (
+      rw (← e .0, after-n .n .given .1, c .give .ensures .0, c .give .ensures .1),
       rw (← e .0) (e .1),
     )
 
 returns-2 : tie.Need-returns-2
 unfolding readTold
 returns-2 c =
-    let e = c .before .before .before .before .before .before .read .ensures in (
-      rw (← e .0, c .before .before .before .f .given .1, c .refuse .ensures .0, c .refuse .ensures .1),
+    let after-read : tie.After-read = search needs in let after-f : tie.After-f = search needs in
+    let e = after-read .read .ensures in (
+      rw (← e .0, after-f .f .given .1, c .refuse .ensures .0, c .refuse .ensures .1),
       rw (← e .0) (e .1),
     )
 

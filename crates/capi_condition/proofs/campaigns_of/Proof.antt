@@ -22,7 +22,7 @@ loop-holds c = (omega arith, search needs, refl)
 
 loop-again : tie.Need-loop-again Inv-loop μ-loop
 loop-again c =
-    let l = c .before .before .before in
+    let l : tie.At-loop Inv-loop μ-loop = search needs in
     let a = l .before .args in
     let i = l .loop .i in
     let all = l .loop .all in

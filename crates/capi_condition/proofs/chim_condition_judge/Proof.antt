@@ -12,27 +12,29 @@ use Rattle.capi_condition.proofs.chim_condition_judge.Tie as tie
 
 -- the campaigns judged are those of the rows
 judged : (c : tie.After-judge) → let rows = now (c .before .before .before .args .campaigns) in c .judge .result ≡ judging (length rows) (campaignsOf rows)
-judged c = c .judge .ensures ∙ ap (judging (length (now (c .before .before .before .args .campaigns)))) (c .before .campaigns-of .ensures)
+judged c =
+    let start : tie.Start = search needs in
+    c .judge .ensures ∙ ap (judging (length (now (start .args .campaigns)))) (c .before .campaigns-of .ensures)
 
 returns : tie.Need-returns
 unfolding judgeTold
 returns c =
-    let s = c .before .before in
+    let s : tie.Then1 = search needs in
     let rows = now (s .before .args .campaigns) in
     rw (many-refused (length rows) (campaignsOf rows) (s .if1 .taken), c .refuse .ensures .0, c .refuse .ensures .1)
 
 returns-2 : tie.Need-returns-2
 unfolding judgeTold
 returns-2 c =
-    let k = c .before .before in
-    let s = k .before .before in
-    rw (← judged (s .before .before), s .s .given .1, c .give .ensures .0, c .give .ensures .1, k .standing-code .ensures)
+    let after-judge : tie.After-judge = search needs in let k : tie.After-standing-code = search needs in
+    let s : tie.After-s = search needs in
+    rw (← judged after-judge, s .s .given .1, c .give .ensures .0, c .give .ensures .1, k .standing-code .ensures)
 
 returns-3 : tie.Need-returns-3
 unfolding judgeTold
 returns-3 c =
-    let f = c .before .before .before in
-    rw (← judged (f .before .before), f .f .given .1, c .refuse2 .ensures .0, c .refuse2 .ensures .1)
+    let after-judge : tie.After-judge = search needs in let f : tie.After-f = search needs in
+    rw (← judged after-judge, f .f .given .1, c .refuse2 .ensures .0, c .refuse2 .ensures .1)
 
 pub chim-condition-judge-spec : {M : Type 1} → statement M
 chim-condition-judge-spec =

@@ -19,27 +19,29 @@ use Rattle.capi_condition.proofs.chim_condition_report.Tie as tie
 -- the campaigns reported on are those of the rows
 module _ (c : tie.After-write) where
   abbrev start : tie.Start
-  start = c .before .before .before .before .before
+  start = search needs
 
   answered : let rows = now (start .args .campaigns) in c .write .result ≡ writingReport (length rows) (campaignsOf rows) (now (start .args .out))
   answered =
-      let rows = now (start .args .campaigns) in
-      c .write .ensures .0 ∙ ap (λ (cs : List Campaign). writingReport (length rows) cs (now (start .args .out))) (c .before .before .campaigns-of .ensures)
+      let after-campaigns-of : tie.After-campaigns-of = search needs in let rows = now (start .args .campaigns) in
+      c .write .ensures .0 ∙ ap (λ (cs : List Campaign). writingReport (length rows) cs (now (start .args .out))) (after-campaigns-of .campaigns-of .ensures)
 
   left : c .write .last .1 .1 .0 ≡ laidBy (c .write .result) (reportText (campaignsOf (now (start .args .campaigns)))) (now (start .args .out))
-  left = c .write .ensures .1 ∙ ap (λ (cs : List Campaign). laidBy (c .write .result) (reportText cs) (now (start .args .out))) (c .before .before .campaigns-of .ensures)
+  left =
+      let after-campaigns-of : tie.After-campaigns-of = search needs in
+      c .write .ensures .1 ∙ ap (λ (cs : List Campaign). laidBy (c .write .result) (reportText cs) (now (start .args .out))) (after-campaigns-of .campaigns-of .ensures)
 
 returns : tie.Need-returns
 unfolding laidBy writeTold
 returns c =
-    let s = c .before .before in
-    let a = s .before .before .args in
+    let start : tie.Start = search needs in let s : tie.Then1 = search needs in
+    let a = start .args in
     let rows = now (a .campaigns) in
     rw (many-declined (length rows) (campaignsOf rows) (s .if1 .taken) (now (a .out)), c .refuse .ensures .0, c .refuse .ensures .1)
 
 returns-2 : tie.Need-returns-2
 returns-2 c =
-    let w = c .before .before .before .before in
+    let w : tie.After-write = search needs in
     rw (← answered w, ← left w) (writing-told (w .write .result) _ _ _ (c .tell-writing .ensures))
 
 pub chim-condition-report-spec : {M : Type 1} → statement M

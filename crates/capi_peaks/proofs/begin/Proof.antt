@@ -16,30 +16,34 @@ returns c = rw (said-no (c .before .sound .ensures) (c .if1 .taken))
 returns-2 : tie.Need-returns-2
 unfolding begunFrom
 returns-2 c =
+    let after-sound : tie.After-sound = search needs in let else1 : tie.Else1 = search needs in
     rw (
-      said-yes (c .before .before .before .sound .ensures) (c .before .before .if1 .left),
+      said-yes (after-sound .sound .ensures) (else1 .if1 .left),
       said-no (c .before .both .ensures) (c .if2 .taken),
     )
 
 returns-3 : tie.Need-returns-3
 unfolding begunFrom
 returns-3 c =
+    let after-sound : tie.After-sound = search needs in let else1 : tie.Else1 = search needs in
+    let after-both : tie.After-both = search needs in let else2 : tie.Else2 = search needs in
     rw (
-      said-yes (c .before .before .before .before .before .before .sound .ensures)
-          (c .before .before .before .before .before .if1 .left),
-      said-yes (c .before .before .before .before .both .ensures) (c .before .before .before .if2 .left),
+      said-yes (after-sound .sound .ensures)
+          (else1 .if1 .left),
+      said-yes (after-both .both .ensures) (else2 .if2 .left),
       lt-ltb _ 2 (c .if3 .taken),
     )
 
 returns-4 : tie.Need-returns-4
 unfolding begunFrom
 returns-4 c =
-    let b = c .before .before .before .before .before in
-    let s = b .before .before .before .sound .ensures in
-    let k = said-yes s (b .before .before .if1 .left) in
+    let after-sound : tie.After-sound = search needs in let else1 : tie.Else1 = search needs in
+    let else3 : tie.Else3 = search needs in let start : tie.Start = search needs in let b : tie.Else2 = search needs in
+    let s = after-sound .sound .ensures in
+    let k = said-yes s (else1 .if1 .left) in
     let t = said-yes (b .before .both .ensures) (b .if2 .left) in
-    let n = c .before .before .if3 .left in
-    rw (k, t, le-ltb _ 2 n) (c .begin .ensures ∙ begun-there (b .before .before .before .before .args .s) _ k t n)
+    let n = else3 .if3 .left in
+    rw (k, t, le-ltb _ 2 n) (c .begin .ensures ∙ begun-there (start .args .s) _ k t n)
 
 pub begin-spec : {M : Type 1} → statement M
 begin-spec =

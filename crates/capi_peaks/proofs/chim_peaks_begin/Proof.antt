@@ -6,9 +6,10 @@ use Rattle.capi_peaks.proofs.chim_peaks_begin.Tie as tie
 
 returns : tie.Need-returns
 returns c =
-    let b = c .before .before .before .before .before in
-    rw (← b .before .before .survey-of .ensures, ← b .before .number-at .ensures, ← b .begin .ensures)
-    (c .before .before .keep-handing .ensures)
+    let after-survey-of : tie.After-survey-of = search needs in
+    let after-keep-handing : tie.After-keep-handing = search needs in let b : tie.After-begin = search needs in
+    rw (← after-survey-of .survey-of .ensures, ← b .before .number-at .ensures, ← b .begin .ensures)
+    (after-keep-handing .keep-handing .ensures)
 
 pub chim-peaks-begin-spec : {M : Type 1} → statement M
 chim-peaks-begin-spec =

@@ -6,16 +6,18 @@ use Rattle.capi_peaks.proofs.chim_peaks_hand_over.Tie as tie
 
 returns : tie.Need-returns
 returns c =
-    let b = c .before .before .before .before .before .before .before .before .before .before in
-    let n = b .before .before .before in
+    let after-handing-of : tie.After-handing-of = search needs in
+    let after-left-after : tie.After-left-after = search needs in
+    let after-keep-handing : tie.After-keep-handing = search needs in let b : tie.After-hand-over = search needs in
+    let n : tie.After-number-at = search needs in
     let o = b .hand-over .ensures in
     rw (
-      ← n .before .before .handing-of .ensures,
+      ← after-handing-of .handing-of .ensures,
       ← n .number-at .ensures,
       ← o .0,
-      ← c .before .before .before .before .before .left-after .ensures,
+      ← after-left-after .left-after .ensures,
     )
-    (c .before .before .keep-handing .ensures, o .1, o .2)
+    (after-keep-handing .keep-handing .ensures, o .1, o .2)
 
 pub chim-peaks-hand-over-spec : {M : Type 1} → statement M
 chim-peaks-hand-over-spec =

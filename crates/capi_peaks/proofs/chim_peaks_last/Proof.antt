@@ -8,9 +8,11 @@ use Rattle.capi_peaks.proofs.chim_peaks_last.Tie as tie
 returns : tie.Need-returns
 unfolding peakLast
 returns c =
+    let after-handing-of : tie.After-handing-of = search needs in let after-ready : tie.After-ready = search needs in
+    let then1 : tie.Then1 = search needs in
     rw (
-      ← c .before .before .before .before .handing-of .ensures,
-      said-no (c .before .before .before .ready .ensures) (c .before .before .if1 .taken),
+      ← after-handing-of .handing-of .ensures,
+      said-no (after-ready .ready .ensures) (then1 .if1 .taken),
       c .refuse .ensures .0,
       c .refuse .ensures .1,
     )
@@ -18,12 +20,13 @@ returns c =
 returns-2 : tie.Need-returns-2
 unfolding peakLast lastSaid
 returns-2 c =
-    let b = c .before .before .before .before .before .before in
+    let after-handing-of : tie.After-handing-of = search needs in let after-finish : tie.After-finish = search needs in
+    let after-a : tie.After-a = search needs in let b : tie.Else1 = search needs in
     rw (
-      ← b .before .before .handing-of .ensures,
+      ← after-handing-of .handing-of .ensures,
       said-yes (b .before .ready .ensures) (b .if1 .left),
-      ← c .before .before .before .before .before .finish .ensures,
-      c .before .before .before .a .given .1,
+      ← after-finish .finish .ensures,
+      after-a .a .given .1,
       c .give .ensures .0,
       c .give .ensures .1,
     )
@@ -31,12 +34,13 @@ returns-2 c =
 returns-3 : tie.Need-returns-3
 unfolding peakLast lastSaid
 returns-3 c =
-    let b = c .before .before .before .before .before in
+    let after-handing-of : tie.After-handing-of = search needs in let after-finish : tie.After-finish = search needs in
+    let after-enum-told : tie.After-enum-told = search needs in let b : tie.Else1 = search needs in
     rw (
-      ← b .before .before .handing-of .ensures,
+      ← after-handing-of .handing-of .ensures,
       said-yes (b .before .ready .ensures) (b .if1 .left),
-      ← c .before .before .before .before .finish .ensures,
-      c .before .before .enum-told .given .1,
+      ← after-finish .finish .ensures,
+      after-enum-told .enum-told .given .1,
       c .give2 .ensures .0,
       c .give2 .ensures .1,
     )

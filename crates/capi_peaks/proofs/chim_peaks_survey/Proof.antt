@@ -4,7 +4,9 @@ use Rattle.capi_peaks.proofs.chim_peaks_survey.Statement.{statement}
 use Rattle.capi_peaks.proofs.chim_peaks_survey.Tie as tie
 
 returns : tie.Need-returns
-returns c = rw (← c .before .before .before .before .before .«open» .ensures) (c .before .before .keep-survey .ensures)
+returns c =
+    let after-open : tie.After-open = search needs in let after-keep-survey : tie.After-keep-survey = search needs in
+    rw (← after-open .«open» .ensures) (after-keep-survey .keep-survey .ensures)
 
 pub chim-peaks-survey-spec : {M : Type 1} → statement M
 chim-peaks-survey-spec =

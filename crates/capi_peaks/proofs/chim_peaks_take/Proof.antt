@@ -6,15 +6,18 @@ use Rattle.capi_peaks.proofs.chim_peaks_take.Tie as tie
 
 returns : tie.Need-returns
 returns c =
-    let b = c .before .before .before .before .before .before .before in
+    let after-survey-of : tie.After-survey-of = search needs in
+    let after-number-at : tie.After-number-at = search needs in let after-take : tie.After-take = search needs in
+    let after-left-after : tie.After-left-after = search needs in
+    let after-keep-survey : tie.After-keep-survey = search needs in let b : tie.After-number-at2 = search needs in
     rw (
-      ← b .before .before .before .before .survey-of .ensures,
-      ← b .before .before .number-at .ensures,
+      ← after-survey-of .survey-of .ensures,
+      ← after-number-at .number-at .ensures,
       ← b .number-at2 .ensures,
-      ← c .before .before .before .before .before .before .take .ensures,
-      ← c .before .before .before .before .before .left-after .ensures,
+      ← after-take .take .ensures,
+      ← after-left-after .left-after .ensures,
     )
-    (c .before .before .keep-survey .ensures)
+    (after-keep-survey .keep-survey .ensures)
 
 pub chim-peaks-take-spec : {M : Type 1} → statement M
 chim-peaks-take-spec =

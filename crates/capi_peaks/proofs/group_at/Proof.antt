@@ -12,11 +12,13 @@ peak-at-requires c κs =
 
 peak-at-requires-2 : tie.Need-peak-at-requires-2
 peak-at-requires-2 c κs =
-    let b = c .before .before in
+    let b : tie.Start = search needs in
     (omega (arith, b .pre .0), group-small (b .args .s .now) (b .args .i) (b .pre .1) .1)
 
 returns : tie.Need-returns
-returns c = rw (c .before .before .peak-at .ensures, c .before .peak-at2 .ensures)
+returns c =
+    let after-peak-at : tie.After-peak-at = search needs in
+    rw (after-peak-at .peak-at .ensures, c .before .peak-at2 .ensures)
 
 pub group-at-spec : {M : Type 1} → statement M
 group-at-spec =

@@ -4,7 +4,9 @@ use Rattle.capi_peaks.proofs.group_fits.Statement.{statement}
 use Rattle.capi_peaks.proofs.group_fits.Tie as tie
 
 returns : tie.Need-returns
-returns c = rw (c .both .ensures, c .before .before .peak-fits .ensures, c .before .peak-fits2 .ensures)
+returns c =
+    let after-peak-fits : tie.After-peak-fits = search needs in
+    rw (c .both .ensures, after-peak-fits .peak-fits .ensures, c .before .peak-fits2 .ensures)
 
 pub group-fits-spec : {M : Type 1} → statement M
 group-fits-spec =

@@ -19,17 +19,18 @@ returns c = (rw (said-no (c .before .ready .ensures) (c .if1 .taken)) refl, refl
 returns-2 : tie.Need-returns-2
 unfolding handedIn noted
 returns-2 c =
-    let y = said-yes (c .before .before .before .ready .ensures) (c .before .before .if1 .left) in
+    let after-ready : tie.After-ready = search needs in let else1 : tie.Else1 = search needs in
+    let y = said-yes (after-ready .ready .ensures) (else1 .if1 .left) in
     (rw (y, ← c .before .first-bad .ensures, lt-ltb _ _ (c .if2 .taken)) refl, refl, refl)
 
 returns-3 : tie.Need-returns-3
 unfolding handedIn
 returns-3 c =
-    let o = c .before .before .before .before in
-    let f = o .before .before .before .before in
-    let b = f .before .before in
-    let d = b .before .before in
-    let a = d .before .before .before .args in
+    let start : tie.Start = search needs in let o : tie.After-hand-over = search needs in
+    let f : tie.After-ramp-end = search needs in
+    let b : tie.After-first-bad = search needs in
+    let d : tie.After-ready = search needs in
+    let a = start .args in
     let y = said-yes (d .ready .ensures) (b .before .if1 .left) in
     let e =
     subst (λ (l : List ℤ). HandsOver (a .h) l (a .sizes .now) (a .times .now) (o .hand-over .result)

@@ -11,27 +11,27 @@ reading-at-requires c κs =
 
 group-at-requires : tie.Need-group-at-requires
 group-at-requires c κs =
-    let b = c .before .before in (omega (arith, b .pre .0), handing-small (b .args .s .now) (b .pre .1) .stretches)
+    let b : tie.Start = search needs in (omega (arith, b .pre .0), handing-small (b .args .s .now) (b .pre .1) .stretches)
 
 group-at-requires-2 : tie.Need-group-at-requires-2
 group-at-requires-2 c κs =
-    let b = c .before .before .before in
+    let b : tie.Start = search needs in
     (omega (arith, b .pre .0), handing-small (b .args .s .now) (b .pre .1) .chains)
 
 cast-t8 : tie.Need-cast-t8
 cast-t8 c =
-    let b = c .before .before .before .before .before in
+    let b : tie.Start = search needs in
     omega (arith, handing-small (b .args .s .now) (b .pre .1) .decorrelation)
 
 cast-t11 : tie.Need-cast-t11
 cast-t11 c =
-    let b = c .before .before .before .before .before .before in
+    let b : tie.Start = search needs in
     omega (arith, handing-small (b .args .s .now) (b .pre .1) .number)
 
 returns : tie.Need-returns
 returns c =
-    let b = c .before .before .before in
-    rw (b .group-at2 .ensures, b .before .group-at .ensures, b .before .before .reading-at .ensures)
+    let after-reading-at : tie.After-reading-at = search needs in let b : tie.After-group-at2 = search needs in
+    rw (b .group-at2 .ensures, b .before .group-at .ensures, after-reading-at .reading-at .ensures)
 
 pub handing-at-spec : {M : Type 1} → statement M
 handing-at-spec =

@@ -15,22 +15,25 @@ returns c = rw (ne-eqb _ handingNumbers (c .before .if1 .taken), c .no-handing .
 returns-2 : tie.Need-returns-2
 unfolding handingOf
 returns-2 c =
+    let else1 : tie.Else1 = search needs in let after-handing-fits : tie.After-handing-fits = search needs in
     rw (
-      eq-eqb _ handingNumbers (c .before .before .before .if1 .left),
-      said-no (c .before .before .handing-fits .ensures) (c .before .if2 .taken),
+      eq-eqb _ handingNumbers (else1 .if1 .left),
+      said-no (after-handing-fits .handing-fits .ensures) (c .before .if2 .taken),
       c .no-handing2 .ensures,
     )
 
 handing-at-requires : tie.Need-handing-at-requires
 handing-at-requires c κs =
-    (omega (arith, c .before .before .if1 .left), said-yes (c .before .handing-fits .ensures) (c .if2 .left))
+    let else1 : tie.Else1 = search needs in
+    (omega (arith, else1 .if1 .left), said-yes (c .before .handing-fits .ensures) (c .if2 .left))
 
 returns-3 : tie.Need-returns-3
 unfolding handingOf
 returns-3 c =
+    let else1 : tie.Else1 = search needs in let after-handing-fits : tie.After-handing-fits = search needs in
     rw (
-      eq-eqb _ handingNumbers (c .before .before .before .if1 .left),
-      said-yes (c .before .before .handing-fits .ensures) (c .before .if2 .left),
+      eq-eqb _ handingNumbers (else1 .if1 .left),
+      said-yes (after-handing-fits .handing-fits .ensures) (c .before .if2 .left),
     )
     (c .handing-at .ensures)
 

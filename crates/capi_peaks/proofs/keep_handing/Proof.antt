@@ -11,20 +11,23 @@ use Rattle.capi_peaks.proofs.keep_handing.Tie as tie
 
 returns : tie.Need-returns
 unfolding handingKept
-returns c = rw (ne-eqb _ _ (c .before .before .if1 .taken), c .refuse .ensures .0, c .refuse .ensures .1)
+returns c =
+    let then1 : tie.Then1 = search needs in
+    rw (ne-eqb _ _ (then1 .if1 .taken), c .refuse .ensures .0, c .refuse .ensures .1)
 
 returns-2 : tie.Need-returns-2
 unfolding handingKept handingTold
 returns-2 c =
-    let b = c .before .before .before .before .before .before .before in
-    let l = b .before .before .before .before .if1 .left in
+    let else1 : tie.Else1 = search needs in let after-a : tie.After-a = search needs in
+    let after-put : tie.After-put = search needs in let b : tie.After-of-handing = search needs in
+    let l = else1 .if1 .left in
     let e = b .of-handing .ensures in
     rw (
       eq-eqb _ _ l,
-      b .before .before .a .given .1,
+      after-a .a .given .1,
       c .give .ensures .0,
       c .give .ensures .1,
-      c .before .before .before .before .put .ensures,
+      after-put .put .ensures,
       placed-right _ _ (l ∙ sym (ap length e)),
       e,
     )
@@ -32,9 +35,10 @@ returns-2 c =
 returns-3 : tie.Need-returns-3
 unfolding handingKept handingTold
 returns-3 c =
+    let else1 : tie.Else1 = search needs in let after-a2 : tie.After-a2 = search needs in
     rw (
-      eq-eqb _ _ (c .before .before .before .before .before .if1 .left),
-      c .before .before .before .a2 .given .1,
+      eq-eqb _ _ (else1 .if1 .left),
+      after-a2 .a2 .given .1,
       c .refuse2 .ensures .0,
       c .refuse2 .ensures .1,
     )

@@ -5,14 +5,15 @@ use Rattle.capi_peaks.proofs.of_handing.Tie as tie
 
 returns : tie.Need-returns
 returns c =
-    let b = c .before .before .before .before .before .before .before in
-    let d = b .before .before .before in
+    let after-flag5 : tie.After-flag5 = search needs in let after-flag2 : tie.After-flag2 = search needs in
+    let after-flag : tie.After-flag = search needs in let b : tie.After-flag4 = search needs in
+    let d : tie.After-flag3 = search needs in
     rw (
-      c .before .before .before .before .flag5 .ensures,
+      after-flag5 .flag5 .ensures,
       b .flag4 .ensures,
       d .flag3 .ensures,
-      d .before .before .before .flag2 .ensures,
-      d .before .before .before .before .before .before .flag .ensures,
+      after-flag2 .flag2 .ensures,
+      after-flag .flag .ensures,
     )
 
 pub of-handing-spec : {M : Type 1} → statement M

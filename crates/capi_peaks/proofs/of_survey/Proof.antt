@@ -4,7 +4,7 @@ use Rattle.capi_peaks.proofs.of_survey.Statement.{statement}
 use Rattle.capi_peaks.proofs.of_survey.Tie as tie
 
 returns : tie.Need-returns
-returns c = rw (c .before .before .before .flag .ensures)
+returns c = let after-flag : tie.After-flag = search needs in rw (after-flag .flag .ensures)
 
 pub of-survey-spec : {M : Type 1} → statement M
 of-survey-spec =

@@ -6,11 +6,11 @@ use Rattle.capi_peaks.proofs.peak_at.Statement.{statement}
 use Rattle.capi_peaks.proofs.peak_at.Tie as tie
 
 cast-t11 : tie.Need-cast-t11
-cast-t11 c = let b = c .before .before in omega (arith, peak-small (b .args .s .now) (b .args .i) (b .pre .1) .0)
+cast-t11 c = let b : tie.Start = search needs in omega (arith, peak-small (b .args .s .now) (b .args .i) (b .pre .1) .0)
 
 cast-t16 : tie.Need-cast-t16
 cast-t16 c =
-    let b = c .before .before .before in omega (arith, peak-small (b .args .s .now) (b .args .i) (b .pre .1) .1)
+    let b : tie.Start = search needs in omega (arith, peak-small (b .args .s .now) (b .args .i) (b .pre .1) .1)
 
 pub peak-at-spec : {M : Type 1} → statement M
 peak-at-spec =

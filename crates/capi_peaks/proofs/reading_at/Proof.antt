@@ -10,18 +10,18 @@ peak-at-requires c κs =
     let b = c .before in (omega (arith, b .pre .0), reading-small (b .args .s .now) (b .pre .1) .best)
 
 cast-t5 : tie.Need-cast-t5
-cast-t5 c = let b = c .before .before .before in omega (arith, reading-small (b .args .s .now) (b .pre .1) .step)
+cast-t5 c = let b : tie.Start = search needs in omega (arith, reading-small (b .args .s .now) (b .pre .1) .step)
 
 cast-t8 : tie.Need-cast-t8
-cast-t8 c = let b = c .before .before .before .before in omega (arith, reading-small (b .args .s .now) (b .pre .1) .n)
+cast-t8 c = let b : tie.Start = search needs in omega (arith, reading-small (b .args .s .now) (b .pre .1) .n)
 
 cast-t11 : tie.Need-cast-t11
 cast-t11 c =
-    let b = c .before .before .before .before .before in
+    let b : tie.Start = search needs in
     omega (arith, reading-small (b .args .s .now) (b .pre .1) .opened)
 
 returns : tie.Need-returns
-returns c = rw (c .before .before .before .peak-at .ensures)
+returns c = let after-peak-at : tie.After-peak-at = search needs in rw (after-peak-at .peak-at .ensures)
 
 pub reading-at-spec : {M : Type 1} → statement M
 reading-at-spec =

@@ -11,10 +11,10 @@ reading-at-requires c κs =
 
 cast-t5 : tie.Need-cast-t5
 cast-t5 c =
-    let b = c .before .before .before in omega (arith, survey-small (b .args .s .now) (b .pre .1) .number)
+    let b : tie.Start = search needs in omega (arith, survey-small (b .args .s .now) (b .pre .1) .number)
 
 returns : tie.Need-returns
-returns c = rw (c .before .before .reading-at .ensures)
+returns c = let after-reading-at : tie.After-reading-at = search needs in rw (after-reading-at .reading-at .ensures)
 
 pub survey-at-spec : {M : Type 1} → statement M
 survey-at-spec =

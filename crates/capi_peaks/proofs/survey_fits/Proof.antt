@@ -5,14 +5,15 @@ use Rattle.capi_peaks.proofs.survey_fits.Tie as tie
 
 returns : tie.Need-returns
 returns c =
-    let b = c .before .before .before in
+    let after-both2 : tie.After-both2 = search needs in
+    let after-reading-fits : tie.After-reading-fits = search needs in let b : tie.After-left-fits = search needs in
     rw (
       c .both4 .ensures,
       c .before .both3 .ensures,
-      c .before .before .both2 .ensures,
+      after-both2 .both2 .ensures,
       b .left-fits .ensures,
       b .before .both .ensures,
-      b .before .before .before .before .before .reading-fits .ensures,
+      after-reading-fits .reading-fits .ensures,
     )
 
 pub survey-fits-spec : {M : Type 1} → statement M

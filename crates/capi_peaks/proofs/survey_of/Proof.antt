@@ -15,22 +15,25 @@ returns c = rw (ne-eqb _ surveyNumbers (c .before .if1 .taken), c .no-survey .en
 returns-2 : tie.Need-returns-2
 unfolding surveyOf
 returns-2 c =
+    let else1 : tie.Else1 = search needs in let after-survey-fits : tie.After-survey-fits = search needs in
     rw (
-      eq-eqb _ surveyNumbers (c .before .before .before .if1 .left),
-      said-no (c .before .before .survey-fits .ensures) (c .before .if2 .taken),
+      eq-eqb _ surveyNumbers (else1 .if1 .left),
+      said-no (after-survey-fits .survey-fits .ensures) (c .before .if2 .taken),
       c .no-survey2 .ensures,
     )
 
 survey-at-requires : tie.Need-survey-at-requires
 survey-at-requires c κs =
-    (omega (arith, c .before .before .if1 .left), said-yes (c .before .survey-fits .ensures) (c .if2 .left))
+    let else1 : tie.Else1 = search needs in
+    (omega (arith, else1 .if1 .left), said-yes (c .before .survey-fits .ensures) (c .if2 .left))
 
 returns-3 : tie.Need-returns-3
 unfolding surveyOf
 returns-3 c =
+    let else1 : tie.Else1 = search needs in let after-survey-fits : tie.After-survey-fits = search needs in
     rw (
-      eq-eqb _ surveyNumbers (c .before .before .before .if1 .left),
-      said-yes (c .before .before .survey-fits .ensures) (c .before .if2 .left),
+      eq-eqb _ surveyNumbers (else1 .if1 .left),
+      said-yes (after-survey-fits .survey-fits .ensures) (c .before .if2 .left),
     )
     (c .survey-at .ensures)
 

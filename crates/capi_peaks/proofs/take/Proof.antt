@@ -16,8 +16,9 @@ returns c = rw (said-no (c .before .sound .ensures) (c .if1 .taken))
 returns-2 : tie.Need-returns-2
 unfolding takenIn
 returns-2 c =
+    let after-sound : tie.After-sound = search needs in let else1 : tie.Else1 = search needs in
     rw (
-      said-yes (c .before .before .before .sound .ensures) (c .before .before .if1 .left),
+      said-yes (after-sound .sound .ensures) (else1 .if1 .left),
       ← c .before .first-bad .ensures,
       lt-ltb _ _ (c .if2 .taken),
     )
@@ -25,11 +26,12 @@ returns-2 c =
 returns-3 : tie.Need-returns-3
 unfolding takenIn
 returns-3 c =
-    let d = c .before .before .before .before in
-    let e = d .before .before in
+    let after-ramp-end : tie.After-ramp-end = search needs in let else2 : tie.Else2 = search needs in
+    let d : tie.After-first-bad = search needs in
+    let e : tie.After-sound = search needs in
     let a = e .before .args in
-    let r = c .before .before .ramp-end in
-    let g = le-ltb _ _ (c .before .before .before .if2 .left) in
+    let r = after-ramp-end .ramp-end in
+    let g = le-ltb _ _ (else2 .if2 .left) in
     rw (said-yes (e .sound .ensures) (d .before .if1 .left), ← d .first-bad .ensures, g)
     (c .take .ensures ∙ ap (taken (a .s)) (timed-is (a .left) (a .samples .now) (r .result) (r .ensures)))
 

@@ -11,23 +11,26 @@ use Rattle.capi_reach.proofs.chim_extrapolate.Tie as tie
 
 returns : tie.Need-returns
 unfolding beyondTold
-returns c = rw (ne-eqb _ _ (c .before .before .if1 .taken), c .refuse .ensures .0, c .refuse .ensures .1)
+returns c =
+    let then1 : tie.Then1 = search needs in
+    rw (ne-eqb _ _ (then1 .if1 .taken), c .refuse .ensures .0, c .refuse .ensures .1)
 
 returns-2 : tie.Need-returns-2
 unfolding beyondTold reachTold
 returns-2 c =
-    let b = c .before .before .before .before .before .before .before .before in
-    let d = b .before .before .before .before in
+    let after-a : tie.After-a = search needs in let after-letter-code : tie.After-letter-code = search needs in
+    let after-put : tie.After-put = search needs in let b : tie.After-of-times = search needs in
+    let d : tie.After-extrapolate = search needs in
     let l = d .before .if1 .left in
     let e = b .of-times .ensures in
     rw (
       eq-eqb _ _ l,
       ← d .extrapolate .ensures .answers,
-      b .before .before .a .given .1,
+      after-a .a .given .1,
       c .give .ensures .0,
       c .give .ensures .1,
-      c .before .before .letter-code .ensures,
-      c .before .before .before .before .before .put .ensures,
+      after-letter-code .letter-code .ensures,
+      after-put .put .ensures,
       placed-right _ _ (l ∙ sym (ap length e)),
       e,
     )
@@ -35,11 +38,11 @@ returns-2 c =
 returns-3 : tie.Need-returns-3
 unfolding beyondTold reachTold
 returns-3 c =
-    let b = c .before .before .before .before .before in
+    let after-a2 : tie.After-a2 = search needs in let b : tie.After-extrapolate = search needs in
     rw (
       eq-eqb _ _ (b .before .if1 .left),
       ← b .extrapolate .ensures .answers,
-      c .before .before .before .a2 .given .1,
+      after-a2 .a2 .given .1,
       c .refuse2 .ensures .0,
       c .refuse2 .ensures .1,
     )

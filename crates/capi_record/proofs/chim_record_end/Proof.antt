@@ -5,7 +5,10 @@ use Rattle.capi_record.proofs.chim_record_end.Statement.{statement}
 use Rattle.capi_record.proofs.chim_record_end.Tie as tie
 
 returns : tie.Need-returns
-returns c = rw (← c .before .before .before .before .before .before .record-of .ensures, ← c .before .before .before .before .before .end .ensures) (c .before .before .keep-result .ensures)
+returns c =
+    let after-record-of : tie.After-record-of = search needs in let after-end : tie.After-end = search needs in
+    let after-keep-result : tie.After-keep-result = search needs in
+    rw (← after-record-of .record-of .ensures, ← after-end .end .ensures) (after-keep-result .keep-result .ensures)
 
 pub chim-record-end-spec : {M : Type 1} → statement M
 chim-record-end-spec =

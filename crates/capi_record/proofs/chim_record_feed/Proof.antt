@@ -5,13 +5,17 @@ use Rattle.capi_record.proofs.chim_record_feed.Statement.{statement}
 use Rattle.capi_record.proofs.chim_record_feed.Tie as tie
 
 returns : tie.Need-returns
-returns c = rw (
-  ← c .before .before .before .before .before .before .before .record-of .ensures,
-  ← c .before .before .before .before .before .before .feed .ensures,
-) (
-  c .before .before .keep-record .ensures,
-  c .before .before .before .before .before .channel-in .ensures,
-)
+returns c =
+    let after-record-of : tie.After-record-of = search needs in let after-feed : tie.After-feed = search needs in
+    let after-keep-record : tie.After-keep-record = search needs in
+    let after-channel-in : tie.After-channel-in = search needs in
+    rw (
+      ← after-record-of .record-of .ensures,
+      ← after-feed .feed .ensures,
+    ) (
+      after-keep-record .keep-record .ensures,
+      after-channel-in .channel-in .ensures,
+    )
 
 pub chim-record-feed-spec : {M : Type 1} → statement M
 chim-record-feed-spec =

@@ -11,17 +11,18 @@ use Rattle.capi_sheet.proofs.chim_sheet_read.Tie as tie
 returns : tie.Need-returns
 unfolding campaignKept sheetLine sheetColumn
 returns c =
-    let other = ne-eqb _ _ (c .before .before .if1 .taken) in
+    let then1 : tie.Then1 = search needs in let other = ne-eqb _ _ (then1 .if1 .taken) in
     (rw (other, c .refuse .ensures .0, c .refuse .ensures .1), (rw other, rw other))
 
 returns-2 : tie.Need-returns-2
 unfolding sheetLine sheetColumn meaning readingEnd
 returns-2 c =
-    let k = c .before .before in
-    let o = k .before .before .before .before in
-    let r = o .before .before in
+    let start : tie.Start = search needs in let after-ended : tie.After-ended = search needs in
+    let k : tie.After-keep-campaign = search needs in
+    let o : tie.After-column-of = search needs in
+    let r : tie.After-read = search needs in
     let right = eq-eqb _ _ (r .before .if1 .left) in (
-      k .keep-campaign .ensures ∙ ap (λ a. campaignKept a (r .before .before .before .before .args .state .now)) (k .before .before .before .ended .ensures ∙ ap answerOf (r .read .ensures)),
+      k .keep-campaign .ensures ∙ ap (λ a. campaignKept a (start .args .state .now)) (after-ended .ended .ensures ∙ ap answerOf (r .read .ensures)),
       (rw right (o .before .stopped-on .ensures ∙ ap lineOf (r .read .ensures)), rw right (o .column-of .ensures ∙ ap columnOf (r .read .ensures))),
     )
 

@@ -9,15 +9,17 @@ use Rattle.capi_sheet_records.proofs.chim_sheet_records.Tie as tie
 returns : tie.Need-returns
 unfolding readTold
 returns c =
-    let e = c .before .before .before .before .before .before .records .ensures in
-    let is = sym (e .0) ∙ c .before .before .before .q .given .1 in
+    let after-records : tie.After-records = search needs in let after-q : tie.After-q = search needs in
+    let e = after-records .records .ensures in
+    let is = sym (e .0) ∙ after-q .q .given .1 in
     (rw (is, c .give .ensures .0, c .give .ensures .1), (rw (← e .0) (e .1), (rw is, (rw is, rw is))))
 
 returns-2 : tie.Need-returns-2
 unfolding readTold
 returns-2 c =
-    let e = c .before .before .before .before .before .before .records .ensures in
-    let is = sym (e .0) ∙ c .before .before .before .l .given .1 in
+    let after-records : tie.After-records = search needs in let after-l : tie.After-l = search needs in
+    let e = after-records .records .ensures in
+    let is = sym (e .0) ∙ after-l .l .given .1 in
     (rw (is, c .refuse .ensures .0, c .refuse .ensures .1), (rw (← e .0) (e .1), (rw is, (rw is, rw is))))
 
 pub chim-sheet-records-spec : {M : Type 1} → statement M

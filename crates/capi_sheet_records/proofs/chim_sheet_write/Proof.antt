@@ -7,7 +7,7 @@ use Rattle.capi_sheet_records.proofs.chim_sheet_write.Tie as tie
 
 returns : tie.Need-returns
 returns c =
-    let w = c .before .before .before .before .write in
+    let after-write : tie.After-write = search needs in let w = after-write .write in
     rw (← w .ensures .0, ← w .ensures .1) (writing-told (w .result) _ _ _ (c .tell-writing .ensures))
 
 pub chim-sheet-write-spec : {M : Type 1} → statement M

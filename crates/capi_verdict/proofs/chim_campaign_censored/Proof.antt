@@ -8,14 +8,16 @@ use Rattle.capi_verdict.proofs.chim_campaign_censored.Tie as tie
 returns : tie.Need-returns
 unfolding countTold
 returns c =
-    let b = c .before .before .before in
-    rw (← b .before .before .before .campaign-of .ensures, ← b .before .before .censored .ensures, b .a .given .1, c .give .ensures .0, c .give .ensures .1)
+    let after-campaign-of : tie.After-campaign-of = search needs in
+    let after-censored : tie.After-censored = search needs in let b : tie.After-a = search needs in
+    rw (← after-campaign-of .campaign-of .ensures, ← after-censored .censored .ensures, b .a .given .1, c .give .ensures .0, c .give .ensures .1)
 
 returns-2 : tie.Need-returns-2
 unfolding countTold
 returns-2 c =
-    let b = c .before .before .before in
-    rw (← b .before .before .before .campaign-of .ensures, ← b .before .before .censored .ensures, b .a2 .given .1, c .refuse .ensures .0, c .refuse .ensures .1)
+    let after-campaign-of : tie.After-campaign-of = search needs in
+    let after-censored : tie.After-censored = search needs in let b : tie.After-a2 = search needs in
+    rw (← after-campaign-of .campaign-of .ensures, ← after-censored .censored .ensures, b .a2 .given .1, c .refuse .ensures .0, c .refuse .ensures .1)
 
 pub chim-campaign-censored-spec : {M : Type 1} → statement M
 chim-campaign-censored-spec =

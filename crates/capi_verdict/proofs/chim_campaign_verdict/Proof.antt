@@ -9,14 +9,14 @@ use Rattle.capi_verdict.proofs.chim_campaign_verdict.Tie as tie
 returns : tie.Need-returns
 unfolding judgedTold
 returns c =
-    let b = c .before .before .before .before .before in let d = b .before .before in
+    let b : tie.After-a = search needs in let d : tie.After-judge = search needs in
     rw (← d .before .campaign-of .ensures, ← only _ (d .judge .result) (d .judge .ensures), b .a .given .1, c .tell .ensures)
 
 returns-2 : tie.Need-returns-2
 unfolding judgedTold
 returns-2 c =
-    let b = c .before .before .before .before .before in
-    rw (← b .before .campaign-of .ensures, ← only _ (b .judge .result) (b .judge .ensures), c .before .before .before .a2 .given .1, c .refuse .ensures .0, c .refuse .ensures .1)
+    let after-a2 : tie.After-a2 = search needs in let b : tie.After-judge = search needs in
+    rw (← b .before .campaign-of .ensures, ← only _ (b .judge .result) (b .judge .ensures), after-a2 .a2 .given .1, c .refuse .ensures .0, c .refuse .ensures .1)
 
 pub chim-campaign-verdict-spec : {M : Type 1} → statement M
 chim-campaign-verdict-spec =

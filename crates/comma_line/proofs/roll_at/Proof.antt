@@ -15,8 +15,8 @@ add-t7 c = omega (arith, plain-facts _ _ (plain (c .before)) .room)
 
 returns-2 : tie.Need-returns-2
 returns-2 c =
-    let p = c .before .before .before in
-    let a = p .before .before .args in
+    let start : tie.Start = search needs in let p : tie.After-past-minus = search needs in
+    let a = start .args in
     rw (c .size-at .ensures, plain-size _ _ (plain (c .before))) (plain-read (now (a .s)) (a .at) (p .past-minus .result) (p .past-minus .ensures) (plain (c .before)))
 
 pub roll-at-spec : {M : Type 1} → statement M

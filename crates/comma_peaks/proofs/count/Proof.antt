@@ -10,21 +10,23 @@ use Rattle.comma_peaks.proofs.count.Tie as tie
 
 slice-aggregate-take : tie.Need-slice-aggregate-take
 slice-aggregate-take c =
-    let b = c .before .before .before in
-    let d = b .before in
+    let start : tie.Start = search needs in let after-timed-end : tie.After-timed-end = search needs in
+    let b : tie.After-ramp-end = search needs in
+    let d = start in
     let a = d .args in
     sym (length-take-le _ _ (part-long (a .ramp) (a .lines) (a .s .reading) (a .samples .now) (b .ramp-end .result)
-    (c .before .timed-end .result) (c .before .timed-end .ensures)))
+    (after-timed-end .timed-end .result) (after-timed-end .timed-end .ensures)))
 
 returns : tie.Need-returns
 returns c =
+    let start : tie.Start = search needs in let after-ramp-end : tie.After-ramp-end = search needs in
     let t = c .before in
-    let e = t .before .before in
-    let a = e .before .before .before .args in
+    let e : tie.After-timed-end = search needs in
+    let a = start .args in
     c .surveying-in .ensures
     ∙ counted (a .ramp) (a .lines) (a .s) (a .samples .now) _ (t .take .result)
-    (part-is (a .ramp) (a .lines) (a .s .reading) (a .samples .now) (e .before .before .ramp-end .result) (e
-    .timed-end .result) (e .before .before .ramp-end .ensures) (e .timed-end .ensures)) (t .take .ensures)
+    (part-is (a .ramp) (a .lines) (a .s .reading) (a .samples .now) (after-ramp-end .ramp-end .result) (e
+    .timed-end .result) (after-ramp-end .ramp-end .ensures) (e .timed-end .ensures)) (t .take .ensures)
 
 pub count-spec : {M : Type 1} → statement M
 count-spec =

@@ -12,17 +12,17 @@ use Rattle.comma_peaks.proofs.hand.Tie as tie
 
 slice-aggregate-hand-over : tie.Need-slice-aggregate-hand-over
 slice-aggregate-hand-over c =
-    let e = c .before in
-    let r = e .before .before in
-    let a = r .before .before .before .args in
+    let start : tie.Start = search needs in let e = c .before in
+    let r : tie.After-ramp-end = search needs in
+    let a = start .args in
     sym (length-take-le _ _ (part-long (a .ramp) (a .lines) (a .h .reading) (a .samples .now) (r .ramp-end .result) (e .timed-end .result) (e .timed-end .ensures)))
 
 returns : tie.Need-returns
 returns c =
-    let o = c .before .before .before .before in
-    let e = o .before .before .before .before in
-    let r = e .before .before in
-    let a = r .before .before .before .args in
+    let start : tie.Start = search needs in let o : tie.After-hand-over = search needs in
+    let e : tie.After-timed-end = search needs in
+    let r : tie.After-ramp-end = search needs in
+    let a = start .args in
     subst (λ (l : List ℤ). HandsOver (a .h) l (a .sizes .now) (a .times .now) (o .hand-over .result) (o .hand-over .last .1 .1 .0) (o .hand-over .last .1 .1 .1 .0))
     (part-is (a .ramp) (a .lines) (a .h .reading) (a .samples .now) (r .ramp-end .result) (e .timed-end .result) (r .ramp-end .ensures) (e .timed-end .ensures))
     (o .hand-over .ensures)

@@ -7,7 +7,7 @@ use Rattle.comma_peaks.proofs.judge.Tie as tie
 
 returns : tie.Need-returns
 returns c =
-    let s = c .before .before in
+    let s : tie.Start = search needs in
     rw (c .wrapping-add-u64 .ensures) (judged-wrong (s .args .f) (s .args .ramp) (s .args .wrong) (c .before .if1 .taken))
 
 returns-2 : tie.Need-returns-2

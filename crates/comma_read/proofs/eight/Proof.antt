@@ -7,10 +7,10 @@ use Rattle.comma_read.proofs.eight.Tie as tie
 
 returns : tie.Need-returns
 returns c =
-    let b = c .before .before .before .before .before in
+    let b : tie.After-four = search needs in
     let p = b .four .ensures in
     let q = c .four2 .ensures in
-    let s = b .before .before .before .before .before .before in
+    let s : tie.Start = search needs in
     (rw (p .0, q .0) (eight-beside (now (s .args .s)) (s .args .at) (s .pre)), eight-small (now (s .args .s)) (s .args .at) (p .2) (p .3) (p .4) (p .5) (q .2) (q .3) (q .4) (q .5))
 
 pub eight-spec : {M : Type 1} → statement M

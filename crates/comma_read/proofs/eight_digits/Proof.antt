@@ -12,7 +12,7 @@ add-result : tie.Need-add-result
 add-result c = omega (arith, short 4 _ _ (c .before .four-digits .ensures), short 4 _ (c .four-digits2 .result) (c .four-digits2 .ensures))
 
 returns : tie.Need-returns
-returns c = omega (arith, parts 4 4 (c .before .before .args .n))
+returns c = let start : tie.Start = search needs in omega (arith, parts 4 4 (start .args .n))
 
 pub eight-digits-spec : {M : Type 1} → statement M
 eight-digits-spec = tie.close (tie.spec (λ c κs. search needs) mul-result (λ c κs. search needs) add-result returns)

@@ -37,10 +37,6 @@ Inv-loop text step front lines samples₀ at₀ width₀ count₀ samples at wid
 abbrev μ-loop : tie.MeasureT-loop
 μ-loop text step front lines samples₀ at₀ width₀ count₀ samples at width count = lines - count
 
--- ways back to earlier places of the function
-abbrev form-of : tie.After-samples Inv-loop μ-loop → tie.After-form-of Inv-loop μ-loop
-form-of c = c .before .before .before .before
-
 -- the line that is ahead
 module _ (c : tie.In-loop Inv-loop μ-loop) where
   abbrev begun : tie.At-loop Inv-loop μ-loop
@@ -66,7 +62,7 @@ module _ (c : tie.After-width-in Inv-loop μ-loop) where
 -- what they are
 module _ (c : tie.After-form-of Inv-loop μ-loop) where
   abbrev inside : tie.In-loop Inv-loop μ-loop
-  inside = c .before .before
+  inside = search needs
 
   abbrev Width : ℕ
   Width = c .before .width-in .result
@@ -117,27 +113,31 @@ plain-sample-requires : tie.Need-plain-sample-requires Inv-loop μ-loop
 plain-sample-requires c κs = c .form-of .ensures
 
 store-requires : tie.Need-store-requires Inv-loop μ-loop
-store-requires c κs = let i = inside (c .before .before) in let l = begun i in omega (arith, i .loop-test .taken, l .loop .inv .1 .same, l .before .before .pre .4)
+store-requires c κs =
+    let after-form-of : tie.After-form-of Inv-loop μ-loop = search needs in
+    let i = inside after-form-of in let l = begun i in omega (arith, i .loop-test .taken, l .loop .inv .1 .same, l .before .before .pre .4)
 
 add-at : tie.Need-add-at Inv-loop μ-loop
-add-at c = omega (arith, ends (form-of c))
+add-at c = let after-form-of : tie.After-form-of Inv-loop μ-loop = search needs in omega (arith, ends after-form-of)
 
 add-at-2 : tie.Need-add-at-2 Inv-loop μ-loop
-add-at-2 c = omega (arith, ends (form-of c))
+add-at-2 c = let after-form-of : tie.After-form-of Inv-loop μ-loop = search needs in omega (arith, ends after-form-of)
 
 add-count : tie.Need-add-count Inv-loop μ-loop
-add-count c = let b = form-of c in let l = b .before .before .before in omega (arith, l .loop .inv .0 .few, ends b)
+add-count c = let b : tie.After-form-of Inv-loop μ-loop = search needs in let l : tie.At-loop Inv-loop μ-loop = search needs in omega (arith, l .loop .inv .0 .few, ends b)
 
 loop-less : tie.Need-loop-less Inv-loop μ-loop
-loop-less c = omega (arith, c .before .before .before .before .before .before .loop-test .taken)
+loop-less c = let in-loop : tie.In-loop Inv-loop μ-loop = search needs in omega (arith, in-loop .loop-test .taken)
 
 loop-again : tie.Need-loop-again Inv-loop μ-loop
 loop-again c =
-    let b = form-of c in
-    let v = c .before .before .before in
+    let after-width-in : tie.After-width-in Inv-loop μ-loop = search needs in
+    let in-loop : tie.In-loop Inv-loop μ-loop = search needs in
+    let b : tie.After-form-of Inv-loop μ-loop = search needs in
+    let v : tie.After-plain-sample Inv-loop μ-loop = search needs in
     let f = b in
-    let l = b .before .before .before in
-    let s = l .before .before in
+    let l : tie.At-loop Inv-loop μ-loop = search needs in
+    let s : tie.Start Inv-loop μ-loop = search needs in
     let fits : SFits w32 (v .plain-sample .result) = search needs in
     let size = plain-facts (Text (inside f)) _ (f .form-of .ensures .plain) .small in
     let stored = c .before .store .ensures ∙ ap (set (l .loop .samples) (l .loop .count)) (toZ-ofZ fits ∙
@@ -148,9 +148,9 @@ loop-again c =
     let later : (l .loop .count + 1) * s .args .step ≡ l .loop .count * s .args .step + s .args .step = omega arith in (
       rw later (on .0),
       on .1,
-      rw later (narrow-on (s .args .step) (b .before .width-in .ensures .0)),
+      rw later (narrow-on (s .args .step) (after-width-in .width-in .ensures .0)),
       rw later (rw (a .this .line .place ∙ sym (told f .place)) at (a .others)),
-      omega (arith, b .before .before .loop-test .taken),
+      omega (arith, in-loop .loop-test .taken),
     )
 
 same-length : tie.Need-same-length Inv-loop μ-loop
@@ -159,7 +159,7 @@ same-length c = c .before .loop .inv .1 .same
 returns : tie.Need-returns Inv-loop μ-loop
 returns c =
     let l = c .before in
-    let s = l .before .before in
+    let s : tie.Start Inv-loop μ-loop = search needs in
     let here : l .loop .at ≡ s .args .front = arrived (l .loop .inv .3) (omega (arith, mul-le-mul-right {m = s .args .lines} (s .args .step) (c .loop-test .left))) (s .pre .3) in
     let count : l .loop .count ≡ s .args .lines = omega (arith, rw here at (l .loop .inv .0 .number), of-front (s .pre .2) (s .pre .0) .number) in
     rw (← here, ← count) (l .loop .inv .1 .left (s .pre .1))

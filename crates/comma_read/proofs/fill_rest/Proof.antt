@@ -33,35 +33,31 @@ abbrev μ-loop : tie.MeasureT-loop
 
 -- ways back to earlier places of the function
 abbrev start : tie.In-loop Inv-loop μ-loop → tie.Start Inv-loop μ-loop
-start c = c .before .before .before
+start c = search needs
 
 abbrev loop₂ : tie.After-bytes-at Inv-loop μ-loop → tie.In-loop Inv-loop μ-loop
-loop₂ c = c .before .before .before
+loop₂ c = search needs
 
 abbrev loop : tie.After-bytes-at Inv-loop μ-loop → tie.At-loop Inv-loop μ-loop
-loop c = c .before .before .before .before
+loop c = search needs
 
 abbrev width-at : tie.After-degrees-at Inv-loop μ-loop → tie.After-width-at Inv-loop μ-loop
-width-at c = c .before .before .before .before
+width-at c = search needs
 
 abbrev bytes-at : tie.After-minus Inv-loop μ-loop → tie.After-bytes-at Inv-loop μ-loop
-bytes-at c = c .before .before .before .before
+bytes-at c = search needs
 
 abbrev bytes-at₂ : tie.After-known-told Inv-loop μ-loop → tie.After-bytes-at Inv-loop μ-loop
 bytes-at₂ c = bytes-at (c .before)
-
-abbrev size-at : tie.After-samples2 Inv-loop μ-loop → tie.After-size-at Inv-loop μ-loop
-size-at c = c .before .before .before .before
-
-abbrev known-told : tie.After-samples Inv-loop μ-loop → tie.After-known-told Inv-loop μ-loop
-known-told c = c .before .before .before .before
 
 few : (c : tie.In-loop Inv-loop μ-loop) → c .before .loop .count < length (now (start c .args .text))
 few c = omega (arith, c .before .loop .inv .0 .few, c .loop-test .taken)
 
 -- the line is right
 good : (c : tie.In-loop Inv-loop μ-loop) → right (c .before .loop .time) (drop (c .before .loop .at) (now (start c .args .text))) ≡ true
-good c = all-right (c .before .loop .inv .0) (start c .pre .1) (c .loop-test .taken)
+good c =
+    let start : tie.Start Inv-loop μ-loop = search needs in
+    all-right (c .before .loop .inv .0) (start .pre .1) (c .loop-test .taken)
 
 -- and its time is this wide
 wide : (c : tie.After-width-at Inv-loop μ-loop) → c .width-at .result ≡ length (digitsOf (c .before .before .loop .time))
@@ -92,14 +88,17 @@ plainly : (c : tie.After-size-at Inv-loop μ-loop) →
     (l .loop .at + p .before .width-at .result + 1))) (c .size-at .result) (p .past-minus .result +
     b .bytes-at .result + 1)
 plainly c =
-    let p = c .before .before .before in
-    let w = p .before in
-    let l = w .before .before in
-    let s = now (l .before .before .args .text) in
+    let after-width-at : tie.After-width-at Inv-loop μ-loop = search needs in
+    let start : tie.Start Inv-loop μ-loop = search needs in let else1 : tie.Else1 Inv-loop μ-loop = search needs in
+    let in-loop : tie.In-loop Inv-loop μ-loop = search needs in
+    let p : tie.After-past-minus Inv-loop μ-loop = search needs in
+    let w = after-width-at in
+    let l : tie.At-loop Inv-loop μ-loop = search needs in
+    let s = now (start .args .text) in
     let roll = l .loop .at + w .width-at .result + 1 in
-    rw (c .size-at .ensures, plain-size s _ (plain (c .before)))
-    (line-by-roll s (l .loop .at) (l .loop .time) (w .width-at .result) (good (w .before)) (wide w)
-    (degrees-read s roll _ _ _ (sym (plain-read s roll (p .past-minus .result) (p .past-minus .ensures) (plain (c .before))))))
+    rw (c .size-at .ensures, plain-size s _ (plain else1))
+    (line-by-roll s (l .loop .at) (l .loop .time) (w .width-at .result) (good in-loop) (wide w)
+    (degrees-read s roll _ _ _ (sym (plain-read s roll (p .past-minus .result) (p .past-minus .ensures) (plain else1)))))
 
 mul-time : tie.Need-mul-time Inv-loop μ-loop
 mul-time c = omega (arith, of-front (c .before .pre .2) (c .before .pre .0) .due)
@@ -126,74 +125,94 @@ add-roll-2 : tie.Need-add-roll-2 Inv-loop μ-loop
 add-roll-2 c = omega (arith, narrow c, c .before .loop-test .taken)
 
 same-length : tie.Need-same-length Inv-loop μ-loop
-same-length c = loop (c .before .before .before .before) .loop .inv .1 .same
+same-length c = let at-loop : tie.At-loop Inv-loop μ-loop = search needs in at-loop .loop .inv .1 .same
 
 returns : tie.Need-returns Inv-loop μ-loop
-returns c = let w = width-at (c .before .before) in let l = w .before .before in absurd (roll-good _ (l .loop .at)
-    (l .loop .time) (w .width-at .result) (good (w .before)) (wide w) (sym (c .before .before .degrees-at .ensures)
+returns c =
+    let in-loop : tie.In-loop Inv-loop μ-loop = search needs in
+    let after-degrees-at : tie.After-degrees-at Inv-loop μ-loop = search needs in
+    let w : tie.After-width-at Inv-loop μ-loop = search needs in let l : tie.At-loop Inv-loop μ-loop = search needs in absurd (roll-good _ (l .loop .at)
+    (l .loop .time) (w .width-at .result) (good in-loop) (wide w) (sym (after-degrees-at .degrees-at .ensures)
     ∙ c .enum-told .given .1))
 
 add-count : tie.Need-add-count Inv-loop μ-loop
-add-count c = omega (arith, few (loop₂ (bytes-at₂ (known-told c))))
+add-count c = let in-loop : tie.In-loop Inv-loop μ-loop = search needs in omega (arith, few in-loop)
 
 add-time : tie.Need-add-time Inv-loop μ-loop
-add-time c = let l = loop (bytes-at₂ (known-told c)) in omega (arith, l .loop .inv .0 .due, l .before .before .pre .0)
+add-time c =
+    let start : tie.Start Inv-loop μ-loop = search needs in
+    let l : tie.At-loop Inv-loop μ-loop = search needs in omega (arith, l .loop .inv .0 .due, start .pre .0)
 
 add-at : tie.Need-add-at Inv-loop μ-loop
-add-at c = omega (arith, filled-place (loop (bytes-at₂ (known-told c)) .loop .inv .0) (told (known-told c)) .1)
+add-at c =
+    let at-loop : tie.At-loop Inv-loop μ-loop = search needs in
+    let after-known-told : tie.After-known-told Inv-loop μ-loop = search needs in
+    omega (arith, filled-place (at-loop .loop .inv .0) (told after-known-told) .1)
 
 loop-less : tie.Need-loop-less Inv-loop μ-loop
 loop-less c =
-    let d = known-told c in
-    let b = loop₂ (d .before .before .before .before .before) in
-    omega (arith, filled-place (b .before .loop .inv .0) (told d) .0, b .loop-test .taken)
+    let at-loop : tie.At-loop Inv-loop μ-loop = search needs in
+    let d : tie.After-known-told Inv-loop μ-loop = search needs in
+    let b : tie.In-loop Inv-loop μ-loop = search needs in
+    omega (arith, filled-place (at-loop .loop .inv .0) (told d) .0, b .loop-test .taken)
 
 loop-again : tie.Need-loop-again Inv-loop μ-loop
 loop-again c =
-    let d = c .before .before .before in
-    let b = width-at (d .before .before .before .before) in
+    let after-known-told : tie.After-known-told Inv-loop μ-loop = search needs in
+    let d : tie.After-sample Inv-loop μ-loop = search needs in
+    let b : tie.After-width-at Inv-loop μ-loop = search needs in
     let v = d in
-    let l = b .before .before in
-    let s = l .before .before in
+    let l : tie.At-loop Inv-loop μ-loop = search needs in
+    let s : tie.Start Inv-loop μ-loop = search needs in
     let f : SFits w32 (v .sample .result) = search needs in
     let stored = c .before .put .ensures ∙ ap (set (l .loop .samples) (l .loop .count)) (toZ-ofZ f ∙ v .sample .ensures) in
-    let on = filled-on (l .loop .inv .0) (told (d .before)) (s .pre .1) (s .pre .0) (l .loop .inv .1) stored in
+    let on = filled-on (l .loop .inv .0) (told after-known-told) (s .pre .1) (s .pre .0) (l .loop .inv .1) stored in
     (on .0, on .1, narrow-on (s .args .step) (b .width-at .ensures .0))
 
 add-count-2 : tie.Need-add-count-2 Inv-loop μ-loop
-add-count-2 c = omega (arith, few (loop₂ (c .before .before .before .before .before .before)))
+add-count-2 c = let in-loop : tie.In-loop Inv-loop μ-loop = search needs in omega (arith, few in-loop)
 
 add-time-2 : tie.Need-add-time-2 Inv-loop μ-loop
-add-time-2 c = let l = loop (c .before .before .before .before .before .before) in omega (arith, l .loop .inv .0 .due, l .before .before .pre .0)
+add-time-2 c =
+    let start : tie.Start Inv-loop μ-loop = search needs in
+    let l : tie.At-loop Inv-loop μ-loop = search needs in omega (arith, l .loop .inv .0 .due, start .pre .0)
 
 add-at-2 : tie.Need-add-at-2 Inv-loop μ-loop
-add-at-2 c = let b = size-at c in omega (arith, filled-place (loop (b .before .before) .loop .inv .0) (plainly b) .1)
+add-at-2 c =
+    let at-loop : tie.At-loop Inv-loop μ-loop = search needs in
+    let b : tie.After-size-at Inv-loop μ-loop = search needs in omega (arith, filled-place (at-loop .loop .inv .0) (plainly b) .1)
 
 add-at-3 : tie.Need-add-at-3 Inv-loop μ-loop
-add-at-3 c = let b = size-at c in omega (arith, filled-place (loop (b .before .before) .loop .inv .0) (plainly b) .1)
+add-at-3 c =
+    let at-loop : tie.At-loop Inv-loop μ-loop = search needs in
+    let b : tie.After-size-at Inv-loop μ-loop = search needs in omega (arith, filled-place (at-loop .loop .inv .0) (plainly b) .1)
 
 loop-less-2 : tie.Need-loop-less-2 Inv-loop μ-loop
 loop-less-2 c =
-    let d = size-at c in
-    let b = loop₂ (d .before .before) in
-    omega (arith, filled-place (b .before .loop .inv .0) (plainly d) .0, b .loop-test .taken)
+    let at-loop : tie.At-loop Inv-loop μ-loop = search needs in
+    let d : tie.After-size-at Inv-loop μ-loop = search needs in
+    let b : tie.In-loop Inv-loop μ-loop = search needs in
+    omega (arith, filled-place (at-loop .loop .inv .0) (plainly d) .0, b .loop-test .taken)
 
 loop-again-2 : tie.Need-loop-again-2 Inv-loop μ-loop
 loop-again-2 c =
-    let b = c .before .before .before in let d = b .before .before .before .before .before in
+    let after-size-at : tie.After-size-at Inv-loop μ-loop = search needs in
+    let b : tie.After-sample2 Inv-loop μ-loop = search needs in let d : tie.After-width-at Inv-loop μ-loop = search needs in
     let v = b in
-    let l = d .before .before in
-    let s = l .before .before in
+    let l : tie.At-loop Inv-loop μ-loop = search needs in
+    let s : tie.Start Inv-loop μ-loop = search needs in
     let f : SFits w32 (v .sample2 .result) = search needs in
     let stored = c .before .put2 .ensures ∙ ap (set (l .loop .samples) (l .loop .count)) (toZ-ofZ f ∙ v .sample2 .ensures) in
-    let on = filled-on (l .loop .inv .0) (plainly (b .before)) (s .pre .1) (s .pre .0) (l .loop .inv .1) stored in
+    let on = filled-on (l .loop .inv .0) (plainly after-size-at) (s .pre .1) (s .pre .0) (l .loop .inv .1) stored in
     (on .0, on .1, narrow-on (s .args .step) (d .width-at .ensures .0))
 
 same-length-2 : tie.Need-same-length-2 Inv-loop μ-loop
 same-length-2 c = c .before .loop .inv .1 .same
 
 returns-2 : tie.Need-returns-2 Inv-loop μ-loop
-returns-2 c = let l = c .before in put-all (l .loop .inv .0) (l .loop .inv .1) (c .loop-test .left) (l .before .before .pre .1)
+returns-2 c =
+    let start : tie.Start Inv-loop μ-loop = search needs in
+    let l = c .before in put-all (l .loop .inv .0) (l .loop .inv .1) (c .loop-test .left) (start .pre .1)
 
 pub fill-rest-spec : {M : Type 1} → statement M
 fill-rest-spec =

@@ -12,7 +12,7 @@ add-result : tie.Need-add-result
 add-result c = omega (arith, short 2 _ _ (c .before .two-digits .ensures), short 2 _ (c .two-digits2 .result) (c .two-digits2 .ensures))
 
 returns : tie.Need-returns
-returns c = omega (arith, parts 2 2 (c .before .before .args .n))
+returns c = let start : tie.Start = search needs in omega (arith, parts 2 2 (start .args .n))
 
 pub four-digits-spec : {M : Type 1} → statement M
 four-digits-spec = tie.close (tie.spec (λ c κs. search needs) mul-result (λ c κs. search needs) add-result returns)

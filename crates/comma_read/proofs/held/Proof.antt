@@ -12,7 +12,9 @@ returns : tie.Need-returns
 returns c = λ e. absurd (true≢false (sym e))
 
 returns-2 : tie.Need-returns-2
-returns-2 c = λ e. (c .before .if1 .left, ap (λ (x : ℕ). bitAnd x (c .before .before .args .mask)) (sym (c .wrapping-add-u64 .ensures)) ∙ eqb-true _ _ e)
+returns-2 c =
+    let start : tie.Start = search needs in
+    λ e. (c .before .if1 .left, ap (λ (x : ℕ). bitAnd x (start .args .mask)) (sym (c .wrapping-add-u64 .ensures)) ∙ eqb-true _ _ e)
 
 pub held-spec : {M : Type 1} → statement M
 held-spec = tie.close (tie.spec returns (λ c κs. search needs) returns-2)

@@ -26,13 +26,15 @@ returns-2 : tie.Need-returns-2
 returns-2 c = λ e. nothing e
 
 add-past-minus : tie.Need-add-past-minus
-add-past-minus c = omega (arith, room c, c .before .before .if1 .left)
+add-past-minus c = let else1 : tie.Else1 = search needs in omega (arith, room c, else1 .if1 .left)
 
 add-past-minus-2 : tie.Need-add-past-minus-2
-add-past-minus-2 c = omega (arith, room c, c .before .before .if1 .left)
+add-past-minus-2 c = let else1 : tie.Else1 = search needs in omega (arith, room c, else1 .if1 .left)
 
 returns-3 : tie.Need-returns-3
-returns-3 c = λ e. let k = c .before .before in (room k, k .before .before .if1 .left)
+returns-3 c =
+    let else1 : tie.Else1 = search needs in
+    λ e. let k : tie.Else2 = search needs in (room k, else1 .if1 .left)
 
 pub looks-plain-spec : {M : Type 1} → statement M
 looks-plain-spec =

@@ -22,13 +22,13 @@ use Rattle.comma_read.proofs.plain_roll.Tie as tie
 -- the eight bytes at the comma
 module _ (e : tie.After-eight) where
   abbrev S : List ℕ
-  S = now (e .before .before .args .s)
+  S = let start : tie.Start = search needs in now (start .args .s)
 
   abbrev C : ℕ
-  C = e .before .before .args .c
+  C = let start : tie.Start = search needs in start .args .c
 
   room : C + 9 ≤ length S
-  room = e .before .before .pre
+  room = let start : tie.Start = search needs in start .pre
 
   pub same : e .eight .result ≡ word (row S C 0 8)
   same = e .eight .ensures .0 ∙ ap word (row-is S C 8 (omega (arith, room)))
@@ -43,12 +43,14 @@ module _ (e : tie.After-eight) where
 
 returns : tie.Need-returns
 unfolding word maskOf bitsOf moreOf own
-returns c = let e = c .before .before .before in λ h. plus-long (S e) (C e) (room e) (e .eight .result) (same e)
-    (are e plusLong refl refl (c .before .held .ensures (c .if2 .taken))) (c .before .before .if1 .taken)
+returns c =
+    let then1 : tie.Then1 = search needs in
+    let e : tie.After-eight = search needs in λ h. plus-long (S e) (C e) (room e) (e .eight .result) (same e)
+    (are e plusLong refl refl (c .before .held .ensures (c .if2 .taken))) (then1 .if1 .taken)
 
 returns-2 : tie.Need-returns-2
 unfolding word maskOf bitsOf moreOf own
-returns-2 c = let e = c .before .before .before .before .before in λ h. plus-short (S e) (C e) (room e)
+returns-2 c = let e : tie.After-eight = search needs in λ h. plus-short (S e) (C e) (room e)
     (e .eight .result) (same e) (are e plusShort refl refl (c .before .plus-short .ensures (c .if3 .taken)))
 
 returns-3 : tie.Need-returns-3
@@ -57,22 +59,22 @@ returns-3 c = λ h. absurd (omega arith)
 returns-4 : tie.Need-returns-4
 unfolding word maskOf bitsOf moreOf own
 returns-4 c =
-    let b = c .before .before .before in
-    let e = b .before .before .before in
+    let after-held2 : tie.After-held2 = search needs in let b : tie.Then4 = search needs in
+    let e : tie.After-eight = search needs in
     let (ten, feed) = and-true _ _ (sym (c .before .both .ensures) ∙ c .if5 .taken) in
-    λ h. minus-long (S e) (C e) (room e) (e .eight .result) (same e) (are e minusLong refl refl (b .before .held2 .ensures (b .if4 .taken))) (ltb-true _ _ ten) (eqb-true _ _ feed)
+    λ h. minus-long (S e) (C e) (room e) (e .eight .result) (same e) (are e minusLong refl refl (after-held2 .held2 .ensures (b .if4 .taken))) (ltb-true _ _ ten) (eqb-true _ _ feed)
 
 returns-5 : tie.Need-returns-5
 returns-5 c = λ h. absurd (omega arith)
 
 returns-6 : tie.Need-returns-6
 unfolding word maskOf bitsOf moreOf own
-returns-6 c = let e = c .before .before .before .before .before in λ h. minus-short (S e) (C e) (room e)
+returns-6 c = let e : tie.After-eight = search needs in λ h. minus-short (S e) (C e) (room e)
     (e .eight .result) (same e) (are e minusShort refl refl (c .before .held3 .ensures (c .if6 .taken)))
 
 returns-7 : tie.Need-returns-7
 unfolding word maskOf bitsOf moreOf own
-returns-7 c = let e = c .before .before .before .before .before .before .before in λ h. plus-short (S e) (C e)
+returns-7 c = let e : tie.After-eight = search needs in λ h. plus-short (S e) (C e)
     (room e) (e .eight .result) (same e) (are e plusShort refl refl (c .before .plus-short2 .ensures (c .if7 .taken)))
 
 returns-8 : tie.Need-returns-8

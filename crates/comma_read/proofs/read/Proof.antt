@@ -40,7 +40,7 @@ module _ (c : tie.After-survey) where
   front = c .before
 
   abbrev start : tie.Start
-  start = front .before .before .before .before
+  start = search needs
 
   abbrev Found : List (List ℕ)
   Found = linesOf (now (start .args .text))
@@ -49,21 +49,23 @@ module _ (c : tie.After-survey) where
   Places = length (now (start .args .samples))
 
 right-found : (c : tie.After-count) → let s = c .before .before in FoundRight (start s .args .step) (Found s) (c .count .given .0 .0) (c .count .given .0 .1 .0)
-right-found c = let s = c .before .before in found-right _ (Found s) _ _ (sym (s .survey .ensures) ∙ c .count .given .1)
+right-found c = let s : tie.After-survey = search needs in found-right _ (Found s) _ _ (sym (s .survey .ensures) ∙ c .count .given .1)
 
 wrong-found : (c : tie.After-lines) → let s = c .before .before in FoundWrong (start s .args .step) (Found s) (c .lines .given .0 .0)
-wrong-found c = let s = c .before .before in found-wrong _ (Found s) _ (sym (s .survey .ensures) ∙ c .lines .given .1)
+wrong-found c = let s : tie.After-survey = search needs in found-wrong _ (Found s) _ (sym (s .survey .ensures) ∙ c .lines .given .1)
 
 -- the front has no more lines than the text
 fewer : (c : tie.After-count) → let s = c .before .before in front s .plain-front .result .lines ≤ c .count .given .0 .0
-fewer c = let s = c .before .before in omega (arith, of-front (front s .plain-front .ensures) (small (front s .before)) .number, right-found c .number)
+fewer c = let s : tie.After-survey = search needs in omega (arith, of-front (front s .plain-front .ensures) (small (front s .before)) .number, right-found c .number)
 
 all-good : (c : tie.After-count) → c .count .given .0 .0 ≤ c .count .given .0 .1 .0 → let s = c .before .before in AllGood (start s .args .step) (Found s)
 all-good c all = let r = right-found c in record { right = r .all ∙ sym (r .number); in-range = omega (arith, r .bad, r .number, r .low, all) }
 
 returns : tie.Need-returns
 unfolding filledBy
-returns c = let a = c .before .before .before .args in (bad-step (a .step) (linesOf (now (a .text))) (length (now (a .samples))) (said-no (c .before .step-in-range .ensures) (c .if1 .taken)), refl)
+returns c =
+    let start : tie.Start = search needs in
+    let a = start .args in (bad-step (a .step) (linesOf (now (a .text))) (length (now (a .samples))) (said-no (c .before .step-in-range .ensures) (c .if1 .taken)), refl)
 
 plain-front-requires : tie.Need-plain-front-requires
 plain-front-requires c κs = small c
@@ -72,7 +74,9 @@ survey-requires : tie.Need-survey-requires
 survey-requires c κs = (small (c .before), c .plain-front .ensures)
 
 add-t13 : tie.Need-add-t13
-add-t13 c = let k = c .before in omega (arith, wrong-found k .some, lines-few (now (start (k .before .before) .args .text)))
+add-t13 c =
+    let after-survey : tie.After-survey = search needs in
+    let k = c .before in omega (arith, wrong-found k .some, lines-few (now (start after-survey .args .text)))
 
 returns-2 : tie.Need-returns-2
 unfolding filledBy

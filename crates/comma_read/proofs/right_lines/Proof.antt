@@ -34,10 +34,10 @@ abbrev μ-loop : tie.MeasureT-loop
 -- the plain lines are passed
 module _ (c : tie.After-plain-taken Inv-loop μ-loop) where
   abbrev begun : tie.At-loop Inv-loop μ-loop
-  begun = c .before .before .before .before
+  begun = search needs
 
   abbrev start : tie.Start Inv-loop μ-loop
-  start = begun .before .before
+  start = search needs
 
   abbrev Text : List ℕ
   Text = now (start .args .text)
@@ -66,7 +66,7 @@ module _ (c : tie.After-plain-taken Inv-loop μ-loop) where
 -- and what was noted of them
 module _ (c : tie.After-carried Inv-loop μ-loop) where
   abbrev lines : tie.After-plain-taken Inv-loop μ-loop
-  lines = c .before .before
+  lines = search needs
 
   noted : Way (start lines .args .step) (start lines .args .before) (Text lines) (now (start lines .args .samples)) (At lines) (Count lines) (Due lines) (c .carried .result) (Later lines)
   noted = way-as (c .carried .ensures) (gone lines)
@@ -74,7 +74,7 @@ module _ (c : tie.After-carried Inv-loop μ-loop) where
 -- there is a place for one more
 module _ (c : tie.Else1 Inv-loop μ-loop) where
   abbrev passed : tie.After-carried Inv-loop μ-loop
-  passed = c .before .before .before
+  passed = search needs
 
   room : Count (lines passed) < length (now (start (lines passed) .args .samples))
   room = omega (arith, c .if1 .left, same (lines passed))
@@ -82,13 +82,15 @@ module _ (c : tie.Else1 Inv-loop μ-loop) where
 -- which is a right line
 module _ (c : tie.After-known-told Inv-loop μ-loop) where
   abbrev else1 : tie.Else1 Inv-loop μ-loop
-  else1 = c .before .before .before .before
+  else1 = search needs
 
   abbrev run : tie.After-plain-taken Inv-loop μ-loop
   run = lines (passed else1)
 
   read : LineRead (Text run) (At run) (Due run) (c .before .minus .given .0 .0) (c .before .minus .given .0 .1 .0) (c .before .minus .given .0 .1 .1 .0)
-  read = line-read (Text run) (At run) (Due run) _ _ _ (sym (c .before .before .before .line-at .ensures) ∙ c .before .minus .given .1)
+  read =
+      let after-line-at : tie.After-line-at Inv-loop μ-loop = search needs in
+      line-read (Text run) (At run) (Due run) _ _ _ (sym (after-line-at .line-at .ensures) ∙ c .before .minus .given .1)
 
 mul-due : tie.Need-mul-due Inv-loop μ-loop
 mul-due c = let s = c .before in let a = s .args in omega (arith, way-start (a .step) (a .before) (now (a .text)) (now (a .samples)) (s .pre .0) (s .pre .1) .early)
@@ -111,22 +113,30 @@ carried-requires : tie.Need-carried-requires Inv-loop μ-loop
 carried-requires c κs = let p = c .before in omega (arith, gone p .few, gone p .early, going-low (begun p .loop .inv .0 .going))
 
 add-count : tie.Need-add-count Inv-loop μ-loop
-add-count c = let p = c .before .before .before in omega (arith, gone p .few, gone p .early)
+add-count c = let p : tie.After-plain-taken Inv-loop μ-loop = search needs in omega (arith, gone p .few, gone p .early)
 
 mul-due-2 : tie.Need-mul-due-2 Inv-loop μ-loop
-mul-due-2 c = omega (arith, gone (c .before .before .before .before) .early)
+mul-due-2 c =
+    let after-plain-taken : tie.After-plain-taken Inv-loop μ-loop = search needs in
+    omega (arith, gone after-plain-taken .early)
 
 add-due : tie.Need-add-due Inv-loop μ-loop
-add-due c = omega (arith, gone (c .before .before .before .before) .early)
+add-due c =
+    let after-plain-taken : tie.After-plain-taken Inv-loop μ-loop = search needs in
+    omega (arith, gone after-plain-taken .early)
 
 store-requires : tie.Need-store-requires Inv-loop μ-loop
-store-requires c κs = let e = c .before .before .before .before .before .before in omega (arith, room e, same (lines (passed e)))
+store-requires c κs = let e : tie.Else1 Inv-loop μ-loop = search needs in omega (arith, room e, same (lines (passed e)))
 
 tallied-requires : tie.Need-tallied-requires Inv-loop μ-loop
-tallied-requires c κs = let w = noted (passed (c .before .before .before .before .before .before .before .before)) in (going-low (w .going), omega (arith, w .few, w .early))
+tallied-requires c κs =
+    let else1 : tie.Else1 Inv-loop μ-loop = search needs in
+    let w = noted (passed else1) in (going-low (w .going), omega (arith, w .few, w .early))
 
 add-count-2 : tie.Need-add-count-2 Inv-loop μ-loop
-add-count-2 c = let w = noted (passed (c .before .before .before .before .before .before .before .before .before)) in omega (arith, w .few, w .early)
+add-count-2 c =
+    let else1 : tie.Else1 Inv-loop μ-loop = search needs in
+    let w = noted (passed else1) in omega (arith, w .few, w .early)
 
 add-due-2 : tie.Need-add-due-2 Inv-loop μ-loop
 add-due-2 c = let p = lines (passed (c .before .before .before .before .before .before .before .before .before)) in omega (arith, gone p .early, high 1 10000 (start p .args .step) (start p .pre .0))
@@ -136,14 +146,16 @@ loop-less c = omega (arith, room (c .before .before .before .before .before .bef
 
 loop-again : tie.Need-loop-again Inv-loop μ-loop
 loop-again c =
-    let k = c .before .before .before .before .before in
+    let after-sample : tie.After-sample Inv-loop μ-loop = search needs in
+    let after-store : tie.After-store Inv-loop μ-loop = search needs in
+    let k : tie.After-known-told Inv-loop μ-loop = search needs in
     let e = else1 k in
     let p = lines (passed e) in
     let a = start p .args in
-    let fits : SFits w32 (c .before .before .before .before .sample .result) = search needs in (
-      rw (c .before .before .store .ensures)
+    let fits : SFits w32 (after-sample .sample .result) = search needs in (
+      rw (after-store .store .ensures)
           (way-line (a .step) (a .before) (now (a .text)) (now (a .samples)) (start p .pre .0) (noted (passed e)) (read k) (room e) (c .tallied .ensures)
-          (toZ-ofZ fits ∙ c .before .before .before .before .sample .ensures)),
+          (toZ-ofZ fits ∙ after-sample .sample .ensures)),
       narrow-on _ (narrow-on _ (p .before .before .width-at .ensures .0)),
     )
 
@@ -152,25 +164,28 @@ same-length c = let w = c .before .loop .inv .0 in going-length (w .going) (w .r
 
 returns : tie.Need-returns Inv-loop μ-loop
 returns c =
-    let l = c .before in let s = l .before .before in let a = s .args in let w = l .loop .inv .0 in
+    let l = c .before in let s : tie.Start Inv-loop μ-loop = search needs in let a = s .args in let w = l .loop .inv .0 in
     way-full (a .step) (a .before) (now (a .text)) (now (a .samples)) (s .pre .0) w (omega (arith, c .loop-test .left, going-length (w .going) (w .room)))
 
 same-length-2 : tie.Need-same-length-2 Inv-loop μ-loop
-same-length-2 c = same (c .before .before .before .before .before)
+same-length-2 c = let after-plain-taken : tie.After-plain-taken Inv-loop μ-loop = search needs in same after-plain-taken
 
 returns-2 : tie.Need-returns-2 Inv-loop μ-loop
 returns-2 c =
-    let p = c .before .before .before .before .before in let a = start p .args in
-    way-full (a .step) (a .before) (now (a .text)) (now (a .samples)) (start p .pre .0) (noted (c .before .before .before)) (omega (arith, c .if1 .taken, same p))
+    let after-carried : tie.After-carried Inv-loop μ-loop = search needs in
+    let p : tie.After-plain-taken Inv-loop μ-loop = search needs in let a = start p .args in
+    way-full (a .step) (a .before) (now (a .text)) (now (a .samples)) (start p .pre .0) (noted after-carried) (omega (arith, c .if1 .taken, same p))
 
 same-length-3 : tie.Need-same-length-3 Inv-loop μ-loop
-same-length-3 c = same (c .before .before .before .before .before .before .before .before)
+same-length-3 c = let after-plain-taken : tie.After-plain-taken Inv-loop μ-loop = search needs in same after-plain-taken
 
 returns-3 : tie.Need-returns-3 Inv-loop μ-loop
 returns-3 c =
-    let p = c .before .before .before .before .before .before .before .before in let a = start p .args in
-    way-stopped (a .step) (a .before) (now (a .text)) (now (a .samples)) (start p .pre .0) (noted (c .before .before .before .before .before .before))
-    (line-wrong (Text p) (At p) (Due p) (sym (c .before .before .line-at .ensures) ∙ c .enum-told .given .1))
+    let after-carried : tie.After-carried Inv-loop μ-loop = search needs in
+    let after-line-at : tie.After-line-at Inv-loop μ-loop = search needs in
+    let p : tie.After-plain-taken Inv-loop μ-loop = search needs in let a = start p .args in
+    way-stopped (a .step) (a .before) (now (a .text)) (now (a .samples)) (start p .pre .0) (noted after-carried)
+    (line-wrong (Text p) (At p) (Due p) (sym (after-line-at .line-at .ensures) ∙ c .enum-told .given .1))
 
 pub right-lines-spec : {M : Type 1} → statement M
 right-lines-spec =

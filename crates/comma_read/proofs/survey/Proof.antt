@@ -28,7 +28,7 @@ abbrev μ-loop : tie.MeasureT-loop
 -- the plain lines are passed
 module _ (c : tie.After-plain-lines Inv-loop μ-loop) where
   abbrev begun : tie.At-loop Inv-loop μ-loop
-  begun = c .before .before .before
+  begun = search needs
 
   gone : Along (begun .before .before .args .step) (now (begun .before .before .args .text))
       (c .plain-lines .result .at) (begun .loop .due + c .plain-lines .result .lines *
@@ -40,7 +40,7 @@ module _ (c : tie.After-plain-lines Inv-loop μ-loop) where
 -- what the line reader said of the line after them
 module _ (c : tie.After-known-told Inv-loop μ-loop) where
   abbrev lines : tie.After-plain-lines Inv-loop μ-loop
-  lines = c .before .before .before .before .before .before .before .before
+  lines = search needs
 
   abbrev Text : List ℕ
   Text = now (begun lines .before .before .args .text)
@@ -55,7 +55,9 @@ module _ (c : tie.After-known-told Inv-loop μ-loop) where
   Next = c .before .size .given .0 .1 .1 .0
 
   read : LineRead Text At Due (c .before .size .given .0 .0) (c .before .size .given .0 .1 .0) Next
-  read = line-read Text At Due _ _ Next (sym (c .before .before .before .line-at .ensures) ∙ c .before .size .given .1)
+  read =
+      let after-line-at : tie.After-line-at Inv-loop μ-loop = search needs in
+      line-read Text At Due _ _ Next (sym (after-line-at .line-at .ensures) ∙ c .before .size .given .1)
 
   further : At < Next
   further = omega (arith, read .place, turn Due (drop At Text) (read .is) .some)
@@ -70,29 +72,40 @@ width-at-requires : tie.Need-width-at-requires Inv-loop μ-loop
 width-at-requires c κs = (c .before .loop .inv .0 .within, c .before .loop .inv .1)
 
 plain-lines-requires : tie.Need-plain-lines-requires Inv-loop μ-loop
-plain-lines-requires c κs = (c .width-at .ensures .0, c .before .before .before .before .pre .0)
+plain-lines-requires c κs =
+    let start : tie.Start Inv-loop μ-loop = search needs in
+    (c .width-at .ensures .0, start .pre .0)
 
 carried-requires : tie.Need-carried-requires Inv-loop μ-loop
 carried-requires c κs = omega (arith, gone c .few, gone c .within, begun c .loop .inv .0 .low)
 
 add-count : tie.Need-add-count Inv-loop μ-loop
-add-count c = let g = gone (c .before .before) in omega (arith, g .few, g .within)
+add-count c =
+    let after-plain-lines : tie.After-plain-lines Inv-loop μ-loop = search needs in
+    let g = gone after-plain-lines in omega (arith, g .few, g .within)
 
 mul-due-2 : tie.Need-mul-due-2 Inv-loop μ-loop
-mul-due-2 c = omega (arith, gone (c .before .before .before) .due)
+mul-due-2 c =
+    let after-plain-lines : tie.After-plain-lines Inv-loop μ-loop = search needs in
+    omega (arith, gone after-plain-lines .due)
 
 add-due : tie.Need-add-due Inv-loop μ-loop
-add-due c = omega (arith, gone (c .before .before .before) .due)
+add-due c =
+    let after-plain-lines : tie.After-plain-lines Inv-loop μ-loop = search needs in
+    omega (arith, gone after-plain-lines .due)
 
 returns : tie.Need-returns Inv-loop μ-loop
-returns c = let b = c .before .before .before in rw (b .carried .ensures) (ended (gone (b .before)) (c .if1 .taken))
+returns c =
+    let after-plain-lines : tie.After-plain-lines Inv-loop μ-loop = search needs in
+    let b : tie.After-carried Inv-loop μ-loop = search needs in rw (b .carried .ensures) (ended (gone after-plain-lines) (c .if1 .taken))
 
 returns-2 : tie.Need-returns-2 Inv-loop μ-loop
 returns-2 c =
-    let e = c .before .before .before in
-    let p = e .before .before .before .before in
+    let after-line-at : tie.After-line-at Inv-loop μ-loop = search needs in
+    let e : tie.Else1 Inv-loop μ-loop = search needs in
+    let p : tie.After-plain-lines Inv-loop μ-loop = search needs in
     let l = begun p in
-    stopped (gone p) (e .if1 .left) (line-wrong _ (p .plain-lines .result .at) _ (sym (c .before .before .line-at .ensures) ∙ c .enum-told .given .1))
+    stopped (gone p) (e .if1 .left) (line-wrong _ (p .plain-lines .result .at) _ (sym (after-line-at .line-at .ensures) ∙ c .enum-told .given .1))
 
 tallied-requires : tie.Need-tallied-requires Inv-loop μ-loop
 tallied-requires c κs =
@@ -101,27 +114,30 @@ tallied-requires c κs =
 
 add-count-2 : tie.Need-add-count-2 Inv-loop μ-loop
 add-count-2 c =
-    let b = c .before .before .before .before .before in
-    omega (arith, gone (b .before .before .before .before) .few, b .if1 .left)
+    let after-plain-lines : tie.After-plain-lines Inv-loop μ-loop = search needs in
+    let b : tie.Else1 Inv-loop μ-loop = search needs in
+    omega (arith, gone after-plain-lines .few, b .if1 .left)
 
 add-due-2 : tie.Need-add-due-2 Inv-loop μ-loop
 add-due-2 c =
-    let b = c .before .before .before .before .before .before .before .before .before in
-    omega (arith, gone b .due, b .before .before .before .before .before .pre .0)
+    let start : tie.Start Inv-loop μ-loop = search needs in
+    let b : tie.After-plain-lines Inv-loop μ-loop = search needs in
+    omega (arith, gone b .due, start .pre .0)
 
 loop-less : tie.Need-loop-less Inv-loop μ-loop
 loop-less c =
-    let b = c .before .before .before .before .before .before .before .before .before in
-    omega (arith, further (c .before), lines-ahead (b .plain-lines .ensures), b .before .before .loop-test .taken)
+    let in-loop : tie.In-loop Inv-loop μ-loop = search needs in
+    let b : tie.After-plain-lines Inv-loop μ-loop = search needs in
+    omega (arith, further (c .before), lines-ahead (b .plain-lines .ensures), in-loop .loop-test .taken)
 
 loop-again : tie.Need-loop-again Inv-loop μ-loop
 loop-again c =
-    let d = c .before in
+    let after-carried : tie.After-carried Inv-loop μ-loop = search needs in let d = c .before in
     let p = lines d in
     let l = begun p in (
       rw (
         c .tallied .ensures,
-        d .before .before .before .before .before .before .before .carried .ensures,
+        after-carried .carried .ensures,
         read d .place,
       ) (on (gone p) (read d .is) (l .before .before .pre .0) _ (ap (λ n. leb n largestSize)
           (sym (read d .value)))),

@@ -22,11 +22,11 @@ step c = said-yes (c .before .step-in-range .ensures) (c .if1 .left)
 returns-2 : tie.Need-returns-2
 unfolding putBy takenOf
 returns-2 c =
-    let a = c .before .before .before .before .args in
+    let start : tie.Start = search needs in let a = start .args in
     (none-late (a .step) (a .before) (now (a .text)) _ (step (c .before)) (c .if2 .taken), (refl, omega arith))
 
 right-lines-requires : tie.Need-right-lines-requires
-right-lines-requires c κs = (step (c .before .before), c .before .if2 .left)
+right-lines-requires c κs = let else1 : tie.Else1 = search needs in (step else1, c .before .if2 .left)
 
 pub take-spec : {M : Type 1} → statement M
 take-spec = tie.close (tie.spec (λ c κs. search needs) returns returns-2 right-lines-requires (λ c. search needs) (λ c. search needs))

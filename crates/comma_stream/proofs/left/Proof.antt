@@ -16,7 +16,7 @@ use Rattle.comma_stream.proofs.left.Tie as tie
 
 -- ways back to earlier places of the function
 abbrev start : tie.Else3 → tie.Start
-start c = c .before .before .before
+start c = search needs
 
 -- something is left
 module _ (text : List ℕ) (at : ℕ) (inside : at < length text) where
@@ -43,16 +43,20 @@ module _ (text : List ℕ) (at : ℕ) (inside : at < length text) where
 
 returns : tie.Need-returns
 unfolding resting waitingFor
-returns c = let a = c .before .before .before .args in (rw (drop-of-length-le (now (a .text)) (c .before .if1 .taken), c .if2 .taken), omega arith)
+returns c =
+    let start : tie.Start = search needs in
+    let a = start .args in (rw (drop-of-length-le (now (a .text)) (c .before .if1 .taken), c .if2 .taken), omega arith)
 
 returns-2 : tie.Need-returns-2
 unfolding resting waitingFor
-returns-2 c = let a = c .before .before .before .args in (rw (drop-of-length-le (now (a .text)) (c .before .if1 .taken), c .if2 .left), omega arith)
+returns-2 c =
+    let start : tie.Start = search needs in
+    let a = start .args in (rw (drop-of-length-le (now (a .text)) (c .before .if1 .taken), c .if2 .left), omega arith)
 
 returns-3 : tie.Need-returns-3
 unfolding waitingFor
 returns-3 c =
-    let a = c .before .before .before .args in
+    let start : tie.Start = search needs in let a = start .args in
     (rw (not-true (a .more) (c .if3 .taken)) (sym (over (now (a .text)) (a .at) (c .before .if1 .left))), omega arith)
 
 -- more may come
@@ -62,24 +66,24 @@ more-comes c = not-false _ (c .if3 .left)
 returns-4 : tie.Need-returns-4
 unfolding waitingFor
 returns-4 c =
-    let e = c .before in
-    let a = start e .args in
+    let start : tie.Start = search needs in let e = c .before in
+    let a = start .args in
     (rw (more-comes e) (sym (long (now (a .text)) (a .at) (e .before .if1 .left) (c .if4 .taken))), omega arith)
 
 returns-5 : tie.Need-returns-5
 unfolding waitingFor
 returns-5 c =
-    let u = c .before in
-    let e = u .before .before in
-    let a = start e .args in
+    let start : tie.Start = search needs in let u = c .before in
+    let e : tie.Else3 = search needs in
+    let a = start .args in
     (rw (more-comes e) (sym (short (now (a .text)) (a .at) (e .before .if1 .left) (u .before .if4 .left) false (said-no (u .unended .ensures) (c .if5 .taken)))), omega arith)
 
 returns-6 : tie.Need-returns-6
 unfolding waitingFor
 returns-6 c =
-    let u = c .before in
-    let e = u .before .before in
-    let a = start e .args in
+    let start : tie.Start = search needs in let u = c .before in
+    let e : tie.Else3 = search needs in
+    let a = start .args in
     (rw (more-comes e) (sym (short (now (a .text)) (a .at) (e .before .if1 .left) (u .before .if4 .left) true (said-yes (u .unended .ensures) (c .if5 .left)))), omega (arith, u .before .if4 .left))
 
 pub left-spec : {M : Type 1} → statement M

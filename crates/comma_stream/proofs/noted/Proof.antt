@@ -14,7 +14,7 @@ use Rattle.comma_stream.proofs.noted.Tie as tie
 -- a sample out of range is the first
 module _ (c : tie.Then1) where
   abbrev start : tie.Start
-  start = c .before .before .before
+  start = search needs
 
   first : (eqb (start .args .f .outside) 0 && ltb (start .args .sound) (start .args .number)) ≡ true
   first = sym (c .before .both .ensures) ∙ c .if1 .taken

@@ -12,28 +12,30 @@ use Rattle.comma_stream.proofs.take.Tie as tie
 
 add-t12 : tie.Need-add-t12
 add-t12 c =
-    let k = c .before .before in
-    let t = k .before .before .before in
-    omega (arith, number-fits (t .before .before .before .args .f .lines) (k .number .given .1) (t .take .ensures .1 .1))
+    let start : tie.Start = search needs in let k : tie.After-number = search needs in
+    let t : tie.After-take = search needs in
+    omega (arith, number-fits (start .args .f .lines) (k .number .given .1) (t .take .ensures .1 .1))
 
 noted-requires : tie.Need-noted-requires
 noted-requires c κs =
-    let k = c .before .before in
-    let t = k .before .before .before in
-    number-fits (t .before .before .before .args .f .lines) (k .number .given .1) (t .take .ensures .1 .1)
+    let start : tie.Start = search needs in let k : tie.After-number = search needs in
+    let t : tie.After-take = search needs in
+    number-fits (start .args .f .lines) (k .number .given .1) (t .take .ensures .1 .1)
 
 returns : tie.Need-returns
 unfolding follows
 returns c =
-    let a = c .before .before .before .before .before .before .before .args in let t = c .before .before .before .before .take in
+    let start : tie.Start = search needs in let after-take : tie.After-take = search needs in
+    let a = start .args in let t = after-take .take in
     said (a .f) (now (a .text)) (now (a .samples)) (ap (follows (a .f)) (c .before .why .given .1)) (t .ensures .0) (t .ensures .1 .0)
 
 returns-2 : tie.Need-returns-2
 unfolding follows
 returns-2 c =
-    let k = c .before .before .before in
-    let a = k .before .before .before .before .before .before .args in
-    let t = k .before .before .before .take in
+    let start : tie.Start = search needs in let after-take : tie.After-take = search needs in
+    let k : tie.After-number = search needs in
+    let a = start .args in
+    let t = after-take .take in
     let n = k .number .given in
     said (a .f) (now (a .text)) (now (a .samples))
     (ap (follows (a .f)) (n .1)

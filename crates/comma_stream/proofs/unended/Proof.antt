@@ -11,6 +11,7 @@ use lib.ListN.{length, drop, getD, drop-of-length-le}
 use lib.Seq.{drop-cons}
 use borrow.Author.Tests.{eq-eqb, ne-eqb}
 use denote.Ref.{now}
+use borrow.Author.Needs.{needs}
 use Rattle.decimal.specs.Field.{lineFeed}
 use Rattle.comma_stream.specs.Follow.{unended}
 use Rattle.comma_stream.proofs.unended.Statement.{statement}
@@ -35,9 +36,9 @@ shared-slice-read-if1 c = omega arith
 
 returns : tie.Need-returns Inv-loop μ-loop
 returns c =
-    let l = c .before .before .before in
+    let in-loop : tie.In-loop Inv-loop μ-loop = search needs in let l : tie.At-loop Inv-loop μ-loop = search needs in
     let s = now (l .before .args .text) in
-    sym (turn s (l .loop .i) (c .before .before .loop-test .taken) ∙ rw (eq-eqb (getD s (l .loop .i) 0) lineFeed (c .if1 .taken))) ∙ l .loop .inv .1
+    sym (turn s (l .loop .i) (in-loop .loop-test .taken) ∙ rw (eq-eqb (getD s (l .loop .i) 0) lineFeed (c .if1 .taken))) ∙ l .loop .inv .1
 
 add-i : tie.Need-add-i Inv-loop μ-loop
 add-i c = omega arith
@@ -47,9 +48,9 @@ loop-less c = omega arith
 
 loop-again : tie.Need-loop-again Inv-loop μ-loop
 loop-again c =
-    let l = c .before .before .before in
+    let in-loop : tie.In-loop Inv-loop μ-loop = search needs in let l : tie.At-loop Inv-loop μ-loop = search needs in
     let s = now (l .before .args .text) in
-    (omega arith, sym (turn s (l .loop .i) (c .before .before .loop-test .taken) ∙ rw (ne-eqb (getD s (l .loop .i) 0) lineFeed (c .if1 .left))) ∙ l .loop .inv .1)
+    (omega arith, sym (turn s (l .loop .i) (in-loop .loop-test .taken) ∙ rw (ne-eqb (getD s (l .loop .i) 0) lineFeed (c .if1 .left))) ∙ l .loop .inv .1)
 
 returns-2 : tie.Need-returns-2 Inv-loop μ-loop
 unfolding unended

@@ -17,7 +17,7 @@ use Rattle.comma_word.proofs.bytes_at.Tie as tie
 
 -- ways back to earlier places of the function
 abbrev else1 : tie.After-shared-slice-known3 → tie.Else1
-else1 c = c .before .before .before
+else1 c = search needs
 
 has : (c : tie.Else1) → let a = c .before .before .before .args in leb (a .at + 7) (length (now (a .s))) ≡ true
 has c = said-yes (c .before .has-room .ensures) (c .if1 .left)
@@ -36,7 +36,7 @@ shared-slice-read-if2 : tie.Need-shared-slice-read-if2
 shared-slice-read-if2 c = omega (arith, room (c .before))
 
 is-long-requires : tie.Need-is-long-requires
-is-long-requires c κs = room (c .before .before)
+is-long-requires c κs = let else1 : tie.Else1 = search needs in room else1
 
 -- with a point after two bytes
 module _ (c : tie.After-is-long) where
@@ -45,50 +45,59 @@ module _ (c : tie.After-is-long) where
 
 returns-2 : tie.Need-returns-2
 unfolding plainBytes
-returns-2 c = let l = c .before in rw (has (l .before .before .before), two l, sym (l .is-long .ensures) ∙ c .if3 .taken)
+returns-2 c =
+    let else1 : tie.Else1 = search needs in
+    let l = c .before in rw (has else1, two l, sym (l .is-long .ensures) ∙ c .if3 .taken)
 
 returns-3 : tie.Need-returns-3
 unfolding plainBytes
-returns-3 c = let l = c .before in rw (has (l .before .before .before), two l, sym (l .is-long .ensures) ∙ c .if3 .left)
+returns-3 c =
+    let else1 : tie.Else1 = search needs in
+    let l = c .before in rw (has else1, two l, sym (l .is-long .ensures) ∙ c .if3 .left)
 
 add-if4 : tie.Need-add-if4
-add-if4 c = omega (arith, room (c .before .before))
+add-if4 c = let else1 : tie.Else1 = search needs in omega (arith, room else1)
 
 shared-slice-read-if4 : tie.Need-shared-slice-read-if4
-shared-slice-read-if4 c = omega (arith, room (else1 c))
+shared-slice-read-if4 c = let else1 : tie.Else1 = search needs in omega (arith, room else1)
 
 is-short-requires : tie.Need-is-short-requires
-is-short-requires c κs = room (else1 (c .before))
+is-short-requires c κs = let else1 : tie.Else1 = search needs in room else1
 
 -- with none there, and one after the first byte
 module _ (c : tie.After-is-short) where
   abbrev S : List ℕ
-  S = now (c .before .before .before .before .before .before .before .before .args .s)
+  S = let start : tie.Start = search needs in now (start .args .s)
 
   abbrev At : ℕ
-  At = c .before .before .before .before .before .before .before .before .args .at
+  At = let start : tie.Start = search needs in start .args .at
 
   not-two : eqb (byteAt S At 2) point ≡ false
-  not-two = ne-eqb _ point (c .before .before .before .if2 .left)
+  not-two = let else2 : tie.Else2 = search needs in ne-eqb _ point (else2 .if2 .left)
 
   one : eqb (byteAt S At 1) point ≡ true
   one = eq-eqb _ point (c .before .if4 .taken)
 
 returns-4 : tie.Need-returns-4
 unfolding plainBytes
-returns-4 c = let l = c .before in rw (has (else1 (l .before .before)), not-two l, one l, sym (l .is-short .ensures) ∙ c .if5 .taken)
+returns-4 c =
+    let else1 : tie.Else1 = search needs in
+    let l = c .before in rw (has else1, not-two l, one l, sym (l .is-short .ensures) ∙ c .if5 .taken)
 
 returns-5 : tie.Need-returns-5
 unfolding plainBytes
-returns-5 c = let l = c .before in rw (has (else1 (l .before .before)), not-two l, one l, sym (l .is-short .ensures) ∙ c .if5 .left)
+returns-5 c =
+    let else1 : tie.Else1 = search needs in
+    let l = c .before in rw (has else1, not-two l, one l, sym (l .is-short .ensures) ∙ c .if5 .left)
 
 returns-6 : tie.Need-returns-6
 unfolding plainBytes
 returns-6 c =
-    let b = else1 (c .before) in let a = b .before .before .before .args in
+    let start : tie.Start = search needs in let else2 : tie.Else2 = search needs in
+    let b : tie.Else1 = search needs in let a = start .args in
     let s = now (a .s) in
     let at = a .at in
-    rw (has b, ne-eqb (byteAt s at 2) point (c .before .before .if2 .left), ne-eqb (byteAt s at 1) point (c .if4 .left))
+    rw (has b, ne-eqb (byteAt s at 2) point (else2 .if2 .left), ne-eqb (byteAt s at 1) point (c .if4 .left))
 
 pub bytes-at-spec : {M : Type 1} → statement M
 bytes-at-spec =

@@ -8,7 +8,9 @@ use Rattle.comma_word.proofs.four_value.Tie as tie
 returns : tie.Need-returns
 unfolding valueOf
 returns c =
-    (omega (arith, c .before .before .before .digit-value .ensures .0, c .before .before .digit-value2 .ensures .0, c .before .digit-value3 .ensures .0, c .digit-value4 .ensures .0), omega arith)
+    let after-digit-value : tie.After-digit-value = search needs in
+    let after-digit-value2 : tie.After-digit-value2 = search needs in
+    (omega (arith, after-digit-value .digit-value .ensures .0, after-digit-value2 .digit-value2 .ensures .0, c .before .digit-value3 .ensures .0, c .digit-value4 .ensures .0), omega arith)
 
 pub four-value-spec : {M : Type 1} → statement M
 four-value-spec =

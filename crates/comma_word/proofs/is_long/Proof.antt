@@ -6,9 +6,9 @@ use Rattle.comma_word.proofs.is_long.Tie as tie
 
 returns : tie.Need-returns
 returns c =
-    let f = c .before .before .before in
-    let b = f .before .before .before .before .before in
-    c .both3 .ensures ∙ rw (b .both .ensures, b .before .before .is-digit .ensures, c .before .both2 .ensures, f .four-digits .ensures)
+    let after-is-digit : tie.After-is-digit = search needs in let f : tie.After-four-digits = search needs in
+    let b : tie.After-both = search needs in
+    c .both3 .ensures ∙ rw (b .both .ensures, after-is-digit .is-digit .ensures, c .before .both2 .ensures, f .four-digits .ensures)
 
 pub is-long-spec : {M : Type 1} → statement M
 is-long-spec =

@@ -8,7 +8,7 @@ use Rattle.comma_write.proofs.line_length.Tie as tie
 
 returns : tie.Need-returns
 returns c =
-    let s = c .before .before in
+    let s : tie.Start = search needs in
     let roll = rw (toZ-ofZ (s .fits .x)) at (c .degrees-length .ensures .0) in
     (omega (arith, c .before .digits .ensures .0, roll, line-bytes (s .args .time) (s .args .x)), omega (arith, c .before .digits .ensures .1, c .degrees-length .ensures .1))
 

@@ -21,20 +21,20 @@ room n r h = rw (lt-leb 64 n h)
 
 returns : tie.Need-returns
 returns c =
-    let k = c .before .before in
-    let a = k .before .before .args in
+    let start : tie.Start = search needs in let k : tie.After-a2 = search needs in
+    let a = start .args in
     full (k .a2 .given .0 .0) (a .r) (omega arith) ∙ sym (ap (λ (s : Situations). stepOf s (a .r)) (k .a2 .given .1))
 
 returns-2 : tie.Need-returns-2
 returns-2 c =
-    let k = c .before in
-    let a = k .before .before .args in
+    let start : tie.Start = search needs in let k = c .before in
+    let a = start .args in
     sym (ap (λ (s : Situations). stepOf s (a .r)) (k .a .given .1))
 
 returns-3 : tie.Need-returns-3
 returns-3 c =
-    let k = c .before .before .before in
-    let a = k .before .before .args in
+    let start : tie.Start = search needs in let k : tie.After-a2 = search needs in
+    let a = start .args in
     c .by-reading .ensures ∙ room (k .a2 .given .0 .0) (a .r) (omega arith) ∙ sym (ap (λ (s : Situations). stepOf s (a .r)) (k .a2 .given .1))
 
 pub add-spec : {M : Type 1} → statement M

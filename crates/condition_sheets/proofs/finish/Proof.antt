@@ -8,17 +8,17 @@ use Rattle.condition_sheets.proofs.finish.Tie as tie
 
 returns : tie.Need-returns
 returns c =
-    let f = c .before .before in
-    let k = f .before .before .before in
-    let a = k .before .before .before .args in
+    let start : tie.Start = search needs in let f : tie.After-report = search needs in
+    let k : tie.After-a = search needs in
+    let a = start .args in
     let e = k .a .given .1 in
     (f .report .ensures .0 ∙ sym (ap (λ s. finishing s (a .campaigns) (now (a .out))) e), f .report .ensures .1 ∙ sym (ap (λ s. finishLeft s (a .campaigns) (now (a .out))) e))
 
 returns-2 : tie.Need-returns-2
 returns-2 c =
-    let f = c .before .before in
-    let k = f .before .before .before in
-    let a = k .before .before .before .args in
+    let start : tie.Start = search needs in let f : tie.After-refuse = search needs in
+    let k : tie.After-a2 = search needs in
+    let a = start .args in
     let e = k .a2 .given .1 in
     (f .refuse .ensures .0 ∙ sym (ap (λ s. finishing s (a .campaigns) (now (a .out))) e), f .refuse .ensures .1 ∙ sym (ap (λ s. finishLeft s (a .campaigns) (now (a .out))) e))
 

@@ -7,8 +7,8 @@ use Rattle.condition_sheets.proofs.place.Tie as tie
 
 returns : tie.Need-returns
 returns c =
-    let k = c .before .before in
-    let a = k .before .before .args in
+    let start : tie.Start = search needs in let k : tie.After-a = search needs in
+    let a = start .args in
     c .put-read .ensures ∙ sym (ap (λ s. placesAfter s (a .r) (a .campaigns)) (k .a .given .1))
 
 pub place-spec : {M : Type 1} → statement M

@@ -7,8 +7,8 @@ use Rattle.condition_sheets.proofs.put_read.Tie as tie
 
 returns : tie.Need-returns
 returns c =
-    let k = c .before .before in
-    let a = k .before .before .args in
+    let start : tie.Start = search needs in let k : tie.After-r = search needs in
+    let a = start .args in
     c .put .ensures ∙ sym (ap (λ r. placeRead (a .n) r (a .campaigns)) (k .r .given .1))
 
 pub put-read-spec : {M : Type 1} → statement M

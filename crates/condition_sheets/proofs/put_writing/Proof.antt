@@ -8,15 +8,15 @@ use Rattle.condition_sheets.proofs.put_writing.Tie as tie
 
 returns : tie.Need-returns
 returns c =
-    let s = c .before .before .before .before in
+    let s : tie.Start = search needs in
     let e = c .before .w .given .1 in
     (sym (ap (λ w. writingTold w (now (s .args .out))) e), sym (ap (λ w. writingKept w (now (s .args .out))) e))
 
 returns-2 : tie.Need-returns-2
 returns-2 c =
-    let f = c .before .before in
-    let k = f .before .before .before in
-    let s = k .before .before .before in
+    let f : tie.After-refuse = search needs in
+    let k : tie.After-w2 = search needs in
+    let s : tie.Start = search needs in
     let e = k .w2 .given .1 in
     (f .refuse .ensures .0 ∙ sym (ap (λ w. writingTold w (now (s .args .out))) e), f .refuse .ensures .1 ∙ sym (ap (λ w. writingKept w (now (s .args .out))) e))
 

@@ -21,9 +21,9 @@ both text out {w} {v} e m (p, l) =
 returns : tie.Need-returns
 unfolding reportTold reportKept
 returns c =
-    let p = c .before .before in
-    let w = p .before .before .before .before in
-    let s = w .before .before .before in
+    let p : tie.After-put-writing = search needs in
+    let w : tie.After-write = search needs in
+    let s : tie.Start = search needs in
     both _ (now (s .args .out)) (w .write .ensures .0) (w .write .ensures .1) (p .put-writing .ensures)
 
 pub report-spec : {M : Type 1} → statement M

@@ -4,7 +4,9 @@ use Rattle.crossing_places.proofs.rises.Statement.{statement}
 use Rattle.crossing_places.proofs.rises.Tie as tie
 
 returns : tie.Need-returns
-returns c = rw (c .both .ensures, c .before .before .above .ensures, c .before .above2 .ensures)
+returns c =
+    let after-above : tie.After-above = search needs in
+    rw (c .both .ensures, after-above .above .ensures, c .before .above2 .ensures)
 
 pub rises-spec : {M : Type 1} → statement M
 rises-spec = tie.close (tie.spec (λ c κs. search needs) (λ c κs. search needs) (λ c κs. search needs) returns)

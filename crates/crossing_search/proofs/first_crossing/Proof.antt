@@ -28,7 +28,7 @@ long c = c .shorter .ensures ∙ sym (moments-shorter _ _)
 
 returns : tie.Need-returns Inv-loop μ-loop
 returns c =
-    let g = c .before .before .args in
+    let start : tie.Start Inv-loop μ-loop = search needs in let g = start .args in
     let p = moments (g .roll .now) (g .acceleration .now) in
     long (c .before) ∙ sym (first-none (crossesAt (g .ramp) (g .levels) p) _ (length p) (λ k h. ramp-none (g .ramp) (g .levels) p k (omega (arith, long (c .before)))))
 
@@ -37,7 +37,7 @@ add-i c = omega arith
 
 loop-holds : tie.Need-loop-holds Inv-loop μ-loop
 loop-holds c =
-    let g = c .before .before .args in
+    let start : tie.Start Inv-loop μ-loop = search needs in let g = start .args in
     (omega arith, omega arith, λ k h. ramp-none (g .ramp) (g .levels) (moments (g .roll .now) (g .acceleration .now)) k (omega arith))
 
 -- the block is within the samples, and not empty
@@ -46,8 +46,8 @@ within c = end-within _ _ (c .end .ensures) (omega arith)
 
 rise-in-requires : tie.Need-rise-in-requires Inv-loop μ-loop
 rise-in-requires c κs =
-    let w = within c in
-    let m = c .before .before .before .before .shorter .ensures in
+    let after-shorter : tie.After-shorter Inv-loop μ-loop = search needs in let w = within c in
+    let m = after-shorter .shorter .ensures in
     (omega arith, omega arith, omega arith, omega arith)
 
 -- no crossing stands before what the block's search answers
@@ -55,21 +55,22 @@ none : (c : tie.After-rise-in Inv-loop μ-loop) (k : ℕ) →
     let a = c .before .before .before .before .before .before .args in
     k < c .rise-in .result → crossesAt (a .ramp) (a .levels) (moments (a .roll .now) (a .acceleration .now)) k ≡ false
 none c k h =
-    let b = c .before .before .before in
+    let start : tie.Start Inv-loop μ-loop = search needs in let b : tie.At-loop Inv-loop μ-loop = search needs in
     by-order k _ (b .loop .inv .2 k)
-    (λ l. rw (lt-ltb (b .before .before .before .args .ramp) k (omega (arith, b .loop .inv .0))) (c .rise-in .ensures .none k l h))
+    (λ l. rw (lt-ltb (start .args .ramp) k (omega (arith, b .loop .inv .0))) (c .rise-in .ensures .none k l h))
 
 loop-less : tie.Need-loop-less Inv-loop μ-loop
-loop-less c = omega (arith, within (c .before .before))
+loop-less c = let after-end : tie.After-end Inv-loop μ-loop = search needs in omega (arith, within after-end)
 
 loop-again : tie.Need-loop-again Inv-loop μ-loop
 loop-again c =
-    let w = within (c .before .before) in
-    (omega (arith, c .before .before .before .before .loop .inv .0), w .1, λ k h. none (c .before) k (omega arith))
+    let after-end : tie.After-end Inv-loop μ-loop = search needs in
+    let at-loop : tie.At-loop Inv-loop μ-loop = search needs in let w = within after-end in
+    (omega (arith, at-loop .loop .inv .0), w .1, λ k h. none (c .before) k (omega arith))
 
 returns-2 : tie.Need-returns-2 Inv-loop μ-loop
 returns-2 c =
-    let b = c .before .before .before in
+    let b : tie.After-shorter Inv-loop μ-loop = search needs in
     let g = b .before .args in
     let p = moments (g .roll .now) (g .acceleration .now) in
     let l = long b in
@@ -77,13 +78,16 @@ returns-2 c =
 
 returns-3 : tie.Need-returns-3 Inv-loop μ-loop
 returns-3 c =
-    let b = c .before .before .before .before in
-    let g = b .before .before .before .args in
+    let start : tie.Start Inv-loop μ-loop = search needs in
+    let after-end : tie.After-end Inv-loop μ-loop = search needs in
+    let after-shorter : tie.After-shorter Inv-loop μ-loop = search needs in
+    let b : tie.At-loop Inv-loop μ-loop = search needs in
+    let g = start .args in
     let p = moments (g .roll .now) (g .acceleration .now) in
     let r = c .before .rise-in .result in
-    let w = within (c .before .before) in
+    let w = within after-end in
     let f = c .before .rise-in .ensures in
-    let l = long (b .before .before) in
+    let l = long after-shorter in
     let e : crossesAt (g .ramp) (g .levels) p r ≡ true = rw (lt-ltb (g .ramp) r (omega (arith, f .after, b .loop .inv .0))) (f .found (c .if3 .taken)) in
     sym (first-at (crossesAt (g .ramp) (g .levels) p) _ r (length p) (omega (arith, c .if3 .taken)) (none (c .before)) e)
 

@@ -50,7 +50,7 @@ and-false false = refl
 
 returns : tie.Need-returns Inv-loop μ-loop
 returns c =
-    let g = c .before .before .before .before .args in
+    let start : tie.Start Inv-loop μ-loop = search needs in let g = start .args in
     let q = sym (c .before .loud .ensures) ∙ not-true _ (c .if1 .taken) in
     record {
       after = omega arith;
@@ -72,11 +72,13 @@ told : (c : tie.After-rises Inv-loop μ-loop) →
     let b = c .before .before .before .before in
     let l = b .loop in let a = b .before .before .before .before .before .args in
     c .rises .result ≡ rises (a .levels) (sampleAt (moments (a .roll .now) (a .acceleration .now)) (l .i - 1)) (sampleAt (moments (a .roll .now) (a .acceleration .now)) (l .i))
-told c = c .rises .ensures ∙ rw (c .before .before .moment-at .ensures, c .before .moment-at2 .ensures)
+told c =
+    let after-moment-at : tie.After-moment-at Inv-loop μ-loop = search needs in
+    c .rises .ensures ∙ rw (after-moment-at .moment-at .ensures, c .before .moment-at2 .ensures)
 
 returns-2 : tie.Need-returns-2 Inv-loop μ-loop
 returns-2 c =
-    let v = c .before .before .before .before .before .loop .inv in
+    let at-loop : tie.At-loop Inv-loop μ-loop = search needs in let v = at-loop .loop .inv in
     record { after = v .0; within = v .1; none = λ k h l. v .2 k l h; found = λ h. sym (told (c .before)) ∙ c .if2 .taken }
 
 add-i : tie.Need-add-i Inv-loop μ-loop
@@ -86,7 +88,9 @@ loop-less : tie.Need-loop-less Inv-loop μ-loop
 loop-less c = omega arith
 
 loop-again : tie.Need-loop-again Inv-loop μ-loop
-loop-again c = (omega arith, omega arith, below-more _ _ (c .before .before .before .before .before .loop .inv .2) (λ l. sym (told (c .before)) ∙ c .if2 .left))
+loop-again c =
+    let at-loop : tie.At-loop Inv-loop μ-loop = search needs in
+    (omega arith, omega arith, below-more _ _ (at-loop .loop .inv .2) (λ l. sym (told (c .before)) ∙ c .if2 .left))
 
 returns-3 : tie.Need-returns-3 Inv-loop μ-loop
 returns-3 c =

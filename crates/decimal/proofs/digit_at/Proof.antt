@@ -6,7 +6,7 @@ use Rattle.decimal.proofs.digit_at.Statement.{statement}
 use Rattle.decimal.proofs.digit_at.Tie as tie
 
 returns : tie.Need-returns
-returns c = rw (List·getD-eq-default (now (c .before .before .args .s)) 0 (c .if1 .taken))
+returns c = let start : tie.Start = search needs in rw (List·getD-eq-default (now (start .args .s)) 0 (c .if1 .taken))
 
 pub digit-at-spec : {M : Type 1} → statement M
 digit-at-spec = tie.close (tie.spec returns (λ c. search needs) (λ c κs. search needs) (λ c. search needs))

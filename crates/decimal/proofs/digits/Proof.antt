@@ -8,6 +8,7 @@ use native.Mathlib.Nat.{pow-suc}
 use native.Mathlib.Numerals.{add-one}
 use native.Mathlib.Omega.{arith}
 use lib.ListN.{length}
+use borrow.Author.Needs.{needs}
 use Rattle.decimal.specs.Decimal.{digitsOf}
 use Rattle.decimal.proofs.Text.{digits-some, digits-above, digits-below}
 use Rattle.decimal.proofs.digits.Statement.{statement}
@@ -27,21 +28,23 @@ mul-power : tie.Need-mul-power Inv-loop μ-loop
 mul-power c = omega arith
 
 add-count : tie.Need-add-count Inv-loop μ-loop
-add-count c = omega (arith, digits-below 19 (c .before .before .args .v) (omega arith))
+add-count c =
+    let start : tie.Start Inv-loop μ-loop = search needs in
+    omega (arith, digits-below 19 (start .args .v) (omega arith))
 
 loop-less : tie.Need-loop-less Inv-loop μ-loop
 loop-less c = omega arith
 
 loop-again : tie.Need-loop-again Inv-loop μ-loop
 loop-again c =
-    let l = c .before .loop in
-    let v = c .before .before .args .v in
+    let start : tie.Start Inv-loop μ-loop = search needs in let l = c .before .loop in
+    let v = start .args .v in
     (omega arith, (omega arith, (rw (add-one, pow-suc, l .inv .1 .1 .0), omega (arith, digits-above (l .count) v (omega arith)))))
 
 returns : tie.Need-returns Inv-loop μ-loop
 returns c =
-    let l = c .before .loop in
-    let v = c .before .before .args .v in
+    let start : tie.Start Inv-loop μ-loop = search needs in let l = c .before .loop in
+    let v = start .args .v in
     let e : suc (l .count - 1) ≡ l .count = omega arith in
     let few : length (digitsOf v) ≤ l .count = rw e at (digits-below (l .count - 1) v (rw e (omega arith))) in
     (omega arith, omega (arith, digits-below 19 v (omega arith)))

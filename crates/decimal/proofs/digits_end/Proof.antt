@@ -22,19 +22,23 @@ loop-holds c = refl
 
 returns : tie.Need-returns Inv-loop μ-loop
 returns c =
-    let l = c .before .before .before .before in
-    sym (digit-here (now (l .before .before .args .s)) (l .loop .i) (c .before .before .before .loop-test .taken) (sym (c .before .is-digit .ensures) ∙ not-true _ (c .if1 .taken))) ∙ l .loop .inv
+    let start : tie.Start Inv-loop μ-loop = search needs in let in-loop : tie.In-loop Inv-loop μ-loop = search needs in
+    let l : tie.At-loop Inv-loop μ-loop = search needs in
+    sym (digit-here (now (start .args .s)) (l .loop .i) (in-loop .loop-test .taken) (sym (c .before .is-digit .ensures) ∙ not-true _ (c .if1 .taken))) ∙ l .loop .inv
 
 loop-less : tie.Need-loop-less Inv-loop μ-loop
 loop-less c = omega arith
 
 loop-again : tie.Need-loop-again Inv-loop μ-loop
 loop-again c =
-    let l = c .before .before .before .before in
-    sym (digit-on (now (l .before .before .args .s)) (l .loop .i) (c .before .before .before .loop-test .taken) (sym (c .before .is-digit .ensures) ∙ not-false _ (c .if1 .left))) ∙ l .loop .inv
+    let start : tie.Start Inv-loop μ-loop = search needs in let in-loop : tie.In-loop Inv-loop μ-loop = search needs in
+    let l : tie.At-loop Inv-loop μ-loop = search needs in
+    sym (digit-on (now (start .args .s)) (l .loop .i) (in-loop .loop-test .taken) (sym (c .before .is-digit .ensures) ∙ not-false _ (c .if1 .left))) ∙ l .loop .inv
 
 returns-2 : tie.Need-returns-2 Inv-loop μ-loop
-returns-2 c = let l = c .before in sym (digit-none (now (l .before .before .args .s)) (l .loop .i) (c .loop-test .left)) ∙ l .loop .inv
+returns-2 c =
+    let start : tie.Start Inv-loop μ-loop = search needs in
+    let l = c .before in sym (digit-none (now (start .args .s)) (l .loop .i) (c .loop-test .left)) ∙ l .loop .inv
 
 pub digits-end-spec : {M : Type 1} → statement M
 digits-end-spec =

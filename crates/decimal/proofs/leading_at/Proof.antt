@@ -20,29 +20,31 @@ use Rattle.decimal.proofs.leading_at.Tie as tie
 
 returns : tie.Need-returns
 returns c =
-    let a = c .before .before .before .before .args in
-    let r = c .before .before .run-at in
+    let start : tie.Start = search needs in let after-run-at : tie.After-run-at = search needs in let a = start .args in
+    let r = after-run-at .run-at in
     sym (leads-bad (now (a .s)) (a .at) (r .result .end) (r .ensures .1) (sym (c .before .digit-at .ensures) ∙ c .if1 .taken))
 
 -- past the first test the run alone decides
 module _ (c : tie.Else1) where
   abbrev S : List ℕ
-  S = now (c .before .before .before .before .args .s)
+  S = let start : tie.Start = search needs in now (start .args .s)
 
   abbrev At : ℕ
-  At = c .before .before .before .before .args .at
+  At = let start : tie.Start = search needs in start .args .at
 
   abbrev End : ℕ
-  End = c .before .before .run-at .result .end
+  End = let after-run-at : tie.After-run-at = search needs in after-run-at .run-at .result .end
 
   abbrev Value : ℕ
-  Value = c .before .before .run-at .result .value
+  Value = let after-run-at : tie.After-run-at = search needs in after-run-at .run-at .result .value
 
   end : End ≡ At + length (run S At)
-  end = c .before .before .run-at .ensures .1
+  end = let after-run-at : tie.After-run-at = search needs in after-run-at .run-at .ensures .1
 
   by-run : leadingAt S At ≡ cond (leb 1 (length (run S At)) && not (ltb 1 (length (run S At)) && eqb (getD S At 0) zeroByte)) (Number Value End) Nothing
-  by-run = leads-read S At End end (sym (c .before .digit-at .ensures) ∙ c .if1 .left) Value (c .before .before .run-at .ensures .0)
+  by-run =
+      let after-run-at : tie.After-run-at = search needs in
+      leads-read S At End end (sym (c .before .digit-at .ensures) ∙ c .if1 .left) Value (after-run-at .run-at .ensures .0)
 
   none : End ≡ At → Nothing ≡ leadingAt S At
   none h = rw (by-run, lt-leb 1 (length (run S At)) (omega (arith, end)))
@@ -57,19 +59,19 @@ returns-2 : tie.Need-returns-2
 returns-2 c = none (c .before) (c .if2 .taken)
 
 returns-3 : tie.Need-returns-3
-returns-3 c = one (c .before .before) (omega arith)
+returns-3 c = let else1 : tie.Else1 = search needs in one else1 (omega arith)
 
 shared-slice-read-if4 : tie.Need-shared-slice-read-if4
-shared-slice-read-if4 c = let d = c .before .before .before in run-within (S d) (At d) (omega (arith, end d))
+shared-slice-read-if4 c = let d : tie.Else1 = search needs in run-within (S d) (At d) (omega (arith, end d))
 
 returns-4 : tie.Need-returns-4
 returns-4 c =
-    let d = c .before .before .before .before in
+    let d : tie.Else1 = search needs in
     rw (more d (omega arith), eq-eqb (getD (S d) (At d) 0) zeroByte (c .if4 .taken))
 
 returns-5 : tie.Need-returns-5
 returns-5 c =
-    let d = c .before .before .before .before in
+    let d : tie.Else1 = search needs in
     rw (more d (omega arith), ne-eqb (getD (S d) (At d) 0) zeroByte (c .if4 .left))
 
 pub leading-at-spec : {M : Type 1} → statement M

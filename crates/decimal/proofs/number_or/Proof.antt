@@ -18,7 +18,7 @@ use Rattle.decimal.proofs.number_or.Tie as tie
 
 -- ways back to earlier places of the function
 abbrev start : tie.After-known-told → tie.Start
-start c = c .before .before .before .before .before
+start c = search needs
 
 -- a text whose leading digits are no number, or not all of it, is none
 other-than : (s : List ℕ) (other : ℕ) → (isNumber s ≡ true → leading s ≡ s → true ≡ false) → other ≡ cond (isNumber s) (valueOf s) other
@@ -26,24 +26,27 @@ other-than s other never = by-test (isNumber s) (λ n. absurd (true≢false (nev
 
 returns : tie.Need-returns
 returns c =
-    let a = c .before .before .before .before .args in
-    let none = leads-none (now (a .s)) 0 (sym (c .before .before .leading-at .ensures) ∙ c .enum-told .given .1) in
+    let start : tie.Start = search needs in let after-leading-at : tie.After-leading-at = search needs in
+    let a = start .args in
+    let none = leads-none (now (a .s)) 0 (sym (after-leading-at .leading-at .ensures) ∙ c .enum-told .given .1) in
     other-than (now (a .s)) (a .other) (λ n same. sym n ∙ sym (ap isNumber same) ∙ none)
 
 -- the number that was found, and where it ends
 leads : (c : tie.After-known-told) → LeadsTo (now (start c .args .s)) 0 (c .before .v .given .0 .0) (c .before .v .given .0 .1 .0)
-leads c = leads-number _ 0 _ _ (sym (c .before .before .before .leading-at .ensures) ∙ c .before .v .given .1)
+leads c =
+    let after-leading-at : tie.After-leading-at = search needs in
+    leads-number _ 0 _ _ (sym (after-leading-at .leading-at .ensures) ∙ c .before .v .given .1)
 
 returns-2 : tie.Need-returns-2
 returns-2 c =
-    let l = leads (c .before) in
-    let a = start (c .before) .args in
+    let start : tie.Start = search needs in let l = leads (c .before) in
+    let a = start .args in
     other-than (now (a .s)) (a .other) (λ n same. absurd (omega (arith, l .place, ap length same, c .if1 .taken)))
 
 returns-3 : tie.Need-returns-3
 returns-3 c =
-    let l = leads (c .before) in
-    let a = start (c .before) .args in
+    let start : tie.Start = search needs in let l = leads (c .before) in
+    let a = start .args in
     let same = led-all (now (a .s)) (omega (arith, l .place, c .if1 .left)) in
     rw (← same, l .number) (l .value)
 

@@ -34,7 +34,7 @@ stopped s at i value (v, e) none = (rw none at v, omega (arith, rw none at e))
 loop-holds : tie.Need-loop-holds Inv-loop μ-loop
 unfolding valueOf
 loop-holds c =
-    let a = c .before .before .args in
+    let start : tie.Start Inv-loop μ-loop = search needs in let a = start .args in
     let whole : a .at + longest - a .at ≡ longest = omega arith in
     let none : a .at - a .at ≡ 0 = omega arith in
     (omega arith, (rw none (omega arith), (rw whole, rw whole)))
@@ -44,8 +44,8 @@ shared-slice-read-b c = omega arith
 
 returns : tie.Need-returns Inv-loop μ-loop
 returns c =
-    let b = c .before .before .before .before in
-    let a = b .before .before .before .args in
+    let start : tie.Start Inv-loop μ-loop = search needs in let b : tie.At-loop Inv-loop μ-loop = search needs in
+    let a = start .args in
     let l = b .loop in
     let other = sym (c .before .is-digit .ensures) ∙ not-true _ (c .if1 .taken) in
     stopped (now (a .s)) (a .at) (l .i) (l .value) (l .inv .1 .1) (left-other (now (a .s)) (a .at) (l .i) (omega arith) (omega arith) other)
@@ -53,7 +53,7 @@ returns c =
 -- past the test: the loop's values, the byte, that it is a digit, and that the value stays below ten to the digits
 -- passed
 abbrev L : (c : tie.Else1 Inv-loop μ-loop) → tie.At-loop Inv-loop μ-loop
-L c = c .before .before .before .before
+L c = let at-loop : tie.At-loop Inv-loop μ-loop = search needs in at-loop
 
 abbrev S : tie.Else1 Inv-loop μ-loop → List ℕ
 S c = now (L c .before .before .before .args .s)
@@ -101,7 +101,7 @@ loop-again c =
 
 returns-2 : tie.Need-returns-2 Inv-loop μ-loop
 returns-2 c =
-    let a = c .before .before .before .before .args in
+    let start : tie.Start Inv-loop μ-loop = search needs in let a = start .args in
     let l = c .before .loop in
     stopped (now (a .s)) (a .at) (l .i) (l .value) (l .inv .1 .1) (left-none (now (a .s)) (a .at) (l .i) (omega arith))
 

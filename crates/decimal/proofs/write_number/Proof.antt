@@ -26,7 +26,7 @@ abbrev μ-loop : tie.MeasureT-loop
 
 -- ways back to earlier places of the function
 abbrev start : tie.After-has-room Inv-loop μ-loop → tie.Start Inv-loop μ-loop
-start c = c .before .before .before
+start c = search needs
 
 -- a turn's store, and the last store
 turn : (out : List ℕ) (at rest i b : ℕ) → 10 ≤ rest → i ≡ at + length (digitsOf rest) → i ≤ length out → b ≡ zeroByte + rest % 10
@@ -41,8 +41,9 @@ last out at rest b one room byte = rw (digits-one rest one, ← byte, laid-one o
 
 returns : tie.Need-returns Inv-loop μ-loop
 returns c =
-    let a = start (c .before) .args in
-    let n = a .at + c .before .before .digits .result in
+    let start : tie.Start Inv-loop μ-loop = search needs in
+    let after-digits : tie.After-digits Inv-loop μ-loop = search needs in let a = start .args in
+    let n = a .at + after-digits .digits .result in
     let no-room = leb-false n (length (now (a .out))) (sym (c .before .has-room .ensures) ∙ not-true _ (c .if1 .taken)) in
     wrote-short (now (a .out)) (a .at) (digitsOf (a .v)) (omega arith)
 
@@ -50,7 +51,7 @@ room : (c : tie.Else1 Inv-loop μ-loop) →
     let a = start (c .before) .args in
     a .at + c .before .before .digits .result ≤ length (now (a .out))
 room c =
-    let a = start (c .before) .args in
+    let start : tie.Start Inv-loop μ-loop = search needs in let a = start .args in
     leb-true _ (length (now (a .out))) (sym (c .before .has-room .ensures) ∙ not-false _ (c .if1 .left))
 
 add-i : tie.Need-add-i Inv-loop μ-loop
@@ -63,15 +64,18 @@ sub-i : tie.Need-sub-i Inv-loop μ-loop
 sub-i c = omega (arith, digits-some (c .before .loop .rest))
 
 slice-write-out : tie.Need-slice-write-out Inv-loop μ-loop
-slice-write-out c = omega (arith, digits-some (c .before .before .loop .rest))
+slice-write-out c =
+    let at-loop : tie.At-loop Inv-loop μ-loop = search needs in
+    omega (arith, digits-some (at-loop .loop .rest))
 
 loop-less : tie.Need-loop-less Inv-loop μ-loop
 loop-less c = omega arith
 
 loop-again : tie.Need-loop-again Inv-loop μ-loop
 loop-again c =
-    let a = start (c .before .before .before .before) .args in
-    let l = c .before .before .loop in
+    let start : tie.Start Inv-loop μ-loop = search needs in let at-loop : tie.At-loop Inv-loop μ-loop = search needs in
+    let a = start .args in
+    let l = at-loop .loop in
     let shorter = length-more (l .rest) (omega arith) in (
       omega arith,
       (
@@ -87,7 +91,9 @@ loop-again c =
     )
 
 slice-write-out-2 : tie.Need-slice-write-out-2 Inv-loop μ-loop
-slice-write-out-2 c = omega (arith, digits-some (start (c .before .before .before .before) .args .v))
+slice-write-out-2 c =
+    let start : tie.Start Inv-loop μ-loop = search needs in
+    omega (arith, digits-some (start .args .v))
 
 add-result : tie.Need-add-result Inv-loop μ-loop
 add-result c = omega arith
@@ -97,9 +103,10 @@ same-length c = rw length-set (omega arith)
 
 returns-2 : tie.Need-returns-2 Inv-loop μ-loop
 returns-2 c =
-    let b = c .before .before .before .before .before in
-    let a = b .before .before .args in
-    let l = c .before .before .loop in
+    let start : tie.Start Inv-loop μ-loop = search needs in let at-loop : tie.At-loop Inv-loop μ-loop = search needs in
+    let b : tie.After-digits Inv-loop μ-loop = search needs in
+    let a = start .args in
+    let l = at-loop .loop in
     let count = b .digits in
     let some = digits-some (a .v) in
     wrote-laid (now (a .out)) (a .at) (digitsOf (a .v)) (set (l .out) (a .at) (c .last-digit2 .result)) (a .at + count .result) (l .inv .0)

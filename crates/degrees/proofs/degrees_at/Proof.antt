@@ -7,7 +7,9 @@ use Rattle.degrees.proofs.degrees_at.Statement.{statement}
 use Rattle.degrees.proofs.degrees_at.Tie as tie
 
 returns : tie.Need-returns
-returns c = let a = c .before .before .before .args in c .size-at .ensures ∙ after-sign (now (a .s)) (a .at) _ (c .before .past-minus .ensures)
+returns c =
+    let start : tie.Start = search needs in
+    let a = start .args in c .size-at .ensures ∙ after-sign (now (a .s)) (a .at) _ (c .before .past-minus .ensures)
 
 pub degrees-at-spec : {M : Type 1} → statement M
 degrees-at-spec = tie.close (tie.spec (λ c κs. search needs) (λ c κs. search needs) returns)

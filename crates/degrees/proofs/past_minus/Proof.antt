@@ -16,10 +16,10 @@ use Rattle.degrees.proofs.past_minus.Tie as tie
 
 module _ (c : tie.After-stands) where
   abbrev S : List ℕ
-  S = now (c .before .before .args .s)
+  S = let start : tie.Start = search needs in now (start .args .s)
 
   abbrev At : ℕ
-  At = c .before .before .args .at
+  At = let start : tie.Start = search needs in start .args .at
 
   said : c .stands .result ≡ eqb (getD S At 0) minus
   said = c .stands .ensures ∙ stands-byte S At minus (omega arith)

@@ -9,13 +9,13 @@ use Rattle.degrees.proofs.put_sign.Tie as tie
 
 returns : tie.Need-returns
 returns c =
-    let b = c .before .before .before .before in
-    let s = b .before .before in
-    rw (sign-below (s .args .x) (rw (toZ-ofZ (s .fits .x)) at (b .if1 .taken))) (c .before .before .write-byte .ensures)
+    let after-write-byte : tie.After-write-byte = search needs in let b : tie.Then1 = search needs in
+    let s : tie.Start = search needs in
+    rw (sign-below (s .args .x) (rw (toZ-ofZ (s .fits .x)) at (b .if1 .taken))) (after-write-byte .write-byte .ensures)
 
 returns-2 : tie.Need-returns-2
 returns-2 c =
-    let s = c .before .before in
+    let s : tie.Start = search needs in
     rw (sign-other (s .args .x) (rw (toZ-ofZ (s .fits .x)) at (c .if1 .left))) (wrote-none (now (s .args .out)) (s .args .at) (s .pre))
 
 pub put-sign-spec : {M : Type 1} → statement M

@@ -16,13 +16,13 @@ sub-result c = turned-fits _ (c .before .if1 .left)
 
 returns-2 : tie.Need-returns-2
 returns-2 c =
-    let n = c .before .before .args .size in
+    let start : tie.Start = search needs in let n = start .args .size in
     let h = c .before .if1 .left in
     rw (le-leb n largestSize h, c .if2 .taken) (toZ-ofZ (turned-fits n h) ∙ turned n h)
 
 returns-3 : tie.Need-returns-3
 returns-3 c =
-    let n = c .before .before .args .size in
+    let start : tie.Start = search needs in let n = start .args .size in
     let h = c .before .if1 .left in
     rw (le-leb n largestSize h, c .if2 .left) (plain n h)
 

@@ -14,7 +14,7 @@ use Rattle.desk_line.proofs.put_why.Statement.{statement}
 use Rattle.desk_line.proofs.put_why.Tie as tie
 
 abbrev start : tie.Then1 → tie.Start
-start c = c .before .before
+start c = search needs
 
 both : (c : tie.Then1) → whyText (start c .args .number) (start c .args .value) ≡ fieldText (start c .args .number) tab ++ fieldText (start c .args .value) lineFeed
 unfolding whyText
@@ -29,11 +29,15 @@ abbrev Stands : tie.Then1 → List ℕ → List ℕ → ℕ → Type 0
 Stands c rest out at = Left (now (start c .args .out)) (start c .args .at) (whyText (start c .args .number) (start c .args .value)) rest out at
 
 left0 : (c : tie.Then1) → Stands c (fieldText (start c .args .number) tab ++ fieldText (start c .args .value) lineFeed) (now (start c .args .out)) (start c .args .at)
-left0 c = record { front = []; parts = sym (both c); place = sym (add-zero (start c .args .at)); bytes = sym (laid-none (now (start c .args .out)) (start c .args .at)); fits = start c .pre }
+left0 c =
+    let start : tie.Start = search needs in
+    record { front = []; parts = sym (both c); place = sym (add-zero (start .args .at)); bytes = sym (laid-none (now (start .args .out)) (start .args .at)); fits = start .pre }
 
 left1 : (c : tie.After-write-field) → let t = c .before .before in
     Stands t (fieldText (start t .args .value) lineFeed) (c .write-field .last .1 .1 .0) (c .write-field .result)
-left1 c = left-next (fieldText (start (c .before .before) .args .number) tab) _ (left0 (c .before .before)) (c .write-field .ensures)
+left1 c =
+    let start : tie.Start = search needs in let then1 : tie.Then1 = search needs in
+    left-next (fieldText (start .args .number) tab) _ (left0 then1) (c .write-field .ensures)
 
 write-field-requires : tie.Need-write-field-requires
 write-field-requires c κs = search needs
@@ -45,7 +49,10 @@ same-length : tie.Need-same-length
 same-length c = search needs
 
 returns : tie.Need-returns
-returns c = left-last (left1 (c .before .before .before .before .before .before)) (c .before .before .write-field2 .ensures)
+returns c =
+    let after-write-field : tie.After-write-field = search needs in
+    let after-write-field2 : tie.After-write-field2 = search needs in
+    left-last (left1 after-write-field) (after-write-field2 .write-field2 .ensures)
 
 write-field-requires-3 : tie.Need-write-field-requires-3
 write-field-requires-3 c κs = search needs
@@ -54,7 +61,9 @@ same-length-2 : tie.Need-same-length-2
 same-length-2 c = search needs
 
 returns-2 : tie.Need-returns-2
-returns-2 c = rw (alone (c .before .before .before .before)) (c .before .before .write-field3 .ensures)
+returns-2 c =
+    let else1 : tie.Else1 = search needs in let after-write-field3 : tie.After-write-field3 = search needs in
+    rw (alone else1) (after-write-field3 .write-field3 .ensures)
 
 pub put-why-spec : {M : Type 1} → statement M
 put-why-spec =

@@ -33,8 +33,10 @@ row-requires c κs = search needs
 
 product-down-requires : tie.Need-product-down-requires Inv-loop μ-loop
 product-down-requires c κs =
+    let at-loop : tie.At-loop Inv-loop μ-loop = search needs in
+    let in-loop : tie.In-loop Inv-loop μ-loop = search needs in
     rw (c .row .ensures)
-    (factors-down _ _ _ _ _ _ _ (c .before .before .before .loop .inv .0) (rows _ (c .before .before .loop-test .taken)))
+    (factors-down _ _ _ _ _ _ _ (at-loop .loop .inv .0) (rows _ (in-loop .loop-test .taken)))
 
 add-i : tie.Need-add-i Inv-loop μ-loop
 add-i c = omega arith
@@ -44,7 +46,7 @@ loop-less c = omega arith
 
 loop-again : tie.Need-loop-again Inv-loop μ-loop
 loop-again c =
-    let l = c .before .before .loop in
+    let at-loop : tie.At-loop Inv-loop μ-loop = search needs in let l = at-loop .loop in
     let h = c .before .loop-test .taken in
     let e : c .if2 .p ≡ rowDown (l .p) (l .i) (l .rest % 2) =
     ⊎-elim (λ w. rw (w .3, w .2 .ensures, w .1 .ensures, eq-eqb _ _ (w .0 .taken))) (λ w. rw (w .1, ne-eqb _ _ (w .0 .left))) (c .if2 .came)
@@ -53,7 +55,7 @@ loop-again c =
 
 returns-2 : tie.Need-returns-2 Inv-loop μ-loop
 returns-2 c =
-    let x = c .before .before .before .args .x in
+    let start : tie.Start Inv-loop μ-loop = search needs in let x = start .args .x in
     let e = whole-down x _ _ _ (omega arith) (omega arith) (c .before .loop .inv .1) in
     (e, rw e (down-is x))
 

@@ -16,7 +16,7 @@ add-t10 : tie.Need-add-t10
 add-t10 c = search needs
 
 add-t11 : tie.Need-add-t11
-add-t11 c = omega (arith, c .before .before .before .pre .small, product-fits _ _ _ _ (c .before .before .before .pre))
+add-t11 c = let start : tie.Start = search needs in omega (arith, start .pre .small, product-fits _ _ _ _ (start .pre))
 
 returns : tie.Need-returns
 returns c = rw (c .before .pick .ensures)

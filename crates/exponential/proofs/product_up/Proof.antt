@@ -22,7 +22,7 @@ add-t12 : tie.Need-add-t12
 add-t12 c = search needs
 
 add-t13 : tie.Need-add-t13
-add-t13 c = omega (arith, c .before .before .before .pre .small, product-fits _ _ _ _ (c .before .before .before .pre))
+add-t13 c = let start : tie.Start = search needs in omega (arith, start .pre .small, product-fits _ _ _ _ (start .pre))
 
 returns : tie.Need-returns
 returns c = rw (c .before .pick .ensures)

@@ -33,13 +33,16 @@ row-requires : tie.Need-row-requires Inv-loop μ-loop
 row-requires c κs = search needs
 
 add-product-up : tie.Need-add-product-up Inv-loop μ-loop
-add-product-up c = rw (c .before .row .ensures) (omega (arith, rows _ (c .before .before .before .loop-test .taken) .below-two))
+add-product-up c =
+    let in-loop : tie.In-loop Inv-loop μ-loop = search needs in
+    rw (c .before .row .ensures) (omega (arith, rows _ (in-loop .loop-test .taken) .below-two))
 
 product-up-requires : tie.Need-product-up-requires Inv-loop μ-loop
 product-up-requires c κs =
-    let r = c .before in
+    let at-loop : tie.At-loop Inv-loop μ-loop = search needs in
+    let in-loop : tie.In-loop Inv-loop μ-loop = search needs in let r = c .before in
     rw (r .row .ensures, add-one)
-    (factors-up _ _ _ _ _ _ _ (r .before .before .before .loop .inv .0) (rows _ (r .before .before .loop-test .taken)))
+    (factors-up _ _ _ _ _ _ _ (at-loop .loop .inv .0) (rows _ (in-loop .loop-test .taken)))
 
 add-i : tie.Need-add-i Inv-loop μ-loop
 add-i c = omega arith
@@ -49,7 +52,7 @@ loop-less c = omega arith
 
 loop-again : tie.Need-loop-again Inv-loop μ-loop
 loop-again c =
-    let l = c .before .before .loop in
+    let at-loop : tie.At-loop Inv-loop μ-loop = search needs in let l = at-loop .loop in
     let h = c .before .loop-test .taken in
     let e : c .if2 .p ≡ rowUp (l .p) (l .i) (l .rest % 2) =
     ⊎-elim (λ w. rw (w .4, w .3 .ensures, w .1 .ensures, add-one, eq-eqb _ _ (w .0 .taken))) (λ w. rw (w .1, ne-eqb _ _ (w .0 .left))) (c .if2 .came)
@@ -58,7 +61,7 @@ loop-again c =
 
 returns-2 : tie.Need-returns-2 Inv-loop μ-loop
 returns-2 c =
-    let x = c .before .before .before .args .x in
+    let start : tie.Start Inv-loop μ-loop = search needs in let x = start .args .x in
     let e = whole-up x _ _ _ (omega arith) (omega arith) (c .before .loop .inv .1) in
     (e, rw e (up-is x))
 

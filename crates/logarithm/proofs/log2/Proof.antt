@@ -29,11 +29,13 @@ mul-square : tie.Need-mul-square Inv-loop μ-loop
 mul-square c = record { fits = square-fits _ _ _ _ _ (c .before .loop .inv) }
 
 mul-m : tie.Need-mul-m Inv-loop μ-loop
-mul-m c = omega (arith, figure-fits _ _ _ _ _ (c .before .before .loop .inv))
+mul-m c =
+    let at-loop : tie.At-loop Inv-loop μ-loop = search needs in
+    omega (arith, figure-fits _ _ _ _ _ (at-loop .loop .inv))
 
 add-m : tie.Need-add-m Inv-loop μ-loop
 add-m c =
-    let l = c .before .before .loop in
+    let at-loop : tie.At-loop Inv-loop μ-loop = search needs in let l = at-loop .loop in
     omega (arith, figure-fits _ _ _ _ _ (l .inv), square-cut _ _ _ _ _ (l .inv) .bit)
 
 add-i : tie.Need-add-i Inv-loop μ-loop
@@ -43,7 +45,9 @@ loop-less : tie.Need-loop-less Inv-loop μ-loop
 loop-less c = omega arith
 
 loop-again : tie.Need-loop-again Inv-loop μ-loop
-loop-again c = rw (c .pick .ensures) (turn _ _ _ _ _ (c .before .before .loop .inv) (omega arith))
+loop-again c =
+    let at-loop : tie.At-loop Inv-loop μ-loop = search needs in
+    rw (c .pick .ensures) (turn _ _ _ _ _ (at-loop .loop .inv) (omega arith))
 
 returns-3 : tie.Need-returns-3 Inv-loop μ-loop
 returns-3 c =

@@ -10,21 +10,21 @@ use Rattle.logarithm.proofs.scale.Tie as tie
 
 sub-whole : tie.Need-sub-whole
 sub-whole c =
-    let a = c .before .before .args in
+    let start : tie.Start = search needs in let a = start .args in
     let y = c .before .shift in
     let z = c .shift2 in
     shift-less (a .a) (a .b) (y .result) (z .result) (omega arith) (z .ensures .0) (y .ensures .1)
 
 sub-t12 : tie.Need-sub-t12
 sub-t12 c =
-    let a = c .before .before .before .args in
-    let l = shift-below (a .a) (a .b) (c .before .before .shift .result) (c .before .shift2 .result) (omega arith) (omega arith) in
+    let start : tie.Start = search needs in let after-shift : tie.After-shift = search needs in let a = start .args in
+    let l = shift-below (a .a) (a .b) (after-shift .shift .result) (c .before .shift2 .result) (omega arith) (omega arith) in
     omega arith
 
 returns : tie.Need-returns
 returns c =
-    let a = c .before .before .before .args in
-    let y = c .before .before .shift .result in
+    let start : tie.Start = search needs in let after-shift : tie.After-shift = search needs in let a = start .args in
+    let y = after-shift .shift .result in
     let z = c .before .shift2 .result in
     let l = shift-below (a .a) (a .b) y z (omega arith) (omega arith) in
     rw (
@@ -36,7 +36,7 @@ returns c =
 
 returns-2 : tie.Need-returns-2
 returns-2 c =
-    let b = c .before .before in
+    let b : tie.After-shift = search needs in
     let a = b .before .args in
     let y = b .shift .result in
     let z = c .before .shift2 .result in

@@ -25,10 +25,6 @@ Inv-loop timed total₀ i₀ next₀ total i next =
 abbrev μ-loop : tie.MeasureT-loop
 μ-loop timed total₀ i₀ next₀ total i next = length timed - i
 
--- ways back to earlier places of the function
-abbrev loop : tie.After-first-run2 Inv-loop μ-loop → tie.At-loop Inv-loop μ-loop
-loop c = c .before .before .before .before .before .before
-
 -- the second run starts within the samples
 within : (c : tie.After-second-run Inv-loop μ-loop) → c .second-run .result ≤ length (c .before .args .timed .now)
 within c = omega (arith, c .second-run .ensures, second-fits (c .before .args .timed .now))
@@ -44,7 +40,7 @@ part-first-run-start c = within c
 
 loop-holds : tie.Need-loop-holds Inv-loop μ-loop
 loop-holds c =
-    let b = c .before .before in
+    let b : tie.After-second-run Inv-loop μ-loop = search needs in
     let p = b .before .args .timed .now in
     let k = b .second-run .result in
     let e = b .second-run .ensures in
@@ -56,39 +52,41 @@ add-if1 c = let l = c .before .loop in omega (arith, walk-fits _ (l .i) (l .next
 
 add-requires : tie.Need-add-requires Inv-loop μ-loop
 add-requires c κs =
-    let i = c .before .before .loop .inv in
+    let at-loop : tie.At-loop Inv-loop μ-loop = search needs in let i = at-loop .loop .inv in
     (omega (arith, i .2, c .if1 .taken), omega (arith, i .3, c .if1 .taken))
 
 add-i : tie.Need-add-i Inv-loop μ-loop
-add-i c = omega (arith, c .before .before .if1 .taken)
+add-i c = let then1 : tie.Then1 Inv-loop μ-loop = search needs in omega (arith, then1 .if1 .taken)
 
 mul-first-run-2 : tie.Need-mul-first-run-2 Inv-loop μ-loop
-mul-first-run-2 c = omega (arith, c .before .before .if1 .taken)
+mul-first-run-2 c = let then1 : tie.Then1 Inv-loop μ-loop = search needs in omega (arith, then1 .if1 .taken)
 
 sub-first-run-2 : tie.Need-sub-first-run-2 Inv-loop μ-loop
-sub-first-run-2 c = omega (arith, c .before .before .if1 .taken)
+sub-first-run-2 c = let then1 : tie.Then1 Inv-loop μ-loop = search needs in omega (arith, then1 .if1 .taken)
 
 part-first-run-start-2 : tie.Need-part-first-run-start-2 Inv-loop μ-loop
-part-first-run-start-2 c = omega (arith, c .before .before .if1 .taken)
+part-first-run-start-2 c = let then1 : tie.Then1 Inv-loop μ-loop = search needs in omega (arith, then1 .if1 .taken)
 
 loop-less : tie.Need-loop-less Inv-loop μ-loop
 loop-less c =
-    let b = c .before .before .before .before in
-    omega (arith, b .if1 .taken, walk-holds _ _ _ (b .before .before .loop .inv .1) (b .if1 .taken) .0)
+    let at-loop : tie.At-loop Inv-loop μ-loop = search needs in let b : tie.Then1 Inv-loop μ-loop = search needs in
+    omega (arith, b .if1 .taken, walk-holds _ _ _ (at-loop .loop .inv .1) (b .if1 .taken) .0)
 
 loop-again : tie.Need-loop-again Inv-loop μ-loop
 unfolding sum
 loop-again c =
-    let p = c .before .before .before .before .before .before .before .before .before .before .args .timed .now in
-    let i = loop c .loop .i in
-    let r = loop c .loop .next in
-    let t = loop c .loop .total in
-    let v = loop c .loop .inv in
-    let h = c .before .before .before .before .if1 .taken in
+    let start : tie.Start Inv-loop μ-loop = search needs in let at-loop : tie.At-loop Inv-loop μ-loop = search needs in
+    let then1 : tie.Then1 Inv-loop μ-loop = search needs in
+    let after-add : tie.After-add Inv-loop μ-loop = search needs in let p = start .args .timed .now in
+    let i = at-loop .loop .i in
+    let r = at-loop .loop .next in
+    let t = at-loop .loop .total in
+    let v = at-loop .loop .inv in
+    let h = then1 .if1 .taken in
     let o = walk-holds p i r (v .1) h .0 in
-    let a = c .before .before .before .add .ensures in
-    let n : c .before .before .before .add .result .number ≡ t .number + 1 = ap (λ (u : Totals). u .number) (a .0) in
-    let m : c .before .before .before .add .result .sum ≡ t .sum + r .size = ap (λ (u : Totals). u .sum) (a .0) in (
+    let a = after-add .add .ensures in
+    let n : after-add .add .result .number ≡ t .number + 1 = ap (λ (u : Totals). u .number) (a .0) in
+    let m : after-add .add .result .sum ≡ t .sum + r .size = ap (λ (u : Totals). u .sum) (a .0) in (
       omega (arith, h),
       c .first-run2 .ensures ∙ ap firstRun (from-place (i + r .length) p),
       omega (arith, v .2, o, n),
@@ -100,8 +98,8 @@ loop-again c =
 returns : tie.Need-returns Inv-loop μ-loop
 unfolding sum
 returns c =
-    let b = c .before .before in
-    let p = b .before .before .before .before .args .timed .now in
+    let start : tie.Start Inv-loop μ-loop = search needs in let b : tie.At-loop Inv-loop μ-loop = search needs in
+    let p = start .args .timed .now in
     let v = b .loop .inv in
     let d = walk-ends p (b .loop .i) (b .loop .next) (v .1) (omega (arith, c .if1 .left)) in
     (λ D. omega (arith, v .4 D, ap length (d D)), λ D. omega (arith, v .5 D, ap sum (d D)))

@@ -12,12 +12,15 @@ returns : tie.Need-returns
 returns c = rw (said-no (c .before .both .ensures) (c .if1 .taken)) (refl, refl)
 
 sub-k : tie.Need-sub-k
-sub-k c = ltb-true 0 _ (and-true _ _ (said-yes (c .before .before .both .ensures) (c .before .if1 .left)) .0)
+sub-k c =
+    let after-both : tie.After-both = search needs in
+    ltb-true 0 _ (and-true _ _ (said-yes (after-both .both .ensures) (c .before .if1 .left)) .0)
 
 returns-2 : tie.Need-returns-2
 returns-2 c =
-    let b = c .before .before .before .before .before .before in let d = b .before .before .before .before in
-    rw (said-yes (d .before .both .ensures) (d .if1 .left)) (b .place .ensures, c .before .before .place2 .ensures)
+    let after-place2 : tie.After-place2 = search needs in
+    let b : tie.After-place = search needs in let d : tie.Else1 = search needs in
+    rw (said-yes (d .before .both .ensures) (d .if1 .left)) (b .place .ensures, after-place2 .place2 .ensures)
 
 pub hand-spec : {M : Type 1} → statement M
 hand-spec =

@@ -28,23 +28,28 @@ whole : (c : tie.After-pass) →
     let b = c .before .before .before in
     let r = b .count .result in let a = b .before .before .before .args in
     chosen (r .number) (r .sum) (a .step) (a .decorrelation) (a .timed .now) ≡ Whole c
-whole c = let e = c .before .before .before .count .ensures in chosen-kept _ _ _ _ _ (e .0 _) (e .1 _)
+whole c =
+    let after-count : tie.After-count = search needs in
+    let e = after-count .count .ensures in chosen-kept _ _ _ _ _ (e .0 _) (e .1 _)
 
 needed : (c : tie.After-pass) → c .pass .result ≡ length (Whole c)
 needed c = c .pass .ensures .0 ∙ ap length (whole c)
 
 count-requires : tie.Need-count-requires
-count-requires c κs = omega (arith, c .before .before .pre .0, div-le-self 10000000 (c .before .before .args .step))
+count-requires c κs =
+    let start : tie.Start = search needs in
+    omega (arith, start .pre .0, div-le-self 10000000 (start .args .step))
 
 returns : tie.Need-returns
 returns c =
-    let d = needed (c .before .before .before .before) in
+    let after-pass : tie.After-pass = search needs in let d = needed after-pass in
     rw d (no-room _ _ _ (rw d at (sym (c .before .short .ensures) ∙ c .if1 .taken)))
 
 returns-2 : tie.Need-returns-2
 returns-2 c =
-    let e = c .before .before .before .before in let g = e .before .before .before in
-    let b = g .before .before .before .before in let a = b .before .before .before .before .before .before .args in
+    let start : tie.Start = search needs in
+    let e : tie.After-pass2 = search needs in let g : tie.Else1 = search needs in
+    let b : tie.After-pass = search needs in let a = start .args in
     let w = whole b in
     let d = needed b in
     let s = e .pass2 .ensures .1 ∙ ap (λ (l : List Peak). sets (a .sizes .now) 0 (map sizeOf l)) w in

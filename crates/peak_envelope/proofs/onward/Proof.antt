@@ -7,9 +7,9 @@ use Rattle.peak_envelope.proofs.onward.Tie as tie
 
 returns : tie.Need-returns
 returns c =
-    let h = c .before .before .before .before in
-    let a = h .before .before .before .before .before in
-    let s = a .before .before .before in
+    let h : tie.After-hand = search needs in
+    let a : tie.After-advance = search needs in
+    let s : tie.Start = search needs in
     (a .advance .ensures ∙ advanced-fits _ _ _ _ _ (s .pre), h .hand .ensures .0, h .hand .ensures .1)
 
 pub onward-spec : {M : Type 1} → statement M

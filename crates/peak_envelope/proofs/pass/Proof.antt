@@ -24,23 +24,13 @@ abbrev μ-loop : tie.MeasureT-loop
 
 -- ways back to earlier places of the function
 abbrev start : tie.After-second-run Inv-loop μ-loop → tie.Start Inv-loop μ-loop
-start c = c .before .before .before .before
-
-abbrev start₂ : tie.At-loop Inv-loop μ-loop → tie.Start Inv-loop μ-loop
-start₂ c = start (c .before .before .before)
-
-abbrev loop₂ : tie.After-struct-known3 Inv-loop μ-loop → tie.At-loop Inv-loop μ-loop
-loop₂ c = c .before .before .before .before
-
-abbrev then1 : tie.After-struct-known2 Inv-loop μ-loop → tie.Then1 Inv-loop μ-loop
-then1 c = c .before .before .before .before .before .before .before .before .before
-
-abbrev hand : tie.After-slice-known6 Inv-loop μ-loop → tie.After-hand Inv-loop μ-loop
-hand c = c .before .before .before .before
+start c = search needs
 
 -- the second run starts within the samples
 within : (c : tie.After-second-run Inv-loop μ-loop) → c .second-run .result ≤ length (start c .args .timed .now)
-within c = omega (arith, c .second-run .ensures, second-fits (start c .args .timed .now))
+within c =
+    let start : tie.Start Inv-loop μ-loop = search needs in
+    omega (arith, c .second-run .ensures, second-fits (start .args .timed .now))
 
 mul-first-run : tie.Need-mul-first-run Inv-loop μ-loop
 mul-first-run c = omega (arith, within c)
@@ -53,8 +43,9 @@ part-first-run-start c = within c
 
 loop-holds : tie.Need-loop-holds Inv-loop μ-loop
 loop-holds c =
-    let b = c .before .before in
-    let a = start b .args in
+    let start : tie.Start Inv-loop μ-loop = search needs in
+    let b : tie.After-second-run Inv-loop μ-loop = search needs in
+    let a = start .args in
     let k = b .second-run .result in
     rw (b .before .fresh .ensures) (passing-starts (a .step) (a .n) (a .s) (a .decorrelation) (a .timed .now)
     (a .sizes .now) (a .times .now) k (c .first-run .result) (b .second-run .ensures) (c .first-run .ensures ∙
@@ -65,50 +56,52 @@ add-if1 c = let l = c .before .loop in omega (arith, walk-fits _ (l .i) (l .run)
 
 peak-requires : tie.Need-peak-requires Inv-loop μ-loop
 peak-requires c κs =
-    let b = c .before .before in
+    let b : tie.At-loop Inv-loop μ-loop = search needs in
     omega (arith, c .if1 .taken, walk-holds _ (b .loop .i) (b .loop .run) (b .loop .inv .here) (c .if1 .taken) .1)
 
 onward-requires : tie.Need-onward-requires Inv-loop μ-loop
 onward-requires c κs =
-    let b = c .before .before .before in let f = b .before .before .loop .inv .fits in
-    let d = div-le-self 10000000 (start₂ (b .before .before) .args .step) in (omega (arith, f .0, b .if1 .taken, d), omega (arith, f .1, b .if1 .taken, d))
+    let at-loop : tie.At-loop Inv-loop μ-loop = search needs in let start : tie.Start Inv-loop μ-loop = search needs in
+    let b : tie.Then1 Inv-loop μ-loop = search needs in let f = at-loop .loop .inv .fits in
+    let d = div-le-self 10000000 (start .args .step) in (omega (arith, f .0, b .if1 .taken, d), omega (arith, f .1, b .if1 .taken, d))
 
 add-i : tie.Need-add-i Inv-loop μ-loop
 add-i c =
-    let d = then1 c in
-    let b = start₂ (d .before .before) in
+    let d : tie.Then1 Inv-loop μ-loop = search needs in
+    let b : tie.Start Inv-loop μ-loop = search needs in
     omega (arith, d .if1 .taken, b .pre, div-le-self 10000000 (b .args .step))
 
 mul-first-run-2 : tie.Need-mul-first-run-2 Inv-loop μ-loop
 mul-first-run-2 c =
-    let d = then1 c in
-    let b = start₂ (d .before .before) in
+    let d : tie.Then1 Inv-loop μ-loop = search needs in
+    let b : tie.Start Inv-loop μ-loop = search needs in
     omega (arith, d .if1 .taken, b .pre, div-le-self 10000000 (b .args .step))
 
 sub-first-run-2 : tie.Need-sub-first-run-2 Inv-loop μ-loop
 sub-first-run-2 c =
-    let d = then1 c in
-    let b = start₂ (d .before .before) in
+    let d : tie.Then1 Inv-loop μ-loop = search needs in
+    let b : tie.Start Inv-loop μ-loop = search needs in
     omega (arith, d .if1 .taken, b .pre, div-le-self 10000000 (b .args .step))
 
 part-first-run-start-2 : tie.Need-part-first-run-start-2 Inv-loop μ-loop
 part-first-run-start-2 c =
-    let d = then1 c in
-    let b = start₂ (d .before .before) in
+    let d : tie.Then1 Inv-loop μ-loop = search needs in
+    let b : tie.Start Inv-loop μ-loop = search needs in
     omega (arith, d .if1 .taken, b .pre, div-le-self 10000000 (b .args .step))
 
 loop-less : tie.Need-loop-less Inv-loop μ-loop
 loop-less c =
-    let b = then1 (c .before .before) in
-    let d = b .before .before in
+    let b : tie.Then1 Inv-loop μ-loop = search needs in
+    let d : tie.At-loop Inv-loop μ-loop = search needs in
     omega (arith, b .if1 .taken, walk-holds _ _ (d .loop .run) (d .loop .inv .here) (b .if1 .taken) .0)
 
 loop-again : tie.Need-loop-again Inv-loop μ-loop
 loop-again c =
-    let d = c .before .before .before .before .before .before .before in
-    let b = d .before .before .before in
-    let l = b .before .before .before .loop in
-    let a = start₂ (b .before .before .before) .args in
+    let at-loop : tie.At-loop Inv-loop μ-loop = search needs in let start : tie.Start Inv-loop μ-loop = search needs in
+    let d : tie.After-onward Inv-loop μ-loop = search needs in
+    let b : tie.After-peak Inv-loop μ-loop = search needs in
+    let l = at-loop .loop in
+    let a = start .args in
     let i = l .i in
     let r = l .run in
     let e = l .e in
@@ -127,33 +120,33 @@ loop-again c =
 
 add-hand : tie.Need-add-hand Inv-loop μ-loop
 add-hand c =
-    let b = loop₂ c in
-    omega (arith, b .loop .inv .fits .1, b .loop .inv .within, div-le-self 10000000 (start₂ b .args .step))
+    let start : tie.Start Inv-loop μ-loop = search needs in let b : tie.At-loop Inv-loop μ-loop = search needs in
+    omega (arith, b .loop .inv .fits .1, b .loop .inv .within, div-le-self 10000000 (start .args .step))
 
 hand-requires : tie.Need-hand-requires Inv-loop μ-loop
 hand-requires c κs =
-    let b = loop₂ (c .before .before) in
-    omega (arith, b .loop .inv .fits .1, b .loop .inv .within, div-le-self 10000000 (start₂ b .args .step))
+    let start : tie.Start Inv-loop μ-loop = search needs in let b : tie.At-loop Inv-loop μ-loop = search needs in
+    omega (arith, b .loop .inv .fits .1, b .loop .inv .within, div-le-self 10000000 (start .args .step))
 
 same-length : tie.Need-same-length Inv-loop μ-loop
 same-length c =
-    let b = hand c in
-    let l = loop₂ (b .before .before .before) .loop in
+    let at-loop : tie.At-loop Inv-loop μ-loop = search needs in let b : tie.After-hand Inv-loop μ-loop = search needs in
+    let l = at-loop .loop in
     ap length (b .hand .ensures .0) ∙ noting-length (l .e .chains) (l .e .chains .opened + 1) (l .e .chains .best .size) (l .sizes) ∙ l .inv .sizes-long
 
 same-length-2 : tie.Need-same-length-2 Inv-loop μ-loop
 same-length-2 c =
-    let b = hand c in
-    let l = loop₂ (b .before .before .before) .loop in
+    let at-loop : tie.At-loop Inv-loop μ-loop = search needs in let b : tie.After-hand Inv-loop μ-loop = search needs in
+    let l = at-loop .loop in
     ap length (b .hand .ensures .1) ∙ noting-length (l .e .chains) (l .e .chains .opened + 1) (l .e .chains .best .time) (l .times) ∙ l .inv .times-long
 
 returns : tie.Need-returns Inv-loop μ-loop
 returns c =
-    let g = hand c in
+    let start : tie.Start Inv-loop μ-loop = search needs in let g : tie.After-hand Inv-loop μ-loop = search needs in
     let e = g .hand .ensures in
-    let b = g .before .before .before .before .before in
-    let d = b .before .before in
-    let a = start₂ d .args in
+    let b : tie.Else1 Inv-loop μ-loop = search needs in
+    let d : tie.At-loop Inv-loop μ-loop = search needs in
+    let a = start .args in
     let v = d .loop .inv in
     let h : length (a .timed .now) ≤ d .loop .i + d .loop .run .length = omega (arith, b .if1 .left) in (
       passing-number (a .step) (a .n) (a .s) (a .decorrelation) (a .timed .now) (a .sizes .now) (a .times .now) v h,

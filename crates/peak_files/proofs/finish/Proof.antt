@@ -23,25 +23,27 @@ unfolding finishing
 changed-so a b e = rw e
 
 same-is : (c : tie.After-both) → let s = c .before .before .before .before .before .before .before in c .both .result ≡ sameFile (s .args .a) (s .args .b)
-same-is c = c .both .ensures ∙ rw (c .before .before .alike-by .ensures)
+same-is c =
+    let after-alike-by : tie.After-alike-by = search needs in
+    c .both .ensures ∙ rw (after-alike-by .alike-by .ensures)
 
 returns : tie.Need-returns
-returns c = let s = c .before .before in without (finishing (s .args .a) (s .args .b)) (now (s .args .out)) (c .if1 .taken)
+returns c = let s : tie.Start = search needs in without (finishing (s .args .a) (s .args .b)) (now (s .args .out)) (c .if1 .taken)
 
 returns-2 : tie.Need-returns-2
 returns-2 c =
-    let k = c .before .before in
-    let t = k .before .before in
+    let else1 : tie.Else1 = search needs in let k : tie.After-put-last = search needs in
+    let t : tie.Then2 = search needs in
     let e = t .before in
-    let s = e .before .before .before .before .before .before .before in
-    finished (finishing (s .args .a) (s .args .b)) (e .before .before .before .before .before .if1 .left)
+    let s : tie.Start = search needs in
+    finished (finishing (s .args .a) (s .args .b)) (else1 .if1 .left)
     (puts-same (alike-so (s .args .a) (s .args .b) (sym (same-is e) ∙ t .if2 .taken)) (k .put-last .ensures))
 
 returns-3 : tie.Need-returns-3
 returns-3 c =
-    let e = c .before in
-    let s = e .before .before .before .before .before .before .before in
-    finished (finishing (s .args .a) (s .args .b)) (e .before .before .before .before .before .if1 .left)
+    let else1 : tie.Else1 = search needs in let e = c .before in
+    let s : tie.Start = search needs in
+    finished (finishing (s .args .a) (s .args .b)) (else1 .if1 .left)
     (puts-same (changed-so (s .args .a) (s .args .b) (sym (same-is e) ∙ c .if2 .left)) (puts-none (now (s .args .out)) (record { line = []; end = failedDigit }) refl))
 
 pub finish-spec : {M : Type 1} → statement M

@@ -20,10 +20,10 @@ file-small c = search needs
 -- after the peaks were handed out
 module _ (c : tie.After-number-of) where
   abbrev o : tie.After-hand
-  o = c .before .before .before
+  o = search needs
 
   abbrev s : tie.Start
-  s = o .before .before .before .before
+  s = search needs
 
   abbrev sizes-later : List ℕ
   sizes-later = o .hand .last .1 .1 .1 .1 .0
@@ -61,12 +61,14 @@ array-share-prefix-times : tie.Need-array-share-prefix-times
 array-share-prefix-times c = omega (arith, number (c .before), times-long (c .before))
 
 slice-aggregate-write-2 : tie.Need-slice-aggregate-write-2
-slice-aggregate-write-2 c = sym (length-take-le _ _ (omega (arith, number (c .before .before), times-long (c .before .before))))
+slice-aggregate-write-2 c =
+    let after-number-of : tie.After-number-of = search needs in
+    sym (length-take-le _ _ (omega (arith, number after-number-of, times-long after-number-of)))
 
 returns : tie.Need-returns
 returns c =
-    let w = c .before .before in
-    let n = w .before .before .before .before in
+    let w : tie.After-write = search needs in
+    let n : tie.After-number-of = search needs in
     let t = s n in
     let a = t .args in
     gives (a .h) (a .ramp) (a .lines) (now (a .samples)) (replicate 1024 0) (replicate 1024 0)

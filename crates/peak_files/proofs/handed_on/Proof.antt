@@ -20,13 +20,13 @@ By s a h put later =
 
 returns : tie.Need-returns
 returns c =
-    let k = c .before .before in
-    let s = k .before .before .before .before .before .before in
-    subst (λ a. By s a (k .hand .result .handing) (k .hand .result .put) (k .hand .last .1 .1 .1 .1 .1 .0)) (sym (k .before .before .before .a .given .1)) (k .hand .ensures)
+    let after-a : tie.After-a = search needs in let k : tie.After-hand = search needs in
+    let s : tie.Start = search needs in
+    subst (λ a. By s a (k .hand .result .handing) (k .hand .result .put) (k .hand .last .1 .1 .1 .1 .1 .0)) (sym (after-a .a .given .1)) (k .hand .ensures)
 
 returns-2 : tie.Need-returns-2
 returns-2 c =
-    let s = c .before .before .before .before in
+    let s : tie.Start = search needs in
     subst (λ a. By s a (Refused (c .before .a2 .given .0 .0)) 0 (now (s .args .out))) (sym (c .before .a2 .given .1)) (gives-none (s .args .file) (now (s .args .out)) (c .before .a2 .given .0 .0))
 
 pub handed-on-spec : {M : Type 1} → statement M

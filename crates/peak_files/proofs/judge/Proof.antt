@@ -11,15 +11,15 @@ use Rattle.peak_files.proofs.judge.Statement.{statement}
 use Rattle.peak_files.proofs.judge.Tie as tie
 
 returns : tie.Need-returns
-returns c = let s = c .before .before in without (judged (s .args .p)) (now (s .args .out)) (c .if1 .taken)
+returns c = let s : tie.Start = search needs in without (judged (s .args .p)) (now (s .args .out)) (c .if1 .taken)
 
 returns-2 : tie.Need-returns-2
 unfolding judged
 returns-2 c =
-    let k = c .before .before in
-    let j = k .before .before in
-    let s = j .before .before .before .before in
-    finished (judged (s .args .p)) (j .before .before .if1 .left) (puts-same (ap (judgedSaid (s .args .p .file) nothing) (j .judge .ensures)) (k .put-judged .ensures))
+    let else1 : tie.Else1 = search needs in let k : tie.After-put-judged = search needs in
+    let j : tie.After-judge = search needs in
+    let s : tie.Start = search needs in
+    finished (judged (s .args .p)) (else1 .if1 .left) (puts-same (ap (judgedSaid (s .args .p .file) nothing) (j .judge .ensures)) (k .put-judged .ensures))
 
 pub judge-spec : {M : Type 1} → statement M
 judge-spec = tie.close (tie.spec returns (λ c κs. search needs) (λ c κs. search needs) (λ c. search needs) returns-2)

@@ -29,7 +29,7 @@ returns c = let s = c .before .before in without (itemsSaid (s .args .step) (s .
 returns-2 : tie.Need-returns-2
 returns-2 c =
     let i = c .before in
-    let s = i .before .before .before in
+    let s : tie.Start = search needs in
     let a = s .args in
     finished (itemsSaid (a .step) (a .ramp) (a .decorrelation)) (i .before .if1 .left)
     (puts-same (none-out (a .step) (a .ramp) (a .decorrelation) _ (i .item-outside .ensures) (c .if2 .taken)) (puts-none (now (a .out)) nothing refl))

@@ -15,10 +15,10 @@ use Rattle.peak_files.proofs.lines.Tie as tie
 -- lines were taken
 module _ (c : tie.After-known-told) where
   abbrev t : tie.After-take
-  t = c .before .before .before .before
+  t = search needs
 
   abbrev s : tie.Start
-  s = t .before .before .before .before .before
+  s = search needs
 
   abbrev later : List ℤ
   later = t .take .last .1 .1 .0
@@ -31,8 +31,8 @@ module _ (c : tie.After-known-told) where
 
 returns : tie.Need-returns
 returns c =
-    let t = c .before .before .before .before in
-    let s = t .before .before .before .before .before in
+    let t : tie.After-take = search needs in
+    let s : tie.Start = search needs in
     let a = s .args in
     rw (c .ended .ensures) (calls-refused (a .p) (now (a .text)) (a .more) (now (a .out)) (s .pre .0) (s .pre .1) (t .take .ensures .0) (c .before .enum-told .given .1))
 
@@ -43,13 +43,15 @@ slice-aggregate-with-samples : tie.Need-slice-aggregate-with-samples
 slice-aggregate-with-samples c = sym (length-take-le _ _ (omega (arith, few (c .before), later-long (c .before))))
 
 with-samples-requires : tie.Need-with-samples-requires
-with-samples-requires c κs = (omega (arith, few (c .before .before), length-take (c .before .before .before .f .given .0 .1 .1 .0) (later (c .before .before))), s (c .before .before) .pre .1)
+with-samples-requires c κs =
+    let after-known-told : tie.After-known-told = search needs in let after-f : tie.After-f = search needs in
+    (omega (arith, few after-known-told, length-take (after-f .f .given .0 .1 .1 .0) (later after-known-told)), s after-known-told .pre .1)
 
 returns-2 : tie.Need-returns-2
 returns-2 c =
     let o = c .before in
-    let w = o .before .before .before .before in
-    let k = w .before .before .before in
+    let w : tie.After-with-samples = search needs in
+    let k : tie.After-known-told = search needs in
     let u = s k in
     let a = u .args in
     calls-taken (a .p) (now (a .text)) (a .more) (now (a .out)) (u .pre .0) (u .pre .1) (replicate 1024 (pos 0))

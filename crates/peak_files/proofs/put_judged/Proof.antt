@@ -11,15 +11,15 @@ use Rattle.peak_files.proofs.put_judged.Tie as tie
 
 returns : tie.Need-returns
 returns c =
-    let k = c .before .before in
-    let s = k .before .before .before .before .before .before in
-    let j = k .before .before .before .j .given in
+    let after-j : tie.After-j = search needs in let k : tie.After-refuse-at = search needs in
+    let s : tie.Start = search needs in
+    let j = after-j .j .given in
     puts-same (sym (ap (judgedSaid (s .args .file) nothing) (j .1)))
     (with-room (refused (placesOf (s .args .file) (j .0 .0)) (j .0 .1 .0)) (s .pre) (k .refuse-at .ensures .0) (k .refuse-at .ensures .1))
 
 returns-2 : tie.Need-returns-2
 returns-2 c =
-    let s = c .before .before .before in
+    let s : tie.Start = search needs in
     puts-same (sym (ap (judgedSaid (s .args .file) nothing) (c .enum-told .given .1))) (puts-none (now (s .args .out)) nothing refl)
 
 pub put-judged-spec : {M : Type 1} → statement M

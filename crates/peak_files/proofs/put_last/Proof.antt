@@ -13,17 +13,17 @@ use Rattle.peak_files.proofs.put_last.Tie as tie
 
 returns : tie.Need-returns
 returns c =
-    let k = c .before .before in
-    let f = k .before .before in
-    let s = f .before .before .before .before .before in
-    let a = f .before .before .a .given in
+    let after-a : tie.After-a = search needs in let k : tie.After-put-peak = search needs in
+    let f : tie.After-finish = search needs in
+    let s : tie.Start = search needs in
+    let a = after-a .a .given in
     puts-same
     (ap (λ l. peaksRead (s .args .file) (peakIn l)) (f .finish .ensures) ∙ ap (peaksRead (s .args .file)) (last-is (a .0 .0)) ∙ sym (ap (λ x. peaksRead (s .args .file) (lastBy x)) (a .1)))
     (k .put-peak .ensures)
 
 returns-2 : tie.Need-returns-2
 returns-2 c =
-    let s = c .before .before .before in
+    let s : tie.Start = search needs in
     puts-same (sym (ap (λ x. peaksRead (s .args .file) (lastBy x)) (c .enum-told .given .1))) (puts-no-peak (s .args .file) (now (s .args .out)))
 
 pub put-last-spec : {M : Type 1} → statement M

@@ -13,8 +13,8 @@ file-small c = search needs
 
 returns : tie.Need-returns
 returns c =
-    let k = c .before .before in
-    let s = k .before .before .before .before .before in
+    let k : tie.After-write = search needs in
+    let s : tie.Start = search needs in
     puts-one (s .args .file) (s .args .p) (now (s .args .out)) (file-small s) (s .pre) (k .write .ensures .0) (k .write .ensures .1)
 
 pub put-one-spec : {M : Type 1} → statement M

@@ -13,13 +13,13 @@ use Rattle.peak_files.proofs.put_peak.Tie as tie
 
 returns : tie.Need-returns
 returns c =
-    let k = c .before .before in
-    let s = k .before .before .before .before .before .before in
-    puts-same (sym (ap (λ l. peaksRead (s .args .file) (peakIn l)) (k .before .before .before .last .given .1))) (k .put-one .ensures)
+    let after-last : tie.After-last = search needs in let k : tie.After-put-one = search needs in
+    let s : tie.Start = search needs in
+    puts-same (sym (ap (λ l. peaksRead (s .args .file) (peakIn l)) (after-last .last .given .1))) (k .put-one .ensures)
 
 returns-2 : tie.Need-returns-2
 returns-2 c =
-    let s = c .before .before .before in
+    let s : tie.Start = search needs in
     puts-same (sym (ap (λ l. peaksRead (s .args .file) (peakIn l)) (c .enum-told .given .1))) (puts-no-peak (s .args .file) (now (s .args .out)))
 
 pub put-peak-spec : {M : Type 1} → statement M

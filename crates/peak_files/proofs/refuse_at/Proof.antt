@@ -21,16 +21,18 @@ among file line e = rw (ne-eqb file 0 e)
 
 returns : tie.Need-returns
 returns c =
-    let k = c .before .before in
-    let a = k .before .before .before .before .args in
-    let e = alone (a .file) (a .line) (k .before .before .if1 .taken) in
+    let start : tie.Start = search needs in let then1 : tie.Then1 = search needs in
+    let k : tie.After-refuse = search needs in
+    let a = start .args in
+    let e = alone (a .file) (a .line) (then1 .if1 .taken) in
     (k .refuse .ensures .0 ∙ ap (λ x. putting (refused x (a .r)) (now (a .out))) e, k .refuse .ensures .1 ∙ ap (λ x. putLeft (refused x (a .r)) (now (a .out))) e)
 
 returns-2 : tie.Need-returns-2
 returns-2 c =
-    let k = c .before .before in
-    let a = k .before .before .before .before .args in
-    let e = among (a .file) (a .line) (k .before .before .if1 .left) in
+    let start : tie.Start = search needs in let else1 : tie.Else1 = search needs in
+    let k : tie.After-refuse-in = search needs in
+    let a = start .args in
+    let e = among (a .file) (a .line) (else1 .if1 .left) in
     (k .refuse-in .ensures .0 ∙ ap (λ x. putting (refused x (a .r)) (now (a .out))) e, k .refuse-in .ensures .1 ∙ ap (λ x. putLeft (refused x (a .r)) (now (a .out))) e)
 
 pub refuse-at-spec : {M : Type 1} → statement M

@@ -18,15 +18,17 @@ returns c = no-run _ (c .if1 .taken)
 
 run-on-requires : tie.Need-run-on-requires
 run-on-requires c κs =
-    let x = getD (c .before .before .before .args .samples .now) 0 (pos 0) in
+    let start : tie.Start = search needs in let else1 : tie.Else1 = search needs in
+    let x = getD (start .args .samples .now) 0 (pos 0) in
     let f : SFits w32 x = search needs in
-    (omega (arith, c .before .before .if1 .left), sym (c .if2 .taken) ∙ ap (λ (y : ℤ). ltZ y (pos 0)) (toZ-ofZ f) ∙ side-first x)
+    (omega (arith, else1 .if1 .left), sym (c .if2 .taken) ∙ ap (λ (y : ℤ). ltZ y (pos 0)) (toZ-ofZ f) ∙ side-first x)
 
 run-on-requires-2 : tie.Need-run-on-requires-2
 run-on-requires-2 c κs =
-    let x = getD (c .before .before .before .args .samples .now) 0 (pos 0) in
+    let start : tie.Start = search needs in let else1 : tie.Else1 = search needs in
+    let x = getD (start .args .samples .now) 0 (pos 0) in
     let f : SFits w32 x = search needs in
-    (omega (arith, c .before .before .if1 .left), sym (c .if2 .left) ∙ ap (λ (y : ℤ). ltZ y (pos 0)) (toZ-ofZ f) ∙ side-first x)
+    (omega (arith, else1 .if1 .left), sym (c .if2 .left) ∙ ap (λ (y : ℤ). ltZ y (pos 0)) (toZ-ofZ f) ∙ side-first x)
 
 pub first-run-spec : {M : Type 1} → statement M
 first-run-spec = tie.close (tie.spec returns (λ c. search needs) run-on-requires (λ c. search needs) run-on-requires-2

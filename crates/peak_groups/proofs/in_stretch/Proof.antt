@@ -5,7 +5,9 @@ use Rattle.peak_groups.proofs.in_stretch.Statement.{statement}
 use Rattle.peak_groups.proofs.in_stretch.Tie as tie
 
 returns : tie.Need-returns
-returns c = c .same .ensures ∙ rw (c .before .high2 .ensures, c .before .before .high .ensures)
+returns c =
+    let after-high : tie.After-high = search needs in
+    c .same .ensures ∙ rw (c .before .high2 .ensures, after-high .high .ensures)
 
 pub in-stretch-spec : {M : Type 1} → statement M
 in-stretch-spec = tie.close (tie.spec (λ c κs. search needs) (λ c κs. search needs) (λ c κs. search needs) returns)

@@ -10,10 +10,10 @@ use Rattle.peak_groups.proofs.longer.Tie as tie
 
 -- ways back to earlier places of the function
 abbrev start : tie.After-struct-known2 → tie.Start
-start c = c .before .before .before .before
+start c = search needs
 
 abbrev start₂ : tie.After-struct-known3 → tie.Start
-start₂ c = c .before .before .before .before
+start₂ c = search needs
 
 returns : tie.Need-returns
 returns c =

@@ -30,20 +30,17 @@ abbrev μ-loop : tie.MeasureT-loop
 
 -- ways back to earlier places of the function
 abbrev start : tie.After-longer Inv-loop μ-loop → tie.Start Inv-loop μ-loop
-start c = c .before .before .before .before .before .before .before .before .before
-
-abbrev loop : tie.After-longer Inv-loop μ-loop → tie.At-loop Inv-loop μ-loop
-loop c = c .before .before .before .before .before .before
+start c = search needs
 
 loop-holds : tie.Need-loop-holds Inv-loop μ-loop
 loop-holds c =
-    let p = c .before .before .args .samples .now in
+    let start : tie.Start Inv-loop μ-loop = search needs in let p = start .args .samples .now in
     let x = getD p 0 (pos 0) in
     let f : SFits w32 x = search needs in
-    let b = c .before .before .pre .1 in
+    let b = start .pre .1 in
     let m : c .magnitude .result ≡ natAbs x = c .magnitude .ensures ∙ ap natAbs (toZ-ofZ f) in
-    let q : _≡_ {A = Run} (record { below = c .before .before .args .below; length = 1; place = 0; size = c .magnitude .result }) (opened x) = fields b m in
-    (c .before .before .pre .0, refl, refl, ap (λ (r : Run). ahead r (drop 1 p)) q ∙ first-ahead x (drop 1 p) ∙ sym (turn firstRun p 0 (c .before .before .pre .0)))
+    let q : _≡_ {A = Run} (record { below = start .args .below; length = 1; place = 0; size = c .magnitude .result }) (opened x) = fields b m in
+    (start .pre .0, refl, refl, ap (λ (r : Run). ahead r (drop 1 p)) q ∙ first-ahead x (drop 1 p) ∙ sym (turn firstRun p 0 (start .pre .0)))
 
 mul-stays : tie.Need-mul-stays Inv-loop μ-loop
 mul-stays c = omega arith
@@ -53,7 +50,8 @@ shared-slice-copy-out-stays c = omega arith
 
 returns : tie.Need-returns Inv-loop μ-loop
 returns c =
-    let d = c .before .before .before .before in let a = d .before .before .before .args in
+    let start : tie.Start Inv-loop μ-loop = search needs in
+    let d : tie.At-loop Inv-loop μ-loop = search needs in let a = start .args in
     let p = a .samples .now in
     let i = d .loop .i in
     let r = d .loop .run in
@@ -80,23 +78,25 @@ loop-less c = omega arith
 
 loop-again : tie.Need-loop-again Inv-loop μ-loop
 loop-again c =
-    let p = start c .args .samples .now in
-    let i = loop c .loop .i in
-    let r = loop c .loop .run in
-    let v = loop c .loop .inv in
+    let start : tie.Start Inv-loop μ-loop = search needs in let at-loop : tie.At-loop Inv-loop μ-loop = search needs in
+    let after-stays : tie.After-stays Inv-loop μ-loop = search needs in
+    let else1 : tie.Else1 Inv-loop μ-loop = search needs in let p = start .args .samples .now in
+    let i = at-loop .loop .i in
+    let r = at-loop .loop .run in
+    let v = at-loop .loop .inv in
     let x = getD p i (pos 0) in
     let f : SFits w32 x = search needs in
-    let z = ap (λ (b : Bool). same b (side b x)) (v .2) ∙ ap (λ (y : ℤ). same (start c .args .below)
-    (side (start c .args .below) y)) (sym (toZ-ofZ f)) ∙ sym (c .before .before .before .stays .ensures) ∙
-    not-false _ (c .before .before .if1 .left) in
+    let z = ap (λ (b : Bool). same b (side b x)) (v .2) ∙ ap (λ (y : ℤ). same (start .args .below)
+    (side (start .args .below) y)) (sym (toZ-ofZ f)) ∙ sym (after-stays .stays .ensures) ∙
+    not-false _ (else1 .if1 .left) in
     let q : c .longer .result ≡ longer r x = c .longer .ensures ∙ ap (longer r) (toZ-ofZ f) in
     rw q (omega arith, omega (arith, v .1), v .2, sym (turn (ahead r) p i (omega arith) ∙ ahead-on r x (drop (i + 1) p) z) ∙ v .3)
 
 returns-2 : tie.Need-returns-2 Inv-loop μ-loop
 unfolding ahead
 returns-2 c =
-    let l = c .before .loop in
-    let p = c .before .before .before .before .args .samples .now in
+    let start : tie.Start Inv-loop μ-loop = search needs in let l = c .before .loop in
+    let p = start .args .samples .now in
     let i = l .i in
     let r = l .run in
     let e : ahead r (drop i p) ≡ r = ap (ahead r) (drop-of-length-le p {i = i} (omega arith)) in

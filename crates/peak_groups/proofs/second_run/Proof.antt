@@ -27,14 +27,14 @@ found : (c : tie.After-struct-known) →
     let b = c .before .before .before in
     b .zeros .result + c .before .first-run .result .length ≡ second (b .before .args .samples .now)
 found c =
-    let b = c .before .before .before in
+    let b : tie.After-zeros = search needs in
     let p = b .before .args .samples .now in
     let z = b .zeros .ensures in
     let f = c .before .first-run .ensures ∙ ap firstRun (from-place _ p) in
     ap (λ (r : Run). b .zeros .result + r .length) f ∙ ap (λ (k : ℕ). k + firstRun (drop k p) .length) z
 
 add-result : tie.Need-add-result
-add-result c = omega (arith, found c, second-fits (c .before .before .before .before .args .samples .now))
+add-result c = let start : tie.Start = search needs in omega (arith, found c, second-fits (start .args .samples .now))
 
 returns : tie.Need-returns
 returns c = found c

@@ -35,8 +35,9 @@ shared-slice-copy-out-magnitude c = omega arith
 returns : tie.Need-returns Inv-loop μ-loop
 unfolding zeros
 returns c =
-    let p = c .before .before .before .before .before .args .samples .now in
-    let i = c .before .before .before .before .loop .i in
+    let start : tie.Start Inv-loop μ-loop = search needs in let at-loop : tie.At-loop Inv-loop μ-loop = search needs in
+    let p = start .args .samples .now in
+    let i = at-loop .loop .i in
     let f : SFits w32 (getD p i (pos 0)) = search needs in
     let e : c .before .magnitude .result ≡ natAbs (getD p i (pos 0)) = c .before .magnitude .ensures ∙ ap natAbs (toZ-ofZ f) in
     let n : zeros (getD p i (pos 0) ∷ drop (i + 1) p) ≡ 0 = rw (ne-eqb (natAbs (getD p i (pos 0))) 0 (λ z. c .if1 .taken (e ∙ z))) in
@@ -51,8 +52,9 @@ loop-less c = omega arith
 loop-again : tie.Need-loop-again Inv-loop μ-loop
 unfolding zeros
 loop-again c =
-    let p = c .before .before .before .before .before .args .samples .now in
-    let i = c .before .before .before .before .loop .i in
+    let start : tie.Start Inv-loop μ-loop = search needs in let at-loop : tie.At-loop Inv-loop μ-loop = search needs in
+    let p = start .args .samples .now in
+    let i = at-loop .loop .i in
     let f : SFits w32 (getD p i (pos 0)) = search needs in
     let e : c .before .magnitude .result ≡ natAbs (getD p i (pos 0)) = c .before .magnitude .ensures ∙ ap natAbs (toZ-ofZ f) in
     let n : zeros (getD p i (pos 0) ∷ drop (i + 1) p) ≡ suc (zeros (drop (i + 1) p)) = rw (eq-eqb (natAbs (getD p i (pos 0))) 0 (sym e ∙ c .if1 .left)) in
@@ -61,7 +63,7 @@ loop-again c =
 returns-2 : tie.Need-returns-2 Inv-loop μ-loop
 unfolding zeros
 returns-2 c =
-    let p = c .before .before .args .samples .now in
+    let start : tie.Start Inv-loop μ-loop = search needs in let p = start .args .samples .now in
     let e : zeros (drop (c .before .loop .i) p) ≡ 0 = ap zeros (drop-of-length-le p {i = c .before .loop .i} (omega arith)) in
     omega arith
 

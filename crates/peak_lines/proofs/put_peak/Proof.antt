@@ -18,7 +18,7 @@ use Rattle.peak_lines.proofs.put_peak.Statement.{statement}
 use Rattle.peak_lines.proofs.put_peak.Tie as tie
 
 abbrev start : tie.After-put-file → tie.Start
-start c = c .before .before .before
+start c = search needs
 
 -- of the line so much is left, and the lent bytes are these
 abbrev Stands : tie.After-put-file → List ℕ → List ℕ → ℕ → Type 0

@@ -36,7 +36,7 @@ module _ (c : tie.In-loop Inv-loop μ-loop) where
   loop = c .before
 
   abbrev start : tie.Start Inv-loop μ-loop
-  start = loop .before .before .before .before
+  start = search needs
 
   abbrev Line : List ℕ
   Line = peakLine (start .args .file) (getD (start .args .sizes .now) (loop .loop .i) 0) (getD (start .args .times
@@ -56,7 +56,7 @@ module _ (c : tie.In-loop Inv-loop μ-loop) where
       (loop .loop .inv .1)
 
 loop-holds : tie.Need-loop-holds Inv-loop μ-loop
-loop-holds c = (omega arith, left-all _ _ _ (c .before .before .before .pre .1))
+loop-holds c = let start : tie.Start Inv-loop μ-loop = search needs in (omega arith, left-all _ _ _ (start .pre .1))
 
 mul-put-peak : tie.Need-mul-put-peak Inv-loop μ-loop
 mul-put-peak c = search needs
@@ -68,22 +68,22 @@ mul-put-peak-2 : tie.Need-mul-put-peak-2 Inv-loop μ-loop
 mul-put-peak-2 c = search needs
 
 shared-slice-read-put-peak-2 : tie.Need-shared-slice-read-put-peak-2 Inv-loop μ-loop
-shared-slice-read-put-peak-2 c = within (c .before .before)
+shared-slice-read-put-peak-2 c = let in-loop : tie.In-loop Inv-loop μ-loop = search needs in within in-loop
 
 put-peak-requires : tie.Need-put-peak-requires Inv-loop μ-loop
-put-peak-requires c κs = let l = c .before .before .before in left-room (Line l) _ (here l)
+put-peak-requires c κs = let l : tie.In-loop Inv-loop μ-loop = search needs in left-room (Line l) _ (here l)
 
 add-i : tie.Need-add-i Inv-loop μ-loop
 add-i c = search needs
 
 loop-less : tie.Need-loop-less Inv-loop μ-loop
-loop-less c = let l = c .before .before .before .before .before .before in omega (arith, l .loop-test .taken)
+loop-less c = let l : tie.In-loop Inv-loop μ-loop = search needs in omega (arith, l .loop-test .taken)
 
 loop-again : tie.Need-loop-again Inv-loop μ-loop
 loop-again c =
-    let b = c .before .before in
+    let b : tie.After-put-peak Inv-loop μ-loop = search needs in
     let p = b in
-    let l = p .before .before .before .before in
+    let l : tie.In-loop Inv-loop μ-loop = search needs in
     (omega (arith, l .loop-test .taken), left-next (Line l) _ (here l) (p .put-peak .ensures))
 
 same-length : tie.Need-same-length Inv-loop μ-loop
@@ -91,8 +91,8 @@ same-length c = left-length (c .before .loop .inv .1)
 
 returns : tie.Need-returns Inv-loop μ-loop
 returns c =
-    let l = c .before in
-    let a = l .before .before .before .before .args in
+    let start : tie.Start Inv-loop μ-loop = search needs in let l = c .before in
+    let a = start .args in
     let none : peakLines (a .file) (drop (l .loop .i) (a .sizes .now)) (drop (l .loop .i) (a .times .now)) ≡ [] =
     ap (λ (m : List ℕ). peakLines (a .file) m (drop (l .loop .i) (a .times .now))) (drop-of-length-le (a .sizes .now)
     {i = l .loop .i} (c .loop-test .left)) ∙ lines-none (a .file) _ in

@@ -23,26 +23,26 @@ room c = said-yes (c .before .room-for .ensures) (c .if2 .left)
 
 returns : tie.Need-returns
 returns c =
-    let b = c .before .before .before .before in
+    let b : tie.Start = search needs in
     let a = b .args in
     writes-none (a .file) (a .sizes .now) (a .times .now) (a .out .now) (a .at) (uneven (a .file) (a .sizes .now) (a
     .times .now) (a .out .now) (a .at) (c .if1 .taken))
 
 returns-2 : tie.Need-returns-2
 returns-2 c =
-    let b = c .before .before in
+    let start : tie.Start = search needs in let b : tie.Else1 = search needs in
     let e = b in
-    let a = e .before .before .before .before .args in
+    let a = start .args in
     writes-none (a .file) (a .sizes .now) (a .times .now) (a .out .now) (a .at)
     (no-room (a .file) (a .sizes .now) (a .times .now) (a .out .now) (a .at) (e .if1 .left) (said-no (c .before
     .room-for .ensures) (c .if2 .taken)))
 
 put-peaks-requires : tie.Need-put-peaks-requires
 put-peaks-requires c κs =
-    let b = c .before in
-    let k = b .before .before .before in
-    let s = k .before .before .before in (
-      b .before .before .if1 .left,
+    let else1 : tie.Else1 = search needs in let b = c .before in
+    let k : tie.After-slice-known = search needs in
+    let s : tie.Start = search needs in (
+      else1 .if1 .left,
       omega (
         arith,
         leb-true (s .args .at + length (s .args .sizes .now) * 48) (length
@@ -54,12 +54,13 @@ put-peaks-requires c κs =
 
 returns-3 : tie.Need-returns-3
 returns-3 c =
-    let d = c .before .before in
+    let start : tie.Start = search needs in let else1 : tie.Else1 = search needs in
+    let d : tie.After-put-peaks = search needs in
     let p = d in
-    let b = p .before .before in
-    let a = b .before .before .before .before .before .before .args in
+    let b : tie.Else2 = search needs in
+    let a = start .args in
     writes-all (a .file) (a .sizes .now) (a .times .now) (a .out .now) (a .at)
-    (all-room (a .file) (a .sizes .now) (a .times .now) (a .out .now) (a .at) (b .before .before .if1 .left) (room
+    (all-room (a .file) (a .sizes .now) (a .times .now) (a .out .now) (a .at) (else1 .if1 .left) (room
     b)) (p .put-peaks .ensures)
 
 pub write-spec : {M : Type 1} → statement M

@@ -7,11 +7,15 @@ use Rattle.peak_machine.proofs.advance.Statement.{statement}
 use Rattle.peak_machine.proofs.advance.Tie as tie
 
 step-requires : tie.Need-step-requires
-step-requires c κs = room-fits (c .before .before .args .e) (sym (c .before .roomy .ensures) ∙ c .if1 .taken)
+step-requires c κs =
+    let start : tie.Start = search needs in
+    room-fits (start .args .e) (sym (c .before .roomy .ensures) ∙ c .if1 .taken)
 
 returns : tie.Need-returns
 unfolding advanced
-returns c = rw (sym (c .before .before .roomy .ensures) ∙ c .before .if1 .taken) (c .step .ensures)
+returns c =
+    let after-roomy : tie.After-roomy = search needs in
+    rw (sym (after-roomy .roomy .ensures) ∙ c .before .if1 .taken) (c .step .ensures)
 
 returns-2 : tie.Need-returns-2
 unfolding advanced

@@ -11,12 +11,14 @@ use Rattle.peak_machine.proofs.chains_after.Tie as tie
 both : (c : tie.After-both) →
     let a = c .before .before .before .before .before .before .args in
     c .both .result ≡ (gave (a .e .stretches) (a .h) && high (a .n) (a .s) (a .e .stretches .best))
-both c = c .both .ensures ∙ rw (c .before .before .gave .ensures, c .before .high .ensures)
+both c =
+    let after-gave : tie.After-gave = search needs in
+    c .both .ensures ∙ rw (after-gave .gave .ensures, c .before .high .ensures)
 
 returns : tie.Need-returns
 returns c =
-    let b = c .before .before in
-    let e = b .before .before .before .before .before .before .before .args .e in
+    let start : tie.Start = search needs in let b : tie.Then1 = search needs in
+    let e = start .args .e in
     rw (sym (both (b .before)) ∙ b .if1 .taken)
     (c .turn .ensures ∙ ap (λ (k : Bool). turned k (e .chains) (e .stretches .best)) (c .before .in-chain .ensures))
 

@@ -8,7 +8,7 @@ use Rattle.peak_machine.proofs.met.Tie as tie
 
 returns : tie.Need-returns
 returns c =
-    let a = c .before .before .args in
+    let start : tie.Start = search needs in let a = start .args in
     c .turn .ensures ∙ ap (λ (k : Bool). turned k (a .g) (a .p)) (c .before .in-stretch .ensures)
 
 pub met-spec : {M : Type 1} → statement M

@@ -17,39 +17,39 @@ returns c =
 
 returns-2 : tie.Need-returns-2
 returns-2 c =
-    let a = c .before .before .args in
-    let f = c .before .before .pre in
+    let start : tie.Start = search needs in let a = start .args in
+    let f = start .pre in
     far-within (a .r) (a .m) (a .s) (a .less) (f .0) (f .1) (far-time (a .r) (a .s) (omega arith) (c .if2 .taken))
 
 -- near by, the shift loses no bit and both parts fit
 mul-result : tie.Need-mul-result
 mul-result c =
-    let a = c .before .before .args in
-    let f = c .before .before .pre in
+    let start : tie.Start = search needs in let a = start .args in
+    let f = start .pre in
     let n = near-time (a .r) (a .s) (c .if2 .left) in
     rw (mod-eq-of-lt {n = a .r * 2 ^ a .s} {m = 2 ^ 64} (omega arith))
     (omega (arith, high-fits (a .r) (a .m) (a .s) (a .less) (f .0) (f .1) n))
 
 mul-result-2 : tie.Need-mul-result-2
 mul-result-2 c =
-    let a = c .before .before .args in
-    let f = c .before .before .pre in
+    let start : tie.Start = search needs in let a = start .args in
+    let f = start .pre in
     let n = near-time (a .r) (a .s) (c .if2 .left) in
     rw (mod-eq-of-lt {n = a .r * 2 ^ a .s} {m = 2 ^ 64} (omega arith))
     (omega (arith, low-fits (a .r) (a .m) (a .s) (a .less) (f .0) (f .1) n))
 
 add-result : tie.Need-add-result
 add-result c =
-    let a = c .before .before .args in
-    let f = c .before .before .pre in
+    let start : tie.Start = search needs in let a = start .args in
+    let f = start .pre in
     let n = near-time (a .r) (a .s) (c .if2 .left) in
     rw (mod-eq-of-lt {n = a .r * 2 ^ a .s} {m = 2 ^ 64} (omega arith))
     (omega (arith, low-fits (a .r) (a .m) (a .s) (a .less) (f .0) (f .1) n))
 
 add-result-2 : tie.Need-add-result-2
 add-result-2 c =
-    let a = c .before .before .args in
-    let f = c .before .before .pre in
+    let start : tie.Start = search needs in let a = start .args in
+    let f = start .pre in
     let n = near-time (a .r) (a .s) (c .if2 .left) in
     rw (mod-eq-of-lt {n = a .r * 2 ^ a .s} {m = 2 ^ 64} (omega arith))
     (omega (
@@ -60,16 +60,16 @@ add-result-2 c =
 
 sub-result-4 : tie.Need-sub-result-4
 sub-result-4 c =
-    let a = c .before .before .args in
-    let f = c .before .before .pre in
+    let start : tie.Start = search needs in let a = start .args in
+    let f = start .pre in
     let n = near-time (a .r) (a .s) (c .if2 .left) in
     rw (mod-eq-of-lt {n = a .r * 2 ^ a .s} {m = 2 ^ 64} (omega arith))
     (omega (arith, positive (a .r) (a .m) (a .s) (a .less) (f .0) (f .1)))
 
 returns-3 : tie.Need-returns-3
 returns-3 c =
-    let a = c .before .before .args in
-    let f = c .before .before .pre in
+    let start : tie.Start = search needs in let a = start .args in
+    let f = start .pre in
     let n = near-time (a .r) (a .s) (c .if2 .left) in
     rw (mod-eq-of-lt {n = a .r * 2 ^ a .s} {m = 2 ^ 64} (omega arith))
     (near-within (a .r) (a .m) (a .s) (a .less) (f .0) (f .1))

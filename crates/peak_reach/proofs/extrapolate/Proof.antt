@@ -9,11 +9,11 @@ use Rattle.peak_reach.proofs.extrapolate.Tie as tie
 
 -- ways back to earlier places of the function
 abbrev start : tie.After-item-outside → tie.Start
-start c = c .before .before
+start c = search needs
 
 returns : tie.Need-returns
 returns c =
-    let a = start (c .before) .args in
+    let start : tie.Start = search needs in let a = start .args in
     record {
       answers = refuses-item (now (a .peaks)) (a .k) (a .level) (a .step) (a .samples) (a .standard) _ (c .before .item-outside .ensures) (c .if1 .taken);
       told = tt;
@@ -21,53 +21,56 @@ returns c =
 
 returns-2 : tie.Need-returns-2
 returns-2 c =
-    let o = c .before in
-    let i = o .before .before in
-    let a = start i .args in
+    let start : tie.Start = search needs in let else1 : tie.Else1 = search needs in let o = c .before in
+    let i : tie.After-item-outside = search needs in
+    let a = start .args in
     record {
       answers =
           refuses-tail (now (a .peaks)) (a .k) (a .level) (a .step) (a .samples) (a .standard)
-          (sym (i .item-outside .ensures) ∙ o .before .if1 .left)
+          (sym (i .item-outside .ensures) ∙ else1 .if1 .left)
           (sym (o .tail-outside .ensures) ∙ c .if2 .taken);
       told = tt;
     }
 
 returns-3 : tie.Need-returns-3
 returns-3 c =
-    let f = c .before in
-    let o = f .before .before in
-    let i = o .before .before in
-    let a = start i .args in
+    let start : tie.Start = search needs in let else1 : tie.Else1 = search needs in
+    let else2 : tie.Else2 = search needs in let f = c .before in
+    let o : tie.After-tail-outside = search needs in
+    let i : tie.After-item-outside = search needs in
+    let a = start .args in
     record {
       answers =
           refuses-peak (now (a .peaks)) (a .k) (a .level) (a .step) (a .samples) (a .standard)
-          (sym (i .item-outside .ensures) ∙ o .before .if1 .left)
-          (sym (o .tail-outside .ensures) ∙ f .before .if2 .left)
+          (sym (i .item-outside .ensures) ∙ else1 .if1 .left)
+          (sym (o .tail-outside .ensures) ∙ else2 .if2 .left)
           _ (f .first-out .ensures) (c .if3 .taken);
       told = tt;
     }
 
 reach-requires : tie.Need-reach-requires
 reach-requires c κs =
-    let f = c .before in
-    let o = f .before .before in
-    let i = o .before .before in
-    let a = start i .args in
+    let start : tie.Start = search needs in let else1 : tie.Else1 = search needs in
+    let else2 : tie.Else2 = search needs in let f = c .before in
+    let o : tie.After-tail-outside = search needs in
+    let i : tie.After-item-outside = search needs in
+    let a = start .args in
     judges (now (a .peaks)) (a .k) (a .level) (a .step) (a .samples) (a .standard)
-    (sym (i .item-outside .ensures) ∙ o .before .if1 .left)
-    (sym (o .tail-outside .ensures) ∙ f .before .if2 .left)
+    (sym (i .item-outside .ensures) ∙ else1 .if1 .left)
+    (sym (o .tail-outside .ensures) ∙ else2 .if2 .left)
     (rw (f .first-out .ensures) at (c .if3 .left))
 
 returns-4 : tie.Need-returns-4
 returns-4 c =
-    let f = c .before .before in
-    let o = f .before .before in
-    let i = o .before .before in
-    let a = start i .args in
+    let start : tie.Start = search needs in let else1 : tie.Else1 = search needs in
+    let else2 : tie.Else2 = search needs in let f : tie.After-first-out = search needs in
+    let o : tie.After-tail-outside = search needs in
+    let i : tie.After-item-outside = search needs in
+    let a = start .args in
     let e =
     goes-on (now (a .peaks)) (a .k) (a .level) (a .step) (a .samples) (a .standard)
-    (sym (i .item-outside .ensures) ∙ o .before .if1 .left)
-    (sym (o .tail-outside .ensures) ∙ f .before .if2 .left)
+    (sym (i .item-outside .ensures) ∙ else1 .if1 .left)
+    (sym (o .tail-outside .ensures) ∙ else2 .if2 .left)
     (rw (f .first-out .ensures) at (c .before .if3 .left)) _ (c .reach .ensures)
     in
     record { answers = e; told = told (now (a .peaks)) (a .k) (a .level) (a .step) (a .samples) (a .standard) _ e }

@@ -33,8 +33,8 @@ shared-slice-read-y c = omega arith
 
 returns : tie.Need-returns Inv-loop μ-loop
 returns c =
-    let l = c .before .before .before .before in
-    let p = l .before .before .args .peaks .now in
+    let start : tie.Start Inv-loop μ-loop = search needs in let l : tie.At-loop Inv-loop μ-loop = search needs in
+    let p = start .args .peaks .now in
     let i = l .loop .i in
     let b = l .loop .before in
     let z : within 1 b (getD p i 0) ≡ false = sym (c .before .both .ensures) ∙ not-true _ (c .if1 .taken) in
@@ -48,8 +48,8 @@ loop-less c = omega arith
 
 loop-again : tie.Need-loop-again Inv-loop μ-loop
 loop-again c =
-    let l = c .before .before .before .before in
-    let p = l .before .before .args .peaks .now in
+    let start : tie.Start Inv-loop μ-loop = search needs in let l : tie.At-loop Inv-loop μ-loop = search needs in
+    let p = start .args .peaks .now in
     let i = l .loop .i in
     let b = l .loop .before in
     let z : within 1 b (getD p i 0) ≡ true = sym (c .before .both .ensures) ∙ not-false _ (c .if1 .left) in
@@ -58,10 +58,11 @@ loop-again c =
 returns-2 : tie.Need-returns-2 Inv-loop μ-loop
 unfolding firstOutAfter
 returns-2 c =
-    let p = c .before .before .before .args .peaks .now in
-    let i = c .before .loop .i in
+    let start : tie.Start Inv-loop μ-loop = search needs in let at-loop : tie.At-loop Inv-loop μ-loop = search needs in
+    let p = start .args .peaks .now in
+    let i = at-loop .loop .i in
     let e : drop i p ≡ [] = drop-of-length-le p {i = i} (omega arith) in
-    omega (arith, rw e at (c .before .loop .inv .1))
+    omega (arith, rw e at (at-loop .loop .inv .1))
 
 pub first-out-spec : {M : Type 1} → statement M
 first-out-spec =

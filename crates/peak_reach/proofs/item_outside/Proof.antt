@@ -7,15 +7,16 @@ use Rattle.peak_reach.proofs.item_outside.Tie as tie
 returns : tie.Need-returns
 unfolding itemOutside
 returns c =
-    let third = c .before .before in
-    let fifth = third .before .before in
+    let after-between2 : tie.After-between2 = search needs in let after-between : tie.After-between = search needs in
+    let third : tie.After-pick2 = search needs in
+    let fifth : tie.After-pick = search needs in
     rw (
       c .pick3 .ensures,
       c .before .between3 .ensures,
       third .pick2 .ensures,
-      third .before .between2 .ensures,
+      after-between2 .between2 .ensures,
       fifth .pick .ensures,
-      fifth .before .between .ensures,
+      after-between .between .ensures,
     )
 
 pub item-outside-spec : {M : Type 1} → statement M

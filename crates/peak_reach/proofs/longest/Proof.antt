@@ -19,7 +19,7 @@ quotient-requires c κs =
 
 cut-requires : tie.Need-cut-requires
 cut-requires c κs =
-    let g = c .before .before .pre in
+    let start : tie.Start = search needs in let g = start .pre in
     let x = c .before .quotient .ensures in
     let e = c .down .ensures .1 in (
       record { some = g .0 .time; least = e .full (omega (arith, x .small)); most = omega (arith, e .bound .0) },
@@ -28,10 +28,11 @@ cut-requires c κs =
 
 returns : tie.Need-returns
 returns c =
-    let d = c .before .before in
-    let o = d .before in
-    let a = o .before .args in
-    let g = o .before .pre in
+    let after-quotient : tie.After-quotient = search needs in let start : tie.Start = search needs in
+    let d : tie.After-down = search needs in
+    let o = after-quotient in
+    let a = start .args in
+    let g = start .pre in
     rw (c .pick .ensures)
     (longest-is (a .kg) (a .sum) (a .w) (a .n) (a .r) (g .0) (a .less) _ _ _ _ (o .quotient .ensures) (d .down .ensures .0)
     (c .before .cut .ensures))

@@ -27,19 +27,27 @@ mul-if1 : tie.Need-mul-if1 Inv-loop μ-loop
 mul-if1 c = omega (arith, c .before .loop .inv .so-far .less)
 
 mul-whole : tie.Need-mul-whole Inv-loop μ-loop
-mul-whole c = omega (arith, small _ _ _ _ _ (c .before .before .loop .inv) (c .before .loop-test .taken))
+mul-whole c =
+    let at-loop : tie.At-loop Inv-loop μ-loop = search needs in
+    omega (arith, small _ _ _ _ _ (at-loop .loop .inv) (c .before .loop-test .taken))
 
 mul-rest : tie.Need-mul-rest Inv-loop μ-loop
-mul-rest c = omega (arith, c .before .before .loop .inv .so-far .less)
+mul-rest c = let at-loop : tie.At-loop Inv-loop μ-loop = search needs in omega (arith, at-loop .loop .inv .so-far .less)
 
 mul-whole-2 : tie.Need-mul-whole-2 Inv-loop μ-loop
-mul-whole-2 c = omega (arith, small _ _ _ _ _ (c .before .before .loop .inv) (c .before .loop-test .taken))
+mul-whole-2 c =
+    let at-loop : tie.At-loop Inv-loop μ-loop = search needs in
+    omega (arith, small _ _ _ _ _ (at-loop .loop .inv) (c .before .loop-test .taken))
 
 add-whole : tie.Need-add-whole Inv-loop μ-loop
-add-whole c = omega (arith, small _ _ _ _ _ (c .before .before .loop .inv) (c .before .loop-test .taken))
+add-whole c =
+    let at-loop : tie.At-loop Inv-loop μ-loop = search needs in
+    omega (arith, small _ _ _ _ _ (at-loop .loop .inv) (c .before .loop-test .taken))
 
 mul-rest-2 : tie.Need-mul-rest-2 Inv-loop μ-loop
-mul-rest-2 c = omega (arith, c .before .before .loop .inv .so-far .less)
+mul-rest-2 c =
+    let at-loop : tie.At-loop Inv-loop μ-loop = search needs in
+    omega (arith, at-loop .loop .inv .so-far .less)
 
 sub-rest : tie.Need-sub-rest Inv-loop μ-loop
 sub-rest c = omega arith
@@ -52,7 +60,7 @@ loop-less c = omega arith
 
 loop-again : tie.Need-loop-again Inv-loop μ-loop
 loop-again c =
-    let t = c .before .before .loop .inv in
+    let at-loop : tie.At-loop Inv-loop μ-loop = search needs in let t = at-loop .loop .inv in
     let more = c .before .loop-test .taken in
     ⊎-elim
     (λ w. rw (w .1, w .2) (no-bit _ _ _ _ _ t more (w .0 .taken)))

@@ -16,10 +16,10 @@ use Rattle.peak_reach.proofs.reach.Tie as tie
 
 -- ways back to earlier places of the function
 abbrev start : tie.After-between → tie.Start
-start c = c .before .before .before
+start c = search needs
 
 abbrev else₂ : tie.After-no-spread → tie.Else2
-else₂ c = c .before .before .before
+else₂ c = search needs
 
 sub-last : tie.Need-sub-last
 sub-last c = let s = c .before in omega (arith, tail-inside (now (s .args .peaks)) (s .args .k) _ _ (s .pre) .1)
@@ -32,35 +32,35 @@ mul-u c =
 
 shared-slice-read-u : tie.Need-shared-slice-read-u
 shared-slice-read-u c =
-    let s = c .before .before in
+    let s : tie.Start = search needs in
     let i = tail-inside (now (s .args .peaks)) (s .args .k) _ _ (s .pre) in
     omega (arith, i .1, i .2)
 
 returns : tie.Need-returns
 returns c =
-    let a = start (c .before) .args in
+    let start : tie.Start = search needs in let a = start .args in
     refuses-samples (now (a .peaks)) (a .k) (a .level) (a .step) (a .samples) (a .standard)
     (said-no (c .before .between .ensures) (c .if1 .taken))
 
 cast-c : tie.Need-cast-c
-cast-c c = let s = start (c .before) in omega (arith, inside 1 1000000 (s .args .level) (s .pre .level) .1)
+cast-c c = let s : tie.Start = search needs in omega (arith, inside 1 1000000 (s .args .level) (s .pre .level) .1)
 
 cast-t20 : tie.Need-cast-t20
 cast-t20 c =
-    let s = start (c .before .before) in
+    let s : tie.Start = search needs in
     omega (arith, peak-most (now (s .args .peaks)) (s .args .k) (s .args .level) (s .args .step) (s .pre))
 
 returns-2 : tie.Need-returns-2
 returns-2 c =
-    let b = c .before .before in
-    let a = start b .args in
+    let start : tie.Start = search needs in let b : tie.After-between = search needs in
+    let a = start .args in
     refuses-level (now (a .peaks)) (a .k) (a .level) (a .step) (a .samples) (a .standard)
     (said-yes (b .between .ensures) (c .before .if1 .left))
     (c .if2 .taken)
 
 no-spread-requires : tie.Need-no-spread-requires
 no-spread-requires c κs =
-    let s = start (c .before .before .before .before) in
+    let s : tie.Start = search needs in
     let ys = now (s .args .peaks) in
     let i = tail-inside ys (s .args .k) _ _ (s .pre) in (
       i .1,
@@ -72,30 +72,31 @@ no-spread-requires c κs =
 -- the sum and the level's logarithm are our figures
 abbrev summed : (c : tie.After-no-spread) → c .before .hill-sum .result
     ≡ hillSum (now (start (else₂ c .before .before) .args .peaks)) (start (else₂ c .before .before) .args .k)
-summed c = let s = start (else₂ c .before .before) in c .before .hill-sum .ensures ∙ hill-within _ _ (s .pre .tail)
+summed c = let s : tie.Start = search needs in c .before .hill-sum .ensures ∙ hill-within _ _ (s .pre .tail)
 
 returns-3 : tie.Need-returns-3
 returns-3 c =
-    let n = c .before in
-    let e = else₂ n in
-    let b = e .before .before in
-    let a = start b .args in
+    let start : tie.Start = search needs in let else1 : tie.Else1 = search needs in
+    let after-log2 : tie.After-log2 = search needs in let n = c .before in
+    let e : tie.Else2 = search needs in
+    let b : tie.After-between = search needs in
+    let a = start .args in
     refuses-spread (now (a .peaks)) (a .k) (a .level) (a .step) (a .samples) (a .standard)
-    (said-yes (b .between .ensures) (e .before .if1 .left))
+    (said-yes (b .between .ensures) (else1 .if1 .left))
     (e .if2 .left)
-    (spread-is (a .k) (summed n) (is-ours _ _ _ (n .before .before .log2 .ensures)) (n .no-spread .ensures) (c .if3 .taken))
+    (spread-is (a .k) (summed n) (is-ours _ _ _ (after-log2 .log2 .ensures)) (n .no-spread .ensures) (c .if3 .taken))
 
 three-requires : tie.Need-three-requires
 three-requires c κs =
-    let n = c .before in
-    let e = else₂ n in
-    let b = e .before .before in
-    let s = start b in
+    let after-log2 : tie.After-log2 = search needs in let else1 : tie.Else1 = search needs in let n = c .before in
+    let e : tie.Else2 = search needs in
+    let b : tie.After-between = search needs in
+    let s : tie.Start = search needs in
     let a = s .args in
-    let g = is-ours _ _ _ (n .before .before .log2 .ensures) in (
+    let g = is-ours _ _ _ (after-log2 .log2 .ensures) in (
       rw (summed n)
           (ready (now (a .peaks)) (a .k) (a .level) (a .step) (s .pre) (a .samples)
-          (ap not (said-yes (b .between .ensures) (e .before .if1 .left)))
+          (ap not (said-yes (b .between .ensures) (else1 .if1 .left)))
           (e .if2 .left)
           (spread-is (a .k) (summed n) g (n .no-spread .ensures) (c .if3 .left))),
       g,
@@ -103,15 +104,16 @@ three-requires c κs =
 
 returns-4 : tie.Need-returns-4
 returns-4 c =
-    let t = c .before in
-    let n = t .before .before in
-    let e = else₂ n in
-    let b = e .before .before in
-    let a = start b .args in
+    let start : tie.Start = search needs in let else1 : tie.Else1 = search needs in
+    let after-log2 : tie.After-log2 = search needs in let else3 : tie.Else3 = search needs in let t = c .before in
+    let n : tie.After-no-spread = search needs in
+    let e : tie.Else2 = search needs in
+    let b : tie.After-between = search needs in
+    let a = start .args in
     finds (now (a .peaks)) (a .k) (a .level) (a .step) (a .samples) (a .standard)
-    (said-yes (b .between .ensures) (e .before .if1 .left))
+    (said-yes (b .between .ensures) (else1 .if1 .left))
     (e .if2 .left)
-    (spread-is (a .k) (summed n) (is-ours _ _ _ (n .before .before .log2 .ensures)) (n .no-spread .ensures) (t .before .if3 .left))
+    (spread-is (a .k) (summed n) (is-ours _ _ _ (after-log2 .log2 .ensures)) (n .no-spread .ensures) (else3 .if3 .left))
     _ _
     (rw (summed n) at (t .three .ensures))
     (c .letter-for .ensures)

@@ -9,21 +9,21 @@ use Rattle.peak_reach.proofs.rejected.Tie as tie
 
 returns : tie.Need-returns
 returns c =
-    let a = c .before .before .args in
+    let start : tie.Start = search needs in let a = start .args in
     rejected-none (a .k) (a .level) (a .sum) (a .h) (a .w) (a .r) (sym (c .before .either .ensures) ∙ c .if1 .taken)
 
 mul-shortest : tie.Need-mul-shortest
-mul-shortest c = let p = c .before .before .pre in omega (arith, mul-le-mul (p .1) (p .2))
+mul-shortest c = let start : tie.Start = search needs in let p = start .pre in omega (arith, mul-le-mul (p .1) (p .2))
 
 sub-shortest : tie.Need-sub-shortest
 sub-shortest c =
-    let a = c .before .before .args in
+    let start : tie.Start = search needs in let a = start .args in
     omega (arith, count-below (a .k) (a .level) (a .sum) (a .h) (a .w) (a .r) (sym (c .before .either .ensures) ∙ c .if1 .left))
 
 shortest-requires : tie.Need-shortest-requires
 shortest-requires c κs =
-    let a = c .before .before .args in
-    let p = c .before .before .pre in
+    let start : tie.Start = search needs in let a = start .args in
+    let p = start .pre in
     let e = sym (c .before .either .ensures) ∙ c .if1 .left in (
       given-rejected (a .k) (a .level) (a .sum) (a .h) (a .w) (a .r) e (p .0) (p .1) (p .2) (p .3) (p .4) (p .5) (p .6),
       shape-below (a .k) (a .level) (a .sum) (a .h) (a .w) (a .r) e,
@@ -31,9 +31,9 @@ shortest-requires c κs =
 
 returns-2 : tie.Need-returns-2
 returns-2 c =
-    let o = c .before in
-    let a = o .before .before .args in
-    rejected-is (a .k) (a .level) (a .sum) (a .h) (a .w) (a .r) (sym (o .before .either .ensures) ∙ o .if1 .left) _ (c .shortest .ensures)
+    let start : tie.Start = search needs in let after-either : tie.After-either = search needs in let o = c .before in
+    let a = start .args in
+    rejected-is (a .k) (a .level) (a .sum) (a .h) (a .w) (a .r) (sym (after-either .either .ensures) ∙ o .if1 .left) _ (c .shortest .ensures)
 
 pub rejected-spec : {M : Type 1} → statement M
 rejected-spec =

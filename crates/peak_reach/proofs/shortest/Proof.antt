@@ -31,9 +31,9 @@ quotient-requires c κs =
 
 add-x : tie.Need-add-x
 add-x c =
-    let y = c .before .before .before in
-    let a = y .before .before .args in
-    let g = y .before .before .pre in
+    let start : tie.Start = search needs in let y : tie.After-quotient = search needs in
+    let a = start .args in
+    let g = start .pre in
     let q = y .quotient .ensures in
     omega (
       arith,
@@ -43,39 +43,41 @@ add-x c =
 
 returns-2 : tie.Need-returns-2
 returns-2 c =
-    let o = c .before .before in
-    let y = o .before .before in
-    let a = y .before .before .args in
-    let g = y .before .before .pre in
+    let start : tie.Start = search needs in let o : tie.After-pick = search needs in
+    let y : tie.After-quotient = search needs in
+    let a = start .args in
+    let g = start .pre in
     shortest-none (a .kg) (a .sum) (a .w) (a .n) (a .r) (g .0) (g .1) _ _ _ (y .quotient .ensures) (o .pick .ensures) (c .if2 .taken)
 
 cut-requires : tie.Need-cut-requires
 cut-requires c κs =
-    let o = c .before .before .before .before .before .before .before in
+    let o : tie.Start = search needs in
     let e = c .up .ensures .1 in
     (record { some = o .pre .0 .time; least = e .full (c .before .if2 .left); most = e .bound .0 }, omega arith)
 
 returns-3 : tie.Need-returns-3
 returns-3 c =
-    let f = c .before in
-    let e = f .before in
-    let o = e .before .before .before in
-    let y = o .before .before in
-    let a = y .before .before .args in
-    let g = y .before .before .pre in
+    let after-up : tie.After-up = search needs in let start : tie.Start = search needs in
+    let else2 : tie.Else2 = search needs in let f = c .before in
+    let e = after-up in
+    let o : tie.After-pick = search needs in
+    let y : tie.After-quotient = search needs in
+    let a = start .args in
+    let g = start .pre in
     shortest-too-long (a .kg) (a .sum) (a .w) (a .n) (a .r) (g .0) (g .1) _ _ _ (y .quotient .ensures) (o .pick .ensures)
-    (e .before .if2 .left) _ (e .up .ensures .0) _ (f .cut .ensures) (c .if3 .taken)
+    (else2 .if2 .left) _ (e .up .ensures .0) _ (f .cut .ensures) (c .if3 .taken)
 
 returns-4 : tie.Need-returns-4
 returns-4 c =
-    let f = c .before in
-    let e = f .before in
-    let o = e .before .before .before in
-    let y = o .before .before in
-    let a = y .before .before .args in
-    let g = y .before .before .pre in
+    let after-up : tie.After-up = search needs in let start : tie.Start = search needs in
+    let else2 : tie.Else2 = search needs in let f = c .before in
+    let e = after-up in
+    let o : tie.After-pick = search needs in
+    let y : tie.After-quotient = search needs in
+    let a = start .args in
+    let g = start .pre in
     shortest-is (a .kg) (a .sum) (a .w) (a .n) (a .r) (g .0) (g .1) _ _ _ (y .quotient .ensures) (o .pick .ensures)
-    (e .before .if2 .left) _ (e .up .ensures .0) _ (f .cut .ensures) (c .if3 .left)
+    (else2 .if2 .left) _ (e .up .ensures .0) _ (f .cut .ensures) (c .if3 .left)
 
 pub shortest-spec : {M : Type 1} → statement M
 shortest-spec =

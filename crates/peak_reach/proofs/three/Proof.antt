@@ -10,31 +10,31 @@ use Rattle.peak_reach.proofs.three.Tie as tie
 
 mul-r : tie.Need-mul-r
 mul-r c =
-    let o = c .before .before in
+    let o : tie.Start = search needs in
     let a = o .args in
     omega (arith, time-most (a .u) (a .c) (a .k) (a .sum) (a .step) (a .samples) (a .g) (o .pre .0) (o .pre .1))
 
 mul-r-2 : tie.Need-mul-r-2
 mul-r-2 c =
-    let o = c .before .before in
+    let o : tie.Start = search needs in
     let a = o .args in
     omega (arith, time-most (a .u) (a .c) (a .k) (a .sum) (a .step) (a .samples) (a .g) (o .pre .0) (o .pre .1))
 
 add-pick : tie.Need-add-pick
 add-pick c =
-    let o = c .before .before in
+    let o : tie.Start = search needs in
     let a = o .args in
     omega (arith, level-bound (a .u) (a .c) (a .k) (a .sum) (a .step) (a .samples) (a .g) (o .pre .0) (o .pre .1))
 
 mul-longest : tie.Need-mul-longest
 mul-longest c =
-    let o = c .before .before .before in
+    let o : tie.Start = search needs in
     let a = o .args in
     omega (arith, level-small (a .u) (a .c) (a .k) (a .sum) (a .step) (a .samples) (a .g) (o .pre .0) (o .pre .1))
 
 longest-requires : tie.Need-longest-requires
 longest-requires c κs =
-    let o = c .before .before .before in
+    let o : tie.Start = search needs in
     let a = o .args in (
       given-estimate (a .u) (a .c) (a .k) (a .sum) (a .step) (a .samples) (a .g) (o .pre .0) (o .pre .1),
       small (a .u) (a .c) (a .k) (a .sum) (a .step) (a .samples) (a .g) (o .pre .0) (o .pre .1),
@@ -43,14 +43,14 @@ longest-requires c κs =
 
 mul-longest-3 : tie.Need-mul-longest-3
 mul-longest-3 c =
-    let o = c .before .before .before .before in
+    let o : tie.Start = search needs in
     let a = o .args in
     omega (arith, level-small (a .u) (a .c) (a .k) (a .sum) (a .step) (a .samples) (a .g) (o .pre .0) (o .pre .1))
 
 add-longest : tie.Need-add-longest
 add-longest c =
-    let h = c .before .before .before in
-    let o = h .before in
+    let start : tie.Start = search needs in let h : tie.After-half-width = search needs in
+    let o = start in
     let a = o .args in
     omega (
       arith,
@@ -60,9 +60,10 @@ add-longest c =
 
 longest-requires-2 : tie.Need-longest-requires-2
 longest-requires-2 c κs =
-    let w = c .before .before in
-    let h = w .before in
-    let o = h .before in
+    let after-half-width : tie.After-half-width = search needs in let start : tie.Start = search needs in
+    let w : tie.After-least = search needs in
+    let h = after-half-width in
+    let o = start in
     let a = o .args in (
       given (a .u) (a .c) (a .k) (a .sum) (a .step) (a .samples) (a .g) (o .pre .0) (o .pre .1) _ _
           (small-count (a .u) (a .c) (a .k) (a .sum) (a .step) (a .samples) (a .g) (o .pre .0) (o .pre .1) _ (h .half-width .ensures))
@@ -73,10 +74,11 @@ longest-requires-2 c κs =
 
 rejected-requires : tie.Need-rejected-requires
 rejected-requires c κs =
-    let l = c .before .before in
-    let w = l .before in
-    let h = w .before in
-    let o = h .before in
+    let after-least : tie.After-least = search needs in let after-half-width : tie.After-half-width = search needs in
+    let start : tie.Start = search needs in let l : tie.After-pick = search needs in
+    let w = after-least in
+    let h = after-half-width in
+    let o = start in
     let a = o .args in
     let p = o .pre .0 in (
       p .two,
@@ -90,11 +92,13 @@ rejected-requires c κs =
 
 returns : tie.Need-returns
 returns c =
-    let e = c .before .before in
-    let l = e .before in
-    let w = l .before in
-    let h = w .before in
-    let o = h .before in
+    let after-pick : tie.After-pick = search needs in let after-least : tie.After-least = search needs in
+    let after-half-width : tie.After-half-width = search needs in let start : tie.Start = search needs in
+    let e : tie.After-longest = search needs in
+    let l = after-pick in
+    let w = after-least in
+    let h = after-half-width in
+    let o = start in
     let a = o .args in
     three-is (a .u) (a .c) (a .k) (a .sum) (a .step) (a .samples) (a .g) (o .pre .0) (o .pre .1) _ _ _ _ _ _
     (h .half-width .ensures) (w .least .ensures) (l .pick .ensures) (e .longest .ensures) (c .before .longest2 .ensures)

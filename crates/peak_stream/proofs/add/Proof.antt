@@ -13,12 +13,12 @@ use Rattle.peak_stream.proofs.add.Tie as tie
 next : (c : tie.After-read) → c .read .result ≡ read (c .before .before .args .s .reading) (c .before .before .args
     .x)
 next c =
-    let b = c .before .before in
+    let b : tie.Start = search needs in
     c .read .ensures ∙ ap (read (b .args .s .reading)) (toZ-ofZ (b .fits .x))
 
 add-t7 : tie.Need-add-t7
 add-t7 c =
-    let b = c .before .before .before .before .before .before in
+    let b : tie.Start = search needs in
     omega (arith, b .pre .2, b .pre .0, most-few (b .args .s .reading .step))
 
 returns : tie.Need-returns
@@ -34,8 +34,8 @@ returns c =
 
 returns-2 : tie.Need-returns-2
 returns-2 c =
-    let b = c .before .before in
-    let d = b .before .before in (
+    let b : tie.After-read = search needs in
+    let d : tie.Start = search needs in (
       add-no (d .args .s) (d .args .x) (b .read .result) (next (b)) (sym (c .before .closes .ensures) ∙ c .if1 .left),
       omega arith,
     )

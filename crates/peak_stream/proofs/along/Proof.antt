@@ -42,7 +42,9 @@ shared-slice-copy-out-add : tie.Need-shared-slice-copy-out-add Inv-loop μ-loop
 shared-slice-copy-out-add c = omega arith
 
 add-requires : tie.Need-add-requires Inv-loop μ-loop
-add-requires c κs = let g = c .before .before .loop .inv .1 in (omega (arith, g .room), g .opened, g .number, g .sum)
+add-requires c κs =
+    let at-loop : tie.At-loop Inv-loop μ-loop = search needs in
+    let g = at-loop .loop .inv .1 in (omega (arith, g .room), g .opened, g .number, g .sum)
 
 add-i : tie.Need-add-i Inv-loop μ-loop
 add-i c = omega arith
@@ -52,8 +54,8 @@ loop-less c = omega arith
 
 loop-again : tie.Need-loop-again Inv-loop μ-loop
 loop-again c =
-    let b = c .before .before .before in
-    let d = b .before in
+    let start : tie.Start Inv-loop μ-loop = search needs in let b : tie.At-loop Inv-loop μ-loop = search needs in
+    let d = start in
     let p = d .args .samples .now in
     let i = b .loop .i in
     let s = b .loop .at in
@@ -70,10 +72,10 @@ loop-again c =
 
 returns : tie.Need-returns Inv-loop μ-loop
 returns c =
-    let b = c .before .before in
+    let at-loop : tie.At-loop Inv-loop μ-loop = search needs in let b : tie.Start Inv-loop μ-loop = search needs in
     let p = b .args .samples .now in
-    let v = c .before .loop .inv in
-    sym (ap (foldl surveyed (c .before .loop .at)) (drop-of-length-le p {i = c .before .loop .i} (omega arith))) ∙ v
+    let v = at-loop .loop .inv in
+    sym (ap (foldl surveyed (at-loop .loop .at)) (drop-of-length-le p {i = at-loop .loop .i} (omega arith))) ∙ v
     .2
 
 pub along-spec : {M : Type 1} → statement M

@@ -15,7 +15,7 @@ returns c = rw (said-no (c .before .both .ensures) (c .if1 .taken))
 returns-2 : tie.Need-returns-2
 unfolding begun
 returns-2 c =
-    let b = c .before .before in
+    let b : tie.Else1 = search needs in
     let d = b .before in
     rw (said-yes (d .both .ensures) (b .if1 .left), said-no (c .before .both2 .ensures) (c .if2 .taken))
 

@@ -9,7 +9,7 @@ use Rattle.peak_stream.proofs.hand_over.Tie as tie
 
 returns : tie.Need-returns
 returns c =
-    let b = c .before .before .before .before in
+    let b : tie.Start = search needs in
     over-broken (b .args .h) (b .args .samples .now) (b .args .sizes .now) (b .args .times .now) (said-no (c .before
     .ready .ensures) (c .if1 .taken))
 

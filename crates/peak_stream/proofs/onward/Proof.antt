@@ -15,7 +15,7 @@ use Rattle.peak_stream.proofs.onward.Tie as tie
 next : (c : tie.After-read) → let s = c .before .before .before in c .read .result ≡ read (s .args .h .reading) (s
     .args .x)
 next c =
-    let b = c .before .before .before in
+    let b : tie.Start = search needs in
     let s = b in c .read .ensures ∙ ap (read (s .args .h .reading)) (toZ-ofZ (s .fits .x))
 
 fit : (c : tie.Start) → Fits 19999999 (c .args .h .envelope)
@@ -25,11 +25,12 @@ fit c =
 
 returns : tie.Need-returns
 returns c =
-    let b = c .before .before in
-    let d = b .before in
-    let e = d .before in
+    let after-closes : tie.After-closes = search needs in let after-read : tie.After-read = search needs in
+    let b : tie.Then1 = search needs in
+    let d = after-closes in
+    let e = after-read in
     let r = e in
-    let s = r .before .before .before in
+    let s : tie.Start = search needs in
     let h = s .args .h in
     let a = c .advance .ensures ∙ advanced-fits (h .number) (h .sum) (h .decorrelation) (h .envelope) (h .reading
     .best) (fit s) in
@@ -37,9 +38,9 @@ returns c =
 
 returns-2 : tie.Need-returns-2
 returns-2 c =
-    let b = c .before .before in
+    let b : tie.After-read = search needs in
     let r = b in
-    let s = r .before .before .before in
+    let s : tie.Start = search needs in
     moved-no (s .args .h) (s .args .x) (r .read .result) (next r) (sym (c .before .closes .ensures) ∙ c .if1 .left)
 
 pub onward-spec : {M : Type 1} → statement M

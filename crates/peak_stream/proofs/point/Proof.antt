@@ -10,15 +10,15 @@ use Rattle.peak_stream.proofs.point.Tie as tie
 
 returns : tie.Need-returns
 returns c =
-    let b = c .before .before in
-    let a = b .args in let f = toZ-ofZ (b .fits .x) in point-zero (a .s) (a .t) (a .x) (c .before .magnitude .result)
-    (c .before .magnitude .ensures ∙ ap natAbs f) (c .if1 .taken)
+    let after-magnitude : tie.After-magnitude = search needs in let b : tie.Start = search needs in
+    let a = b .args in let f = toZ-ofZ (b .fits .x) in point-zero (a .s) (a .t) (a .x) (after-magnitude .magnitude .result)
+    (after-magnitude .magnitude .ensures ∙ ap natAbs f) (c .if1 .taken)
 
 returns-2 : tie.Need-returns-2
 returns-2 c =
-    let b = c .before .before in
-    let a = b .args in let f = toZ-ofZ (b .fits .x) in rw f (point-some (a .s) (a .t) (a .x) (c .before .magnitude
-    .result) (c .before .magnitude .ensures ∙ ap natAbs f) (c .if1 .left))
+    let after-magnitude : tie.After-magnitude = search needs in let b : tie.Start = search needs in
+    let a = b .args in let f = toZ-ofZ (b .fits .x) in rw f (point-some (a .s) (a .t) (a .x) (after-magnitude .magnitude
+    .result) (after-magnitude .magnitude .ensures ∙ ap natAbs f) (c .if1 .left))
 
 pub point-spec : {M : Type 1} → statement M
 point-spec = tie.close (tie.spec (λ c κs. search needs) returns returns-2)

@@ -10,10 +10,10 @@ returns c = rw (said-no (c .before .both .ensures) (c .if1 .taken)) (refl, refl,
 
 returns-2 : tie.Need-returns-2
 returns-2 c =
-    let b = c .before .before in
-    let d = b .before .before .before .before in
-    let e = d .before .before .before in
-    let f = e .before in
+    let after-both : tie.After-both = search needs in let b : tie.After-place2 = search needs in
+    let d : tie.After-place = search needs in
+    let e : tie.Else1 = search needs in
+    let f = after-both in
     rw (said-yes (f .both .ensures) (e .if1 .left)) (refl, d .place .ensures, b .place2 .ensures)
 
 pub put-spec : {M : Type 1} → statement M

@@ -14,44 +14,45 @@ use Rattle.peak_stream.proofs.read.Tie as tie
 
 mul-point : tie.Need-mul-point
 mul-point c =
-    let b = c .before .before in
+    let b : tie.Start = search needs in
     let r = b .args .r in omega (arith, soon (r .n) (r .step) (b .pre .0))
 
 -- the sample as a member
 sample : (c : tie.After-point) → c .point .result ≡ here (c .before .before .before .args .r) (c .before .before
     .before .args .x)
 sample c =
-    let b = c .before .before .before in
+    let b : tie.Start = search needs in
     let r = b .args .r in c .point .ensures ∙ ap (point (r .best .below) (r .n * r .step)) (toZ-ofZ (b .fits .x))
 
 add-t9 : tie.Need-add-t9
 add-t9 c =
-    let b = c .before .before .before .before .before .before .before .before in
+    let b : tie.Start = search needs in
     omega (arith, b .pre .0, most-few (b .args .r .step))
 
 returns : tie.Need-returns
 returns c =
-    let b = c .before .before in
-    let d = b .before .before .before in
-    let e = d .before .before .before in
+    let b : tie.After-both = search needs in
+    let d : tie.After-point = search needs in
+    let e : tie.Start = search needs in
     read-waits (e .args .r) (e .args .x) (d .point .result) (sample (d)) (sym (b .both .ensures) ∙ c .before .if1
     .taken)
 
 add-t12 : tie.Need-add-t12
 add-t12 c =
-    let b = c .before .before .before .before .before .before .before .before .before .before .before .before .before
+    let b : tie.Start = search needs
     in
     omega (arith, b .pre .0, most-few (b .args .r .step))
 
 returns-2 : tie.Need-returns-2
 returns-2 c =
-    let b = c .before .before in
-    let d = b .before in
-    let e = d .before in
-    let f = e .before .before in
-    let g = f .before in
-    let h = g .before .before .before in
-    let j = h .before .before .before in
+    let after-both2 : tie.After-both2 = search needs in let after-same : tie.After-same = search needs in
+    let after-both : tie.After-both = search needs in let b : tie.Then2 = search needs in
+    let d = after-both2 in
+    let e = after-same in
+    let f : tie.Else1 = search needs in
+    let g = after-both in
+    let h : tie.After-point = search needs in
+    let j : tie.Start = search needs in
     let r = j .args .r in
     rw (c .before .larger .ensures)
     (read-stays r (j .args .x) (h .point .result) (sample (h)) (sym (g .both .ensures) ∙ f .if1 .left) (sym (d .both2
@@ -59,24 +60,25 @@ returns-2 c =
 
 add-t5 : tie.Need-add-t5
 add-t5 c =
-    let b = c .before .before .before .before .before .before .before .before .before .before .before .before in
+    let b : tie.Start = search needs in
     omega (arith, b .pre .0, most-few (b .args .r .step))
 
 add-t13 : tie.Need-add-t13
 add-t13 c =
-    let b = c .before .before .before .before .before .before .before .before .before .before .before .before .before
+    let b : tie.Start = search needs
     in
     omega (arith, b .pre .0, b .pre .1, most-few (b .args .r .step))
 
 returns-3 : tie.Need-returns-3
 returns-3 c =
-    let b = c .before .before in
-    let d = b .before in
-    let e = d .before in
-    let f = e .before .before in
-    let g = f .before in
-    let h = g .before .before .before in
-    let j = h .before .before .before in
+    let after-both2 : tie.After-both2 = search needs in let after-same : tie.After-same = search needs in
+    let after-both : tie.After-both = search needs in let b : tie.Else2 = search needs in
+    let d = after-both2 in
+    let e = after-same in
+    let f : tie.Else1 = search needs in
+    let g = after-both in
+    let h : tie.After-point = search needs in
+    let j : tie.Start = search needs in
     let r = j .args .r in
     read-opens r (j .args .x) (h .point .result) (sample (h)) (sym (g .both .ensures) ∙ f .if1 .left) (sym (d .both2
     .ensures ∙ rw (e .same .ensures)) ∙ b .if2 .left)

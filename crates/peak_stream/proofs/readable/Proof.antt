@@ -22,7 +22,9 @@ both-requires c κs = search needs
 
 -- src/lib.rt:132:1
 returns : tie.Need-returns
-returns c = c .both .ensures ∙ rw (c .before .before .most-samples .ensures)
+returns c =
+    let after-most-samples : tie.After-most-samples = search needs in
+    c .both .ensures ∙ rw (after-most-samples .most-samples .ensures)
 
 pub readable-spec : {M : Type 1} → statement M
 readable-spec =

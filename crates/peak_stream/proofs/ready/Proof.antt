@@ -6,7 +6,7 @@ use Rattle.peak_stream.proofs.ready.Tie as tie
 
 returns : tie.Need-returns
 returns c =
-    let b = c .before .before .before .before .before .before in
+    let b : tie.After-readable = search needs in
     c .both2 .ensures ∙ rw (c .before .both .ensures, b .readable .ensures)
 
 pub ready-spec : {M : Type 1} → statement M

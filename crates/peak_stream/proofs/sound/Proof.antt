@@ -27,7 +27,7 @@ both-requires-2 c κs = search needs
 -- src/lib.rt:142:1
 returns : tie.Need-returns
 returns c =
-    let b = c .before .before .before .before .before .before in
+    let b : tie.After-readable = search needs in
     c .both2 .ensures ∙ rw (c .before .both .ensures, b .readable .ensures)
 
 pub sound-spec : {M : Type 1} → statement M

@@ -11,13 +11,13 @@ use Rattle.peak_stream.proofs.survey.Tie as tie
 
 cast-fresh : tie.Need-cast-fresh
 cast-fresh c =
-    let b = c .before .before in
+    let b : tie.Start = search needs in
     omega (arith, high 1 10000 (b .args .step) (sym (c .before .both .ensures) ∙ c .if1 .taken))
 
 returns : tie.Need-returns
 unfolding started
 returns c =
-    let b = c .before .before in
+    let b : tie.After-both = search needs in
     rw (sym (b .both .ensures) ∙ c .before .if1 .taken) (ap (λ (r : Reading). Taken (record {
       reading = r;
       number =

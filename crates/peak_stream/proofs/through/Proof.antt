@@ -32,7 +32,7 @@ abbrev μ-loop : tie.MeasureT-loop
 
 loop-holds : tie.Need-loop-holds Inv-loop μ-loop
 loop-holds c =
-    let b = c .before .before in
+    let b : tie.Start Inv-loop μ-loop = search needs in
     let a = b .args in going-starts (a .h) (a .samples .now) (a .sizes .now) (a .times .now) (b .pre .0) (b .pre .1)
 
 mul-onward : tie.Need-mul-onward Inv-loop μ-loop
@@ -42,16 +42,18 @@ shared-slice-copy-out-onward : tie.Need-shared-slice-copy-out-onward Inv-loop μ
 shared-slice-copy-out-onward c = omega arith
 
 onward-requires : tie.Need-onward-requires Inv-loop μ-loop
-onward-requires c κs = let g = c .before .before .loop .inv .set in (omega (arith, g .room), g .opened, g .fits)
+onward-requires c κs =
+    let at-loop : tie.At-loop Inv-loop μ-loop = search needs in
+    let g = at-loop .loop .inv .set in (omega (arith, g .room), g .opened, g .fits)
 
 put-requires : tie.Need-put-requires Inv-loop μ-loop
 put-requires c κs =
-    let b = c .before .before .before .before .before .before .before .before in
+    let b : tie.At-loop Inv-loop μ-loop = search needs in
     let v = b .loop .inv in omega (arith, v .few, v .within, v .short)
 
 add-i : tie.Need-add-i Inv-loop μ-loop
 add-i c =
-    let b = c .before .before .before .before .before .before .before .before .before .before .before .before .before
+    let b : tie.At-loop Inv-loop μ-loop = search needs
     in
     let v = b .loop .inv in omega (arith, v .within, v .short)
 
@@ -60,10 +62,10 @@ loop-less c = omega arith
 
 loop-again : tie.Need-loop-again Inv-loop μ-loop
 loop-again c =
-    let b = c .before .before .before .before in
-    let d = b .before .before .before .before .before .before in
-    let e = d .before .before .before in
-    let g = e .before .before .before in
+    let b : tie.After-put Inv-loop μ-loop = search needs in
+    let d : tie.After-onward Inv-loop μ-loop = search needs in
+    let e : tie.At-loop Inv-loop μ-loop = search needs in
+    let g : tie.Start Inv-loop μ-loop = search needs in
     let a = g .args in
     let p = a .samples .now in
     let h = e .loop .at in
@@ -92,10 +94,10 @@ same-length-2 c = c .before .loop .inv .times-long
 
 returns : tie.Need-returns Inv-loop μ-loop
 returns c =
-    let b = c .before .before .before .before in
+    let at-loop : tie.At-loop Inv-loop μ-loop = search needs in let b : tie.Start Inv-loop μ-loop = search needs in
     let a = b .args in
-    let v = c .before .loop .inv in
-    let l : length (a .samples .now) ≤ c .before .loop .i = omega arith in (
+    let v = at-loop .loop .inv in
+    let l : length (a .samples .now) ≤ at-loop .loop .i = omega arith in (
       going-state (a .h) (a .samples .now) (a .sizes .now) (a .times .now) v l,
       going-number (a .h) (a .samples .now) (a .sizes .now) (a .times .now) v l,
       going-sizes (a .h) (a .samples .now) (a .sizes .now) (a .times .now) v l,

@@ -8,6 +8,7 @@ use native.Mathlib.Omega.{arith}
 use denote.Ref.{now}
 use lib.ListN.{drop, drop-of-length-le, length, length-set}
 use lib.Seq.{drop-cons, sets, sets-eq}
+use borrow.Author.Needs.{needs}
 use Rattle.peak_tail.proofs.copy.Statement.{statement}
 use Rattle.peak_tail.proofs.copy.Tie as tie
 
@@ -40,8 +41,9 @@ loop-less c = omega arith
 
 loop-again : tie.Need-loop-again Inv-loop μ-loop
 loop-again c =
-    let l = c .before .before .loop in
-    let p = now (c .before .before .before .args .peaks) in
+    let at-loop : tie.At-loop Inv-loop μ-loop = search needs in let start : tie.Start Inv-loop μ-loop = search needs in
+    let l = at-loop .loop in
+    let p = now (start .args .peaks) in
     (omega arith, rw length-set (l .inv .1), rw add-one (rw (drop-cons p (l .i) 0 (omega arith)) at (l .inv .2)))
 
 same-length : tie.Need-same-length Inv-loop μ-loop
@@ -49,7 +51,7 @@ same-length c = omega arith
 
 returns : tie.Need-returns Inv-loop μ-loop
 returns c =
-    let a = c .before .before .args in
+    let start : tie.Start Inv-loop μ-loop = search needs in let a = start .args in
     let l = c .before .loop in
     let p = now (a .peaks) in
     rw (drop-of-length-le p {i = l .i} (omega arith)) at (l .inv .2)

@@ -30,8 +30,8 @@ shared-slice-read-peak-in-range c = omega arith
 
 returns : tie.Need-returns Inv-loop μ-loop
 returns c =
-    let b = c .before .before .before .before in
-    let p = b .before .before .args .peaks .now in
+    let start : tie.Start Inv-loop μ-loop = search needs in let b : tie.At-loop Inv-loop μ-loop = search needs in
+    let p = start .args .peaks .now in
     let i = b .loop .i in
     let z : peakInRange (getD p i 0) ≡ false = sym (c .before .peak-in-range .ensures) ∙ not-true _ (c .if1 .taken) in
     omega (arith, bad-at p i (omega arith) z)
@@ -44,8 +44,8 @@ loop-less c = omega arith
 
 loop-again : tie.Need-loop-again Inv-loop μ-loop
 loop-again c =
-    let b = c .before .before .before .before in
-    let p = b .before .before .args .peaks .now in
+    let start : tie.Start Inv-loop μ-loop = search needs in let b : tie.At-loop Inv-loop μ-loop = search needs in
+    let p = start .args .peaks .now in
     let i = b .loop .i in
     let z : peakInRange (getD p i 0) ≡ true = sym (c .before .peak-in-range .ensures) ∙ not-false _ (c .if1 .left) in
     omega (arith, good-at p i (omega arith) z)
@@ -53,8 +53,9 @@ loop-again c =
 returns-2 : tie.Need-returns-2 Inv-loop μ-loop
 unfolding firstBad
 returns-2 c =
-    let p = c .before .before .before .args .peaks .now in
-    let e : firstBad (drop (c .before .loop .i) p) ≡ 0 = ap firstBad (drop-of-length-le p {i = c .before .loop .i} (omega arith)) in
+    let start : tie.Start Inv-loop μ-loop = search needs in let at-loop : tie.At-loop Inv-loop μ-loop = search needs in
+    let p = start .args .peaks .now in
+    let e : firstBad (drop (at-loop .loop .i) p) ≡ 0 = ap firstBad (drop-of-length-le p {i = at-loop .loop .i} (omega arith)) in
     omega arith
 
 pub first-bad-spec : {M : Type 1} → statement M

@@ -42,14 +42,14 @@ loop-less c = omega arith
 
 loop-again : tie.Need-loop-again Inv-loop μ-loop
 loop-again c =
-    let b = c .before .before .before in
+    let b : tie.At-loop Inv-loop μ-loop = search needs in
     let l = b .loop in
-    let s = b .before .before .before in
+    let s : tie.Start Inv-loop μ-loop = search needs in
     goes-on _ _ _ _ (l .inv) (s .pre .1) _ (omega arith) (c .log2 .ensures)
 
 returns : tie.Need-returns Inv-loop μ-loop
 returns c =
-    let s = c .before .before .before .before in
+    let s : tie.Start Inv-loop μ-loop = search needs in
     ends _ _ _ _ (c .before .loop .inv) (s .pre .1) (omega arith) (omega arith)
 
 pub sum-of-first-spec : {M : Type 1} → statement M

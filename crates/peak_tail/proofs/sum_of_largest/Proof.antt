@@ -9,15 +9,15 @@ use Rattle.peak_tail.proofs.sum_of_largest.Tie as tie
 
 sum-of-first-requires : tie.Need-sum-of-first-requires
 sum-of-first-requires c κs =
-    let b = c .before .before .before in
-    let pre = b .before .before .before .pre in
+    let start : tie.Start = search needs in let b : tie.After-sort = search needs in
+    let pre = start .pre in
     (pre .0, omega (arith, b .sort .kept .0), pre .2)
 
 returns : tie.Need-returns
 returns c =
-    let b = c .before .before .before .before in
+    let start : tie.Start = search needs in let b : tie.After-sort = search needs in
     let s = b .sort in
-    let pre = b .before .before .before .pre in (
+    let pre = start .pre in (
       s .ensures,
       c .sum-of-first .ensures .sums (s .ensures .downwards)
           (some-at (s .last .0) (sym (s .ensures .same 0) ∙ pre .3) _ (omega (arith, s .kept .0))),

@@ -17,7 +17,9 @@ returns-2 c = let m = lower-met _ in rw (← m .past (c .if2 .taken)) m
 
 returns-3 : tie.Need-returns-3
 unfolding l lowerRows
-returns-3 c = let n = c .before .before .args .n in subst (LowerRow n) (sym (row-at lowerRows n (omega arith))) (lower-met n)
+returns-3 c =
+    let start : tie.Start = search needs in
+    let n = start .args .n in subst (LowerRow n) (sym (row-at lowerRows n (omega arith))) (lower-met n)
 
 pub lower-row-spec : {M : Type 1} → statement M
 lower-row-spec =

@@ -17,7 +17,9 @@ returns-2 c = let m = upper-met _ in rw (← m .past (c .if2 .taken)) m
 
 returns-3 : tie.Need-returns-3
 unfolding u upperRows
-returns-3 c = let n = c .before .before .args .n in subst (UpperRow n) (sym (row-at upperRows n (omega arith))) (upper-met n)
+returns-3 c =
+    let start : tie.Start = search needs in
+    let n = start .args .n in subst (UpperRow n) (sym (row-at upperRows n (omega arith))) (upper-met n)
 
 pub upper-row-spec : {M : Type 1} → statement M
 upper-row-spec =

@@ -18,13 +18,13 @@ abbrev μ-loop : tie.MeasureT-loop
 -- a sheet leaves the buffer as long as it was
 same : (c : tie.After-one Inv-loop μ-loop)
     → let l = c .before .before .before .before .before .before in length (c .one .last .1 .0) ≡ length (now (l .before .before .before .args .text))
-same c = c .one .kept .1 .0 ∙ c .before .before .before .before .before .before .loop .inv .0
+same c = let at-loop : tie.At-loop Inv-loop μ-loop = search needs in c .one .kept .1 .0 ∙ at-loop .loop .inv .0
 
 loop-holds : tie.Need-loop-holds Inv-loop μ-loop
 loop-holds c = (refl, omega arith)
 
 same-length : tie.Need-same-length Inv-loop μ-loop
-same-length c = c .before .before .before .before .loop .inv .0
+same-length c = let at-loop : tie.At-loop Inv-loop μ-loop = search needs in at-loop .loop .inv .0
 
 add-item : tie.Need-add-item Inv-loop μ-loop
 add-item c = omega arith
@@ -33,7 +33,7 @@ one-requires : tie.Need-one-requires Inv-loop μ-loop
 one-requires c κs = omega arith
 
 same-length-2 : tie.Need-same-length-2 Inv-loop μ-loop
-same-length-2 c = same (c .before .before .before .before)
+same-length-2 c = let after-one : tie.After-one Inv-loop μ-loop = search needs in same after-one
 
 add-i : tie.Need-add-i Inv-loop μ-loop
 add-i c = omega arith
@@ -42,10 +42,10 @@ loop-less : tie.Need-loop-less Inv-loop μ-loop
 loop-less c = omega arith
 
 loop-again : tie.Need-loop-again Inv-loop μ-loop
-loop-again c = (same (c .before .before .before .before .before .before), omega arith)
+loop-again c = let after-one : tie.After-one Inv-loop μ-loop = search needs in (same after-one, omega arith)
 
 same-length-3 : tie.Need-same-length-3 Inv-loop μ-loop
-same-length-3 c = c .before .before .loop .inv .0
+same-length-3 c = let at-loop : tie.At-loop Inv-loop μ-loop = search needs in at-loop .loop .inv .0
 
 pub all-spec : {M : Type 1} → statement M
 all-spec =

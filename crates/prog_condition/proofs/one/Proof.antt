@@ -23,17 +23,19 @@ turn-requires : tie.Need-turn-requires Inv-loop μ-loop
 turn-requires c κs = (omega arith, omega arith)
 
 loop-less : tie.Need-loop-less Inv-loop μ-loop
-loop-less c = rw (c .before .t .given .1) at (c .before .before .before .before .before .turn .ensures .1)
+loop-less c =
+    let after-turn : tie.After-turn Inv-loop μ-loop = search needs in
+    rw (c .before .t .given .1) at (after-turn .turn .ensures .1)
 
 loop-again : tie.Need-loop-again Inv-loop μ-loop
 loop-again c =
-    let t = c .before .before .before .before .before in
-    (t .turn .kept .1 .0 ∙ t .before .before .before .loop .inv .0, rw (c .before .t .given .1) at (t .turn .ensures .0))
+    let at-loop : tie.At-loop Inv-loop μ-loop = search needs in let t : tie.After-turn Inv-loop μ-loop = search needs in
+    (t .turn .kept .1 .0 ∙ at-loop .loop .inv .0, rw (c .before .t .given .1) at (t .turn .ensures .0))
 
 same-length : tie.Need-same-length Inv-loop μ-loop
 same-length c =
-    let t = c .before .before .before .before .before in
-    t .turn .kept .1 .0 ∙ t .before .before .before .loop .inv .0
+    let at-loop : tie.At-loop Inv-loop μ-loop = search needs in let t : tie.After-turn Inv-loop μ-loop = search needs in
+    t .turn .kept .1 .0 ∙ at-loop .loop .inv .0
 
 slice-reshare-prefix-read : tie.Need-slice-reshare-prefix-read Inv-loop μ-loop
 slice-reshare-prefix-read c = omega arith
@@ -42,7 +44,7 @@ slice-aggregate-read : tie.Need-slice-aggregate-read Inv-loop μ-loop
 slice-aggregate-read c = sym (length-take-le _ _ (omega arith))
 
 same-length-2 : tie.Need-same-length-2 Inv-loop μ-loop
-same-length-2 c = c .before .before .before .loop .inv .0
+same-length-2 c = let at-loop : tie.At-loop Inv-loop μ-loop = search needs in at-loop .loop .inv .0
 
 pub one-spec : {M : Type 1} → statement M
 one-spec =

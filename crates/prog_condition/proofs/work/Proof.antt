@@ -16,8 +16,8 @@ use Rattle.prog_condition.proofs.work.Tie as tie
 -- the bytes left are some of those read, and less than a line
 left-few : (c : tie.After-known-told) → (c .before .reading .given .0 .1 .0 ≤ c .before .before .before .before .before .before .args .end) × (c .before .reading .given .0 .1 .0 < longestSheetLine)
 left-few c =
-    let r = c .before .before .before in
-    let s = r .before .before .before in
+    let r : tie.After-read = search needs in
+    let s : tie.Start = search needs in
     let few = rw (← r .read .ensures, c .before .reading .given .1) at (unread true (take (s .args .end) (now (s .args .text))) (s .args .s)) in
     (omega (arith, few .0, length-take-le (s .args .end) (now (s .args .text)) (s .pre)), few .1)
 
@@ -28,7 +28,7 @@ sub-keep : tie.Need-sub-keep
 sub-keep c = omega (arith, left-few (c .before) .0)
 
 returns-2 : tie.Need-returns-2
-returns-2 c = (left-few (c .before .before .before .before) .1, omega arith)
+returns-2 c = let after-known-told : tie.After-known-told = search needs in (left-few after-known-told .1, omega arith)
 
 pub work-spec : {M : Type 1} → statement M
 work-spec =

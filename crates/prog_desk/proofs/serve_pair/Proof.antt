@@ -20,18 +20,20 @@ loop-holds : tie.Need-loop-holds Inv-loop μ-loop
 loop-holds c = (refl, refl)
 
 abbrev turn : tie.After-read-on Inv-loop μ-loop → tie.At-loop Inv-loop μ-loop
-turn k = k .before .before .before .before .before .before .before .before .before .before .before .before .before .before
+turn k = search needs
 
 abbrev start : tie.After-read-on Inv-loop μ-loop → tie.Start Inv-loop μ-loop
-start k = turn k .before .before .before
+start k = search needs
 
 -- after the reading both buffers are as long as they were
 both : (k : tie.After-read-on Inv-loop μ-loop)
     → (length (k .read-on .last .1 .1 .0) ≡ length (now (start k .args .roll))) × (length (k .read-on .last .1 .1 .1 .1 .0) ≡ length (now (start k .args .acceleration)))
-both k = let i = turn k .loop .inv in (k .read-on .kept .1 .1 .0 ∙ i .0, k .read-on .kept .1 .1 .1 .1 .0 ∙ i .1)
+both k =
+    let at-loop : tie.At-loop Inv-loop μ-loop = search needs in
+    let i = at-loop .loop .inv in (k .read-on .kept .1 .1 .0 ∙ i .0, k .read-on .kept .1 .1 .1 .1 .0 ∙ i .1)
 
 some : (k : tie.After-read-on Inv-loop μ-loop) → 1 ≤ turn k .loop .turns
-some k = omega (arith, k .before .before .before .before .before .before .before .before .before .before .before .before .before .loop-test .taken)
+some k = let in-loop : tie.In-loop Inv-loop μ-loop = search needs in omega (arith, in-loop .loop-test .taken)
 
 less : (k : tie.After-read-on Inv-loop μ-loop) → turn k .loop .turns - 1 < turn k .loop .turns
 less k = omega (arith, some k)

@@ -16,7 +16,7 @@ loop-holds : tie.Need-loop-holds Inv-loop μ-loop
 loop-holds c = (length-replicate {A = ℕ} 65536 0, refl)
 
 slice-aggregate-turn : tie.Need-slice-aggregate-turn Inv-loop μ-loop
-slice-aggregate-turn c = sym (c .before .before .loop .inv .0)
+slice-aggregate-turn c = let at-loop : tie.At-loop Inv-loop μ-loop = search needs in sym (at-loop .loop .inv .0)
 
 pub go-over-spec : {M : Type 1} → statement M
 go-over-spec =

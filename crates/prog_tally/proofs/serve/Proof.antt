@@ -15,13 +15,6 @@ Inv-loop text₀ out₀ sheet₀ kept₀ turns₀ text out sheet kept turns = (l
 abbrev μ-loop : tie.MeasureT-loop
 μ-loop text₀ out₀ sheet₀ kept₀ turns₀ text out sheet kept turns = turns
 
--- ways back to earlier places of the function
-abbrev loop : tie.After-turn Inv-loop μ-loop → tie.At-loop Inv-loop μ-loop
-loop c = c .before .before .before .before
-
-abbrev turn : tie.After-slice-known4 Inv-loop μ-loop → tie.After-turn Inv-loop μ-loop
-turn c = c .before .before .before .before
-
 loop-holds : tie.Need-loop-holds Inv-loop μ-loop
 loop-holds c = (refl, refl, omega arith)
 
@@ -29,15 +22,19 @@ turn-requires : tie.Need-turn-requires Inv-loop μ-loop
 turn-requires c κs = omega arith
 
 same-length : tie.Need-same-length Inv-loop μ-loop
-same-length c = let b = turn (c .before .before .before) in b .turn .kept .1 .0 ∙ loop b .loop .inv .0
+same-length c =
+    let at-loop : tie.At-loop Inv-loop μ-loop = search needs in
+    let b : tie.After-turn Inv-loop μ-loop = search needs in b .turn .kept .1 .0 ∙ at-loop .loop .inv .0
 
 same-length-2 : tie.Need-same-length-2 Inv-loop μ-loop
-same-length-2 c = let b = turn (c .before .before .before) in b .turn .kept .1 .1 .1 .0 ∙ loop b .loop .inv .1
+same-length-2 c =
+    let at-loop : tie.At-loop Inv-loop μ-loop = search needs in
+    let b : tie.After-turn Inv-loop μ-loop = search needs in b .turn .kept .1 .1 .1 .0 ∙ at-loop .loop .inv .1
 
 loop-again : tie.Need-loop-again Inv-loop μ-loop
 loop-again c =
-    let b = turn (c .before .before .before) in
-    let i = loop b .loop .inv in
+    let at-loop : tie.At-loop Inv-loop μ-loop = search needs in let b : tie.After-turn Inv-loop μ-loop = search needs in
+    let i = at-loop .loop .inv in
     (b .turn .kept .1 .0 ∙ i .0, b .turn .kept .1 .1 .1 .0 ∙ i .1, rw (c .before .t .given .1) at (b .turn .ensures))
 
 same-length-3 : tie.Need-same-length-3 Inv-loop μ-loop

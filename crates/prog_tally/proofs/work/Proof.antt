@@ -14,7 +14,7 @@ use Rattle.prog_tally.proofs.work.Tie as tie
 -- the bytes written stand in `out`
 put-fits : (c : tie.After-known-told) → c .before .reading .given .0 .1 .0 ≤ length (c .before .before .before .before .before .run .last .1 .1 .1 .0)
 put-fits c =
-    let r = c .before .before .before .before .before .run in
+    let after-run : tie.After-run = search needs in let r = after-run .run in
     omega (arith, rw (c .before .reading .given .1) at (r .ensures .1 .1 .0), r .kept .1 .1 .1 .0)
 
 -- the bytes left are some of those read, and less than a line
@@ -23,13 +23,13 @@ left-few : (c : tie.After-known-told2) →
     let e = b .before .before .before .before .before .before .before .before .args .end in
     (c .before .reading2 .given .0 .1 .0 ≤ e) × (c .before .reading2 .given .0 .1 .0 < longestSheetLine)
 left-few c =
-    let b = c .before .before .before .before .before .before .before .before .before .before .before in
-    let d = b .before .before .before .before .before in
-    let few = rw (c .before .before .before .before .before .before .before .reading .given .1, c .before .reading2 .given .1) at (b .run .ensures .1 .1 .1) in
+    let after-reading : tie.After-reading = search needs in let b : tie.After-run = search needs in
+    let d : tie.Start = search needs in
+    let few = rw (after-reading .reading .given .1, c .before .reading2 .given .1) at (b .run .ensures .1 .1 .1) in
     (omega (arith, few .0, length-take-le (d .args .end) (now (d .args .text)) (d .pre)), few .1)
 
 slice-aggregate-run : tie.Need-slice-aggregate-run
-slice-aggregate-run c = sym (length-take-le _ _ (c .before .before .before .pre))
+slice-aggregate-run c = let start : tie.Start = search needs in sym (length-take-le _ _ (start .pre))
 
 slice-reshare-prefix-write-all : tie.Need-slice-reshare-prefix-write-all
 slice-reshare-prefix-write-all c = put-fits c
@@ -47,7 +47,7 @@ sub-keep : tie.Need-sub-keep
 sub-keep c = omega (arith, left-few (c .before) .0)
 
 returns-4 : tie.Need-returns-4
-returns-4 c = left-few (c .before .before .before .before) .1
+returns-4 c = let after-known-told2 : tie.After-known-told2 = search needs in left-few after-known-told2 .1
 
 pub work-spec : {M : Type 1} → statement M
 work-spec =

@@ -40,22 +40,25 @@ loop-holds c = (omega arith, omega arith, zero-add _)
 
 loop-again : tie.Need-loop-again Inv-loop μ-loop
 loop-again c =
-    let l = c .before .before .before .loop in
-    let a = c .before .before .before .before .before .args in
+    let at-loop : tie.At-loop Inv-loop μ-loop = search needs in let start : tie.Start Inv-loop μ-loop = search needs in
+    let in-loop : tie.In-loop Inv-loop μ-loop = search needs in let l = at-loop .loop in
+    let a = start .args in
     let ys = now (a .ys) in
-    let h = c .before .before .loop-test .taken in (
+    let h = in-loop .loop-test .taken in (
       omega (arith, h),
       omega (arith, l .inv .1, c .is-above .ensures .1),
       next (a .level) (l .n) (l .i) (c .is-above .result) ys (l .inv .0) (c .is-above .ensures .0) (l .inv .2) (rw add-one (drop-cons ys (l .i) 0 h)),
     )
 
 add-n : tie.Need-add-n Inv-loop μ-loop
-add-n c = omega (arith, c .before .before .before .loop .inv .0, c .before .before .before .loop .inv .1, c .is-above .ensures .1)
+add-n c =
+    let at-loop : tie.At-loop Inv-loop μ-loop = search needs in
+    omega (arith, at-loop .loop .inv .0, at-loop .loop .inv .1, c .is-above .ensures .1)
 
 returns : tie.Need-returns Inv-loop μ-loop
 returns c =
-    let l = c .before .loop in
-    let a = c .before .before .before .args in
+    let start : tie.Start Inv-loop μ-loop = search needs in let l = c .before .loop in
+    let a = start .args in
     done (a .level) (l .n) (l .i) (now (a .ys)) (c .loop-test .left) (l .inv .2)
 
 pub above-spec : {M : Type 1} → statement M

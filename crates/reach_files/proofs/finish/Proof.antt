@@ -10,9 +10,10 @@ use Rattle.reach_files.proofs.finish.Tie as tie
 
 returns : tie.Need-returns
 returns c =
-    let a = c .before .before .before .before .before .before .before .before .before .before .before .before .args in
-    let e = sym (c .before .before .before .before .before .before .before .before .a .given .1) in
-    let f = c .before .before .before .before .put-list .ensures in (
+    let start : tie.Start = search needs in let after-a : tie.After-a = search needs in
+    let after-put-list : tie.After-put-list = search needs in let a = start .args in
+    let e = sym (after-a .a .given .1) in
+    let f = after-put-list .put-list .ensures in (
       f .0 ∙ ap (λ (x : Gathering). putting (gatheredSaid (a .j) x (now (a .list))) (now (a .out))) e,
       (
         f .1 .0 ∙ ap (λ (x : Gathering). putLeft (gatheredSaid (a .j) x (now (a .list))) (now (a .out))) e,
@@ -22,9 +23,10 @@ returns c =
 
 returns-2 : tie.Need-returns-2
 returns-2 c =
-    let a = c .before .before .before .before .before .before .before .before .before .args in
-    let e = sym (c .before .before .before .before .before .a2 .given .1) in
-    let f = c .before .before .refuse-in .ensures in (
+    let start : tie.Start = search needs in let after-a2 : tie.After-a2 = search needs in
+    let after-refuse-in : tie.After-refuse-in = search needs in let a = start .args in
+    let e = sym (after-a2 .a2 .given .1) in
+    let f = after-refuse-in .refuse-in .ensures in (
       f .0 ∙ ap (λ (x : Gathering). putting (gatheredSaid (a .j) x (now (a .list))) (now (a .out))) e,
       (
         f .1 ∙ ap (λ (x : Gathering). putLeft (gatheredSaid (a .j) x (now (a .list))) (now (a .out))) e,

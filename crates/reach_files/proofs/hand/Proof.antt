@@ -14,17 +14,18 @@ use Rattle.reach_files.proofs.hand.Tie as tie
 
 returns : tie.Need-returns
 returns c =
-    let a = c .before .before .before .before .before .before .before .before .args in
+    let start : tie.Start = search needs in let after-a : tie.After-a = search needs in
+    let after-hand-on : tie.After-hand-on = search needs in let a = start .args in
     let xs = now (a .samples) in
-    let e = sym (c .before .before .before .before .before .a .given .1) in
-    let f = c .before .before .hand-on .ensures in (
+    let e = sym (after-a .a .given .1) in
+    let f = after-hand-on .hand-on .ensures in (
       f .0 ∙ ap (λ (x : Handed). record { handed = handedBy (a .ramp) (a .lines) x xs; peaks = countedTo (a .k .peaks) (length (sizesBy (a .ramp) (a .lines) x xs)) }) e,
       f .1 ∙ ap (λ (x : Handed). putFrom (a .k .peaks) (sizesBy (a .ramp) (a .lines) x xs) (now (a .list))) e,
     )
 
 returns-2 : tie.Need-returns-2
 returns-2 c =
-    let a = c .before .before .before .before .args in
+    let start : tie.Start = search needs in let a = start .args in
     let xs = now (a .samples) in
     let g = c .before .a2 .given in
     let e = sym (g .1) in (

@@ -10,11 +10,12 @@ use Rattle.reach_files.proofs.hand_on.Tie as tie
 
 returns : tie.Need-returns
 returns c =
-    let a = c .before .before .before .before .before .before .before .before .before .before .before .args in
+    let start : tie.Start = search needs in let after-hand : tie.After-hand = search needs in
+    let after-kept-by : tie.After-kept-by = search needs in let a = start .args in
     let k = block-kept (a .ramp) (a .lines) (a .h) (a .peaks) (now (a .samples)) (now (a .list)) _ _
     (length-replicate {A = ℕ} 1024 0) (length-replicate {A = ℕ} 1024 0)
-    (c .before .before .before .before .before .before .before .hand .ensures) in
-    let f = c .before .before .kept-by .ensures in
+    (after-hand .hand .ensures) in
+    let f = after-kept-by .kept-by .ensures in
     (f .0 ∙ k .0, f .1 ∙ k .1)
 
 pub hand-on-spec : {M : Type 1} → statement M

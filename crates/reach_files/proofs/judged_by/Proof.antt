@@ -9,12 +9,12 @@ use Rattle.reach_files.proofs.judged_by.Tie as tie
 
 returns : tie.Need-returns
 returns c =
-    let a = c .before .before .before .args in
+    let start : tie.Start = search needs in let a = start .args in
     sym (ap (judgedThen (Refused (a .file)) (grownBy (a .j) (a .file) (a .g) (a .lines) (a .peaks))) (c .before .came .given .1))
 
 returns-2 : tie.Need-returns-2
 returns-2 c =
-    let a = c .before .before .before .args in
+    let start : tie.Start = search needs in let a = start .args in
     c .grown-by .ensures ∙ sym (ap (judgedThen (Refused (a .file)) (grownBy (a .j) (a .file) (a .g) (a .lines) (a .peaks))) (c .before .enum-told .given .1))
 
 pub judged-by-spec : {M : Type 1} → statement M

@@ -7,13 +7,16 @@ use Rattle.reach_files.proofs.keep.Statement.{statement}
 use Rattle.reach_files.proofs.keep.Tie as tie
 
 returns : tie.Need-returns
-returns c = let a = c .before .before .before .args in keep-none (a .at) (now (a .sizes)) (now (a .list)) (c .if1 .taken)
+returns c =
+    let start : tie.Start = search needs in
+    let a = start .args in keep-none (a .at) (now (a .sizes)) (now (a .list)) (c .if1 .taken)
 
 returns-2 : tie.Need-returns-2
 returns-2 c =
-    let a = c .before .before .before .before .before .before .before .args in
-    keep-all (a .at) (now (a .sizes)) (now (a .list)) (c .before .before .before .before .if1 .left)
-    (c .before .before .put-all .ensures)
+    let start : tie.Start = search needs in let else1 : tie.Else1 = search needs in
+    let after-put-all : tie.After-put-all = search needs in let a = start .args in
+    keep-all (a .at) (now (a .sizes)) (now (a .list)) (else1 .if1 .left)
+    (after-put-all .put-all .ensures)
 
 pub keep-spec : {M : Type 1} → statement M
 keep-spec =

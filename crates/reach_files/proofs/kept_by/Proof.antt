@@ -19,20 +19,23 @@ slice-aggregate-keep c = sym (length-take-le _ _ (omega (arith, c .before .least
 
 keep-requires : tie.Need-keep-requires
 keep-requires c κs =
+    let start : tie.Start = search needs in let after-least : tie.After-least = search needs in
     omega (
       arith,
-      c .before .before .before .before .before .before .before .before .pre,
+      start .pre,
       length-take
-          (c .before .before .least .result) (now (c .before .before .before .before .before .before .before .before .args .sizes)),
+          (after-least .least .result) (now (start .args .sizes)),
     )
 
 returns : tie.Need-returns
 returns c =
-    let a = c .before .before .before .before .before .before .before .before .before .before .before .args in
+    let start : tie.Start = search needs in let after-a : tie.After-a = search needs in
+    let after-keep : tie.After-keep = search needs in let after-least : tie.After-least = search needs in
+    let a = start .args in
     let sizes = now (a .sizes) in
-    let g = c .before .before .before .before .before .before .before .a .given in
-    let f = c .before .before .keep .ensures in
-    let n = c .before .before .before .before .before .least .ensures in (
+    let g = after-a .a .given in
+    let f = after-keep .keep .ensures in
+    let n = after-least .least .ensures in (
       ap (λ (x : ℕ). record { handed = Taken (g .0 .0) (g .0 .1 .0); peaks = x }) (f .0 ∙ ap (λ (m : ℕ). countedTo (a .peaks) (length (take m sizes))) n)
           ∙ sym (ap (λ (x : Handed). keptWith x (a .peaks) sizes) (g .1)),
       f .1
@@ -42,7 +45,7 @@ returns c =
 
 returns-2 : tie.Need-returns-2
 returns-2 c =
-    let a = c .before .before .before .before .before .args in
+    let start : tie.Start = search needs in let a = start .args in
     let e = c .before .a2 .given .1 in
     (sym (ap (λ (x : Handed). keptWith x (a .peaks) (now (a .sizes))) e), sym (ap (λ (x : Handed). listWith x (a .peaks) (now (a .sizes)) (now (a .list))) e))
 

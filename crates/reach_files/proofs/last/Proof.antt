@@ -14,15 +14,17 @@ use Rattle.reach_files.proofs.last.Tie as tie
 
 returns : tie.Need-returns
 returns c =
-    let a = c .before .before .before .before .before .before .before .before .before .args in
-    let g = c .before .before .before .before .before .before .a .given in
-    let s = ap lastOne (c .before .before .before .before .finish .ensures) ∙ last-is (g .0 .0) ∙ sym (ap lastSizes (g .1)) in
-    let f = c .before .before .put-last .ensures in
+    let start : tie.Start = search needs in let after-a : tie.After-a = search needs in
+    let after-finish : tie.After-finish = search needs in let after-put-last : tie.After-put-last = search needs in
+    let a = start .args in
+    let g = after-a .a .given in
+    let s = ap lastOne (after-finish .finish .ensures) ∙ last-is (g .0 .0) ∙ sym (ap lastSizes (g .1)) in
+    let f = after-put-last .put-last .ensures in
     (f .0 ∙ ap (λ (l : List ℕ). countedTo (a .k .peaks) (length l)) s, f .1 ∙ ap (λ (l : List ℕ). putFrom (a .k .peaks) l (now (a .list))) s)
 
 returns-2 : tie.Need-returns-2
 returns-2 c =
-    let a = c .before .before .before .args in
+    let start : tie.Start = search needs in let a = start .args in
     let s = sym (ap lastSizes (c .enum-told .given .1)) in (
       counted-none (a .k .peaks) ∙ ap (λ (l : List ℕ). countedTo (a .k .peaks) (length l)) s,
       put-none (a .k .peaks) (now (a .list)) ∙ ap (λ (l : List ℕ). putFrom (a .k .peaks) l (now (a .list))) s,

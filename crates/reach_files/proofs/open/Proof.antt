@@ -7,7 +7,9 @@ use Rattle.reach_files.proofs.open.Statement.{statement}
 use Rattle.reach_files.proofs.open.Tie as tie
 
 returns : tie.Need-returns
-returns c = opens-item (c .before .before .args .j) (c .before .items-outside .ensures) (c .if1 .taken)
+returns c =
+    let start : tie.Start = search needs in
+    opens-item (start .args .j) (c .before .items-outside .ensures) (c .if1 .taken)
 
 returns-2 : tie.Need-returns-2
 returns-2 c =

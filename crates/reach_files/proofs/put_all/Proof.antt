@@ -33,18 +33,22 @@ next list at i sizes h e =
 
 loop-holds : tie.Need-loop-holds Inv-loop μ-loop
 loop-holds c =
-    let a = c .before .before .args in
+    let start : tie.Start Inv-loop μ-loop = search needs in let a = start .args in
     (omega arith, refl, ap (λ (k : ℕ). sets (now (a .list)) k (now (a .sizes))) (add-zero (a .at)))
 
 add-place : tie.Need-add-place Inv-loop μ-loop
-add-place c = omega (arith, c .before .before .before .before .before .pre .0, c .before .before .before .before .before .pre .1, c .before .before .loop .inv .0)
+add-place c =
+    let start : tie.Start Inv-loop μ-loop = search needs in let at-loop : tie.At-loop Inv-loop μ-loop = search needs in
+    omega (arith, start .pre .0, start .pre .1, at-loop .loop .inv .0)
 
 loop-again : tie.Need-loop-again Inv-loop μ-loop
 loop-again c =
-    let a = c .before .before .before .before .before .before .before .before .before .args in
-    let l = c .before .before .before .before .before .before .loop in
-    let h = c .before .before .before .before .before .loop-test .taken in
-    let p = c .before .before .place .ensures in
+    let start : tie.Start Inv-loop μ-loop = search needs in let at-loop : tie.At-loop Inv-loop μ-loop = search needs in
+    let in-loop : tie.In-loop Inv-loop μ-loop = search needs in
+    let after-place : tie.After-place Inv-loop μ-loop = search needs in let a = start .args in
+    let l = at-loop .loop in
+    let h = in-loop .loop-test .taken in
+    let p = after-place .place .ensures in
     (omega (arith, h), ap length p ∙ length-set (l .list) (a .at + l .i) _ ∙ l .inv .1, next (l .list) (a .at) (l .i) (now (a .sizes)) h p ∙ l .inv .2)
 
 same-length : tie.Need-same-length Inv-loop μ-loop
@@ -52,7 +56,7 @@ same-length c = c .before .loop .inv .1
 
 returns : tie.Need-returns Inv-loop μ-loop
 returns c =
-    let a = c .before .before .before .before .args in
+    let start : tie.Start Inv-loop μ-loop = search needs in let a = start .args in
     let l = c .before .loop in
     done (l .list) (a .at + l .i) (l .i) (now (a .sizes)) (c .loop-test .left) (l .inv .2)
 

@@ -8,22 +8,26 @@ use Rattle.reach_files.proofs.put_answer.Statement.{statement}
 use Rattle.reach_files.proofs.put_answer.Tie as tie
 
 put-found-requires : tie.Need-put-found-requires
-put-found-requires c κs = sym (c .before .before .before .before .before .before .pre) ∙ c .before .before .x .given .1
+put-found-requires c κs =
+    let start : tie.Start = search needs in let after-x : tie.After-x = search needs in
+    sym (start .pre) ∙ after-x .x .given .1
 
 returns : tie.Need-returns
 returns c =
-    let a = c .before .before .before .before .before .before .before .before .before .args in
-    let e = sym (c .before .before .before .before .before .x .given .1) in
-    let f = c .before .before .put-found .ensures in (
+    let start : tie.Start = search needs in let after-x : tie.After-x = search needs in
+    let after-put-found : tie.After-put-found = search needs in let a = start .args in
+    let e = sym (after-x .x .given .1) in
+    let f = after-put-found .put-found .ensures in (
       f .0 ∙ ap (λ x. putting (saidBy (a .j) (a .files) (a .samples) (now (a .ys)) x) (now (a .out))) e,
       f .1 ∙ ap (λ x. putLeft (saidBy (a .j) (a .files) (a .samples) (now (a .ys)) x) (now (a .out))) e,
     )
 
 returns-2 : tie.Need-returns-2
 returns-2 c =
-    let a = c .before .before .before .before .before .before .before .before .before .args in
-    let e = sym (c .before .before .before .before .before .x2 .given .1) in
-    let f = c .before .before .put-refused .ensures in (
+    let start : tie.Start = search needs in let after-x2 : tie.After-x2 = search needs in
+    let after-put-refused : tie.After-put-refused = search needs in let a = start .args in
+    let e = sym (after-x2 .x2 .given .1) in
+    let f = after-put-refused .put-refused .ensures in (
       f .0 ∙ ap (λ x. putting (saidBy (a .j) (a .files) (a .samples) (now (a .ys)) x) (now (a .out))) e,
       f .1 ∙ ap (λ x. putLeft (saidBy (a .j) (a .files) (a .samples) (now (a .ys)) x) (now (a .out))) e,
     )

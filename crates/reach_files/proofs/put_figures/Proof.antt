@@ -16,25 +16,25 @@ use Rattle.reach_files.proofs.put_figures.Tie as tie
 -- after the ninth number
 module _ (w : tie.After-write-field9) where
   abbrev w8 : tie.After-write-field8
-  w8 = w .before .before .before .before
+  w8 = search needs
 
   abbrev w7 : tie.After-write-field7
-  w7 = w8 .before .before .before .before
+  w7 = search needs
 
   abbrev w6 : tie.After-write-field6
-  w6 = w7 .before .before .before .before
+  w6 = search needs
 
   abbrev w5 : tie.After-write-field5
-  w5 = w6 .before .before .before .before
+  w5 = search needs
 
   abbrev w4 : tie.After-write-field4
-  w4 = w5 .before .before .before .before
+  w4 = search needs
 
   abbrev w3 : tie.After-write-field3
-  w3 = w4 .before .before .before .before
+  w3 = search needs
 
   abbrev w2 : tie.After-write-field2
-  w2 = w3 .before .before .before .before
+  w2 = search needs
 
   abbrev w1 : tie.After-write-field
   w1 = w2 .before .before .before .before

@@ -11,14 +11,15 @@ use Rattle.reach_files.proofs.put_last.Tie as tie
 
 returns : tie.Need-returns
 returns c =
-    let a = c .before .before .before .before .before .before .before .before .before .args in
-    let e = sym (c .before .before .before .before .before .before .l .given .1) in
-    let f = c .before .before .keep .ensures in
+    let start : tie.Start = search needs in let after-l : tie.After-l = search needs in
+    let after-keep : tie.After-keep = search needs in let a = start .args in
+    let e = sym (after-l .l .given .1) in
+    let f = after-keep .keep .ensures in
     (f .0 ∙ ap (λ (x : Last). countedTo (a .at) (length (lastOne x))) e, f .1 ∙ ap (λ (x : Last). putFrom (a .at) (lastOne x) (now (a .list))) e)
 
 returns-2 : tie.Need-returns-2
 returns-2 c =
-    let a = c .before .before .before .args in
+    let start : tie.Start = search needs in let a = start .args in
     let e = sym (c .enum-told .given .1) in (
       counted-none (a .at) ∙ ap (λ (x : Last). countedTo (a .at) (length (lastOne x))) e,
       put-none (a .at) (now (a .list)) ∙ ap (λ (x : Last). putFrom (a .at) (lastOne x) (now (a .list))) e,

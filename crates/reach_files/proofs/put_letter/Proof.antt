@@ -16,21 +16,24 @@ is-letter {later = later} {next = next} out at e w = subst (λ t. Wrote out at t
 
 returns : tie.Need-returns
 returns c =
-    let a = c .before .before .before .before .before .before .before .before .args in
-    is-letter (now (a .out)) (a .at) (c .before .before .before .before .before .enum-told .given .1)
-    (c .before .before .write-bytes .ensures)
+    let start : tie.Start = search needs in let after-enum-told : tie.After-enum-told = search needs in
+    let after-write-bytes : tie.After-write-bytes = search needs in let a = start .args in
+    is-letter (now (a .out)) (a .at) (after-enum-told .enum-told .given .1)
+    (after-write-bytes .write-bytes .ensures)
 
 returns-2 : tie.Need-returns-2
 returns-2 c =
-    let a = c .before .before .before .before .before .before .before .before .args in
-    is-letter (now (a .out)) (a .at) (c .before .before .before .before .before .enum-told2 .given .1)
-    (c .before .before .write-bytes2 .ensures)
+    let start : tie.Start = search needs in let after-enum-told2 : tie.After-enum-told2 = search needs in
+    let after-write-bytes2 : tie.After-write-bytes2 = search needs in let a = start .args in
+    is-letter (now (a .out)) (a .at) (after-enum-told2 .enum-told2 .given .1)
+    (after-write-bytes2 .write-bytes2 .ensures)
 
 returns-3 : tie.Need-returns-3
 returns-3 c =
-    let a = c .before .before .before .before .before .before .before .before .args in
-    is-letter (now (a .out)) (a .at) (c .before .before .before .before .before .enum-told3 .given .1)
-    (c .before .before .write-bytes3 .ensures)
+    let start : tie.Start = search needs in let after-enum-told3 : tie.After-enum-told3 = search needs in
+    let after-write-bytes3 : tie.After-write-bytes3 = search needs in let a = start .args in
+    is-letter (now (a .out)) (a .at) (after-enum-told3 .enum-told3 .given .1)
+    (after-write-bytes3 .write-bytes3 .ensures)
 
 pub put-letter-spec : {M : Type 1} → statement M
 put-letter-spec =

@@ -20,21 +20,24 @@ slice-aggregate-sort c = sym (length-take-le _ _ (omega (arith, c .before .least
 
 slice-aggregate-put-sorted : tie.Need-slice-aggregate-put-sorted
 slice-aggregate-put-sorted c =
-    let list = now (c .before .before .before .before .before .before .before .before .args .list) in
-    let n = c .before .before .before .before .before .least .result in
-    front-long n list (c .before .before .before .sort .last .0) (omega (arith, c .before .before .before .before .before .least .ensures)) (c .before .before .before .sort .ensures)
+    let start : tie.Start = search needs in let after-least : tie.After-least = search needs in
+    let after-sort : tie.After-sort = search needs in let list = now (start .args .list) in
+    let n = after-least .least .result in
+    front-long n list (after-sort .sort .last .0) (omega (arith, after-least .least .ensures)) (after-sort .sort .ensures)
 
 returns : tie.Need-returns
 returns c =
-    let a = c .before .before .before .before .before .before .before .before .before .before .before .before .args in
+    let start : tie.Start = search needs in let after-least : tie.After-least = search needs in
+    let after-sort : tie.After-sort = search needs in let after-put-sorted : tie.After-put-sorted = search needs in
+    let a = start .args in
     let list = now (a .list) in
-    let n = c .before .before .before .before .before .before .before .before .before .least .result in
-    let S = c .before .before .before .before .before .before .before .sort .last .0 in
-    let m = c .before .before .before .before .before .before .before .before .before .least .ensures in
+    let n = after-least .least .result in
+    let S = after-sort .sort .last .0 in
+    let m = after-least .least .ensures in
     let h : n ≤ length list = omega (arith, m) in
-    let s = sorted-front n list S h (c .before .before .before .before .before .before .before .sort .ensures) ∙ ap (λ (k : ℕ). downwards (take k list)) m in
-    let e = front-is n list S h (c .before .before .before .before .before .before .before .sort .ensures) ∙ s in
-    let f = c .before .before .put-sorted .ensures in (
+    let s = sorted-front n list S h (after-sort .sort .ensures) ∙ ap (λ (k : ℕ). downwards (take k list)) m in
+    let e = front-is n list S h (after-sort .sort .ensures) ∙ s in
+    let f = after-put-sorted .put-sorted .ensures in (
       f .0 ∙ ap (λ (l : List ℕ). putting (listSaid (a .j) (a .g .files) (a .g .samples) l) (now (a .out))) e,
       (
         f .1 ∙ ap (λ (l : List ℕ). putLeft (listSaid (a .j) (a .g .files) (a .g .samples) l) (now (a .out))) e,

@@ -26,16 +26,16 @@ abbrev third-of : tie.After-write-field4 → tie.After-write-field3
 third-of c = c .before .before .before .before
 
 abbrev second-of : tie.After-write-field4 → tie.After-write-field2
-second-of c = third-of c .before .before .before .before
+second-of c = search needs
 
 abbrev first-of : tie.After-write-field4 → tie.After-write-field
-first-of c = second-of c .before .before .before .before
+first-of c = search needs
 
 abbrev word-of : tie.After-write-field4 → tie.After-write-bytes
-word-of c = first-of c .before .before .before .before
+word-of c = search needs
 
 abbrev start : tie.After-write-field4 → tie.Start
-start c = word-of c .before .before .before .before
+start c = search needs
 
 -- of the line so much is left, and the lent bytes are these
 abbrev Stands : tie.After-write-field4 → List ℕ → List ℕ → ℕ → Type 0
@@ -59,8 +59,8 @@ left4 c =
 
 returns : tie.Need-returns
 returns c =
-    let d = c .before .before in
-    puts (low (start d .args .u)) (room d) refl (left-last (left4 d) (d .write-field4 .ensures))
+    let start : tie.Start = search needs in let d : tie.After-write-field4 = search needs in
+    puts (low (start .args .u)) (room d) refl (left-last (left4 d) (d .write-field4 .ensures))
 
 pub put-low-spec : {M : Type 1} → statement M
 put-low-spec =

@@ -13,21 +13,28 @@ use Rattle.reach_files.proofs.put_refused.Tie as tie
 
 returns : tie.Need-returns
 returns c =
-    let a = c .before .before .before .before .before .before .before .args in
-    let n = c .before .before .before .before .before .number .ensures in
-    let e = refuses-other (a .q) (λ z. c .before .before .before .before .if1 .taken (n ∙ z)) in
-    (c .before .before .refuse-in .ensures .0 ∙ ap (λ s. putting s (now (a .out))) e, c .before .before .refuse-in .ensures .1 ∙ ap (λ s. putLeft s (now (a .out))) e)
+    let start : tie.Start = search needs in let after-number : tie.After-number = search needs in
+    let then1 : tie.Then1 = search needs in let after-refuse-in : tie.After-refuse-in = search needs in
+    let a = start .args in
+    let n = after-number .number .ensures in
+    let e = refuses-other (a .q) (λ z. then1 .if1 .taken (n ∙ z)) in
+    (after-refuse-in .refuse-in .ensures .0 ∙ ap (λ s. putting s (now (a .out))) e, after-refuse-in .refuse-in .ensures .1 ∙ ap (λ s. putLeft s (now (a .out))) e)
 
 returns-2 : tie.Need-returns-2
-returns-2 c = let a = c .before .before .before .before .args in without (refusedList (a .q)) (now (a .out)) (c .if2 .taken)
+returns-2 c =
+    let start : tie.Start = search needs in
+    let a = start .args in without (refusedList (a .q)) (now (a .out)) (c .if2 .taken)
 
 returns-3 : tie.Need-returns-3
 returns-3 c =
-    let a = c .before .before .before .before .before .before .before .before .before .args in
-    let e = refuses-low (a .q) (sym (c .before .before .before .before .before .before .before .number .ensures) ∙ c .before .before .before .before .before .before .if1 .left) in
-    finished (refusedList (a .q)) (c .before .before .before .before .before .if2 .left)
-    (puts-same (ap low (c .before .before .before .before .carried .ensures) ∙ e)
-    (c .before .before .put-low .ensures))
+    let start : tie.Start = search needs in let after-number : tie.After-number = search needs in
+    let else1 : tie.Else1 = search needs in let else2 : tie.Else2 = search needs in
+    let after-carried : tie.After-carried = search needs in let after-put-low : tie.After-put-low = search needs in
+    let a = start .args in
+    let e = refuses-low (a .q) (sym (after-number .number .ensures) ∙ else1 .if1 .left) in
+    finished (refusedList (a .q)) (else2 .if2 .left)
+    (puts-same (ap low (after-carried .carried .ensures) ∙ e)
+    (after-put-low .put-low .ensures))
 
 pub put-refused-spec : {M : Type 1} → statement M
 put-refused-spec =

@@ -14,13 +14,17 @@ none c = rw (eq-eqb (c .before .before .args .time) 0 (c .if1 .taken))
 
 some : (c : tie.Else1) → let a = c .before .before .args in rejectedText (a .time) ≡ fieldText (a .time) tab
 unfolding rejectedText
-some c = rw (ne-eqb (c .before .before .args .time) 0 (c .if1 .left))
+some c = let start : tie.Start = search needs in rw (ne-eqb (start .args .time) 0 (c .if1 .left))
 
 returns : tie.Need-returns
-returns c = rw (none (c .before .before .before .before .before)) (c .before .before .write-bytes .ensures)
+returns c =
+    let then1 : tie.Then1 = search needs in let after-write-bytes : tie.After-write-bytes = search needs in
+    rw (none then1) (after-write-bytes .write-bytes .ensures)
 
 returns-2 : tie.Need-returns-2
-returns-2 c = rw (some (c .before .before .before .before)) (c .before .before .write-field .ensures)
+returns-2 c =
+    let else1 : tie.Else1 = search needs in let after-write-field : tie.After-write-field = search needs in
+    rw (some else1) (after-write-field .write-field .ensures)
 
 pub put-rejected-spec : {M : Type 1} → statement M
 put-rejected-spec =

@@ -12,9 +12,10 @@ put-answer-requires c κs = c .before .extrapolate .ensures .answers
 
 returns : tie.Need-returns
 returns c =
-    let a = c .before .before .before .before .before .before .before .args in
-    let e = c .before .before .before .before .extrapolate .ensures .answers in
-    let f = c .before .before .put-answer .ensures in (
+    let start : tie.Start = search needs in let after-extrapolate : tie.After-extrapolate = search needs in
+    let after-put-answer : tie.After-put-answer = search needs in let a = start .args in
+    let e = after-extrapolate .extrapolate .ensures .answers in
+    let f = after-put-answer .put-answer .ensures in (
       f .0 ∙ ap (λ x. putting (saidBy (a .j) (a .files) (a .samples) (now (a .ys)) x) (now (a .out))) e,
       f .1 ∙ ap (λ x. putLeft (saidBy (a .j) (a .files) (a .samples) (now (a .ys)) x) (now (a .out))) e,
     )

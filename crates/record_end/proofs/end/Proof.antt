@@ -10,30 +10,28 @@ use borrow.Author.Needs.{needs}
 use Rattle.record_end.proofs.end.Statement.{statement}
 use Rattle.record_end.proofs.end.Tie as tie
 
--- ways back to earlier places of the function
-abbrev else1 : tie.Else2 → tie.Else1
-else1 c = c .before .before .before
-
 returns : tie.Need-returns
 unfolding ending
 returns c = rw (said-no (c .before .sound .ensures) (c .if1 .taken))
 
 add-if2 : tie.Need-add-if2
-add-if2 c = omega (arith, items-of (kept-from _ (said-yes (c .before .before .sound .ensures) (c .before .if1 .left))) .ramp)
+add-if2 c =
+    let after-sound : tie.After-sound = search needs in
+    omega (arith, items-of (kept-from _ (said-yes (after-sound .sound .ensures) (c .before .if1 .left))) .ramp)
 
 returns-2 : tie.Need-returns-2
 unfolding ending
 returns-2 c =
-    let b = c .before .before .before in
+    let b : tie.Else1 = search needs in
     rw (said-yes (b .before .sound .ensures) (b .if1 .left), lt-ltb _ _ (c .if2 .taken))
 
 exposure-of-requires : tie.Need-exposure-of-requires
-exposure-of-requires c κs = let b = else1 c in (said-yes (b .before .sound .ensures) (b .if1 .left), c .if2 .left)
+exposure-of-requires c κs = let b : tie.Else1 = search needs in (said-yes (b .before .sound .ensures) (b .if1 .left), c .if2 .left)
 
 returns-3 : tie.Need-returns-3
 unfolding ending
 returns-3 c =
-    let b = else1 (c .before) in
+    let b : tie.Else1 = search needs in
     rw (said-yes (b .before .sound .ensures) (b .if1 .left), le-ltb _ _ (c .before .if2 .left), c .exposure-of .ensures)
 
 pub end-spec : {M : Type 1} → statement M

@@ -15,16 +15,16 @@ use Rattle.record_feed.proofs.advance.Statement.{statement}
 use Rattle.record_feed.proofs.advance.Tie as tie
 
 moved-requires : tie.Need-moved-requires
-moved-requires c κs = let a = c .before .before in omega (arith, a .pre .0 .room, small (kept-from (a .args .r) (a .pre .0 .state)))
+moved-requires c κs = let a : tie.Start = search needs in omega (arith, a .pre .0 .room, small (kept-from (a .args .r) (a .pre .0 .state)))
 
 returns-2 : tie.Need-returns-2
 returns-2 c =
-    let a = c .before .before .before in
+    let else1 : tie.Else1 = search needs in let a : tie.Start = search needs in
     let r = a .args .r in
     let xs = a .args .roll .now in
     let ys = a .args .acceleration .now in
     let k : length (moments xs ys) ≡ length xs = moments-length xs ys (a .pre .0 .equal) in
-    let q = quiet-still r xs ys (sym (a .pre .1) ∙ c .before .before .if1 .left) in
+    let q = quiet-still r xs ys (sym (a .pre .1) ∙ else1 .if1 .left) in
     c .moved .ensures ∙ ap (moved r (length xs)) (c .before .moment-at .ensures) ∙ sym (rw k at (still-run r (moments xs ys) q (omega arith)))
 
 pub advance-spec : {M : Type 1} → statement M

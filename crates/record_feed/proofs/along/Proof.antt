@@ -40,23 +40,23 @@ abbrev μ-loop : tie.MeasureT-loop
 
 -- ways back to earlier places of the function
 abbrev start : tie.At-loop Inv-loop μ-loop → tie.Start Inv-loop μ-loop
-start c = c .before .before .before .before
+start c = search needs
 
 abbrev loop : tie.After-shared-slice-known2 Inv-loop μ-loop → tie.At-loop Inv-loop μ-loop
-loop c = c .before .before .before
+loop c = search needs
 
 gap-of-requires : tie.Need-gap-of-requires Inv-loop μ-loop
 gap-of-requires c κs = c .before .pre .0 .state
 
 loop-holds : tie.Need-loop-holds Inv-loop μ-loop
 loop-holds c =
-    let a = c .before .before .before in
+    let a : tie.Start Inv-loop μ-loop = search needs in
     let p = a .pre .0 in
     (p .state, omega arith, p .good, omega (arith, p .room), c .below .ensures, a .pre .1, c .before .gap-of .ensures, refl, refl)
 
 shared-slice-read-up : tie.Need-shared-slice-read-up Inv-loop μ-loop
 shared-slice-read-up c =
-    let a = start (loop c) in
+    let a : tie.Start Inv-loop μ-loop = search needs in
     omega (arith, ap length (a .pre .2) ∙ marks-many (a .args .r .items .levels) (a .args .roll .now) (a .args .acceleration .now) (a .pre .0 .equal))
 
 -- what was noted of the sample
@@ -64,8 +64,8 @@ noted : (c : tie.After-shared-slice-known2 Inv-loop μ-loop) →
     let b = loop c in
     getD (start b .args .ups .now) (b .loop .i) false ≡ above (b .loop .s .items .levels) (c .before .moment-at .result)
 noted c =
-    let b = loop c in
-    let a = start b in
+    let b : tie.At-loop Inv-loop μ-loop = search needs in
+    let a : tie.Start Inv-loop μ-loop = search needs in
     let xs = a .args .roll .now in
     let ys = a .args .acceleration .now in
     let l = b .loop in
@@ -75,14 +75,17 @@ noted c =
 
 step-requires : tie.Need-step-requires Inv-loop μ-loop
 step-requires c κs =
-    let l = loop (c .before) .loop in
+    let at-loop : tie.At-loop Inv-loop μ-loop = search needs in
+    let after-moment-at : tie.After-moment-at Inv-loop μ-loop = search needs in
+    let after-shared-slice-known2 : tie.After-shared-slice-known2 Inv-loop μ-loop = search needs in
+    let l = at-loop .loop in
     let s = l .s in
     let v = l .inv in
-    let x = c .before .before .moment-at .result in
+    let x = after-moment-at .moment-at .result in
     let low = l .low in (
       v .0,
       omega (arith, v .3),
-      c .both .ensures ∙ ap (λ (y : Bool). low && y) (noted (c .before)) ∙
+      c .both .ensures ∙ ap (λ (y : Bool). low && y) (noted after-shared-slice-known2) ∙
           ap (λ (y : Bool). y && above (s .items .levels) x) (v .4) ∙ and-assoc (ltb (s .items .ramp) (s .n))
           (not (above (s .items .levels) (s .last))) (above (s .items .levels) x),
       v .6,
@@ -97,17 +100,19 @@ loop-less c = omega arith
 loop-again : tie.Need-loop-again Inv-loop μ-loop
 unfolding AllInRange
 loop-again c =
-    let b = loop (c .before .before) in
-    let a = start b in
+    let after-moment-at : tie.After-moment-at Inv-loop μ-loop = search needs in
+    let after-shared-slice-known2 : tie.After-shared-slice-known2 Inv-loop μ-loop = search needs in
+    let b : tie.At-loop Inv-loop μ-loop = search needs in
+    let a : tie.Start Inv-loop μ-loop = search needs in
     let p = moments (a .args .roll .now) (a .args .acceleration .now) in
     let k : length p ≡ length (a .args .roll .now) = moments-length (a .args .roll .now) (a .args .acceleration .now) (a .pre .0 .equal) in
     let i = b .loop .i in
     let s = b .loop .s in
     let v = b .loop .inv in
     let x = sampleAt p i in
-    let z : c .before .before .before .moment-at .result ≡ x = c .before .before .before .moment-at .ensures in
+    let z : after-moment-at .moment-at .result ≡ x = after-moment-at .moment-at .ensures in
     let e : c .step .result ≡ stepped s x = c .step .ensures ∙ ap (stepped s) z in
-    let u = noted (c .before .before) ∙ ap (above (s .items .levels)) z in
+    let u = noted after-shared-slice-known2 ∙ ap (above (s .items .levels)) z in
     let g : AllInRange (x ∷ drop (i + 1) p) = rw (← turn AllInRange p i (omega arith)) (v .2) in
     let after = stepped-timed s x (v .5) in
     let l = ap not u ∙ sym (stepped-low s x after) in
@@ -130,7 +135,7 @@ loop-again c =
 
 returns : tie.Need-returns Inv-loop μ-loop
 returns c =
-    let a = start (c .before) in
+    let a : tie.Start Inv-loop μ-loop = search needs in
     let p = moments (a .args .roll .now) (a .args .acceleration .now) in
     let k : length p ≡ length (a .args .roll .now) = moments-length (a .args .roll .now) (a .args .acceleration .now) (a .pre .0 .equal) in
     let e : drop (c .before .loop .i) p ≡ [] = drop-of-length-le p {i = c .before .loop .i} (omega arith) in

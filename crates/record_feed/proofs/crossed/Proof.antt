@@ -1,5 +1,6 @@
 -- `record_feed::crossed` meets its contract, by its test. Assumes nothing.
 use mathlib.Core.Path.{sym, _∙_}
+use borrow.Author.Needs.{needs}
 use Rattle.record_state.proofs.Relations.{kept-from}
 use Rattle.record_state.proofs.Bounds.{last-chosen-earlier}
 use Rattle.record_feed.proofs.crossed.Statement.{statement}
@@ -12,11 +13,13 @@ far-requires c κs =
 
 counted-requires : tie.Need-counted-requires
 counted-requires c κs =
-    let p = c .before .before .pre in
+    let start : tie.Start = search needs in let p = start .pre in
     (p .0, p .1, sym (c .before .far .ensures) ∙ c .if1 .taken, p .2)
 
 joining-requires : tie.Need-joining-requires
-joining-requires c κs = let p = c .before .before .pre in (p .0, p .1, sym (c .before .far .ensures) ∙ c .if1 .left)
+joining-requires c κs =
+    let start : tie.Start = search needs in
+    let p = start .pre in (p .0, p .1, sym (c .before .far .ensures) ∙ c .if1 .left)
 
 returns : tie.Need-returns
 returns c = c .counted .ensures

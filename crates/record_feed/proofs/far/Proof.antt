@@ -6,6 +6,7 @@ use mathlib.Core.Bool.{Bool, true, false}
 use native.Mathlib.Omega.{arith}
 use lib.Dec.{leb}
 use borrow.Author.Tests.{eq-eqb, ne-eqb, leb-true, leb-false, le-leb, lt-leb}
+use borrow.Author.Needs.{needs}
 use Rattle.record_feed.proofs.Gaps.{in-samples}
 use Rattle.record_feed.proofs.far.Statement.{statement}
 use Rattle.record_feed.proofs.far.Tie as tie
@@ -22,16 +23,16 @@ returns : tie.Need-returns
 returns c = simp (eq-eqb _ _ (c .if1 .taken))
 
 sub-result : tie.Need-sub-result
-sub-result c = c .before .before .before .pre .1
+sub-result c = let start : tie.Start = search needs in start .pre .1
 
 returns-2 : tie.Need-returns-2
 returns-2 c =
-    let a = c .before .before .before in
+    let else1 : tie.Else1 = search needs in let a : tie.Start = search needs in
     let r = a .args .r in
     let p = a .args .place in
-    let h = a .pre .2 (c .before .if1 .left) in
+    let h = a .pre .2 (else1 .if1 .left) in
     let l = a .pre .1 in
-    rw (ne-eqb _ _ (c .before .if1 .left), apart (r .items .step) (r .items .decorrelation) (p - r .items .ramp) (r .n - p) (r .n - r .items .ramp) (omega arith)) (in-samples (a .pre .0) (r .n - p))
+    rw (ne-eqb _ _ (else1 .if1 .left), apart (r .items .step) (r .items .decorrelation) (p - r .items .ramp) (r .n - p) (r .n - r .items .ramp) (omega arith)) (in-samples (a .pre .0) (r .n - p))
 
 pub far-spec : {M : Type 1} → statement M
 far-spec = tie.close (tie.spec returns sub-result returns-2)

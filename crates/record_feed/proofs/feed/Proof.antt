@@ -33,7 +33,7 @@ most : (c : tie.After-most-samples) →
 most c = c .most-samples .ensures ∙ most-of (facts (c .before .before))
 
 sub-room : tie.Need-sub-room
-sub-room c = omega (arith, most (c .before), facts (c .before .before .before) .length)
+sub-room c = let else1 : tie.Else1 = search needs in omega (arith, most (c .before), facts else1 .length)
 
 pass-requires : tie.Need-pass-requires
 pass-requires c κs =

@@ -7,7 +7,8 @@ use Rattle.record_feed.proofs.leading.Statement.{statement}
 use Rattle.record_feed.proofs.leading.Tie as tie
 
 add-left : tie.Need-add-left
-add-left c = let k = items-of (kept-from _ (c .before .before .before .pre)) in omega (arith, k .ramp)
+add-left c =
+    let start : tie.Start = search needs in let k = items-of (kept-from _ (start .pre)) in omega (arith, k .ramp)
 
 pub leading-spec : {M : Type 1} → statement M
 leading-spec = tie.close (tie.spec (λ c. search needs) add-left (λ c. search needs) (λ c. search needs))

@@ -14,7 +14,7 @@ use Rattle.record_feed.proofs.run.Tie as tie
 
 -- ways back to earlier places of the function
 abbrev start : tie.After-ups3 → tie.Start
-start c = c .before .before .before .before
+start c = search needs
 
 -- all of the acceleration is handed on
 all : (c : tie.Start) → take (length (c .args .roll .now)) (c .args .acceleration .now) ≡ c .args .acceleration .now
@@ -24,26 +24,26 @@ noted : (c : tie.After-mark) →
     let a = c .before .before .args in
     take (length (a .roll .now)) (c .mark .last .1 .1 .1 .0) ≡ map (above (a .r .items .levels)) (moments (a .roll .now) (a .acceleration .now))
 noted c =
-    let a = c .before .before in
+    let a : tie.Start = search needs in
     let g = a .args in
     ap (take (length (g .roll .now))) (c .mark .ensures) ∙ marks-front (g .r .items .levels) (g .roll .now) (g .acceleration .now) (replicate 64 false) (a .pre .0 .equal) (a .pre .0 .short)
 
 slice-aggregate-along : tie.Need-slice-aggregate-along
 slice-aggregate-along c =
-    let a = start c in
+    let after-mark : tie.After-mark = search needs in let a : tie.Start = search needs in
     let g = a .args in
-    sym (ap length (noted (c .before .before)) ∙ marks-many (g .r .items .levels) (g .roll .now) (g .acceleration .now) (a .pre .0 .equal))
+    sym (ap length (noted after-mark) ∙ marks-many (g .r .items .levels) (g .roll .now) (g .acceleration .now) (a .pre .0 .equal))
 
 slice-aggregate-along-2 : tie.Need-slice-aggregate-along-2
-slice-aggregate-along-2 c = let b = start (c .before) in rw (all b) (b .pre .0 .equal)
+slice-aggregate-along-2 c = let b : tie.Start = search needs in rw (all b) (b .pre .0 .equal)
 
 along-requires : tie.Need-along-requires
 along-requires c κs =
-    let b = c .before .before .before in
-    let a = b .before .before in rw (all a) (a .pre .0, a .pre .1, noted b)
+    let b : tie.After-mark = search needs in
+    let a : tie.Start = search needs in rw (all a) (a .pre .0, a .pre .1, noted b)
 
 returns : tie.Need-returns
-returns c = rw (all (start (c .before .before))) at (c .along .ensures)
+returns c = let start : tie.Start = search needs in rw (all start) at (c .along .ensures)
 
 pub run-spec : {M : Type 1} → statement M
 run-spec =

@@ -17,15 +17,18 @@ use Rattle.record_feed.proofs.step_all.Statement.{statement}
 use Rattle.record_feed.proofs.step_all.Tie as tie
 
 run-requires : tie.Need-run-requires
-run-requires c κs = (c .before .before .pre .0, omega (arith, c .before .leading .ensures))
+run-requires c κs = let start : tie.Start = search needs in (start .pre .0, omega (arith, c .before .leading .ensures))
 
 moved-requires : tie.Need-moved-requires
-moved-requires c κs = let a = c .before .before .before in omega (arith, a .pre .0 .room, small (kept-from (a .args .r) (a .pre .0 .state)), c .before .before .leading .ensures)
+moved-requires c κs =
+    let after-leading : tie.After-leading = search needs in
+    let a : tie.Start = search needs in omega (arith, a .pre .0 .room, small (kept-from (a .args .r) (a .pre .0 .state)), after-leading .leading .ensures)
 
 returns-2 : tie.Need-returns-2
 returns-2 c =
-    let b = c .before .before .before .before in
-    let a = b .before in
+    let start : tie.Start = search needs in let after-moment-at : tie.After-moment-at = search needs in
+    let b : tie.After-leading = search needs in
+    let a = start in
     let r = a .args .r in
     let xs = a .args .roll .now in
     let ys = a .args .acceleration .now in
@@ -33,7 +36,7 @@ returns-2 c =
     let k : length p ≡ length xs = moments-length xs ys (a .pre .0 .equal) in
     let j = b .leading .result in
     let l = b .leading .ensures in
-    c .before .moved .ensures ∙ ap (moved r j) (c .before .before .moment-at .ensures) ∙ sym (led r p j (omega arith) (omega arith) (omega arith)) ∙ ap (foldl stepped r) (take-all j p (omega arith))
+    c .before .moved .ensures ∙ ap (moved r j) (after-moment-at .moment-at .ensures) ∙ sym (led r p j (omega arith) (omega arith) (omega arith)) ∙ ap (foldl stepped r) (take-all j p (omega arith))
 
 run-requires-2 : tie.Need-run-requires-2
 run-requires-2 c κs =
@@ -63,8 +66,9 @@ run-requires-2 c κs =
 
 returns-3 : tie.Need-returns-3
 returns-3 c =
-    let b = c .before .before .before .before in let d = b .before .before .before in
-    let a = d .before in
+    let start : tie.Start = search needs in let after-moment-at : tie.After-moment-at = search needs in
+    let b : tie.After-moved = search needs in let d : tie.After-leading = search needs in
+    let a = start in
     let r = a .args .r in
     let xs = a .args .roll .now in
     let ys = a .args .acceleration .now in
@@ -72,7 +76,7 @@ returns-3 c =
     let k : length p ≡ length xs = moments-length xs ys (a .pre .0 .equal) in
     let j = d .leading .result in
     let l = d .leading .ensures in
-    let s = b .moved .ensures ∙ ap (moved r j) (b .before .moment-at .ensures) in
+    let s = b .moved .ensures ∙ ap (moved r j) (after-moment-at .moment-at .ensures) in
     let e = take-all (length xs - j) (drop j xs) (omega (arith, length-drop j xs)) in
     let f = take-all (length ys - j) (drop j ys) (omega (arith, length-drop j ys)) in
     c .run2 .ensures ∙ rw (s, e, f, moments-drop j xs ys) (led-on r p j (omega arith) (omega arith) (omega arith))

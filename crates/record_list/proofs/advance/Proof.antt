@@ -14,7 +14,7 @@ use Rattle.record_list.proofs.advance.Tie as tie
 
 returns-2 : tie.Need-returns-2
 returns-2 c =
-    let a = c .before .before .before in
+    let a : tie.Start = search needs in
     let g = a .args in
     let n : length (moments (g .roll .now) (g .acceleration .now)) ≡ length (g .roll .now) = moments-length (g .roll .now) (g .acceleration .now) (a .pre .1) in
     let q = quiet-block (g .step) (g .levels) (g .decorrelation) (g .times .now) (g .w) (g .roll .now) (g .acceleration .now) (sym (a .pre .3) ∙ c .before .if1 .left) (omega (arith, a .pre .4)) in

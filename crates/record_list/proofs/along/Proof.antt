@@ -8,6 +8,7 @@ use native.Mathlib.Numerals.{add-one}
 use native.Mathlib.Omega.{arith}
 use lib.ListN.{length, getD, drop, drop-of-length-le}
 use lib.Seq.{drop-cons}
+use borrow.Author.Needs.{needs}
 use Rattle.record_list.specs.Walk.{Noting, noting, marked, Ready}
 use Rattle.record_list.proofs.Steps.{ready-less, ready-next, marked-length}
 use Rattle.record_list.proofs.along.Statement.{statement}
@@ -25,14 +26,17 @@ abbrev μ-loop : tie.MeasureT-loop
 
 loop-holds : tie.Need-loop-holds Inv-loop μ-loop
 loop-holds c =
-    let e : length (c .before .before .args .ups .now) ≡ length (c .before .before .args .ups .now) - 0 = omega arith in
-    (omega arith, rw e at (c .before .before .pre), refl, refl)
+    let start : tie.Start Inv-loop μ-loop = search needs in
+    let e : length (start .args .ups .now) ≡ length (start .args .ups .now) - 0 = omega arith in
+    (omega arith, rw e at (start .pre), refl, refl)
 
 shared-slice-read-stepped : tie.Need-shared-slice-read-stepped Inv-loop μ-loop
 shared-slice-read-stepped c = omega arith
 
 stepped-requires : tie.Need-stepped-requires Inv-loop μ-loop
-stepped-requires c κs = ready-less (omega arith) (c .before .before .before .loop .inv .1)
+stepped-requires c κs =
+    let at-loop : tie.At-loop Inv-loop μ-loop = search needs in
+    ready-less (omega arith) (at-loop .loop .inv .1)
 
 add-i : tie.Need-add-i Inv-loop μ-loop
 add-i c = omega arith
@@ -42,15 +46,17 @@ loop-less c = omega arith
 
 loop-again : tie.Need-loop-again Inv-loop μ-loop
 loop-again c =
-    let b = c .before .before .before .before .before .before in
-    let g = b .before .before .before .args in
+    let start : tie.Start Inv-loop μ-loop = search needs in
+    let after-stepped : tie.After-stepped Inv-loop μ-loop = search needs in
+    let b : tie.At-loop Inv-loop μ-loop = search needs in
+    let g = start .args in
     let f = marked (g .step) (g .decorrelation) in
     let i = b .loop .i in
     let v = b .loop .v in
     let ts = b .loop .times in
     let inv = b .loop .inv in
     let up = getD (g .ups .now) i false in
-    let e : noting _ _ ≡ f (noting v ts) up = c .before .before .stepped .ensures in
+    let e : noting _ _ ≡ f (noting v ts) up = after-stepped .stepped .ensures in
     let k : length (g .ups .now) - i ≡ suc (length (g .ups .now) - (i + 1)) = omega arith in
     let r : Ready (g .step) (g .decorrelation) v (suc (length (g .ups .now) - (i + 1))) = rw k at (inv .1) in
     let turn : drop i (g .ups .now) ≡ up ∷ drop (i + 1) (g .ups .now) = rw (add-one, drop-cons (g .ups .now) i false (omega arith)) in (
@@ -65,9 +71,10 @@ same-length c = c .before .loop .inv .2
 
 returns : tie.Need-returns Inv-loop μ-loop
 returns c =
-    let g = c .before .before .before .before .args in
-    let e : drop (c .before .loop .i) (g .ups .now) ≡ [] = drop-of-length-le (g .ups .now) {i = c .before .loop .i} (omega arith) in
-    sym (ap (foldl (marked (g .step) (g .decorrelation)) _) e) ∙ c .before .loop .inv .3
+    let start : tie.Start Inv-loop μ-loop = search needs in let at-loop : tie.At-loop Inv-loop μ-loop = search needs in
+    let g = start .args in
+    let e : drop (at-loop .loop .i) (g .ups .now) ≡ [] = drop-of-length-le (g .ups .now) {i = at-loop .loop .i} (omega arith) in
+    sym (ap (foldl (marked (g .step) (g .decorrelation)) _) e) ∙ at-loop .loop .inv .3
 
 pub along-spec : {M : Type 1} → statement M
 along-spec =

@@ -8,6 +8,7 @@ use native.Mathlib.Nat.{zero-add}
 use native.Mathlib.Omega.{arith}
 use lib.ListN.{length, getD, set, length-set}
 use lib.Seq.{paste, paste-zero, paste-suc}
+use borrow.Author.Needs.{needs}
 use Rattle.record_list.proofs.copy.Statement.{statement}
 use Rattle.record_list.proofs.copy.Tie as tie
 
@@ -40,8 +41,8 @@ loop-less c = omega arith
 
 loop-again : tie.Need-loop-again Inv-loop μ-loop
 loop-again c =
-    let b = c .before .before in
-    let g = b .before .args in
+    let start : tie.Start Inv-loop μ-loop = search needs in let b : tie.At-loop Inv-loop μ-loop = search needs in
+    let g = start .args in
     let i = b .loop .i in
     let ts = b .loop .times in
     let inv = b .loop .inv in
@@ -58,8 +59,9 @@ same-length c = c .before .loop .inv .1
 
 returns : tie.Need-returns Inv-loop μ-loop
 returns c =
-    let e : c .before .loop .i ≡ c .before .before .args .k = omega arith in
-    c .before .loop .inv .2 ∙ ap (paste _ 0 _) e
+    let at-loop : tie.At-loop Inv-loop μ-loop = search needs in let start : tie.Start Inv-loop μ-loop = search needs in
+    let e : at-loop .loop .i ≡ start .args .k = omega arith in
+    at-loop .loop .inv .2 ∙ ap (paste _ 0 _) e
 
 pub copy-spec : {M : Type 1} → statement M
 copy-spec =

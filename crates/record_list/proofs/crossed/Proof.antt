@@ -9,14 +9,16 @@ use Rattle.record_list.proofs.crossed.Tie as tie
 returns : tie.Need-returns
 unfolding stepped
 returns c =
-    let b = c .before .before .before .before .before in let d = b .before .before in
-    rw (d .before .before .before .pre .1, sym (d .before .starts .ensures) ∙ d .if1 .taken, b .put .ensures)
+    let start : tie.Start = search needs in let after-starts : tie.After-starts = search needs in
+    let b : tie.After-put = search needs in let d : tie.Then1 = search needs in
+    rw (start .pre .1, sym (after-starts .starts .ensures) ∙ d .if1 .taken, b .put .ensures)
 
 returns-2 : tie.Need-returns-2
 unfolding stepped
 returns-2 c =
-    let b = c .before .before in
-    rw (b .before .before .before .pre .1, sym (b .before .starts .ensures) ∙ b .if1 .left)
+    let start : tie.Start = search needs in let after-starts : tie.After-starts = search needs in
+    let b : tie.Else1 = search needs in
+    rw (start .pre .1, sym (after-starts .starts .ensures) ∙ b .if1 .left)
 
 pub crossed-spec : {M : Type 1} → statement M
 crossed-spec =

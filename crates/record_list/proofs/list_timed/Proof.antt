@@ -7,12 +7,13 @@ use Rattle.record_list.proofs.list_timed.Tie as tie
 
 list-at-once-requires : tie.Need-list-at-once-requires
 list-at-once-requires c κs =
-    let p = c .before .before .before .before .pre in
-    (p .0, p .1, c .before .before .writes-at-once .ensures (c .before .if1 .taken))
+    let start : tie.Start = search needs in let after-writes-at-once : tie.After-writes-at-once = search needs in
+    let p = start .pre in
+    (p .0, p .1, after-writes-at-once .writes-at-once .ensures (c .before .if1 .taken))
 
 settle-requires : tie.Need-settle-requires
 settle-requires c κs =
-    let b = c .before .before .before in let p = b .before .before .before .before .before .pre in
+    let start : tie.Start = search needs in let b : tie.After-pass = search needs in let p = start .pre in
     (p .0, p .1, record { before = _; same = sym (b .pass .kept .1 .1 .1 .1 .1 .0); passes = b .pass .ensures })
 
 pub list-timed-spec : {M : Type 1} → statement M

@@ -31,18 +31,18 @@ abbrev μ-loop : tie.MeasureT-loop
 
 -- ways back to earlier places of the function
 abbrev start : tie.At-loop Inv-loop μ-loop → tie.Start Inv-loop μ-loop
-start c = c .before .before .before
+start c = search needs
 
 abbrev start₂ : tie.After-end Inv-loop μ-loop → tie.Start Inv-loop μ-loop
-start₂ c = start (c .before .before)
+start₂ c = search needs
 
 abbrev end : tie.After-ends-of2 Inv-loop μ-loop → tie.After-end Inv-loop μ-loop
-end c = c .before .before .before .before
+end c = search needs
 
 loop-holds : tie.Need-loop-holds Inv-loop μ-loop
 loop-holds c =
-    let g = c .before .before .args in
-    rw (c .start .ensures) (begins (g .step) (g .levels) (g .decorrelation) (g .roll .now) (g .acceleration .now) (g .times .now) (c .before .before .pre .0), zero-add _, zero-add _)
+    let start : tie.Start Inv-loop μ-loop = search needs in let g = start .args in
+    rw (c .start .ensures) (begins (g .step) (g .levels) (g .decorrelation) (g .roll .now) (g .acceleration .now) (g .times .now) (start .pre .0), zero-add _, zero-add _)
 
 -- the block is within the samples, and not empty
 within : (c : tie.After-end Inv-loop μ-loop) → (c .before .before .loop .i < c .end .result) × (c .end .result ≤ length (start₂ c .args .roll .now))
@@ -61,44 +61,56 @@ part-rolls-end : tie.Need-part-rolls-end Inv-loop μ-loop
 part-rolls-end c = omega (arith, within c)
 
 mul-accelerations : tie.Need-mul-accelerations Inv-loop μ-loop
-mul-accelerations c = omega (arith, within (c .before), start₂ (c .before) .pre .1)
+mul-accelerations c =
+    let start : tie.Start Inv-loop μ-loop = search needs in
+    omega (arith, within (c .before), start .pre .1)
 
 sub-accelerations : tie.Need-sub-accelerations Inv-loop μ-loop
-sub-accelerations c = omega (arith, within (c .before), start₂ (c .before) .pre .1)
+sub-accelerations c =
+    let start : tie.Start Inv-loop μ-loop = search needs in
+    omega (arith, within (c .before), start .pre .1)
 
 part-accelerations-start : tie.Need-part-accelerations-start Inv-loop μ-loop
-part-accelerations-start c = omega (arith, within (c .before), start₂ (c .before) .pre .1)
+part-accelerations-start c =
+    let start : tie.Start Inv-loop μ-loop = search needs in
+    omega (arith, within (c .before), start .pre .1)
 
 part-accelerations-end : tie.Need-part-accelerations-end Inv-loop μ-loop
-part-accelerations-end c = omega (arith, within (c .before), start₂ (c .before) .pre .1)
+part-accelerations-end c =
+    let start : tie.Start Inv-loop μ-loop = search needs in
+    omega (arith, within (c .before), start .pre .1)
 
 -- the ends of a block say whether a sample of it is bad
 told : (c : tie.After-outside Inv-loop μ-loop) →
     let d = end (c .before) in
     let e = d .end in let b = d .before .before in let a = start b .args in
     c .outside .result ≡ anyBad (take (e .result - b .loop .i) (drop (b .loop .i) (a .roll .now))) (take (e .result - b .loop .i) (drop (b .loop .i) (a .acceleration .now)))
-told c = c .outside .ensures ∙ ends-tell _ _ _ _ (c .before .before .ends-of .ensures) (c .before .ends-of2 .ensures)
+told c =
+    let after-ends-of : tie.After-ends-of Inv-loop μ-loop = search needs in
+    c .outside .ensures ∙ ends-tell _ _ _ _ (after-ends-of .ends-of .ensures) (c .before .ends-of2 .ensures)
 
 same-length : tie.Need-same-length Inv-loop μ-loop
-same-length c = c .before .before .before .before .before .before .before .before .loop .inv .0 .same
+same-length c = let at-loop : tie.At-loop Inv-loop μ-loop = search needs in at-loop .loop .inv .0 .same
 
 returns : tie.Need-returns Inv-loop μ-loop
 returns c =
-    let b = end (c .before .before) in
-    let a = start₂ b in
-    let v = b .before .before .loop .inv in
+    let at-loop : tie.At-loop Inv-loop μ-loop = search needs in let b : tie.After-end Inv-loop μ-loop = search needs in
+    let a : tie.Start Inv-loop μ-loop = search needs in
+    let v = at-loop .loop .inv in
     let w = within b in
     block-bad (a .args .roll .now) (a .args .acceleration .now) (a .pre .1) _ _ (omega arith) (w .1) (v .1) (v .2) (sym (told (c .before)) ∙ c .if1 .taken)
 
 advance-requires : tie.Need-advance-requires Inv-loop μ-loop
 advance-requires c κs =
-    let d = c .before .before .before .before in let b = end d in
-    let a = start₂ b in
-    let l = b .before .before .loop in
+    let at-loop : tie.At-loop Inv-loop μ-loop = search needs in
+    let after-ends-of : tie.After-ends-of Inv-loop μ-loop = search needs in
+    let d : tie.After-ends-of2 Inv-loop μ-loop = search needs in let b : tie.After-end Inv-loop μ-loop = search needs in
+    let a : tie.Start Inv-loop μ-loop = search needs in
+    let l = at-loop .loop in
     let e = b .end .result in
     let w = within b in
     let k = block-length (a .args .roll .now) (l .i) e (omega arith) (w .1) in
-    let q = ends-say (a .args .levels) _ _ _ _ (d .before .ends-of .ensures) (d .ends-of2 .ensures) in (
+    let q = ends-say (a .args .levels) _ _ _ _ (after-ends-of .ends-of .ensures) (d .ends-of2 .ensures) in (
       ready-less (omega (arith, k)) (l .inv .0 .ready),
       block-equal (a .args .roll .now) (a .args .acceleration .now)
           (a .pre .1) (l .i) e (omega arith) (w .1),
@@ -112,13 +124,15 @@ advance-requires c κs =
     )
 
 loop-less : tie.Need-loop-less Inv-loop μ-loop
-loop-less c = omega (arith, within (end (c .before .before .before .before .before .before .before)))
+loop-less c = let after-end : tie.After-end Inv-loop μ-loop = search needs in omega (arith, within after-end)
 
 loop-again : tie.Need-loop-again Inv-loop μ-loop
 loop-again c =
-    let k = c .before .before .before .before .before in
-    let b = end (k .before .before) in let d = b .before .before in
-    let m = start d in
+    let after-outside : tie.After-outside Inv-loop μ-loop = search needs in
+    let after-advance : tie.After-advance Inv-loop μ-loop = search needs in
+    let k : tie.Else1 Inv-loop μ-loop = search needs in
+    let b : tie.After-end Inv-loop μ-loop = search needs in let d : tie.At-loop Inv-loop μ-loop = search needs in
+    let m : tie.Start Inv-loop μ-loop = search needs in
     let g = m .args in
     let xs = g .roll .now in
     let ys = g .acceleration .now in
@@ -127,8 +141,8 @@ loop-again c =
     let inv = d .loop .inv in
     let e = b .end .result in
     let h = within b in
-    let good = none-bad _ _ (sym (told (k .before)) ∙ k .if1 .left) in (
-      goes-on same (inv .0) e (omega arith) (h .1) (c .before .before .advance .ensures),
+    let good = none-bad _ _ (sym (told after-outside) ∙ k .if1 .left) in (
+      goes-on same (inv .0) e (omega arith) (h .1) (after-advance .advance .ensures),
       good-on xs i e (omega arith) (h .1) (inv .1) (good .0),
       good-on ys i e (omega arith) (omega (arith, h .1, same)) (inv .2) (good .1),
     )
@@ -139,7 +153,7 @@ same-length-2 c = c .before .loop .inv .0 .same
 returns-2 : tie.Need-returns-2 Inv-loop μ-loop
 unfolding firstBad
 returns-2 c =
-    let a = start (c .before) in
+    let a : tie.Start Inv-loop μ-loop = search needs in
     let g = a .args in
     let xs = g .roll .now in
     let ys = g .acceleration .now in

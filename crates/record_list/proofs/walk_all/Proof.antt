@@ -19,11 +19,13 @@ abbrev μ-loop : tie.MeasureT-loop
 
 -- ways back to earlier places of the function
 abbrev start : tie.After-end Inv-loop μ-loop → tie.Start Inv-loop μ-loop
-start c = c .before .before .before .before .before
+start c = search needs
 
 loop-holds : tie.Need-loop-holds Inv-loop μ-loop
-loop-holds c = let g = c .before .before .args in rw (c .start .ensures) (begins (g .step) (g .levels)
-    (g .decorrelation) (g .roll .now) (g .acceleration .now) (g .times .now) (c .before .before .pre .0))
+loop-holds c =
+    let start : tie.Start Inv-loop μ-loop = search needs in
+    let g = start .args in rw (c .start .ensures) (begins (g .step) (g .levels)
+    (g .decorrelation) (g .roll .now) (g .acceleration .now) (g .times .now) (start .pre .0))
 
 -- the block is within the samples, and not empty
 within : (c : tie.After-end Inv-loop μ-loop) → (c .before .before .loop .i < c .end .result) × (c .end .result ≤ length (start c .args .roll .now))
@@ -42,22 +44,30 @@ part-walk-block-end : tie.Need-part-walk-block-end Inv-loop μ-loop
 part-walk-block-end c = omega (arith, within c)
 
 mul-walk-block-2 : tie.Need-mul-walk-block-2 Inv-loop μ-loop
-mul-walk-block-2 c = omega (arith, within (c .before), start (c .before) .pre .1)
+mul-walk-block-2 c =
+    let start : tie.Start Inv-loop μ-loop = search needs in
+    omega (arith, within (c .before), start .pre .1)
 
 sub-walk-block-2 : tie.Need-sub-walk-block-2 Inv-loop μ-loop
-sub-walk-block-2 c = omega (arith, within (c .before), start (c .before) .pre .1)
+sub-walk-block-2 c =
+    let start : tie.Start Inv-loop μ-loop = search needs in
+    omega (arith, within (c .before), start .pre .1)
 
 part-walk-block-start-2 : tie.Need-part-walk-block-start-2 Inv-loop μ-loop
-part-walk-block-start-2 c = omega (arith, within (c .before), start (c .before) .pre .1)
+part-walk-block-start-2 c =
+    let start : tie.Start Inv-loop μ-loop = search needs in
+    omega (arith, within (c .before), start .pre .1)
 
 part-walk-block-end-2 : tie.Need-part-walk-block-end-2 Inv-loop μ-loop
-part-walk-block-end-2 c = omega (arith, within (c .before), start (c .before) .pre .1)
+part-walk-block-end-2 c =
+    let start : tie.Start Inv-loop μ-loop = search needs in
+    omega (arith, within (c .before), start .pre .1)
 
 walk-block-requires : tie.Need-walk-block-requires Inv-loop μ-loop
 walk-block-requires c κs =
-    let b = c .before .before .before in
-    let a = start b in
-    let l = b .before .before .loop in
+    let at-loop : tie.At-loop Inv-loop μ-loop = search needs in let b : tie.After-end Inv-loop μ-loop = search needs in
+    let a : tie.Start Inv-loop μ-loop = search needs in
+    let l = at-loop .loop in
     let e = b .end in
     let w = within b in
     let k = block-length (a .args .roll .now) (l .i) (e .result) (omega arith) (w .1) in (
@@ -73,19 +83,23 @@ walk-block-requires c κs =
     )
 
 loop-less : tie.Need-loop-less Inv-loop μ-loop
-loop-less c = omega (arith, within (c .before .before .before .before .before .before))
+loop-less c = let after-end : tie.After-end Inv-loop μ-loop = search needs in omega (arith, within after-end)
 
 loop-again : tie.Need-loop-again Inv-loop μ-loop
 loop-again c =
-    let b = c .before .before .before .before .before .before in
+    let start : tie.Start Inv-loop μ-loop = search needs in let at-loop : tie.At-loop Inv-loop μ-loop = search needs in
+    let after-walk-block : tie.After-walk-block Inv-loop μ-loop = search needs in
+    let b : tie.After-end Inv-loop μ-loop = search needs in
     let w = within b in
-    goes-on (start b .pre .1) (b .before .before .loop .inv) _ (omega arith) (w .1) (c .before .before .walk-block .ensures)
+    goes-on (start .pre .1) (at-loop .loop .inv) _ (omega arith) (w .1) (after-walk-block .walk-block .ensures)
 
 same-length : tie.Need-same-length Inv-loop μ-loop
 same-length c = c .before .loop .inv .same
 
 returns : tie.Need-returns Inv-loop μ-loop
-returns c = arrives (c .before .before .before .before .pre .1) (c .before .loop .inv) (omega arith)
+returns c =
+    let start : tie.Start Inv-loop μ-loop = search needs in
+    arrives (start .pre .1) (c .before .loop .inv) (omega arith)
 
 pub walk-all-spec : {M : Type 1} → statement M
 walk-all-spec =

@@ -11,18 +11,18 @@ use Rattle.record_list.proofs.write.Statement.{statement}
 use Rattle.record_list.proofs.write.Tie as tie
 
 returns : tie.Need-returns
-returns c = let n = c .before .before .before .pre .3 in rw n (writes-room _ _ (omega arith))
+returns c = let start : tie.Start = search needs in let n = start .pre .3 in rw n (writes-room _ _ (omega arith))
 
 returns-2 : tie.Need-returns-2
 returns-2 c =
-    let p = c .before .before .before .before .before .before .before .before .pre in
+    let start : tie.Start = search needs in let after-copy : tie.After-copy = search needs in let p = start .pre in
     let n = p .3 in
-    rw (c .before .before .copy .ensures, zero-add, p .4 (omega arith), n) (writes-times _ _ (omega arith))
+    rw (after-copy .copy .ensures, zero-add, p .4 (omega arith), n) (writes-times _ _ (omega arith))
 
 returns-3 : tie.Need-returns-3
 returns-3 c =
-    let b = c .before .before in
-    let a = b .before .before .before .before .before .before in
+    let b : tie.After-pass = search needs in
+    let a : tie.Start = search needs in
     let g = a .args in
     rw (a .pre .3) (writes-passed (g .step) (g .levels) (g .decorrelation) (g .roll .now) (g .acceleration .now) (g .times .now) _ (b .pass .result) (a .pre .2) (omega arith) (b .pass .ensures))
 

@@ -20,7 +20,7 @@ returns-2 c = λ e. impossible (cc)
 
 pass-requires : tie.Need-pass-requires
 pass-requires c κs =
-    let a = c .before .before .before .before .before in
+    let a : tie.Start = search needs in
     let xs = a .args .roll .now in
     let l = block-length xs (length xs / 2) (length xs / 2 + 1024) (omega arith) (omega arith) in
     (ready-less (omega (arith, l)) (a .pre .0), block-equal xs (a .args .acceleration .now) (a .pre .1) (length xs / 2) (length xs / 2 + 1024) (omega arith) (omega arith))

@@ -5,8 +5,8 @@ use Rattle.record_state.proofs.failure_kept.Tie as tie
 
 returns : tie.Need-returns
 returns c =
-    let b = c .before .before in
-    rw (c .both4 .ensures, c .before .both3 .ensures, b .both2 .ensures, b .before .both .ensures, b .before .before .before .before .before .before .spans .ensures)
+    let after-spans : tie.After-spans = search needs in let b : tie.After-both2 = search needs in
+    rw (c .both4 .ensures, c .before .both3 .ensures, b .both2 .ensures, b .before .both .ensures, after-spans .spans .ensures)
 
 pub failure-kept-spec : {M : Type 1} → statement M
 failure-kept-spec =

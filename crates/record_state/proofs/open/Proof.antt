@@ -7,7 +7,9 @@ use Rattle.record_state.proofs.open.Tie as tie
 
 returns : tie.Need-returns
 unfolding opened
-returns c = rw (← c .before .before .item-outside .ensures, eq-eqb _ _ (c .before .if1 .taken), c .fresh .ensures)
+returns c =
+    let after-item-outside : tie.After-item-outside = search needs in
+    rw (← after-item-outside .item-outside .ensures, eq-eqb _ _ (c .before .if1 .taken), c .fresh .ensures)
 
 returns-2 : tie.Need-returns-2
 unfolding opened

@@ -16,12 +16,14 @@ returns c = rw (← c .before .item-outside .ensures, ne-eqb _ _ (c .if1 .taken)
 returns-2 : tie.Need-returns-2
 unfolding sound
 returns-2 c =
-    let b = c .before .before .before .before .before .before in let d = b .before .before in
-    let r = d .before .before .args .r in
+    let start : tie.Start = search needs in let after-both : tie.After-both = search needs in
+    let after-figures-kept : tie.After-figures-kept = search needs in
+    let b : tie.After-most-samples = search needs in let d : tie.Else1 = search needs in
+    let r = start .args .r in
     let z = sym (d .before .item-outside .ensures) ∙ d .if1 .left in
     let e : itemsKept r ≡ true = eq-eqb _ 0 z in
     let m = most-in-range (r .items) z in
-    rw (e, c .both3 .ensures, c .before .both2 .ensures, c .before .before .both .ensures, c .before .before .before .figures-kept .ensures, b .most-samples .ensures, m, b .before .last-kept .ensures)
+    rw (e, c .both3 .ensures, c .before .both2 .ensures, after-both .both .ensures, after-figures-kept .figures-kept .ensures, b .most-samples .ensures, m, b .before .last-kept .ensures)
 
 pub sound-spec : {M : Type 1} → statement M
 sound-spec =

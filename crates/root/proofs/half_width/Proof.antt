@@ -28,11 +28,13 @@ sub-least : tie.Need-sub-least
 sub-least c = omega (arith, known c .among)
 
 mul-least-3 : tie.Need-mul-least-3
-mul-least-3 c = let a = c .before .before .args in omega (arith, scatter-fits (a .factor) (a .n) (a .p) (known c))
+mul-least-3 c =
+    let start : tie.Start = search needs in
+    let a = start .args in omega (arith, scatter-fits (a .factor) (a .n) (a .p) (known c))
 
 returns-2 : tie.Need-returns-2
 returns-2 c =
-    let a = c .before .before .before .args in
+    let start : tie.Start = search needs in let a = start .args in
     let m = known (c .before) in
     c .least .ensures ∙ root-width (a .factor) (a .n) (a .p) (m .among) ∙ sym (width-within (a .factor) (a .n) (a .p) m)
 

@@ -13,7 +13,7 @@ returns c = let e : c .before .args .p ≡ 0 = c .if1 .taken in rw e (sym (no-ro
 
 returns-2 : tie.Need-returns-2
 returns-2 c =
-    let a = c .before .before .before .args in
+    let start : tie.Start = search needs in let a = start .args in
     only-least (least-of (c .before .quotient-up .ensures) (c .root-of .ensures)) (least-root (a .a) (a .p) (omega arith))
 
 pub least-spec : {M : Type 1} → statement M

@@ -4,7 +4,9 @@ use Rattle.root.proofs.measured.Statement.{statement}
 use Rattle.root.proofs.measured.Tie as tie
 
 returns : tie.Need-returns
-returns c = rw (c .both3 .ensures, c .before .both2 .ensures, c .before .before .both .ensures)
+returns c =
+    let after-both : tie.After-both = search needs in
+    rw (c .both3 .ensures, c .before .both2 .ensures, after-both .both .ensures)
 
 pub measured-spec : {M : Type 1} → statement M
 measured-spec =

@@ -2,6 +2,7 @@
 -- apart the two numbers are. Assumes nothing.
 use Prim.Native.Nat.{_-_}
 use native.Mathlib.Omega.{arith}
+use borrow.Author.Needs.{needs}
 use Rattle.root.proofs.Halving.{Between, downwards, ends, middle-high, middle-low, square, starts, upwards}
 use Rattle.root.proofs.root_of.Statement.{statement}
 use Rattle.root.proofs.root_of.Tie as tie
@@ -23,20 +24,28 @@ mul-if1 c = omega (arith, square (c .before .loop .inv) (c .loop-test .taken))
 
 add-low : tie.Need-add-low Inv-loop μ-loop
 add-low c =
-    let l = c .before .before .loop in
+    let at-loop : tie.At-loop Inv-loop μ-loop = search needs in let l = at-loop .loop in
     omega (arith, middle-high (l .inv) (c .before .loop-test .taken), l .inv .within)
 
 loop-less : tie.Need-loop-less Inv-loop μ-loop
-loop-less c = omega (arith, middle-low (c .before .before .loop .inv) (c .before .loop-test .taken))
+loop-less c =
+    let at-loop : tie.At-loop Inv-loop μ-loop = search needs in
+    omega (arith, middle-low (at-loop .loop .inv) (c .before .loop-test .taken))
 
 loop-again : tie.Need-loop-again Inv-loop μ-loop
-loop-again c = upwards (c .before .before .loop .inv) (c .before .loop-test .taken) (c .if1 .taken)
+loop-again c =
+    let at-loop : tie.At-loop Inv-loop μ-loop = search needs in
+    upwards (at-loop .loop .inv) (c .before .loop-test .taken) (c .if1 .taken)
 
 loop-less-2 : tie.Need-loop-less-2 Inv-loop μ-loop
-loop-less-2 c = omega (arith, middle-high (c .before .before .loop .inv) (c .before .loop-test .taken))
+loop-less-2 c =
+    let at-loop : tie.At-loop Inv-loop μ-loop = search needs in
+    omega (arith, middle-high (at-loop .loop .inv) (c .before .loop-test .taken))
 
 loop-again-2 : tie.Need-loop-again-2 Inv-loop μ-loop
-loop-again-2 c = downwards (c .before .before .loop .inv) (c .before .loop-test .taken) (c .if1 .left)
+loop-again-2 c =
+    let at-loop : tie.At-loop Inv-loop μ-loop = search needs in
+    downwards (at-loop .loop .inv) (c .before .loop-test .taken) (c .if1 .left)
 
 returns : tie.Need-returns Inv-loop μ-loop
 returns c = ends (c .before .loop .inv) (c .loop-test .left)

@@ -12,25 +12,23 @@ Inv-loop text₀ out₀ sheets₀ text out sheets = (length text ≡ length text
 abbrev μ-loop : tie.MeasureT-loop
 μ-loop text₀ out₀ sheets₀ text out sheets = sheets
 
--- ways back to earlier places of the function
-abbrev loop : tie.After-next Inv-loop μ-loop → tie.At-loop Inv-loop μ-loop
-loop c = c .before .before .before .before
-
-abbrev next : tie.After-slice-known4 Inv-loop μ-loop → tie.After-next Inv-loop μ-loop
-next c = c .before .before .before .before
-
 loop-holds : tie.Need-loop-holds Inv-loop μ-loop
 loop-holds c = (refl, refl)
 
 same-length : tie.Need-same-length Inv-loop μ-loop
-same-length c = let b = next (c .before) in b .next .kept .0 ∙ loop b .loop .inv .0
+same-length c =
+    let at-loop : tie.At-loop Inv-loop μ-loop = search needs in
+    let b : tie.After-next Inv-loop μ-loop = search needs in b .next .kept .0 ∙ at-loop .loop .inv .0
 
 same-length-2 : tie.Need-same-length-2 Inv-loop μ-loop
-same-length-2 c = let b = next (c .before) in b .next .kept .1 .0 ∙ loop b .loop .inv .1
+same-length-2 c =
+    let at-loop : tie.At-loop Inv-loop μ-loop = search needs in
+    let b : tie.After-next Inv-loop μ-loop = search needs in b .next .kept .1 .0 ∙ at-loop .loop .inv .1
 
 loop-again : tie.Need-loop-again Inv-loop μ-loop
 loop-again c =
-    let b = next (c .before) in let i = loop b .loop .inv in
+    let at-loop : tie.At-loop Inv-loop μ-loop = search needs in
+    let b : tie.After-next Inv-loop μ-loop = search needs in let i = at-loop .loop .inv in
     (b .next .kept .0 ∙ i .0, b .next .kept .1 .0 ∙ i .1)
 
 same-length-3 : tie.Need-same-length-3 Inv-loop μ-loop

@@ -12,8 +12,8 @@ slice-aggregate-piece c = sym (length-take-le _ _ (omega arith))
 
 sub-from : tie.Need-sub-from
 sub-from c =
-    let a = c .before .before .before .before .before .before .before .before .before .before .before .before .args in
-    omega (arith, rw (c .before .first .given .1) at (c .before .before .before .before .before .piece .ensures), length-take-le (a .cut) (now (a .text)) (omega arith))
+    let start : tie.Start = search needs in let after-piece : tie.After-piece = search needs in let a = start .args in
+    omega (arith, rw (c .before .first .given .1) at (after-piece .piece .ensures), length-take-le (a .cut) (now (a .text)) (omega arith))
 
 slice-aggregate-piece-2 : tie.Need-slice-aggregate-piece-2
 slice-aggregate-piece-2 c = sym (length-take-le _ _ (omega arith))

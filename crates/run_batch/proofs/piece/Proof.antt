@@ -11,7 +11,7 @@ use Rattle.run_batch.proofs.piece.Tie as tie
 
 put-fits : (c : tie.After-known-told) → c .before .reading .given .0 .1 .0 ≤ length (c .before .before .before .before .before .run .last .1 .1 .1 .0)
 put-fits c =
-    let r = c .before .before .before .before .before .run in
+    let after-run : tie.After-run = search needs in let r = after-run .run in
     omega (arith, rw (c .before .reading .given .1) at (r .ensures .1 .1 .0), r .kept .1 .1 .1 .0)
 
 slice-reshare-prefix-write-all : tie.Need-slice-reshare-prefix-write-all
@@ -22,8 +22,8 @@ slice-aggregate-write-all c = sym (length-take-le _ _ (put-fits (c .before)))
 
 returns : tie.Need-returns
 returns c =
-    let b = c .before .before .before in
-    (rw (b .reading .given .1) at (b .before .before .before .before .run .ensures .1 .1 .1)) .0
+    let after-run : tie.After-run = search needs in let b : tie.After-reading = search needs in
+    (rw (b .reading .given .1) at (after-run .run .ensures .1 .1 .1)) .0
 
 pub piece-spec : {M : Type 1} → statement M
 piece-spec =

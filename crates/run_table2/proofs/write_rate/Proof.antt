@@ -14,7 +14,7 @@ above-number (inf s) e = tt
 above-number (fin s m k) e = tt
 
 four-digits-requires : tie.Need-four-digits-requires
-four-digits-requires c κs = above-number (c .before .before .before .before .args .rate) (c .if1 .taken)
+four-digits-requires c κs = let start : tie.Start = search needs in above-number (start .args .rate) (c .if1 .taken)
 
 pub write-rate-spec : {M : Type 1} → statement M
 write-rate-spec =

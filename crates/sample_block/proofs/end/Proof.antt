@@ -13,11 +13,13 @@ returns c = rw (lt-leb (c .before .args .i + 64) (c .before .args .n) (omega ari
 
 returns-2 : tie.Need-returns-2
 unfolding blockEnd
-returns-2 c = let a = c .before .before .args in rw (lt-leb (a .i + 64) (a .n) (omega arith))
+returns-2 c =
+    let start : tie.Start = search needs in let a = start .args in rw (lt-leb (a .i + 64) (a .n) (omega arith))
 
 returns-3 : tie.Need-returns-3
 unfolding blockEnd
-returns-3 c = let a = c .before .before .args in rw (le-leb (a .i + 64) (a .n) (omega arith))
+returns-3 c =
+    let start : tie.Start = search needs in let a = start .args in rw (le-leb (a .i + 64) (a .n) (omega arith))
 
 pub end-spec : {M : Type 1} → statement M
 end-spec = tie.close (tie.spec returns (λ c. search needs) returns-2 returns-3)

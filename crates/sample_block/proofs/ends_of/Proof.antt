@@ -38,8 +38,9 @@ loop-less c = omega arith
 
 loop-again : tie.Need-loop-again Inv-loop μ-loop
 loop-again c =
-    let p = c .before .before .before .before .before .args .samples .now in
-    let l = c .before .before .before .before .loop in
+    let start : tie.Start Inv-loop μ-loop = search needs in let at-loop : tie.At-loop Inv-loop μ-loop = search needs in
+    let p = start .args .samples .now in
+    let l = at-loop .loop in
     let x = getD p (l .i) (pos 0) in
     let f : SFits w32 x = search needs in
     let low : SFits w32 (c .before .chosen .result) = search needs in
@@ -52,7 +53,7 @@ loop-again c =
 
 returns : tie.Need-returns Inv-loop μ-loop
 returns c =
-    let p = c .before .before .args .samples .now in
+    let start : tie.Start Inv-loop μ-loop = search needs in let p = start .args .samples .now in
     let l = c .before .loop in
     let e : drop (l .i) p ≡ [] = drop-of-length-le p {i = l .i} (omega arith) in (
       sym (ap (foldl lower (toZ w32 (l .low))) e) ∙ l .inv .1,

@@ -7,7 +7,7 @@ use Rattle.sample_block.proofs.loud.Tie as tie
 
 returns : tie.Need-returns
 returns c =
-    let b = c .before .before .args in
+    let start : tie.Start = search needs in let b = start .args in
     let a = b .level in
     let xs = b .samples .now in
     c .past .ensures ∙ rw (c .before .ends-of .ensures .0, c .before .ends-of .ensures .1) (ends-say a xs)

@@ -8,7 +8,7 @@ use Rattle.sample_block.proofs.past.Tie as tie
 
 returns : tie.Need-returns
 returns c =
-    let e = c .before .before .before .before .before .args .e in
+    let start : tie.Start = search needs in let e = start .args .e in
     let low : SFits w32 (e .lowest) = search needs in
     let high : SFits w32 (e .highest) = search needs in
     cc (toZ-ofZ low, toZ-ofZ high)

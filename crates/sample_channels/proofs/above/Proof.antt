@@ -8,7 +8,7 @@ use Rattle.sample_channels.proofs.above.Tie as tie
 
 returns : tie.Need-returns
 returns c =
-    let x = c .before .before .before .before .before .args .x in
+    let start : tie.Start = search needs in let x = start .args .x in
     let roll : SFits w32 (x .roll) = search needs in
     let acceleration : SFits w32 (x .acceleration) = search needs in
     cc (toZ-ofZ roll, toZ-ofZ acceleration)

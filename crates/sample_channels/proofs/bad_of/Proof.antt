@@ -10,7 +10,9 @@ returns-2 : tie.Need-returns-2
 returns-2 c = rw (c .before .if1 .left, c .if2 .taken)
 
 returns-3 : tie.Need-returns-3
-returns-3 c = rw (c .before .before .if1 .left, c .before .if2 .left, c .bad-sample .ensures)
+returns-3 c =
+    let else1 : tie.Else1 = search needs in
+    rw (else1 .if1 .left, c .before .if2 .left, c .bad-sample .ensures)
 
 pub bad-of-spec : {M : Type 1} → statement M
 bad-of-spec = tie.close (tie.spec returns returns-2 (λ c κs. search needs) returns-3)

@@ -8,13 +8,15 @@ use Rattle.sample_channels.proofs.look_over.Tie as tie
 tested : (c : tie.After-either) →
     let a = c .before .before .before .args in
     c .either .result ≡ anyBad (a .roll .now) (a .acceleration .now)
-tested c = rw (c .either .ensures, c .before .before .first-bad .ensures, c .before .first-bad2 .ensures)
+tested c =
+    let after-first-bad : tie.After-first-bad = search needs in
+    rw (c .either .ensures, after-first-bad .first-bad .ensures, c .before .first-bad2 .ensures)
 
 returns : tie.Need-returns
 unfolding looked
 returns c =
-    let b = c .before .before in
-    let p = b .before .before .first-bad .ensures in
+    let after-first-bad : tie.After-first-bad = search needs in let b : tie.After-either = search needs in
+    let p = after-first-bad .first-bad .ensures in
     let q = b .before .first-bad2 .ensures in
     rw (sym (tested b) ∙ c .before .if1 .taken, c .bad-of .ensures, p, q)
 

@@ -36,10 +36,11 @@ loop-less c = omega arith
 
 loop-again : tie.Need-loop-again Inv-loop μ-loop
 loop-again c =
-    let g = c .before .before .before .before .before .before .before .args in
-    let i = c .before .before .before .loop .i in
-    let ups = c .before .before .before .loop .ups in
-    let inv = c .before .before .before .loop .inv in
+    let start : tie.Start Inv-loop μ-loop = search needs in let at-loop : tie.At-loop Inv-loop μ-loop = search needs in
+    let g = start .args in
+    let i = at-loop .loop .i in
+    let ups = at-loop .loop .ups in
+    let inv = at-loop .loop .inv in
     let p = moments (g .roll .now) (g .acceleration .now) in
     let marks = map (above (g .levels)) p in
     let d = above (g .levels) still in
@@ -56,7 +57,7 @@ same-length c = c .before .loop .inv .1
 
 returns : tie.Need-returns Inv-loop μ-loop
 returns c =
-    let g = c .before .before .before .before .before .args in
+    let start : tie.Start Inv-loop μ-loop = search needs in let g = start .args in
     let p = moments (g .roll .now) (g .acceleration .now) in
     let e : c .before .loop .i ≡ min (length (g .ups .now)) (length p) = omega (arith, moments-shorter (g .roll .now) (g .acceleration .now)) in
     c .before .loop .inv .2 ∙ ap (paste (g .ups .now) 0 (map (above (g .levels)) p)) e

@@ -12,8 +12,8 @@ use Rattle.sample_channels.proofs.seen.Tie as tie
 
 returns : tie.Need-returns
 returns c =
-    let a = c .before .before .args in
-    let p = c .before .before .pre in
+    let start : tie.Start = search needs in let a = start .args in
+    let p = start .pre in
     let roll : SFits w32 (getD (a .roll .now) (a .i) (pos 0)) = search needs in
     let acceleration : SFits w32 (getD (a .acceleration .now) (a .i) (pos 0)) = search needs in
     rw (toZ-ofZ roll, toZ-ofZ acceleration) (sym (moments-at (a .roll .now) (a .acceleration .now) (a .i) (p .0) (p .1)))

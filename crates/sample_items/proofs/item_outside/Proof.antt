@@ -7,18 +7,19 @@ use Rattle.sample_items.proofs.item_outside.Tie as tie
 returns : tie.Need-returns
 unfolding itemOutside
 returns c =
-    let d = c .before .before in let b = d .before .before .before in let e = b .before .before in
+    let after-pick3 : tie.After-pick3 = search needs in let after-between : tie.After-between = search needs in
+    let d : tie.After-pick4 = search needs in let b : tie.After-between3 = search needs in let e : tie.After-between2 = search needs in
     rw (
       c .pick5 .ensures,
       c .before .between5 .ensures,
       d .pick4 .ensures,
       d .before .between4 .ensures,
-      d .before .before .pick3 .ensures,
+      after-pick3 .pick3 .ensures,
       b .between3 .ensures,
       b .before .pick2 .ensures,
       e .between2 .ensures,
       e .before .pick .ensures,
-      e .before .before .between .ensures,
+      after-between .between .ensures,
     )
 
 pub item-outside-spec : {M : Type 1} → statement M

@@ -13,7 +13,9 @@ use Rattle.sample_items.proofs.most_samples.Tie as tie
 
 -- what the test says
 tested : (c : tie.After-both) → c .both .result ≡ (stepInRange (c .before .before .before .args .step) && rampInRange (c .before .before .before .args .ramp))
-tested c = rw (c .both .ensures, c .before .before .between .ensures, c .before .between2 .ensures)
+tested c =
+    let after-between : tie.After-between = search needs in
+    rw (c .both .ensures, after-between .between .ensures, c .before .between2 .ensures)
 
 -- past the test the step is not 0 and the ramp is small
 facts : (c : tie.Then1) → (1 ≤ c .before .before .before .before .args .step) × (c .before .before .before .before .args .ramp ≤ 1000000)

@@ -64,13 +64,13 @@ here c =
     (omega arith, omega arith)
 
 add-result : tie.Need-add-result Inv-loop μ-loop
-add-result c = omega (arith, here c, within (c .before .before .before .before .before))
+add-result c = let after-end : tie.After-end Inv-loop μ-loop = search needs in omega (arith, here c, within after-end)
 
 returns : tie.Need-returns Inv-loop μ-loop
 returns c = here c .0
 
 loop-less : tie.Need-loop-less Inv-loop μ-loop
-loop-less c = omega (arith, within (c .before .before .before .before))
+loop-less c = let after-end : tie.After-end Inv-loop μ-loop = search needs in omega (arith, within after-end)
 
 loop-again : tie.Need-loop-again Inv-loop μ-loop
 loop-again c =
@@ -89,7 +89,7 @@ loop-again c =
 returns-2 : tie.Need-returns-2 Inv-loop μ-loop
 unfolding firstBad
 returns-2 c =
-    let p = c .before .before .args .samples .now in
+    let start : tie.Start Inv-loop μ-loop = search needs in let p = start .args .samples .now in
     let e : firstBad (drop (c .before .loop .i) p) ≡ 0 = ap firstBad (drop-of-length-le p {i = c .before .loop .i} (omega arith)) in
     omega arith
 

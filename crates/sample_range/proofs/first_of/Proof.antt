@@ -35,7 +35,7 @@ shared-slice-copy-out-in-range c = omega arith
 
 returns : tie.Need-returns Inv-loop μ-loop
 returns c =
-    let b = c .before .before .before .before in
+    let b : tie.At-loop Inv-loop μ-loop = search needs in
     let p = b .before .args .block .now in
     let i = b .loop .i in
     let f : SFits w32 (getD p i (pos 0)) = search needs in
@@ -50,7 +50,7 @@ loop-less c = omega arith
 
 loop-again : tie.Need-loop-again Inv-loop μ-loop
 loop-again c =
-    let b = c .before .before .before .before in
+    let b : tie.At-loop Inv-loop μ-loop = search needs in
     let p = b .before .args .block .now in
     let i = b .loop .i in
     let f : SFits w32 (getD p i (pos 0)) = search needs in
@@ -60,7 +60,7 @@ loop-again c =
 returns-2 : tie.Need-returns-2 Inv-loop μ-loop
 unfolding firstBad
 returns-2 c =
-    let p = c .before .before .args .block .now in
+    let start : tie.Start Inv-loop μ-loop = search needs in let p = start .args .block .now in
     let e : firstBad (drop (c .before .loop .i) p) ≡ 0 = ap firstBad (drop-of-length-le p {i = c .before .loop .i} (omega arith)) in
     omega arith
 

@@ -8,12 +8,12 @@ use Rattle.sheet_after.proofs.by_reading.Tie as tie
 
 returns : tie.Need-returns
 returns c =
-    let a = c .before .before .before .before .args in
-    c .counted .ensures ∙ sym (ap (λ r. upBy r (now (a .records))) (c .before .before .r .given .1))
+    let start : tie.Start = search needs in let after-r : tie.After-r = search needs in let a = start .args in
+    c .counted .ensures ∙ sym (ap (λ r. upBy r (now (a .records))) (after-r .r .given .1))
 
 returns-2 : tie.Need-returns-2
 returns-2 c =
-    let a = c .before .before .before .args in
+    let start : tie.Start = search needs in let a = start .args in
     sym (ap (λ r. upBy r (now (a .records))) (c .before .r2 .given .1))
 
 pub by-reading-spec : {M : Type 1} → statement M

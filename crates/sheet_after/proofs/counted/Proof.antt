@@ -21,7 +21,7 @@ slice-aggregate-failures c = sym (length-take-le _ _ (omega arith))
 returns-2 : tie.Need-returns-2
 unfolding countedUp
 returns-2 c =
-    let e = c .before .before in
+    let e : tie.Else1 = search needs in
     let a = e .before .args in
     rw (le-ltb (length (now (a .records))) (a .n) (omega arith)) (ap (λ m. up.Records (a .q) (a .n) m) (c .failures .ensures))
 

@@ -27,19 +27,19 @@ loop-holds : tie.Need-loop-holds Inv-loop μ-loop
 loop-holds c = so-start _
 
 add-pick : tie.Need-add-pick Inv-loop μ-loop
-add-pick c = let l = c .before .before in omega (arith, l .loop .inv .few, l .loop .inv .within)
+add-pick c = let l : tie.At-loop Inv-loop μ-loop = search needs in omega (arith, l .loop .inv .few, l .loop .inv .within)
 
 loop-less : tie.Need-loop-less Inv-loop μ-loop
 loop-less c = omega arith
 
 loop-again : tie.Need-loop-again Inv-loop μ-loop
 loop-again c =
-    let l = c .before .before .before in
+    let in-loop : tie.In-loop Inv-loop μ-loop = search needs in let l : tie.At-loop Inv-loop μ-loop = search needs in
     let x = getD (l .before .args .records .now) (l .loop .i) (pos 0) in
     let f : SFits w32 x = search needs in
     let is = rw (toZ-ofZ f) at (c .pick .ensures) in
     let n = l .loop .n in
-    rw (is ∙ ap (λ (b : Bool). cond b (n + 1) n) (failed-below x)) (so-next _ _ _ (l .loop .inv) (c .before .before .loop-test .taken))
+    rw (is ∙ ap (λ (b : Bool). cond b (n + 1) n) (failed-below x)) (so-next _ _ _ (l .loop .inv) (in-loop .loop-test .taken))
 
 returns : tie.Need-returns Inv-loop μ-loop
 returns c = so-end _ _ _ (c .before .loop .inv) (c .loop-test .left)

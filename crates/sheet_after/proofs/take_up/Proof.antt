@@ -29,18 +29,18 @@ told s places {r} {later} e f g =
 returns : tie.Need-returns
 unfolding takingUp takenLeft
 returns c =
-    let o = c .before in
-    let a = o .before .before .args in
+    let start : tie.Start = search needs in let o = c .before in
+    let a = start .args in
     let is = o .item-outside .ensures in
     rw (ne-eqb (itemOutside (a .items)) 0 (λ z. c .if1 .taken (is ∙ z))) (ap (λ n. up.Refused 0 0 (Item n)) is, refl)
 
 returns-2 : tie.Need-returns-2
 unfolding takingUp takenLeft
 returns-2 c =
-    let r = c .before .before .before in
-    let e = r .before .before in
+    let start : tie.Start = search needs in let r : tie.After-records = search needs in
+    let e : tie.Else1 = search needs in
     let o = e .before in
-    let a = o .before .before .args in
+    let a = start .args in
     rw (eq-eqb (itemOutside (a .items)) 0 (sym (o .item-outside .ensures) ∙ e .if1 .left))
     (told (now (a .sheet)) (now (a .records)) (r .records .ensures .0) (r .records .ensures .1) (c .by-reading .ensures))
 

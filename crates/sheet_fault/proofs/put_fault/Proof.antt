@@ -17,13 +17,13 @@ use Rattle.sheet_fault.proofs.put_fault.Tie as tie
 
 -- the places on the way back
 abbrev place-of : tie.After-write-field2 → tie.After-write-field
-place-of c = c .before .before .before .before
+place-of c = search needs
 
 abbrev word-of : tie.After-write-field2 → tie.After-write-bytes
-word-of c = place-of c .before .before .before .before
+word-of c = search needs
 
 abbrev start : tie.After-write-field2 → tie.Start
-start c = word-of c .before .before .before .before
+start c = search needs
 
 abbrev Why : tie.After-write-field2 → List ℕ
 Why c = let a = start c .args in numberThen (a .number) (a .told) (a .value)
@@ -37,12 +37,12 @@ Stands c rest out at = Left (now (start c .args .out)) 0 (Whole c) rest out at
 
 room : (c : tie.After-write-field2) → Stands c (Whole c) (now (start c .args .out)) 0
 room c =
-    let a = start c .args in
+    let start : tie.Start = search needs in let a = start .args in
     let place : Small (a .place) = search needs in
     let line : Small (a .line) = search needs in
     let number : Small (a .number) = search needs in
     let value : Small (a .value) = search needs in
-    left-all _ 0 _ (omega (arith, start c .pre, fault-few (a .place) (a .line) (a .number) (a .told) (a .value) place line number value))
+    left-all _ 0 _ (omega (arith, start .pre, fault-few (a .place) (a .line) (a .number) (a .told) (a .value) place line number value))
 
 left1 : (c : tie.After-write-field2)
     → Stands c (fieldText (start c .args .place) tab ++ (fieldText (start c .args .line) tab ++ Why c)) (word-of c .write-bytes .last .1 .0) (word-of c .write-bytes .result)
@@ -60,9 +60,10 @@ put-why-requires c κs = left-fits (left3 (c .before .before .before))
 
 returns : tie.Need-returns
 returns c =
-    let d = c .before .before .before .before .before .before in
-    let a = start d .args in
-    puts (refusedSheet (a .place) (a .line) (a .number) (a .told) (a .value)) (room d) refl (left-last (left3 d) (c .before .before .put-why .ensures))
+    let start : tie.Start = search needs in let after-put-why : tie.After-put-why = search needs in
+    let d : tie.After-write-field2 = search needs in
+    let a = start .args in
+    puts (refusedSheet (a .place) (a .line) (a .number) (a .told) (a .value)) (room d) refl (left-last (left3 d) (after-put-why .put-why .ensures))
 
 pub put-fault-spec : {M : Type 1} → statement M
 put-fault-spec =

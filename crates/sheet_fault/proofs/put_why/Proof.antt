@@ -13,7 +13,7 @@ use Rattle.sheet_fault.proofs.put_why.Statement.{statement}
 use Rattle.sheet_fault.proofs.put_why.Tie as tie
 
 abbrev start : tie.Then1 → tie.Start
-start c = c .before .before
+start c = search needs
 
 abbrev Text : tie.Then1 → List ℕ
 Text c = numberThen (start c .args .number) (start c .args .told) (start c .args .value)
@@ -24,7 +24,9 @@ both c = ap (λ b. numberThen (start c .args .number) b (start c .args .value)) 
 
 alone : (c : tie.Else1) → let a = c .before .before .args in numberThen (a .number) (a .told) (a .value) ≡ fieldText (a .number) lineFeed
 unfolding numberThen
-alone c = let a = c .before .before .args in ap (λ b. numberThen (a .number) b (a .value)) (c .if1 .left)
+alone c =
+    let start : tie.Start = search needs in
+    let a = start .args in ap (λ b. numberThen (a .number) b (a .value)) (c .if1 .left)
 
 -- of the text so much is left, and the lent bytes are these
 abbrev Stands : tie.Then1 → List ℕ → List ℕ → ℕ → Type 0
@@ -41,7 +43,9 @@ returns : tie.Need-returns
 returns c = left-last (left1 (c .before .before .before .before .before .before)) (c .before .before .write-field2 .ensures)
 
 returns-2 : tie.Need-returns-2
-returns-2 c = rw (alone (c .before .before .before .before)) (c .before .before .write-field3 .ensures)
+returns-2 c =
+    let else1 : tie.Else1 = search needs in let after-write-field3 : tie.After-write-field3 = search needs in
+    rw (alone else1) (after-write-field3 .write-field3 .ensures)
 
 pub put-why-spec : {M : Type 1} → statement M
 put-why-spec =

@@ -10,8 +10,8 @@ use Rattle.sheet_files.proofs.add.Tie as tie
 returns : tie.Need-returns
 returns c =
     let t = c .before in
-    let k = t .before .before in
-    let s = k .before .before in
+    let k : tie.After-step-in = search needs in
+    let s : tie.Start = search needs in
     let e = k .step-in .ensures ∙ ap (λ e. stepIn (s .args .number) (s .args .a) e (length (now (s .args .records)))) (k .before .came-to .ensures) in
     (t .stored .ensures .0 ∙ ap filedOf e, t .stored .ensures .1 ∙ ap (λ x. leftBy x (now (s .args .records))) e)
 

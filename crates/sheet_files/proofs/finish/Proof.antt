@@ -8,17 +8,19 @@ use Rattle.sheet_files.proofs.finish.Tie as tie
 
 returns : tie.Need-returns
 returns c =
-    let s = c .before .before .before .before .before .before .before .before in
-    let e = c .before .before .before .before .before .a .given .1 in
-    let p = c .before .before .put-sheet .ensures in
+    let after-a : tie.After-a = search needs in let after-put-sheet : tie.After-put-sheet = search needs in
+    let s : tie.Start = search needs in
+    let e = after-a .a .given .1 in
+    let p = after-put-sheet .put-sheet .ensures in
     let a = s .args in
     (p .0 ∙ sym (ap (λ f. finishing (a .q) f (now (a .records)) (now (a .out))) e), p .1 ∙ sym (ap (λ f. finishLeft (a .q) f (now (a .records)) (now (a .out))) e))
 
 returns-2 : tie.Need-returns-2
 returns-2 c =
-    let s = c .before .before .before .before .before .before .before .before in
-    let e = c .before .before .before .before .before .a2 .given .1 in
-    let p = c .before .before .refuse-in .ensures in
+    let after-a2 : tie.After-a2 = search needs in let after-refuse-in : tie.After-refuse-in = search needs in
+    let s : tie.Start = search needs in
+    let e = after-a2 .a2 .given .1 in
+    let p = after-refuse-in .refuse-in .ensures in
     let a = s .args in
     (p .0 ∙ sym (ap (λ f. finishing (a .q) f (now (a .records)) (now (a .out))) e), p .1 ∙ sym (ap (λ f. finishLeft (a .q) f (now (a .records)) (now (a .out))) e))
 

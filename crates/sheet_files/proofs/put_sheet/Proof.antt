@@ -27,8 +27,8 @@ both text out {w} {v} e m (p, l) =
 returns : tie.Need-returns
 unfolding sheetPut sheetLeft
 returns c =
-    let r = c .before .before in
-    let s = r .before .before .before .before in
+    let r : tie.After-refuse-in = search needs in
+    let s : tie.Start = search needs in
     rw (lt-ltb (length (now (s .args .records))) (s .args .n) (omega arith)) (r .refuse-in .ensures .0, r .refuse-in .ensures .1)
 
 slice-aggregate-write : tie.Need-slice-aggregate-write
@@ -37,10 +37,10 @@ slice-aggregate-write c = sym (length-take-le _ _ (omega arith))
 returns-2 : tie.Need-returns-2
 unfolding sheetPut sheetLeft
 returns-2 c =
-    let p = c .before .before .put-writing in
-    let w = c .before .before .before .before .before .before in
-    let e = w .before .before .before in
-    let s = e .before .before in
+    let after-put-writing : tie.After-put-writing = search needs in let p = after-put-writing .put-writing in
+    let w : tie.After-write = search needs in
+    let e : tie.Else1 = search needs in
+    let s : tie.Start = search needs in
     rw (le-ltb (length (now (s .args .records))) (s .args .n) (omega arith)) (both _ (now (s .args .out)) (w .write .ensures .0) (w .write .ensures .1) (p .ensures))
 
 pub put-sheet-spec : {M : Type 1} → statement M

@@ -27,14 +27,14 @@ turned-fits : (n : ℕ) → n ≤ longestTime → SFits w32 (pos 0 -ℤ toZ w32 
 turned-fits n h = subst (SFits w32) (sym (turned n h)) (negated-fits n h)
 
 sub-result : tie.Need-sub-result
-sub-result c = turned-fits _ (c .before .before .before .pre)
+sub-result c = let start : tie.Start = search needs in turned-fits _ (start .pre)
 
 returns : tie.Need-returns
-returns c = let s = c .before .before .before in rw (eq-eqb (s .args .x .first) 0 (c .if1 .taken)) (plain _ (s .pre))
+returns c = let s : tie.Start = search needs in rw (eq-eqb (s .args .x .first) 0 (c .if1 .taken)) (plain _ (s .pre))
 
 returns-2 : tie.Need-returns-2
 returns-2 c =
-    let s = c .before .before .before in
+    let s : tie.Start = search needs in
     rw (ne-eqb (s .args .x .first) 0 (c .if1 .left)) (toZ-ofZ (turned-fits (s .args .x .exposure) (s .pre)) ∙ turned (s .args .x .exposure) (s .pre))
 
 pub record-in-spec : {M : Type 1} → statement M

@@ -7,12 +7,12 @@ use Rattle.sheet_files.proofs.step_by.Tie as tie
 
 returns : tie.Need-returns
 returns c =
-    let a = c .before .before .before .before .args in
-    c .step-ended .ensures ∙ sym (ap (λ e. stepBy (a .number) (a .n) (a .failures) e (a .places)) (c .before .before .e .given .1))
+    let start : tie.Start = search needs in let after-e : tie.After-e = search needs in let a = start .args in
+    c .step-ended .ensures ∙ sym (ap (λ e. stepBy (a .number) (a .n) (a .failures) e (a .places)) (after-e .e .given .1))
 
 returns-2 : tie.Need-returns-2
 returns-2 c =
-    let a = c .before .before .before .args in
+    let start : tie.Start = search needs in let a = start .args in
     sym (ap (λ e. stepBy (a .number) (a .n) (a .failures) e (a .places)) (c .before .e2 .given .1))
 
 pub step-by-spec : {M : Type 1} → statement M

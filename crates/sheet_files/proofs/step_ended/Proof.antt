@@ -8,18 +8,18 @@ use Rattle.sheet_files.proofs.step_ended.Tie as tie
 
 step-taken-requires : tie.Need-step-taken-requires
 step-taken-requires c κs =
-    let k = c .before .before .before in
+    let k : tie.After-end = search needs in
     given-bounds (k .before .args .r) _ (sym (k .end .ensures) ∙ c .before .x .given .1) .1
 
 returns : tie.Need-returns
 returns c =
-    let k = c .before .before .before .before in
+    let after-x : tie.After-x = search needs in let k : tie.After-end = search needs in
     let a = k .before .args in
-    c .step-taken .ensures ∙ sym (ap (λ e. stepAs (a .number) (a .n) (a .failures) e (a .places)) (sym (k .end .ensures) ∙ c .before .before .x .given .1))
+    c .step-taken .ensures ∙ sym (ap (λ e. stepAs (a .number) (a .n) (a .failures) e (a .places)) (sym (k .end .ensures) ∙ after-x .x .given .1))
 
 returns-2 : tie.Need-returns-2
 returns-2 c =
-    let k = c .before .before .before in
+    let k : tie.After-end = search needs in
     let a = k .before .args in
     sym (ap (λ e. stepAs (a .number) (a .n) (a .failures) e (a .places)) (sym (k .end .ensures) ∙ c .before .q .given .1))
 

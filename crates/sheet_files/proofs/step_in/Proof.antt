@@ -7,12 +7,12 @@ use Rattle.sheet_files.proofs.step_in.Tie as tie
 
 returns : tie.Need-returns
 returns c =
-    let a = c .before .before .before .before .args in
-    c .step-by .ensures ∙ sym (ap (λ f. stepIn (a .number) f (a .e) (a .places)) (c .before .before .a .given .1))
+    let start : tie.Start = search needs in let after-a : tie.After-a = search needs in let a = start .args in
+    c .step-by .ensures ∙ sym (ap (λ f. stepIn (a .number) f (a .e) (a .places)) (after-a .a .given .1))
 
 returns-2 : tie.Need-returns-2
 returns-2 c =
-    let a = c .before .before .before .args in
+    let start : tie.Start = search needs in let a = start .args in
     sym (ap (λ f. stepIn (a .number) f (a .e) (a .places)) (c .before .a2 .given .1))
 
 pub step-in-spec : {M : Type 1} → statement M

@@ -35,14 +35,15 @@ returns-3 c =
     rw (lt-leb mostRecords (a .n) (omega arith), lt-leb mostFailures (a .failures) (omega arith), le-leb (a .places) (a .n) (omega arith))
 
 record-in-requires : tie.Need-record-in-requires
-record-in-requires c κs = c .before .before .before .pre
+record-in-requires c κs = let start : tie.Start = search needs in start .pre
 
 returns-4 : tie.Need-returns-4
 unfolding stepTaken
 returns-4 c =
-    let e = c .before .before .before in
-    let a = e .before .before .before .args in
-    let r = c .before .before .record-in in
+    let start : tie.Start = search needs in let after-record-in : tie.After-record-in = search needs in
+    let e : tie.Else3 = search needs in
+    let a = start .args in
+    let r = after-record-in .record-in in
     let f : SFits w32 (r .result) = search needs in
     rw (lt-leb mostRecords (a .n) (omega arith), lt-leb mostFailures (a .failures) (omega arith), lt-leb (a .places) (a .n) (omega arith))
     (placed (c .pick .ensures) (toZ-ofZ f ∙ r .ensures))

@@ -18,15 +18,15 @@ in-place records place e f = e ∙ ap (set records place) f
 
 returns : tie.Need-returns
 returns c =
-    let s = c .before .before .before .before .before .before in
-    let e = c .before .before .before .before .s .given .1 in
-    let g = c .before .before .before .before .s .given .0 in
+    let after-s : tie.After-s = search needs in let s : tie.Start = search needs in
+    let e = after-s .s .given .1 in
+    let g = after-s .s .given .0 in
     let f : SFits w32 (g .1 .1 .1 .0) = search needs in
     (sym (ap filedOf e), in-place (now (s .args .records)) (g .0) (c .before .put .ensures) (toZ-ofZ f) ∙ sym (ap (λ x. leftBy x (now (s .args .records))) e))
 
 returns-2 : tie.Need-returns-2
 returns-2 c =
-    let s = c .before .before .before in
+    let s : tie.Start = search needs in
     let e = c .before .s2 .given .1 in
     (sym (ap filedOf e), sym (ap (λ x. leftBy x (now (s .args .records))) e))
 

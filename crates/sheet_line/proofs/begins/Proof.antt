@@ -31,23 +31,23 @@ abbrev μ-loop : tie.MeasureT-loop
 returns : tie.Need-returns Inv-loop μ-loop
 unfolding begins
 returns c =
-    let b = c .before .before in
-    let a = b .before .args in
+    let start : tie.Start Inv-loop μ-loop = search needs in let b : tie.At-loop Inv-loop μ-loop = search needs in
+    let a = start .args in
     let i = b .loop .i in
     let more : i < length (now (a .word)) = omega arith in
     sym (rw (drop-of-length-le (now (a .text)) (c .if1 .taken), drop-cons (now (a .word)) i 0 more) at (sym (b .loop .inv .1)))
 
 returns-2 : tie.Need-returns-2 Inv-loop μ-loop
 returns-2 c =
-    let b = c .before .before .before .before .before in
-    let a = b .before .args in
+    let start : tie.Start Inv-loop μ-loop = search needs in let b : tie.At-loop Inv-loop μ-loop = search needs in
+    let a = start .args in
     let i = b .loop .i in
     sym (sym (b .loop .inv .1) ∙ rw (turn (now (a .text)) (now (a .word)) i (omega arith) (omega arith), ne-eqb _ _ (c .if2 .taken)))
 
 loop-again : tie.Need-loop-again Inv-loop μ-loop
 loop-again c =
-    let b = c .before .before .before .before .before in
-    let a = b .before .args in
+    let start : tie.Start Inv-loop μ-loop = search needs in let b : tie.At-loop Inv-loop μ-loop = search needs in
+    let a = start .args in
     let i = b .loop .i in
     let same = rw (turn (now (a .text)) (now (a .word)) i (omega arith) (omega arith), eq-eqb (getD (now (a .text)) i 0) (getD (now (a .word)) i 0) (c .if2 .left)) at (b .loop .inv .1) in
     (omega arith, same)
@@ -55,7 +55,7 @@ loop-again c =
 returns-3 : tie.Need-returns-3 Inv-loop μ-loop
 unfolding begins
 returns-3 c =
-    let a = c .before .before .args in
+    let start : tie.Start Inv-loop μ-loop = search needs in let a = start .args in
     sym (sym (c .before .loop .inv .1) ∙ rw (drop-of-length-le (now (a .word)) (c .loop-test .left)))
 
 pub begins-spec : {M : Type 1} → statement M

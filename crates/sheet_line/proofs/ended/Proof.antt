@@ -16,13 +16,13 @@ returns c = rw (drop-of-length-le _ (c .if1 .taken))
 returns-2 : tie.Need-returns-2
 unfolding endsHere
 returns-2 c =
-    let a = c .before .before .before .args in
+    let start : tie.Start = search needs in let a = start .args in
     rw (drop-cons (now (a .s)) (a .at) 0 (search needs), eq-eqb (getD (now (a .s)) (a .at) 0) 9 (c .if2 .taken))
 
 returns-3 : tie.Need-returns-3
 unfolding endsHere
 returns-3 c =
-    let a = c .before .before .before .args in
+    let start : tie.Start = search needs in let a = start .args in
     rw (drop-cons (now (a .s)) (a .at) 0 (search needs), ne-eqb (getD (now (a .s)) (a .at) 0) 9 (c .if2 .left))
 
 pub ended-spec : {M : Type 1} → statement M

@@ -12,44 +12,45 @@ use Rattle.sheet_line.proofs.fault_at.Statement.{statement}
 use Rattle.sheet_line.proofs.fault_at.Tie as tie
 
 abbrev start : tie.Else1 → tie.Start
-start c = c .before .before .before
+start c = search needs
 
 some : (c : tie.Else1) → endsHere (drop (start c .args .at) (now (start c .args .s))) ≡ false
 some c = sym (c .before .ended .ensures) ∙ c .if1 .left
 
 returns : tie.Need-returns
 returns c =
-    let s = c .before .before .before in
+    let s : tie.Start = search needs in
     is-empty (now (s .args .s)) (s .args .at) (s .pre) (sym (c .before .ended .ensures) ∙ c .if1 .taken)
 
 shared-slice-read-zero : tie.Need-shared-slice-read-zero
 shared-slice-read-zero c =
-    let e = c .before .before .before in
-    inside (now (start e .args .s)) (start e .args .at) (start e .pre) (some e)
+    let start : tie.Start = search needs in let e : tie.Else1 = search needs in
+    inside (now (start .args .s)) (start .args .at) (start .pre) (some e)
 
 returns-2 : tie.Need-returns-2
 returns-2 c =
-    let d = c .before .before .before in
-    let e = d .before in
-    let s = start e in
-    is-strange (now (s .args .s)) (s .args .at) (s .pre) (some e) _ (d .digits-end .ensures) (said-no (c .before .before .ended2 .ensures) (c .if2 .taken))
+    let else1 : tie.Else1 = search needs in let after-ended2 : tie.After-ended2 = search needs in
+    let d : tie.After-digits-end = search needs in
+    let e = else1 in
+    let s : tie.Start = search needs in
+    is-strange (now (s .args .s)) (s .args .at) (s .pre) (some e) _ (d .digits-end .ensures) (said-no (after-ended2 .ended2 .ensures) (c .if2 .taken))
 
 all : (c : tie.Else2) → let d = c .before .before .before in endsHere (drop (d .digits-end .result) (now (start (d .before) .args .s))) ≡ true
-all c = said-yes (c .before .before .ended2 .ensures) (c .if2 .left)
+all c = let after-ended2 : tie.After-ended2 = search needs in said-yes (after-ended2 .ended2 .ensures) (c .if2 .left)
 
 returns-3 : tie.Need-returns-3
 returns-3 c =
-    let f = c .before in
-    let d = f .before .before .before in
-    let s = start (d .before) in
-    is-leading-zero (now (s .args .s)) (s .args .at) (s .pre) (some (d .before)) _ (d .digits-end .ensures) (all f) (eqb-true _ _ (c .if3 .taken))
+    let else1 : tie.Else1 = search needs in let f = c .before in
+    let d : tie.After-digits-end = search needs in
+    let s : tie.Start = search needs in
+    is-leading-zero (now (s .args .s)) (s .args .at) (s .pre) (some else1) _ (d .digits-end .ensures) (all f) (eqb-true _ _ (c .if3 .taken))
 
 returns-4 : tie.Need-returns-4
 returns-4 c =
-    let f = c .before in
-    let d = f .before .before .before in
-    let s = start (d .before) in
-    is-too-long (now (s .args .s)) (s .args .at) (s .pre) (some (d .before)) _ (d .digits-end .ensures) (all f) (eqb-false _ _ (c .if3 .left))
+    let else1 : tie.Else1 = search needs in let f = c .before in
+    let d : tie.After-digits-end = search needs in
+    let s : tie.Start = search needs in
+    is-too-long (now (s .args .s)) (s .args .at) (s .pre) (some else1) _ (d .digits-end .ensures) (all f) (eqb-false _ _ (c .if3 .left))
 
 pub fault-at-spec : {M : Type 1} → statement M
 fault-at-spec =

@@ -22,38 +22,46 @@ reads c = sym (c .number-at .ensures)
 returns : tie.Need-returns
 unfolding fieldThen endedBy startsWith
 returns c =
-    let f = c .before .before in
-    rw (reads (f .before .before) ∙ f .field .given .1, drop-of-length-le _ (c .if1 .taken))
+    let after-number-at : tie.After-number-at = search needs in let f : tie.After-field = search needs in
+    rw (reads after-number-at ∙ f .field .given .1, drop-of-length-le _ (c .if1 .taken))
 
 returns-2 : tie.Need-returns-2
 unfolding fieldThen endedBy startsWith
 returns-2 c =
-    let e = c .before .before in
-    let f = e .before .before in
-    rw (reads (f .before .before) ∙ f .field .given .1, drop-cons (text (f .before .before)) (f .field .given .0 .1 .0) 0 (e .if1 .left), ne-eqb _ _ (c .if2 .taken))
+    let after-number-at : tie.After-number-at = search needs in let e : tie.Else1 = search needs in
+    let f : tie.After-field = search needs in
+    rw (reads after-number-at ∙ f .field .given .1, drop-cons (text after-number-at) (f .field .given .0 .1 .0) 0 (e .if1 .left), ne-eqb _ _ (c .if2 .taken))
 
 returns-3 : tie.Need-returns-3
 unfolding fieldThen endedBy startsWith
 returns-3 c =
-    let e = c .before .before in
-    let f = e .before .before in
-    rw (reads (f .before .before) ∙ f .field .given .1, drop-cons (text (f .before .before)) (f .field .given .0 .1 .0) 0 (e .if1 .left), eq-eqb _ _ (c .if2 .left))
+    let after-number-at : tie.After-number-at = search needs in let e : tie.Else1 = search needs in
+    let f : tie.After-field = search needs in
+    rw (reads after-number-at ∙ f .field .given .1, drop-cons (text after-number-at) (f .field .given .0 .1 .0) 0 (e .if1 .left), eq-eqb _ _ (c .if2 .left))
 
 returns-4 : tie.Need-returns-4
 unfolding fieldThen endedBy
-returns-4 c = let e = c .enum-told .given .1 in rw (reads (c .before .before) ∙ e) e
+returns-4 c =
+    let after-number-at : tie.After-number-at = search needs in
+    let e = c .enum-told .given .1 in rw (reads after-number-at ∙ e) e
 
 returns-5 : tie.Need-returns-5
 unfolding fieldThen endedBy
-returns-5 c = let e = c .enum-told2 .given .1 in rw (reads (c .before .before) ∙ e) e
+returns-5 c =
+    let after-number-at : tie.After-number-at = search needs in
+    let e = c .enum-told2 .given .1 in rw (reads after-number-at ∙ e) e
 
 returns-6 : tie.Need-returns-6
 unfolding fieldThen endedBy
-returns-6 c = let e = c .enum-told3 .given .1 in rw (reads (c .before .before) ∙ e) e
+returns-6 c =
+    let after-number-at : tie.After-number-at = search needs in
+    let e = c .enum-told3 .given .1 in rw (reads after-number-at ∙ e) e
 
 returns-7 : tie.Need-returns-7
 unfolding fieldThen endedBy
-returns-7 c = let e = c .enum-told4 .given .1 in rw (reads (c .before .before) ∙ e) e
+returns-7 c =
+    let after-number-at : tie.After-number-at = search needs in
+    let e = c .enum-told4 .given .1 in rw (reads after-number-at ∙ e) e
 
 pub field-then-spec : {M : Type 1} → statement M
 field-then-spec =

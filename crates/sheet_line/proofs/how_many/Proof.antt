@@ -36,8 +36,8 @@ loop-holds c = (omega arith, omega arith, zero-add _)
 
 loop-again : tie.Need-loop-again Inv-loop μ-loop
 loop-again c =
-    let l = c .before .before .before in
-    let a = l .before .args in
+    let start : tie.Start Inv-loop μ-loop = search needs in let l : tie.At-loop Inv-loop μ-loop = search needs in
+    let a = start .args in
     ⊎-elim
     (λ w. (omega arith, omega arith, omega (arith, one (a .byte) (now (a .text)) (l .loop .i) (omega arith) (w .0 .taken), l .loop .inv .2)))
     (λ w. (omega arith, omega arith, omega (arith, other (a .byte) (now (a .text)) (l .loop .i) (omega arith) (w .0 .left), l .loop .inv .2)))

@@ -19,23 +19,23 @@ use Rattle.sheet_line.proofs.number_at.Tie as tie
 
 fault-at-requires : tie.Need-fault-at-requires
 fault-at-requires c κs =
-    let a = c .before .before .before .before .args in
-    let r = c .before .before .run-at in
+    let start : tie.Start = search needs in let after-run-at : tie.After-run-at = search needs in let a = start .args in
+    let r = after-run-at .run-at in
     no-number (now (a .s)) (a .at) (r .result .end) (r .ensures .1) (sym (c .before .ended .ensures) ∙ not-true _ (c .if1 .taken))
 
 -- past the first test the field ends after the run, and the run alone decides
 module _ (c : tie.Else1) where
   abbrev S : List ℕ
-  S = now (c .before .before .before .before .args .s)
+  S = let start : tie.Start = search needs in now (start .args .s)
 
   abbrev At : ℕ
-  At = c .before .before .before .before .args .at
+  At = let start : tie.Start = search needs in start .args .at
 
   abbrev End : ℕ
-  End = c .before .before .run-at .result .end
+  End = let after-run-at : tie.After-run-at = search needs in after-run-at .run-at .result .end
 
   end : End ≡ At + length (run S At)
-  end = c .before .before .run-at .ensures .1
+  end = let after-run-at : tie.After-run-at = search needs in after-run-at .run-at .ensures .1
 
   ends : endsHere (drop End S) ≡ true
   ends = sym (c .before .ended .ensures) ∙ not-false (c .before .ended .result) (c .if1 .left)
@@ -54,21 +54,21 @@ fault-at-requires-2 c κs = none (c .before) (c .if2 .taken)
 
 returns-3 : tie.Need-returns-3
 returns-3 c =
-    let d = c .before .before in
-    read-number (S d) (At d) (End d) (end d) (ends d) _ (d .before .before .run-at .ensures .0) (one d (omega arith))
+    let after-run-at : tie.After-run-at = search needs in let d : tie.Else1 = search needs in
+    read-number (S d) (At d) (End d) (end d) (ends d) _ (after-run-at .run-at .ensures .0) (one d (omega arith))
 
 shared-slice-read-if4 : tie.Need-shared-slice-read-if4
-shared-slice-read-if4 c = let d = c .before .before .before in run-within (S d) (At d) (omega (arith, end d))
+shared-slice-read-if4 c = let d : tie.Else1 = search needs in run-within (S d) (At d) (omega (arith, end d))
 
 fault-at-requires-3 : tie.Need-fault-at-requires-3
 fault-at-requires-3 c κs =
-    let d = c .before .before .before .before in
+    let d : tie.Else1 = search needs in
     more d (omega arith) ∙ rw (eq-eqb (getD (S d) (At d) 0) zeroByte (c .if4 .taken))
 
 returns-5 : tie.Need-returns-5
 returns-5 c =
-    let d = c .before .before .before .before in
-    read-number (S d) (At d) (End d) (end d) (ends d) _ (d .before .before .run-at .ensures .0)
+    let after-run-at : tie.After-run-at = search needs in let d : tie.Else1 = search needs in
+    read-number (S d) (At d) (End d) (end d) (ends d) _ (after-run-at .run-at .ensures .0)
     (more d (omega arith) ∙ rw (ne-eqb (getD (S d) (At d) 0) zeroByte (c .if4 .left)))
 
 pub number-at-spec : {M : Type 1} → statement M

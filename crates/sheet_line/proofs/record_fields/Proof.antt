@@ -6,19 +6,19 @@ use Rattle.sheet_line.proofs.record_fields.Statement.{statement}
 use Rattle.sheet_line.proofs.record_fields.Tie as tie
 
 returns : tie.Need-returns
-returns c = let l = c .before .before in by-number _ _ (l .look-at .ensures .0) (c .if1 .taken)
+returns c = let l : tie.After-look-at = search needs in by-number _ _ (l .look-at .ensures .0) (c .if1 .taken)
 
 returns-2 : tie.Need-returns-2
 returns-2 c =
-    let m = c .before .before in
-    let l = m .before .before .before in
-    by-flag _ _ (l .look-at .ensures .0) (m .before .if1 .left) (l .look-at .ensures .1 .0) (m .look-at2 .ensures .0) (c .if2 .taken)
+    let else1 : tie.Else1 = search needs in let m : tie.After-look-at2 = search needs in
+    let l : tie.After-look-at = search needs in
+    by-flag _ _ (l .look-at .ensures .0) (else1 .if1 .left) (l .look-at .ensures .1 .0) (m .look-at2 .ensures .0) (c .if2 .taken)
 
 returns-3 : tie.Need-returns-3
 returns-3 c =
-    let m = c .before .before .before in
-    let l = m .before .before .before in
-    by-exposure _ _ (l .look-at .ensures .0) (m .before .if1 .left) (l .look-at .ensures .1 .0) (m .look-at2 .ensures .0)
+    let else1 : tie.Else1 = search needs in let m : tie.After-look-at2 = search needs in
+    let l : tie.After-look-at = search needs in
+    by-exposure _ _ (l .look-at .ensures .0) (else1 .if1 .left) (l .look-at .ensures .1 .0) (m .look-at2 .ensures .0)
     (c .before .if2 .left) (m .look-at2 .ensures .1 .0) (c .look-at3 .ensures .0)
 
 pub record-fields-spec : {M : Type 1} → statement M

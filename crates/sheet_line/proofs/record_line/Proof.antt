@@ -24,19 +24,19 @@ Found = ℕ × ℕ
 
 -- the places on the way back: the test of the line, and each field
 abbrev line-of : tie.After-known-told → tie.Else1
-line-of c = c .before .before .before .before
+line-of c = search needs
 
 abbrev first-of : tie.After-known-told2 → tie.After-known-told
-first-of c = c .before .before .before .before
+first-of c = search needs
 
 abbrev second-of : tie.After-known-told3 → tie.After-known-told2
-second-of c = c .before .before .before .before
+second-of c = search needs
 
 abbrev fields-of : tie.After-both2 → tie.After-known-told3
-fields-of c = c .before .before .before
+fields-of c = search needs
 
 abbrev start : tie.Else1 → tie.Start
-start c = c .before .before .before
+start c = search needs
 
 -- what is known past each
 abbrev Text : tie.Else1 → List ℕ
@@ -69,46 +69,52 @@ tests c = cc
 
 returns : tie.Need-returns
 unfolding recordLine
-returns c = rw (said-no (c .before .before .is-line .ensures) (c .before .if1 .taken)) (c .bad-record .ensures)
+returns c =
+    let after-is-line : tie.After-is-line = search needs in
+    rw (said-no (after-is-line .is-line .ensures) (c .before .if1 .taken)) (c .bad-record .ensures)
 
 returns-2 : tie.Need-returns-2
 unfolding recordLine
 returns-2 c =
+    let else1 : tie.Else1 = search needs in let after-field-then : tie.After-field-then = search needs in
     let m = c .before in
-    rw (within (m .before .before), ← m .before .field-then .ensures) (c .bad-record2 .ensures ∙ sym (other-field (m .before .field-then .result) _ _ (m .match .keys2)))
+    rw (within else1, ← after-field-then .field-then .ensures) (c .bad-record2 .ensures ∙ sym (other-field (after-field-then .field-then .result) _ _ (m .match .keys2)))
 
 returns-3 : tie.Need-returns-3
 unfolding recordLine
 returns-3 c =
+    let else1 : tie.Else1 = search needs in let after-field-then2 : tie.After-field-then2 = search needs in
     let m = c .before in
-    let f = m .before .before in
-    rw (within (line-of f), first f, ← m .before .field-then2 .ensures) (c .bad-record3 .ensures ∙ sym (other-field (m .before .field-then2 .result) _ _ (m .match2 .keys2)))
+    let f : tie.After-known-told = search needs in
+    rw (within else1, first f, ← after-field-then2 .field-then2 .ensures) (c .bad-record3 .ensures ∙ sym (other-field (after-field-then2 .field-then2 .result) _ _ (m .match2 .keys2)))
 
 returns-4 : tie.Need-returns-4
 unfolding recordLine
 returns-4 c =
-    let m = c .before in
-    let s = m .before .before in
-    rw (within (line-of (first-of s)), first (first-of s), second s, ← m .before .field-then3 .ensures)
-    (c .bad-record4 .ensures ∙ sym (other-field (m .before .field-then3 .result) _ _ (m .match3 .keys2)))
+    let else1 : tie.Else1 = search needs in let after-known-told : tie.After-known-told = search needs in
+    let after-field-then3 : tie.After-field-then3 = search needs in let m = c .before in
+    let s : tie.After-known-told2 = search needs in
+    rw (within else1, first after-known-told, second s, ← after-field-then3 .field-then3 .ensures)
+    (c .bad-record4 .ensures ∙ sym (other-field (after-field-then3 .field-then3 .result) _ _ (m .match3 .keys2)))
 
 add-both : tie.Need-add-both
 add-both c =
-    let l = line-of (first-of (second-of (c .before))) in
-    omega (arith, kept-from (start l .args .c) (holds (start l .pre)) .records)
+    let start : tie.Start = search needs in let l : tie.Else1 = search needs in
+    omega (arith, kept-from (start .args .c) (holds (start .pre)) .records)
 
 returns-5 : tie.Need-returns-5
 unfolding recordLine
 returns-5 c =
-    let b = c .before .before in
-    let t = fields-of b in
-    let s = second-of t in
-    rw (within (line-of (first-of s)), first (first-of s), second s, third t, said-no (sym (tests b)) (c .before .if2 .taken)) (c .bad-record5 .ensures)
+    let else1 : tie.Else1 = search needs in let after-known-told : tie.After-known-told = search needs in
+    let b : tie.After-both2 = search needs in
+    let t : tie.After-known-told3 = search needs in
+    let s : tie.After-known-told2 = search needs in
+    rw (within else1, first after-known-told, second s, third t, said-no (sym (tests b)) (c .before .if2 .taken)) (c .bad-record5 .ensures)
 
 add-outcome : tie.Need-add-outcome
 add-outcome c =
-    let l = line-of (first-of (second-of (fields-of (c .before .before)))) in
-    omega (arith, kept-from (start l .args .c) (holds (start l .pre)) .records)
+    let start : tie.Start = search needs in let l : tie.Else1 = search needs in
+    omega (arith, kept-from (start .args .c) (holds (start .pre)) .records)
 
 returns-6 : tie.Need-returns-6
 unfolding recordLine

@@ -11,7 +11,9 @@ returns c = rw (said-no (c .before .begins .ensures) (c .if1 .taken))
 
 returns-2 : tie.Need-returns-2
 unfolding standardFields
-returns-2 c = rw (said-yes (c .before .before .begins .ensures) (c .before .if1 .left)) (c .look-at .ensures .0)
+returns-2 c =
+    let after-begins : tie.After-begins = search needs in
+    rw (said-yes (after-begins .begins .ensures) (c .before .if1 .left)) (c .look-at .ensures .0)
 
 pub standard-fields-spec : {M : Type 1} → statement M
 standard-fields-spec =

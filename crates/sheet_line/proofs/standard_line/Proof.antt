@@ -23,42 +23,47 @@ worded : (c : tie.Else2)
     → begins standardStart (now (c .before .before .before .before .before .before .args .text)) ≡ true
 worded c = said-yes (c .before .begins .ensures) (c .if2 .left)
 
-abbrev word-at : tie.After-known-told → tie.Else2
-word-at c = c .before .before .before .before
-
 number : (c : tie.After-known-told) → fieldThen lineFeed
     (now (c .before .before .before .before .before .before .before .before .before .before .args .text))
     (length standardStart) ≡ Number (c .before .q .given .0 .0) (c .before .q .given .0 .1 .0)
-number c = sym (c .before .before .before .field-then .ensures) ∙ c .before .q .given .1
+number c =
+    let after-field-then : tie.After-field-then = search needs in
+    sym (after-field-then .field-then .ensures) ∙ c .before .q .given .1
 
 returns : tie.Need-returns
 unfolding standardLine
-returns c = rw (said-no (c .before .before .is-line .ensures) (c .before .if1 .taken)) (c .bad-standard .ensures)
+returns c =
+    let after-is-line : tie.After-is-line = search needs in
+    rw (said-no (after-is-line .is-line .ensures) (c .before .if1 .taken)) (c .bad-standard .ensures)
 
 returns-2 : tie.Need-returns-2
 unfolding standardLine
-returns-2 c = rw (within (c .before .before .before .before), said-no (c .before .before .begins .ensures) (c .before .if2 .taken)) (c .bad-standard2 .ensures)
+returns-2 c =
+    let else1 : tie.Else1 = search needs in let after-begins : tie.After-begins = search needs in
+    rw (within else1, said-no (after-begins .begins .ensures) (c .before .if2 .taken)) (c .bad-standard2 .ensures)
 
 returns-3 : tie.Need-returns-3
 unfolding standardLine
 returns-3 c =
+    let else1 : tie.Else1 = search needs in let after-field-then : tie.After-field-then = search needs in
     let m = c .before in
-    let w = m .before .before in
-    rw (within (w .before .before .before), worded w, ← m .before .field-then .ensures) (c .bad-standard3 .ensures ∙ sym (other-field (m .before .field-then .result) _ _ (m .match .keys2)))
+    let w : tie.Else2 = search needs in
+    rw (within else1, worded w, ← after-field-then .field-then .ensures) (c .bad-standard3 .ensures ∙ sym (other-field (after-field-then .field-then .result) _ _ (m .match .keys2)))
 
 returns-4 : tie.Need-returns-4
 unfolding standardLine
 returns-4 c =
-    let f = c .before .before in
-    let w = word-at f in
-    rw (within (w .before .before .before), worded w, number f, ne-eqb _ _ (c .before .if3 .taken)) (c .bad-standard4 .ensures)
+    let else1 : tie.Else1 = search needs in let f : tie.After-known-told = search needs in
+    let w : tie.Else2 = search needs in
+    rw (within else1, worded w, number f, ne-eqb _ _ (c .before .if3 .taken)) (c .bad-standard4 .ensures)
 
 returns-5 : tie.Need-returns-5
 unfolding standardLine
 returns-5 c =
-    let f = c .before .before .before in
-    let w = word-at f in
-    rw (within (w .before .before .before), worded w, number f, eq-eqb _ _ (c .before .before .if3 .left))
+    let else1 : tie.Else1 = search needs in let else3 : tie.Else3 = search needs in
+    let f : tie.After-known-told = search needs in
+    let w : tie.Else2 = search needs in
+    rw (within else1, worded w, number f, eq-eqb _ _ (else3 .if3 .left))
     (c .outcome .ensures ∙ ap (outcome 1) (c .before .open .ensures))
 
 pub standard-line-spec : {M : Type 1} → statement M

@@ -15,7 +15,9 @@ returns-2 c = rw (ne-eqb _ _ (c .before .if1 .left), lt-ltb _ _ (c .if2 .taken))
 
 returns-3 : tie.Need-returns-3
 unfolding telling
-returns-3 c = rw (ne-eqb _ _ (c .before .before .if1 .left), le-ltb _ _ (c .before .if2 .left)) (c .enter .ensures)
+returns-3 c =
+    let else1 : tie.Else1 = search needs in
+    rw (ne-eqb _ _ (else1 .if1 .left), le-ltb _ _ (c .before .if2 .left)) (c .enter .ensures)
 
 pub tell-spec : {M : Type 1} → statement M
 tell-spec = tie.close (tie.spec returns returns-2 (λ c κs. search needs) returns-3)

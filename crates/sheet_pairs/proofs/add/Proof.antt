@@ -13,9 +13,9 @@ returns c = let over = sym (c .before .is-over .ensures) ∙ c .if1 .taken in (r
 returns-2 : tie.Need-returns-2
 returns-2 c =
     let k = c .before in
-    let m = k .before .before in
+    let m : tie.After-came-to = search needs in
     let l = m .before in
-    let s = l .before .before in
+    let s : tie.Start = search needs in
     let a = s .args in
     let on = sym (l .before .is-over .ensures) ∙ l .if1 .left in
     let e = m .came-to .ensures in (

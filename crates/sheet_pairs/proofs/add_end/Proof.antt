@@ -12,11 +12,11 @@ use Rattle.sheet_pairs.proofs.add_end.Tie as tie
 
 returns : tie.Need-returns
 returns c =
-    let k = c .before in
-    let m = k .before .before in
-    let s = m .before .before .before .before in
+    let after-e : tie.After-e = search needs in let k = c .before in
+    let m : tie.After-counted = search needs in
+    let s : tie.Start = search needs in
     let a = s .args in
-    let e = m .before .before .e .given .1 in
+    let e = after-e .e .given .1 in
     let records = now (a .records) in (
       (λ j. record { filed = (k .add .ensures .0 ∙ ap (λ x. filedOf (stepIn (a .number) (a .f) (endOf x) (length records))) (m .counted .ensures)) j; channel = 0 })
           ∙ sym (ap (λ x. addingEnd (a .number) (a .f) x (length records)) e),
@@ -26,13 +26,13 @@ returns c =
 
 returns-2 : tie.Need-returns-2
 returns-2 c =
-    let a = c .before .before .before .args in
+    let start : tie.Start = search needs in let a = start .args in
     let e = c .before .e2 .given .1 in
     (sym (ap (λ x. addingEnd (a .number) (a .f) x (length (now (a .records)))) e), sym (ap (λ x. endLeft (a .number) (a .f) x (now (a .records))) e))
 
 returns-3 : tie.Need-returns-3
 returns-3 c =
-    let a = c .before .before .before .args in
+    let start : tie.Start = search needs in let a = start .args in
     let e = c .before .e3 .given .1 in
     (sym (ap (λ x. addingEnd (a .number) (a .f) x (length (now (a .records)))) e), sym (ap (λ x. endLeft (a .number) (a .f) x (now (a .records))) e))
 

@@ -7,16 +7,16 @@ use Rattle.sheet_pairs.proofs.finish.Tie as tie
 
 returns : tie.Need-returns
 returns c =
-    let k = c .before .before in
-    let i = k .before .before in
-    let none = eq-eqb (i .before .before .args .a .channel) 0 (i .if1 .taken) in
+    let start : tie.Start = search needs in let k : tie.After-finish = search needs in
+    let i : tie.Then1 = search needs in
+    let none = eq-eqb (start .args .a .channel) 0 (i .if1 .taken) in
     (rw none (k .finish .ensures .0), rw none (k .finish .ensures .1))
 
 returns-2 : tie.Need-returns-2
 returns-2 c =
-    let k = c .before .before in
-    let i = k .before .before in
-    let some = ne-eqb (i .before .before .args .a .channel) 0 (i .if1 .left) in
+    let start : tie.Start = search needs in let k : tie.After-finish-of = search needs in
+    let i : tie.Else1 = search needs in
+    let some = ne-eqb (start .args .a .channel) 0 (i .if1 .left) in
     (rw some (k .finish-of .ensures .0), rw some (k .finish-of .ensures .1))
 
 pub finish-spec : {M : Type 1} → statement M

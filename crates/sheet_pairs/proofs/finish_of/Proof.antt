@@ -8,10 +8,10 @@ use Rattle.sheet_pairs.proofs.finish_of.Tie as tie
 
 returns : tie.Need-returns
 returns c =
-    let k = c .before .before in
-    let s = k .before .before .before .before .before .before in
+    let after-f : tie.After-f = search needs in let k : tie.After-finish = search needs in
+    let s : tie.Start = search needs in
     let a = s .args in
-    let e = k .before .before .before .f .given .1 in
+    let e = after-f .f .given .1 in
     let p = k .finish .ensures in (
       p .0 ∙ sym (ap (λ x. channelPut (a .q) x (a .channel) (now (a .records)) (now (a .out))) e),
       p .1 ∙ sym (ap (λ x. channelLeft (a .q) x (a .channel) (now (a .records)) (now (a .out))) e),
@@ -19,10 +19,10 @@ returns c =
 
 returns-2 : tie.Need-returns-2
 returns-2 c =
-    let k = c .before .before in
-    let s = k .before .before .before .before .before .before in
+    let after-f2 : tie.After-f2 = search needs in let k : tie.After-refuse-of = search needs in
+    let s : tie.Start = search needs in
     let a = s .args in
-    let e = k .before .before .before .f2 .given .1 in
+    let e = after-f2 .f2 .given .1 in
     let p = k .refuse-of .ensures in (
       p .0 ∙ sym (ap (λ x. channelPut (a .q) x (a .channel) (now (a .records)) (now (a .out))) e),
       p .1 ∙ sym (ap (λ x. channelLeft (a .q) x (a .channel) (now (a .records)) (now (a .out))) e),

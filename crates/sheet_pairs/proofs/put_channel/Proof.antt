@@ -19,16 +19,16 @@ use Rattle.sheet_pairs.proofs.put_channel.Tie as tie
 
 -- the places on the way back
 abbrev line-of : tie.After-write-field3 → tie.After-write-field2
-line-of c = c .before .before .before .before .before
+line-of c = search needs
 
 abbrev number-of : tie.After-write-field3 → tie.After-write-field
-number-of c = line-of c .before .before .before .before
+number-of c = search needs
 
 abbrev word-of : tie.After-write-field3 → tie.After-write-bytes
-word-of c = number-of c .before .before .before .before
+word-of c = search needs
 
 abbrev start : tie.After-write-field3 → tie.Start
-start c = word-of c .before .before .before .before
+start c = search needs
 
 abbrev Whole : tie.After-write-field3 → List ℕ
 Whole c = channelRecord (start c .args .number) (start c .args .line) (start c .args .r) (start c .args .channel)
@@ -39,10 +39,10 @@ Stands c rest out at = Left (now (start c .args .out)) 0 (Whole c) rest out at
 
 room : (c : tie.After-write-field3) → Stands c (Whole c) (now (start c .args .out)) 0
 room c =
-    let number : Small (start c .args .number) = search needs in
-    let line : Small (start c .args .line) = search needs in
-    let channel : Small (start c .args .channel) = search needs in
-    left-all _ 0 _ (omega (arith, start c .pre, record-few (start c .args .number) (start c .args .line) (start c .args .r) (start c .args .channel) number line channel))
+    let start : tie.Start = search needs in let number : Small (start .args .number) = search needs in
+    let line : Small (start .args .line) = search needs in
+    let channel : Small (start .args .channel) = search needs in
+    left-all _ 0 _ (omega (arith, start .pre, record-few (start .args .number) (start .args .line) (start .args .r) (start .args .channel) number line channel))
 
 abbrev Number : tie.After-write-field3 → ℕ → List ℕ
 Number c n = fieldText n tab ++ fieldText (start c .args .channel) lineFeed
@@ -61,13 +61,16 @@ asked : (c : tie.After-write-field3) {n : ℕ} → n ≡ numberOf (start c .args
 asked c e = rw e (left3 c)
 
 left4 : (c : tie.After-write-field3) → Stands c (fieldText (start c .args .channel) lineFeed) (c .write-field3 .last .1 .1 .0) (c .write-field3 .result)
-left4 c = left-next (fieldText (c .before .before .number .result) tab) _ (asked c (c .before .before .number .ensures)) (c .write-field3 .ensures)
+left4 c =
+    let after-number : tie.After-number = search needs in
+    left-next (fieldText (after-number .number .result) tab) _ (asked c (after-number .number .ensures)) (c .write-field3 .ensures)
 
 returns : tie.Need-returns
 returns c =
-    let d = c .before .before .before .before .before .before in
-    let a = start d .args in
-    puts (refusedRecordOf (a .number) (a .line) (a .r) (a .channel)) (room d) refl (left-last (left4 d) (c .before .before .write-field4 .ensures))
+    let start : tie.Start = search needs in let after-write-field4 : tie.After-write-field4 = search needs in
+    let d : tie.After-write-field3 = search needs in
+    let a = start .args in
+    puts (refusedRecordOf (a .number) (a .line) (a .r) (a .channel)) (room d) refl (left-last (left4 d) (after-write-field4 .write-field4 .ensures))
 
 pub put-channel-spec : {M : Type 1} → statement M
 put-channel-spec =

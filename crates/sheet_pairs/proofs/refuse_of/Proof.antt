@@ -7,13 +7,16 @@ use Rattle.sheet_pairs.proofs.refuse_of.Statement.{statement}
 use Rattle.sheet_pairs.proofs.refuse_of.Tie as tie
 
 returns : tie.Need-returns
-returns c = let a = c .before .before .args in without (refusedRecordOf (a .number) (a .line) (a .r) (a .channel)) (now (a .out)) (c .if1 .taken)
+returns c =
+    let start : tie.Start = search needs in
+    let a = start .args in without (refusedRecordOf (a .number) (a .line) (a .r) (a .channel)) (now (a .out)) (c .if1 .taken)
 
 returns-2 : tie.Need-returns-2
 returns-2 c =
-    let e = c .before .before .before .before in
-    let a = e .before .before .args in
-    finished (refusedRecordOf (a .number) (a .line) (a .r) (a .channel)) (e .if1 .left) (c .before .before .put-channel .ensures)
+    let start : tie.Start = search needs in let after-put-channel : tie.After-put-channel = search needs in
+    let e : tie.Else1 = search needs in
+    let a = start .args in
+    finished (refusedRecordOf (a .number) (a .line) (a .r) (a .channel)) (e .if1 .left) (after-put-channel .put-channel .ensures)
 
 pub refuse-of-spec : {M : Type 1} → statement M
 refuse-of-spec = tie.close (tie.spec returns (λ c κs. search needs) (λ c. search needs) returns-2)

@@ -17,14 +17,14 @@ use Rattle.sheet_records.proofs.exposure_at.Tie as tie
 
 -- ways back to earlier places of the function
 abbrev digits-end : tie.Else2 → tie.After-digits-end
-digits-end c = c .before .before .before
+digits-end c = search needs
 
 module _ (c : tie.After-digits-end) where
   abbrev Text : List ℕ
-  Text = now (c .before .before .args .text)
+  Text = let start : tie.Start = search needs in now (start .args .text)
 
   abbrev At : ℕ
-  At = c .before .before .args .at
+  At = let start : tie.Start = search needs in start .args .at
 
 -- the first digit is not 0
 other : (c : tie.Else2) → let d = digits-end c in standsAt (Text d) (At d) zeroByte ≡ false
@@ -33,7 +33,7 @@ other c = sym (c .before .stands .ensures) ∙ c .if2 .left
 -- what more than seven digits read as
 module _ (c : tie.After-known-told) where
   abbrev counted : tie.After-digits-end
-  counted = c .before .before .before .before .before .before .before .before
+  counted = search needs
 
   abbrev Value : ℕ
   Value = c .before .t .given .0 .0
@@ -42,7 +42,9 @@ module _ (c : tie.After-known-told) where
   End = c .before .t .given .0 .1 .0
 
   number : leadingAt (Text counted) (At counted) ≡ Number Value End
-  number = sym (c .before .before .before .leading-at .ensures) ∙ c .before .t .given .1
+  number =
+      let after-leading-at : tie.After-leading-at = search needs in
+      sym (after-leading-at .leading-at .ensures) ∙ c .before .t .given .1
 
 returns : tie.Need-returns
 unfolding ExposureAt
@@ -50,23 +52,23 @@ returns c = let d = c .before in no-digits (Text d) (At d) (d .digits-end .resul
 
 returns-2 : tie.Need-returns-2
 unfolding ExposureAt
-returns-2 c = let d = c .before .before .before in zero-first (Text d) (At d) (sym (c .before .stands .ensures) ∙ c .if2 .taken)
+returns-2 c = let d : tie.After-digits-end = search needs in zero-first (Text d) (At d) (sym (c .before .stands .ensures) ∙ c .if2 .taken)
 
 sub-if3 : tie.Need-sub-if3
-sub-if3 c = let d = digits-end c in omega (arith, d .digits-end .ensures)
+sub-if3 c = let d : tie.After-digits-end = search needs in omega (arith, d .digits-end .ensures)
 
 returns-3 : tie.Need-returns-3
 unfolding ExposureAt
 returns-3 c =
-    let e = c .before in
-    let d = digits-end e in
-    few (Text d) (At d) (other e) (d .digits-end .result) (d .digits-end .ensures) (e .before .before .if1 .left) (omega (arith, d .digits-end .ensures, c .if3 .taken))
+    let else1 : tie.Else1 = search needs in let e = c .before in
+    let d : tie.After-digits-end = search needs in
+    few (Text d) (At d) (other e) (d .digits-end .result) (d .digits-end .ensures) (else1 .if1 .left) (omega (arith, d .digits-end .ensures, c .if3 .taken))
 
 returns-4 : tie.Need-returns-4
 unfolding ExposureAt
 returns-4 c =
-    let d = digits-end (c .before .before .before .before) in
-    no-number (Text d) (At d) (sym (c .before .before .leading-at .ensures) ∙ c .enum-told .given .1)
+    let after-leading-at : tie.After-leading-at = search needs in let d : tie.After-digits-end = search needs in
+    no-number (Text d) (At d) (sym (after-leading-at .leading-at .ensures) ∙ c .enum-told .given .1)
 
 returns-5 : tie.Need-returns-5
 unfolding ExposureAt
@@ -75,8 +77,8 @@ returns-5 c = let k = c .before in too-much (Text (counted k)) (At (counted k)) 
 returns-6 : tie.Need-returns-6
 unfolding ExposureAt
 returns-6 c =
-    let k = c .before in
-    read (Text (counted k)) (At (counted k)) (other (k .before .before .before .before .before)) (Value k) (End k) (number k) (c .if4 .left)
+    let else2 : tie.Else2 = search needs in let k = c .before in
+    read (Text (counted k)) (At (counted k)) (other else2) (Value k) (End k) (number k) (c .if4 .left)
 
 pub exposure-at-spec : {M : Type 1} → statement M
 exposure-at-spec =

@@ -28,13 +28,13 @@ abbrev μ-loop : tie.MeasureT-loop
 -- the record that is judged
 module _ (c : tie.After-judge-one Inv-loop μ-loop) where
   abbrev loop : tie.At-loop Inv-loop μ-loop
-  loop = c .before .before .before .before
+  loop = search needs
 
   abbrev X : ℤ
   X = getD (loop .before .before .before .args .records .now) (loop .loop .i) (pos 0)
 
   inside : loop .loop .i < length (loop .before .before .before .args .records .now)
-  inside = c .before .before .before .loop-test .taken
+  inside = let in-loop : tie.In-loop Inv-loop μ-loop = search needs in in-loop .loop-test .taken
 
   is : c .before .outcome .result ≡ outcomeIn X
   is = let f : SFits w32 X = search needs in rw (toZ-ofZ f) at (c .before .outcome .ensures)
@@ -53,18 +53,20 @@ loop-holds c = start _ _ (said-yes (c .before .both .ensures) (c .if1 .left))
 
 returns-2 : tie.Need-returns-2 Inv-loop μ-loop
 returns-2 c =
-    let j = c .before .before .before in
+    let j : tie.After-judge-one Inv-loop μ-loop = search needs in
     decides (loop j .loop .inv) (inside j) _ (sym (says j) ∙ c .before .r .given .1)
 
 add-pick : tie.Need-add-pick Inv-loop μ-loop
-add-pick c = omega (arith, few-failures (loop (c .before .before) .loop .inv))
+add-pick c =
+    let after-judge-one : tie.After-judge-one Inv-loop μ-loop = search needs in
+    omega (arith, few-failures (loop after-judge-one .loop .inv))
 
 loop-less : tie.Need-loop-less Inv-loop μ-loop
 loop-less c = omega arith
 
 loop-again : tie.Need-loop-again Inv-loop μ-loop
 loop-again c =
-    let j = c .before .before .before in
+    let j : tie.After-judge-one Inv-loop μ-loop = search needs in
     let grown = c .pick .ensures ∙ ap (λ (f : Bool). cond f (loop j .loop .failures + 1) (loop j .loop .failures)) (failed j) in
     rw grown (on (loop j .loop .inv) (inside j) (sym (says j) ∙ c .before .enum-told .given .1))
 

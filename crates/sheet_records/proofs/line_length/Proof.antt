@@ -12,7 +12,7 @@ use Rattle.sheet_records.proofs.line_length.Tie as tie
 
 returns : tie.Need-returns
 returns c =
-    let o = c .before .before in
+    let o : tie.After-outcome = search needs in
     let s = o .before in
     let is = rw (toZ-ofZ (s .fits .x)) at (o .outcome .ensures) in
     let digits = c .digits2 .ensures .0 ∙ ap (λ (r : Outcome). length (digitsOf (r .exposure))) is in

@@ -22,7 +22,7 @@ Text c = now (c .before .before .before .args .text)
 -- the number that was read
 module _ (c : tie.After-known-told) where
   abbrev word : tie.After-begins
-  word = c .before .before .before .before .before
+  word = search needs
 
   abbrev Q : ℕ
   Q = c .before .q .given .0 .0
@@ -31,10 +31,12 @@ module _ (c : tie.After-known-told) where
   Feed = c .before .q .given .0 .1 .0
 
   number : leadingAt (Text word) 9 ≡ Number Q Feed
-  number = sym (c .before .before .before .leading-at .ensures) ∙ c .before .q .given .1
+  number =
+      let after-leading-at : tie.After-leading-at = search needs in
+      sym (after-leading-at .leading-at .ensures) ∙ c .before .q .given .1
 
   begun : begins standardStart (Text word) ≡ true
-  begun = said-yes (word .begins .ensures) (c .before .before .before .before .if1 .left)
+  begun = let else1 : tie.Else1 = search needs in said-yes (word .begins .ensures) (else1 .if1 .left)
 
 returns : tie.Need-returns
 unfolding HeadOf
@@ -42,17 +44,19 @@ returns c = no-word _ (said-no (c .before .begins .ensures) (c .if1 .taken))
 
 returns-2 : tie.Need-returns-2
 unfolding HeadOf
-returns-2 c = let w = c .before .before .before .before in no-standard (Text w) (sym (c .before .before .leading-at .ensures) ∙ c .enum-told .given .1)
+returns-2 c =
+    let after-leading-at : tie.After-leading-at = search needs in
+    let w : tie.After-begins = search needs in no-standard (Text w) (sym (after-leading-at .leading-at .ensures) ∙ c .enum-told .given .1)
 
 returns-3 : tie.Need-returns-3
 unfolding HeadOf
-returns-3 c = let k = c .before .before in no-end (Text (word k)) (Q k) (Feed k) (number k) (said-no (c .before .stands .ensures) (c .if2 .taken))
+returns-3 c = let k : tie.After-known-told = search needs in no-end (Text (word k)) (Q k) (Feed k) (number k) (said-no (c .before .stands .ensures) (c .if2 .taken))
 
 add-t10 : tie.Need-add-t10
-add-t10 c = let k = c .before .before in omega (arith, leads-number (Text (word k)) 9 (Q k) (Feed k) (number k) .within)
+add-t10 c = let k : tie.After-known-told = search needs in omega (arith, leads-number (Text (word k)) 9 (Q k) (Feed k) (number k) .within)
 
 returns-4 : tie.Need-returns-4
-returns-4 c = let k = c .before .before in head-here (Text (word k)) (Q k) (Feed k) (number k) (begun k) (said-yes (c .before .stands .ensures) (c .if2 .left))
+returns-4 c = let k : tie.After-known-told = search needs in head-here (Text (word k)) (Q k) (Feed k) (number k) (begun k) (said-yes (c .before .stands .ensures) (c .if2 .left))
 
 pub line-one-spec : {M : Type 1} → statement M
 line-one-spec =

@@ -25,7 +25,7 @@ abbrev μ-loop : tie.MeasureT-loop
 -- line 1 was read
 module _ (c : tie.After-known-told Inv-loop μ-loop) where
   abbrev start-of : tie.Start Inv-loop μ-loop
-  start-of = c .before .before .before .before .before
+  start-of = search needs
 
   abbrev Text : List ℕ
   Text = now (start-of .args .text)
@@ -37,15 +37,17 @@ module _ (c : tie.After-known-told Inv-loop μ-loop) where
   Next = c .before .q .given .0 .1 .0
 
   stands : HeadOf Text (Standard Q Next)
-  stands = subst (HeadOf Text) (c .before .q .given .1) (c .before .before .before .line-one .ensures)
+  stands =
+      let after-line-one : tie.After-line-one Inv-loop μ-loop = search needs in
+      subst (HeadOf Text) (c .before .q .given .1) (after-line-one .line-one .ensures)
 
 -- a record's line was read
 module _ (c : tie.After-known-told2 Inv-loop μ-loop) where
   abbrev loop : tie.At-loop Inv-loop μ-loop
-  loop = c .before .before .before .before .before
+  loop = search needs
 
   abbrev begin : tie.After-known-told Inv-loop μ-loop
-  begin = loop .before .before .before
+  begin = search needs
 
   abbrev Failed : Bool
   Failed = c .before .failed .given .0 .0
@@ -55,7 +57,9 @@ module _ (c : tie.After-known-told2 Inv-loop μ-loop) where
 
   entry : EntryHere (Text begin) (loop .loop .at) (loop .loop .count + 1) Failed After
   unfolding EntryAt
-  entry = subst (EntryAt (Text begin) (loop .loop .at) (loop .loop .count + 1)) (c .before .failed .given .1) (c .before .before .before .entry-at .ensures)
+  entry =
+      let after-entry-at : tie.After-entry-at Inv-loop μ-loop = search needs in
+      subst (EntryAt (Text begin) (loop .loop .at) (loop .loop .count + 1)) (c .before .failed .given .1) (after-entry-at .entry-at .ensures)
 
   further : (loop .loop .at < After) × (After ≤ length (Text begin))
   further = (entry .starts .further, entry .starts .within)
@@ -67,16 +71,17 @@ taken c = said-yes (c .before .takes .ensures) (c .if2 .left)
 returns : tie.Need-returns Inv-loop μ-loop
 unfolding Passes
 returns c =
-    let s = c .before .before .before .before in
+    let after-line-one : tie.After-line-one Inv-loop μ-loop = search needs in
+    let s : tie.Start Inv-loop μ-loop = search needs in
     let text = now (s .args .text) in
-    no-head text (subst (HeadOf text) (c .enum-told .given .1) (c .before .before .line-one .ensures))
+    no-head text (subst (HeadOf text) (c .enum-told .given .1) (after-line-one .line-one .ensures))
 
 returns-2 : tie.Need-returns-2 Inv-loop μ-loop
 unfolding Passes
-returns-2 c = let k = c .before .before in bad-standard (Text k) (Q k) (Next k) (stands k) (said-no (c .before .both .ensures) (c .if1 .taken))
+returns-2 c = let k : tie.After-known-told Inv-loop μ-loop = search needs in bad-standard (Text k) (Q k) (Next k) (stands k) (said-no (c .before .both .ensures) (c .if1 .taken))
 
 loop-holds : tie.Need-loop-holds Inv-loop μ-loop
-loop-holds c = let k = c .before .before in start (Text k) (Q k) (Next k) (stands k) (said-yes (c .before .both .ensures) (c .if1 .left))
+loop-holds c = let k : tie.After-known-told Inv-loop μ-loop = search needs in start (Text k) (Q k) (Next k) (stands k) (said-yes (c .before .both .ensures) (c .if1 .left))
 
 add-entry-at : tie.Need-add-entry-at Inv-loop μ-loop
 add-entry-at c = omega (arith, few (c .before .loop .inv))
@@ -84,29 +89,30 @@ add-entry-at c = omega (arith, few (c .before .loop .inv))
 returns-3 : tie.Need-returns-3 Inv-loop μ-loop
 unfolding Passes
 returns-3 c =
-    let b = c .before .before in
-    let l = b .before .before in
-    let text = Text (l .before .before .before) in
+    let after-known-told : tie.After-known-told Inv-loop μ-loop = search needs in
+    let b : tie.After-entry-at Inv-loop μ-loop = search needs in
+    let l : tie.At-loop Inv-loop μ-loop = search needs in
+    let text = Text after-known-told in
     other-line (l .loop .inv) (b .before .loop-test .taken) (subst (EntryAt text (l .loop .at) (l .loop .count + 1)) (c .enum-told2 .given .1) (b .entry-at .ensures))
 
 returns-4 : tie.Need-returns-4 Inv-loop μ-loop
 unfolding Passes
 returns-4 c =
-    let k = c .before .before in
+    let k : tie.After-known-told2 Inv-loop μ-loop = search needs in
     not-taken (loop k .loop .inv) (Failed k) (After k) (entry k) (said-no (c .before .takes .ensures) (c .if2 .taken))
 
 add-pick : tie.Need-add-pick Inv-loop μ-loop
-add-pick c = let k = c .before .before in omega (arith, few-failures (loop k .loop .inv))
+add-pick c = let k : tie.After-known-told2 Inv-loop μ-loop = search needs in omega (arith, few-failures (loop k .loop .inv))
 
 add-count : tie.Need-add-count Inv-loop μ-loop
-add-count c = let k = c .before .before .before in omega (arith, few (loop k .loop .inv))
+add-count c = let k : tie.After-known-told2 Inv-loop μ-loop = search needs in omega (arith, few (loop k .loop .inv))
 
 loop-less : tie.Need-loop-less Inv-loop μ-loop
-loop-less c = let k = c .before .before .before in omega (arith, further k .0, further k .1)
+loop-less c = let k : tie.After-known-told2 Inv-loop μ-loop = search needs in omega (arith, further k .0, further k .1)
 
 loop-again : tie.Need-loop-again Inv-loop μ-loop
 loop-again c =
-    let k = c .before .before .before in
+    let k : tie.After-known-told2 Inv-loop μ-loop = search needs in
     let l = loop k .loop in
     rw (c .pick .ensures) (on (l .inv) (Failed k) (After k) (entry k) (taken (c .before)))
 

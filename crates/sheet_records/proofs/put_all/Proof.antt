@@ -21,10 +21,6 @@ Inv-loop text begin places₀ at₀ count₀ width₀ limit₀ places at count w
 abbrev μ-loop : tie.MeasureT-loop
 μ-loop text begin places₀ at₀ count₀ width₀ limit₀ places at count width limit = length text - at
 
--- ways back to earlier places of the function
-abbrev loop₂ : tie.After-places Inv-loop μ-loop → tie.At-loop Inv-loop μ-loop
-loop₂ c = c .before .before .before .before .before .before
-
 -- the record that is due
 module _ (c : tie.In-loop Inv-loop μ-loop) where
   abbrev Next : Type 0
@@ -54,30 +50,34 @@ number-for-requires : tie.Need-number-for-requires Inv-loop μ-loop
 number-for-requires c κs = omega (arith, exposure c, here (loop c) .short)
 
 add-count : tie.Need-add-count Inv-loop μ-loop
-add-count c = omega (arith, few (loop₂ c .loop .inv))
+add-count c = let at-loop : tie.At-loop Inv-loop μ-loop = search needs in omega (arith, few (at-loop .loop .inv))
 
 add-pick : tie.Need-add-pick Inv-loop μ-loop
-add-pick c = omega (arith, few (loop₂ c .loop .inv))
+add-pick c = let at-loop : tie.At-loop Inv-loop μ-loop = search needs in omega (arith, few (at-loop .loop .inv))
 
 add-pick-2 : tie.Need-add-pick-2 Inv-loop μ-loop
-add-pick-2 c = let p = loop₂ c .loop .inv in omega (arith, few p, p .wide .few)
+add-pick-2 c =
+    let at-loop : tie.At-loop Inv-loop μ-loop = search needs in
+    let p = at-loop .loop .inv in omega (arith, few p, p .wide .few)
 
 add-pick-3 : tie.Need-add-pick-3 Inv-loop μ-loop
-add-pick-3 c = omega (arith, few (loop₂ (c .before) .loop .inv))
+add-pick-3 c = let at-loop : tie.At-loop Inv-loop μ-loop = search needs in omega (arith, few (at-loop .loop .inv))
 
 mul-pick : tie.Need-mul-pick Inv-loop μ-loop
-mul-pick c = let p = loop₂ (c .before) .loop .inv in omega (arith, few p, wide-room (p .wide))
+mul-pick c =
+    let at-loop : tie.At-loop Inv-loop μ-loop = search needs in
+    let p = at-loop .loop .inv in omega (arith, few p, wide-room (p .wide))
 
 loop-less : tie.Need-loop-less Inv-loop μ-loop
 loop-less c =
-    let r = c .before .before .before .before .before .before in
+    let r : tie.After-record-at Inv-loop μ-loop = search needs in
     let d = here (loop r) in
     omega (arith, r .record-at .ensures .1 .1, d .stands .further, d .stands .within)
 
 loop-again : tie.Need-loop-again Inv-loop μ-loop
 loop-again c =
-    let p = c .before .before .before in
-    let v = p .before .before in
+    let p : tie.After-put Inv-loop μ-loop = search needs in
+    let v : tie.After-number-for Inv-loop μ-loop = search needs in
     let r = v .before in
     let l = loop r .before .loop in
     let d = here (loop r) in

@@ -18,7 +18,7 @@ use Rattle.sheet_records.proofs.records.Tie as tie
 -- what the first pass found
 module _ (c : tie.After-pass) where
   abbrev start : tie.Start
-  start = c .before .before
+  start = search needs
 
   abbrev Text : List ℕ
   Text = now (start .args .text)
@@ -28,7 +28,7 @@ module _ (c : tie.After-pass) where
 
 module _ (c : tie.After-known-told) where
   abbrev passed : tie.After-pass
-  passed = c .before .before .before
+  passed = search needs
 
   abbrev Q : ℕ
   Q = c .before .q .given .0 .0
@@ -48,13 +48,13 @@ unfolding filledBy
 returns c = let k = c .before in (no-room (clean k) (length (Places (passed k))) (c .if1 .taken), refl)
 
 put-all-requires : tie.Need-put-all-requires
-put-all-requires c κs = clean (c .before .before) .from
+put-all-requires c κs = let after-known-told : tie.After-known-told = search needs in clean after-known-told .from
 
 returns-2 : tie.Need-returns-2
 unfolding Passes readingEnd meaning
 returns-2 c =
-    let e = c .before .before in
-    let p = e .before .before in
+    let e : tie.After-enum-told = search needs in
+    let p : tie.After-pass = search needs in
     let never = subst (Passes (Text p)) (e .enum-told .given .1) (p .pass .ensures) in
     let is = c .stopped .ensures ∙ ap stoppedFrom (c .before .read .ensures) ∙ unclean (Text p) (length (Places p)) never in
     (is, sym (ap (λ (r : Resumed). filledBy r (recordsOf (Text p)) (Places p)) (c .stopped .ensures) ∙ stopped-kept (c .before .read .result) (recordsOf (Text p)) (Places p)))
@@ -62,7 +62,7 @@ returns-2 c =
 returns-3 : tie.Need-returns-3
 returns-3 c =
     let w = c .before in
-    let e = w .before .before in
+    let e : tie.Else1 = search needs in
     let k = e .before in
     let p = passed k in
     (all-read (clean k) (length (Places p)) (e .if1 .left), w .put-all .ensures ∙ put-front (recordsOf (Text p)) (Places p) (Q k) (Count k) (clean k .number) (e .if1 .left))

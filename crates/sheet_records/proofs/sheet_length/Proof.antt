@@ -51,8 +51,8 @@ loop-less c = omega arith
 
 loop-again : tie.Need-loop-again Inv-loop μ-loop
 loop-again c =
-    let l = c .before .before .before in
-    let p = l .before .before .args .records .now in
+    let start : tie.Start Inv-loop μ-loop = search needs in let l : tie.At-loop Inv-loop μ-loop = search needs in
+    let p = start .args .records .now in
     let i = l .loop .i in
     let f : SFits w32 (getD p i (pos 0)) = search needs in
     let bytes = rw (toZ-ofZ f) at (c .line-length .ensures .0) in
@@ -61,8 +61,8 @@ loop-again c =
 
 returns : tie.Need-returns Inv-loop μ-loop
 returns c =
-    let l = c .before in
-    let p = l .before .before .args .records .now in
+    let start : tie.Start Inv-loop μ-loop = search needs in let l = c .before in
+    let p = start .args .records .now in
     let none : length (linesFrom (l .loop .i + 1) (drop (l .loop .i) p)) ≡ 0 = ap (λ (xs : List ℤ). length
     (linesFrom (l .loop .i + 1) xs)) (drop-of-length-le p {i = l .loop .i} (omega arith)) ∙
     ap length (lines-none (l .loop .i + 1)) in

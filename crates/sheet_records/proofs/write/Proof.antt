@@ -22,7 +22,7 @@ use Rattle.sheet_records.proofs.write.Tie as tie
 -- all records are clean
 module _ (c : tie.After-enum-told) where
   abbrev start : tie.Start
-  start = c .before .before .before .before
+  start = search needs
 
   abbrev Q : ℕ
   Q = start .args .q
@@ -34,7 +34,7 @@ module _ (c : tie.After-enum-told) where
   Out = now (start .args .out)
 
   clean : Clean ≡ judgedAs (judged Q Records)
-  clean = sym (c .enum-told .given .1) ∙ c .before .before .judge .ensures
+  clean = let after-judge : tie.After-judge = search needs in sym (c .enum-told .given .1) ∙ after-judge .judge .ensures
 
   few : length Records ≤ 100000
   few = let (d, e) = judged-clean (judged Q Records) clean in judged-few Q Records d e
@@ -51,7 +51,7 @@ returns c =
 
 put-sheet-requires : tie.Need-put-sheet-requires
 put-sheet-requires c κs =
-    let l = c .before .before in
+    let l : tie.After-sheet-length = search needs in
     let e = l .before in
     (few e, omega (arith, l .sheet-length .ensures, c .before .if1 .left))
 

@@ -6,11 +6,13 @@ use Rattle.sheet_reply.proofs.censored.Statement.{statement}
 use Rattle.sheet_reply.proofs.censored.Tie as tie
 
 returns : tie.Need-returns
-returns c = absurd (count-not-refused _ (c .before .before .before .pre) (c .before .before .censored .ensures) (c .enum-told .given .1))
+returns c =
+    let start : tie.Start = search needs in let after-censored : tie.After-censored = search needs in
+    absurd (count-not-refused _ (start .pre) (after-censored .censored .ensures) (c .enum-told .given .1))
 
 returns-2 : tie.Need-returns-2
 returns-2 c =
-    let b = c .before .before .before in
+    let b : tie.After-censored = search needs in
     has-count _ (b .before .pre) (b .censored .ensures) (c .before .n .given .1)
 
 pub censored-spec : {M : Type 1} → statement M

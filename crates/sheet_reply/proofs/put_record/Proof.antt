@@ -17,22 +17,22 @@ use Rattle.sheet_reply.proofs.put_record.Tie as tie
 
 -- the places on the way back
 abbrev start : tie.After-letter → tie.Start
-start c = c .before .before .before .before .before
+start c = search needs
 
 abbrev letter-of : tie.After-write-field → tie.After-letter
-letter-of c = c .before .before
+letter-of c = search needs
 
 abbrev first-of : tie.After-write-field2 → tie.After-write-field
-first-of c = c .before .before .before .before
+first-of c = search needs
 
 abbrev second-of : tie.After-write-field3 → tie.After-write-field2
-second-of c = c .before .before .before .before
+second-of c = search needs
 
 abbrev third-of : tie.After-write-field4 → tie.After-write-field3
-third-of c = c .before .before .before .before
+third-of c = search needs
 
 abbrev fourth-of : tie.After-write-byte → tie.After-write-field4
-fourth-of c = c .before .before .before .before
+fourth-of c = search needs
 
 -- what is left of the line after each part, N* and the letter being those that were answered
 module _ (c : Campaign) (n letter : ℕ) where
@@ -67,35 +67,50 @@ abbrev Stands : tie.After-letter → List ℕ → List ℕ → ℕ → Type 0
 Stands c rest out at = Left (now (start c .args .out)) (start c .args .at) (Of Rest0 c) rest out at
 
 whole : (c : tie.After-letter) → recordText (start c .args .c) ≡ Of Rest0 c
-whole c = figures-whole (start c .args .c) _ _ (c .before .before .if1 .left) (c .before .censored .ensures) (c .letter .ensures)
+whole c =
+    let start : tie.Start = search needs in let else1 : tie.Else1 = search needs in
+    figures-whole (start .args .c) _ _ (else1 .if1 .left) (c .before .censored .ensures) (c .letter .ensures)
 
 left0 : (c : tie.After-letter) → Stands c (Of Rest0 c) (now (start c .args .out)) (start c .args .at)
-left0 c = left-all _ _ (Of Rest0 c) (rw (← whole c) (start c .pre .1))
+left0 c = let start : tie.Start = search needs in left-all _ _ (Of Rest0 c) (rw (← whole c) (start .pre .1))
 
 left1 : (c : tie.After-write-field) → Stands (letter-of c) (Of Rest1 (letter-of c)) (c .write-field .last .1 .1 .0) (c .write-field .result)
-left1 c = left-next (fieldText (start (letter-of c) .args .c .records) tab) _ (left0 (letter-of c)) (c .write-field .ensures)
+left1 c =
+    let start : tie.Start = search needs in let after-letter : tie.After-letter = search needs in
+    left-next (fieldText (start .args .c .records) tab) _ (left0 after-letter) (c .write-field .ensures)
 
 left2 : (c : tie.After-write-field2) → Stands (letter-of (first-of c)) (Of Rest2 (letter-of (first-of c))) (c .write-field2 .last .1 .1 .0) (c .write-field2 .result)
-left2 c = left-next (fieldText (start (letter-of (first-of c)) .args .c .failures) tab) _ (left1 (first-of c)) (c .write-field2 .ensures)
+left2 c =
+    let start : tie.Start = search needs in let after-write-field : tie.After-write-field = search needs in
+    left-next (fieldText (start .args .c .failures) tab) _ (left1 after-write-field) (c .write-field2 .ensures)
 
 left3 : (c : tie.After-write-field3) → let l = letter-of (first-of (second-of c)) in Stands l (Of Rest3 l) (c .write-field3 .last .1 .1 .0) (c .write-field3 .result)
-left3 c = left-next (fieldText (letter-of (first-of (second-of c)) .before .censored .result) tab) _ (left2 (second-of c)) (c .write-field3 .ensures)
+left3 c =
+    let after-censored : tie.After-censored = search needs in
+    let after-write-field2 : tie.After-write-field2 = search needs in
+    left-next (fieldText (after-censored .censored .result) tab) _ (left2 after-write-field2) (c .write-field3 .ensures)
 
 left4 : (c : tie.After-write-field4) → let l = letter-of (first-of (second-of (third-of c))) in Stands l (Of Rest4 l) (c .write-field4 .last .1 .1 .0) (c .write-field4 .result)
-left4 c = left-next (fieldText (start (letter-of (first-of (second-of (third-of c)))) .args .c .exposure) tab) _ (left3 (third-of c)) (c .write-field4 .ensures)
+left4 c =
+    let start : tie.Start = search needs in let after-write-field3 : tie.After-write-field3 = search needs in
+    left-next (fieldText (start .args .c .exposure) tab) _ (left3 after-write-field3) (c .write-field4 .ensures)
 
 left5 : (c : tie.After-write-byte) → let l = letter-of (first-of (second-of (third-of (fourth-of c)))) in Stands l (lineFeed ∷ []) (c .write-byte .last .1 .0) (c .write-byte .result)
-left5 c = left-next (letter-of (first-of (second-of (third-of (fourth-of c)))) .letter .result ∷ []) _ (left4 (fourth-of c)) (c .write-byte .ensures)
+left5 c =
+    let after-letter : tie.After-letter = search needs in
+    let after-write-field4 : tie.After-write-field4 = search needs in
+    left-next (after-letter .letter .result ∷ []) _ (left4 after-write-field4) (c .write-byte .ensures)
 
 returns : tie.Need-returns
 returns c =
-    let b = c .before .before .before in
+    let b : tie.Start = search needs in
     let a = b .args in rw (empty (a .c) (c .if1 .taken)) (wrote-none (now (a .out)) (a .at) (omega (arith, rw (empty (a .c) (c .if1 .taken)) at (b .pre .1))))
 
 returns-2 : tie.Need-returns-2
 returns-2 c =
-    let p = c .before .before .before .before .before .before in
-    rw (whole (letter-of (first-of (second-of (third-of (fourth-of p)))))) (left-last (left5 p) (c .before .before .write-byte2 .ensures))
+    let after-letter : tie.After-letter = search needs in
+    let after-write-byte2 : tie.After-write-byte2 = search needs in let p : tie.After-write-byte = search needs in
+    rw (whole after-letter) (left-last (left5 p) (after-write-byte2 .write-byte2 .ensures))
 
 pub put-record-spec : {M : Type 1} → statement M
 put-record-spec =

@@ -13,13 +13,10 @@ use Rattle.sheet_reply.proofs.put_refused.Tie as tie
 
 -- the places on the way back
 abbrev start : tie.After-write-bytes → tie.Start
-start c = c .before .before .before .before
+start c = search needs
 
 abbrev word-of : tie.After-write-field → tie.After-write-bytes
-word-of c = c .before .before .before .before
-
-abbrev line-of : tie.After-number → tie.After-write-field
-line-of c = c .before .before .before
+word-of c = search needs
 
 -- of the refused line so much is left, and the lent bytes are these
 abbrev Stands : tie.After-write-bytes → List ℕ → List ℕ → ℕ → Type 0
@@ -30,22 +27,29 @@ Why c = reasonText (numberOf (start c .args .r)) (start c .args .column)
 
 left1 : (c : tie.After-write-bytes) → Stands c (fieldText (start c .args .line) tab ++ Why c) (c .write-bytes .last .1 .0) (c .write-bytes .result)
 unfolding refusedText
-left1 c = left-next refusedWord _ (left-all _ _ (refusedText (start c .args .line) (start c .args .column) (start c .args .r)) (start c .pre)) (c .write-bytes .ensures)
+left1 c =
+    let start : tie.Start = search needs in
+    left-next refusedWord _ (left-all _ _ (refusedText (start .args .line) (start .args .column) (start .args .r)) (start .pre)) (c .write-bytes .ensures)
 
 left2 : (c : tie.After-write-field) → Stands (word-of c) (Why (word-of c)) (c .write-field .last .1 .1 .0) (c .write-field .result)
-left2 c = left-next (fieldText (start (word-of c) .args .line) tab) _ (left1 (word-of c)) (c .write-field .ensures)
+left2 c =
+    let start : tie.Start = search needs in let after-write-bytes : tie.After-write-bytes = search needs in
+    left-next (fieldText (start .args .line) tab) _ (left1 after-write-bytes) (c .write-field .ensures)
 
 left3 : (c : tie.After-write-field) {n : ℕ} → n ≡ numberOf (start (word-of c) .args .r) → Stands (word-of c)
     (reasonText n (start (word-of c) .args .column)) (c .write-field .last .1 .1 .0) (c .write-field .result)
 left3 c e = rw e (left2 c)
 
 put-reason-requires : tie.Need-put-reason-requires
-put-reason-requires c κs = left-fits (left3 (line-of (c .before)) (c .before .number .ensures))
+put-reason-requires c κs =
+    let after-write-field : tie.After-write-field = search needs in
+    left-fits (left3 after-write-field (c .before .number .ensures))
 
 returns : tie.Need-returns
 returns c =
-    let w = c .before .before .before .before in
-    left-last (left3 (line-of w) (w .number .ensures)) (c .before .before .put-reason .ensures)
+    let after-write-field : tie.After-write-field = search needs in
+    let after-put-reason : tie.After-put-reason = search needs in let w : tie.After-number = search needs in
+    left-last (left3 after-write-field (w .number .ensures)) (after-put-reason .put-reason .ensures)
 
 pub put-refused-spec : {M : Type 1} → statement M
 put-refused-spec =

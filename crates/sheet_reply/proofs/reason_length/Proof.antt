@@ -11,7 +11,7 @@ use Rattle.sheet_reply.proofs.reason_length.Tie as tie
 returns : tie.Need-returns
 unfolding reasonText fieldText
 returns c =
-    let t = c .before .before in
+    let t : tie.Then1 = search needs in
     rw (eq-eqb _ malformedNumber (t .if1 .taken))
     (simp length-append (omega (arith, c .before .digits .ensures .0, c .digits2 .ensures .0)), omega (arith, c .before .digits .ensures .1, c .digits2 .ensures .1))
 

@@ -17,14 +17,15 @@ returns c = rw (eq-eqb _ _ (c .if1 .taken))
 returns-2 : tie.Need-returns-2
 unfolding recordText figures fieldText
 returns-2 c =
-    let b = c .before .before .before in
-    rw (ne-eqb _ _ (b .before .before .if1 .left)) (simp length-append (omega (
+    let else1 : tie.Else1 = search needs in let after-censored : tie.After-censored = search needs in
+    let b : tie.After-digits2 = search needs in
+    rw (ne-eqb _ _ (else1 .if1 .left)) (simp length-append (omega (
       arith,
       b .before .digits .ensures .0,
       b .digits2 .ensures .0,
       c .before .digits3 .ensures .0,
       ap (λ n. length (digitsOf n))
-          (c .before .before .censored .ensures),
+          (after-censored .censored .ensures),
       c .digits4 .ensures .0,
     )))
 

@@ -12,9 +12,9 @@ use Rattle.sheet_reply.proofs.refused_length.Tie as tie
 returns : tie.Need-returns
 unfolding refusedText fieldText
 returns c =
-    let n = c .before in
+    let start : tie.Start = search needs in let n = c .before in
     simp length-append
-    (omega (arith, n .before .digits .ensures .0, c .reason-length .ensures .0, ap (λ k. length (reasonText k (n .before .before .args .column))) (n .number .ensures)))
+    (omega (arith, n .before .digits .ensures .0, c .reason-length .ensures .0, ap (λ k. length (reasonText k (start .args .column))) (n .number .ensures)))
 
 pub refused-length-spec : {M : Type 1} → statement M
 refused-length-spec =

@@ -11,7 +11,7 @@ use Rattle.sheet_reply.proofs.write_refused.Statement.{statement}
 use Rattle.sheet_reply.proofs.write_refused.Tie as tie
 
 abbrev start : tie.After-has-room → tie.Start
-start c = c .before .before .before
+start c = search needs
 
 asked : (c : tie.After-has-room) → c .has-room .result ≡ leb (start c .args .at + c .before .refused-length .result) (length (now (start c .args .out)))
 asked c = c .has-room .ensures
@@ -21,21 +21,21 @@ needed c = c .before .refused-length .ensures
 
 returns : tie.Need-returns
 returns c =
-    let h = c .before in
-    no-room (now (start h .args .out)) (start h .args .at) (refusedText (start h .args .line) (start h .args .column) (start h .args .r)) (asked h) (needed h) (c .if1 .taken)
+    let start : tie.Start = search needs in let h = c .before in
+    no-room (now (start .args .out)) (start .args .at) (refusedText (start .args .line) (start .args .column) (start .args .r)) (asked h) (needed h) (c .if1 .taken)
 
 fits : (c : tie.Else1) → let a = start (c .before) .args in a .at + length (refusedText (a .line) (a .column) (a .r)) ≤ length (now (a .out))
 fits c =
-    let h = c .before in
-    has-room (now (start h .args .out)) (start h .args .at) (refusedText (start h .args .line) (start h .args .column) (start h .args .r)) (asked h) (needed h) (c .if1 .left)
+    let start : tie.Start = search needs in let h = c .before in
+    has-room (now (start .args .out)) (start .args .at) (refusedText (start .args .line) (start .args .column) (start .args .r)) (asked h) (needed h) (c .if1 .left)
 
 put-refused-requires : tie.Need-put-refused-requires
 put-refused-requires c κs = fits (c .before)
 
 returns-2 : tie.Need-returns-2
 returns-2 c =
-    let e = c .before .before .before .before in
-    upto _ _ _ (fits e) (c .before .before .put-refused .ensures)
+    let after-put-refused : tie.After-put-refused = search needs in let e : tie.Else1 = search needs in
+    upto _ _ _ (fits e) (after-put-refused .put-refused .ensures)
 
 pub write-refused-spec : {M : Type 1} → statement M
 write-refused-spec =

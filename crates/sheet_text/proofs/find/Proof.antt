@@ -17,7 +17,7 @@ use Rattle.sheet_text.proofs.find.Tie as tie
 
 -- ways back to earlier places of the function
 abbrev line-end : tie.After-line → tie.After-line-end
-line-end c = c .before .before .before .before .before
+line-end c = search needs
 
 -- what is handed over: the part from `at` to the end that was found
 abbrev Rest : tie.After-line-end → List ℕ
@@ -33,15 +33,16 @@ within : (c : tie.After-line-end) → c .line-end .result ≤ length (now (c .be
 within c = end-within _ _ (c .line-end .result) (end-is c) (omega arith)
 
 waits-is : (c : tie.After-waits) → waits (c .before .before .before .before .args .more) (firstLine (Rest (c .before .before))) ≡ c .waits .result
-waits-is c = rw (← first (c .before .before)) (sym (c .waits .ensures))
-
-abbrev waits-at : tie.After-line → tie.After-waits
-waits-at c = c .before .before .before
+waits-is c =
+    let after-line-end : tie.After-line-end = search needs in
+    rw (← first after-line-end) (sym (c .waits .ensures))
 
 step-is : (c : tie.After-line) →
     let b = line-end c in
     stepping (b .before .before .args .s) (firstLine (Rest b)) ≡ c .line .result
-step-is c = rw (← first (line-end c)) (sym (c .line .ensures))
+step-is c =
+    let after-line-end : tie.After-line-end = search needs in
+    rw (← first after-line-end) (sym (c .line .ensures))
 
 part-waits-end : tie.Need-part-waits-end
 part-waits-end c = within c
@@ -49,24 +50,26 @@ part-waits-end c = within c
 returns : tie.Need-returns
 unfolding found
 returns c =
-    let e = c .before .before .before in
+    let e : tie.After-line-end = search needs in
     rw (waits-is (c .before) ∙ c .if1 .taken, part-length _ _ (e .line-end .result) (end-is e))
 
 part-line-end : tie.Need-part-line-end
-part-line-end c = within (c .before .before .before)
+part-line-end c = let after-line-end : tie.After-line-end = search needs in within after-line-end
 
 returns-2 : tie.Need-returns-2
 unfolding found
 returns-2 c =
-    let l = c .before .before .before in
-    let e = line-end l in
-    rw (waits-is (waits-at l) ∙ l .before .before .if1 .left, step-is l ∙ c .before .t .given .1, ← part-end _ _ (e .line-end .result) (end-is e))
+    let after-waits : tie.After-waits = search needs in let else1 : tie.Else1 = search needs in
+    let l : tie.After-line = search needs in
+    let e : tie.After-line-end = search needs in
+    rw (waits-is after-waits ∙ else1 .if1 .left, step-is l ∙ c .before .t .given .1, ← part-end _ _ (e .line-end .result) (end-is e))
 
 returns-3 : tie.Need-returns-3
 unfolding found
 returns-3 c =
-    let l = c .before .before .before in
-    rw (waits-is (waits-at l) ∙ l .before .before .if1 .left, step-is l ∙ c .before .line2 .given .1)
+    let after-waits : tie.After-waits = search needs in let else1 : tie.Else1 = search needs in
+    let l : tie.After-line = search needs in
+    rw (waits-is after-waits ∙ else1 .if1 .left, step-is l ∙ c .before .line2 .given .1)
 
 pub find-spec : {M : Type 1} → statement M
 find-spec =

@@ -6,11 +6,11 @@ use Rattle.sheet_text.proofs.place_counted.Tie as tie
 
 add-result : tie.Need-add-result
 add-result c =
-    let w = c .before .before in
-    omega (arith, rw (w .w2 .given .1) at (w .before .before .pre), c .carried .ensures)
+    let start : tie.Start = search needs in let w : tie.After-w2 = search needs in
+    omega (arith, rw (w .w2 .given .1) at (start .pre), c .carried .ensures)
 
 returns-2 : tie.Need-returns-2
-returns-2 c = rw (c .before .before .w2 .given .1, c .carried .ensures)
+returns-2 c = let after-w2 : tie.After-w2 = search needs in rw (after-w2 .w2 .given .1, c .carried .ensures)
 
 pub place-counted-spec : {M : Type 1} → statement M
 place-counted-spec =

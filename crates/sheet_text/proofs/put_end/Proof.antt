@@ -13,27 +13,30 @@ use Rattle.sheet_text.proofs.put_end.Statement.{statement}
 use Rattle.sheet_text.proofs.put_end.Tie as tie
 
 abbrev end-of : tie.After-write-refused → tie.After-end
-end-of c = c .before .before .before
+end-of c = search needs
 
 abbrev start : tie.After-end → tie.Start
-start c = c .before .before .before
+start c = search needs
 
 place : (c : tie.After-write-refused) → let e = end-of c in
     placeCounted (start e .args .at) (c .write-refused .result) ≡ start e .args .at + length (refusedText (e .end .given .0 .0) (e .end .given .0 .1 .0) (e .end .given .0 .1 .1 .0))
-place c = counted-writing (now (start (end-of c) .args .out)) (start (end-of c) .args .at) _ (c .write-refused .ensures .0)
+place c =
+    let start : tie.Start = search needs in
+    counted-writing (now (start .args .out)) (start .args .at) _ (c .write-refused .ensures .0)
 
 place-counted-requires : tie.Need-place-counted-requires
 place-counted-requires c κs =
-    let w = c .before .before in
-    omega (arith, place w, ap (λ e. length (endText e)) (end-of w .end .given .1), start (end-of w) .pre)
+    let after-end : tie.After-end = search needs in let start : tie.Start = search needs in
+    let w : tie.After-write-refused = search needs in
+    omega (arith, place w, ap (λ e. length (endText e)) (after-end .end .given .1), start .pre)
 
 returns : tie.Need-returns
 returns c = rw (c .enum-told .given .1) (none-written _ _)
 
 returns-2 : tie.Need-returns-2
 returns-2 c =
-    let w = c .before .before .before in
-    rw (end-of w .end .given .1) (c .place-counted .ensures ∙ place w, w .write-refused .ensures .1)
+    let after-end : tie.After-end = search needs in let w : tie.After-write-refused = search needs in
+    rw (after-end .end .given .1) (c .place-counted .ensures ∙ place w, w .write-refused .ensures .1)
 
 returns-3 : tie.Need-returns-3
 returns-3 c = rw (c .enum-told2 .given .1) (none-written _ _)

@@ -14,32 +14,33 @@ use Rattle.sheet_text.proofs.put_sheet.Statement.{statement}
 use Rattle.sheet_text.proofs.put_sheet.Tie as tie
 
 abbrev sheet-of : tie.After-write-record → tie.After-s
-sheet-of c = c .before .before .before
+sheet-of c = search needs
 
 abbrev start : tie.After-s → tie.Start
-start c = c .before .before .before
+start c = search needs
 
 place : (c : tie.After-write-record) → let s = sheet-of c in
     placeCounted (start s .args .at) (c .write-record .result) ≡ start s .args .at + length (recordText (s .s .given .0 .0))
 unfolding recordWriting
 place c =
-    let s = sheet-of c in
-    counted-writing (now (start s .args .out)) (start s .args .at) _ (rw (rw (s .s .given .1) at (start s .pre .0)) at (c .write-record .ensures .0))
+    let start : tie.Start = search needs in let s : tie.After-s = search needs in
+    counted-writing (now (start .args .out)) (start .args .at) _ (rw (rw (s .s .given .1) at (start .pre .0)) at (c .write-record .ensures .0))
 
 returns : tie.Need-returns
 returns c = rw (c .enum-told .given .1) (none-written _ _)
 
 place-counted-requires : tie.Need-place-counted-requires
 place-counted-requires c κs =
-    let w = c .before .before in
-    omega (arith, place w, ap (λ s. length (textOf s)) (sheet-of w .s .given .1), start (sheet-of w) .pre .1)
+    let after-s : tie.After-s = search needs in let start : tie.Start = search needs in
+    let w : tie.After-write-record = search needs in
+    omega (arith, place w, ap (λ s. length (textOf s)) (after-s .s .given .1), start .pre .1)
 
 returns-2 : tie.Need-returns-2
 unfolding recordLeft
 returns-2 c =
-    let w = c .before .before .before in
-    let s = sheet-of w in
-    rw (s .s .given .1) (c .place-counted .ensures ∙ place w, rw (rw (s .s .given .1) at (start s .pre .0)) at (w .write-record .ensures .1))
+    let start : tie.Start = search needs in let w : tie.After-write-record = search needs in
+    let s : tie.After-s = search needs in
+    rw (s .s .given .1) (c .place-counted .ensures ∙ place w, rw (rw (s .s .given .1) at (start .pre .0)) at (w .write-record .ensures .1))
 
 pub put-sheet-spec : {M : Type 1} → statement M
 put-sheet-spec =

@@ -50,33 +50,35 @@ loop-holds c = (_, along-start _ _ _ (said-yes (c .before .sound .ensures) (c .i
 
 loop-less : tie.Need-loop-less Inv-loop μ-loop
 loop-less c =
-    let f = c .before .before .before in
-    let t = found-taken _ _ _ _ (inside (f .before)) (f .before .before .loop .inv .1 .sound) (found-is f ∙ c .before .t .given .1) in
+    let in-loop : tie.In-loop Inv-loop μ-loop = search needs in
+    let at-loop : tie.At-loop Inv-loop μ-loop = search needs in let f : tie.After-find Inv-loop μ-loop = search needs in
+    let t = found-taken _ _ _ _ (inside in-loop) (at-loop .loop .inv .1 .sound) (found-is f ∙ c .before .t .given .1) in
     omega (arith, t .further, t .within)
 
 loop-again : tie.Need-loop-again Inv-loop μ-loop
 loop-again c =
-    let f = c .before .before .before in
-    (_, along-next (f .before .before .loop .inv .1) (inside (f .before)) (found-is f ∙ c .before .t .given .1))
+    let at-loop : tie.At-loop Inv-loop μ-loop = search needs in
+    let in-loop : tie.In-loop Inv-loop μ-loop = search needs in let f : tie.After-find Inv-loop μ-loop = search needs in
+    (_, along-next (at-loop .loop .inv .1) (inside in-loop) (found-is f ∙ c .before .t .given .1))
 
 returns-2 : tie.Need-returns-2 Inv-loop μ-loop
 unfolding readingEnd
 returns-2 c =
-    let f = c .before .before .before in
-    let l = f .before .before in
-    rw (from-sound l) (whole-end (l .loop .inv .1) (found-waits _ _ _ _ (inside (f .before)) (found-is f ∙ c .before .left .given .1) .0))
+    let in-loop : tie.In-loop Inv-loop μ-loop = search needs in let f : tie.After-find Inv-loop μ-loop = search needs in
+    let l : tie.At-loop Inv-loop μ-loop = search needs in
+    rw (from-sound l) (whole-end (l .loop .inv .1) (found-waits _ _ _ _ (inside in-loop) (found-is f ∙ c .before .left .given .1) .0))
 
 returns-3 : tie.Need-returns-3 Inv-loop μ-loop
 unfolding readingEnd
 returns-3 c =
-    let f = c .before .before .before in
-    let l = f .before .before in
-    rw (from-sound l) (whole-end (l .loop .inv .1) (found-bad _ _ _ _ (inside (f .before)) (l .loop .inv .1 .sound) (found-is f ∙ c .before .line .given .1) .0))
+    let in-loop : tie.In-loop Inv-loop μ-loop = search needs in let f : tie.After-find Inv-loop μ-loop = search needs in
+    let l : tie.At-loop Inv-loop μ-loop = search needs in
+    rw (from-sound l) (whole-end (l .loop .inv .1) (found-bad _ _ _ _ (inside in-loop) (l .loop .inv .1 .sound) (found-is f ∙ c .before .line .given .1) .0))
 
 returns-4 : tie.Need-returns-4 Inv-loop μ-loop
 unfolding readingEnd
 returns-4 c =
-    let l = c .before .before in
+    let l : tie.At-loop Inv-loop μ-loop = search needs in
     rw (from-sound l) (c .last .ensures ∙ whole-end (l .loop .inv .1) (along-last (l .loop .inv .1) (omega arith)))
 
 pub read-spec : {M : Type 1} → statement M

@@ -19,7 +19,7 @@ use Rattle.sheet_text.proofs.run.Statement.{statement}
 use Rattle.sheet_text.proofs.run.Tie as tie
 
 abbrev start : tie.Else1 → tie.Start
-start c = c .before .before .before .before
+start c = search needs
 
 from-sound : (c : tie.Else1) → soundSheet (start c .args .s) ≡ true
 from-sound c = said-yes (c .before .sound .ensures) (c .if1 .left)
@@ -27,8 +27,8 @@ from-sound c = said-yes (c .before .sound .ensures) (c .if1 .left)
 -- either way the lent bytes have room: for anything, or for what was counted
 fits : (c : tie.Joined2) → let a = start (c .before .before) .args in length (readingSheet (a .more) (linesOf (now (a .text))) (a .s) .text) ≤ length (now (a .out))
 fits c =
-    let e = c .before .before in
-    let a = start e .args in
+    let start : tie.Start = search needs in let e : tie.Else1 = search needs in
+    let a = start .args in
     ⊎-elim
     (λ w. omega (arith, w .1 .ensures, w .2 .left))
     (λ w. omega (arith, enough (a .more) (now (a .text)) (a .s) (from-sound e), c .before .has-any-room .ensures (not-false _ (w .left))))
@@ -36,27 +36,28 @@ fits c =
 
 returns : tie.Need-returns
 returns c =
-    let a = c .before .before .before .before .args in
+    let start : tie.Start = search needs in let a = start .args in
     run-broken (a .more) (now (a .text)) (a .s) (now (a .out)) (said-no (c .before .sound .ensures) (c .if1 .taken))
 
 needed-requires : tie.Need-needed-requires
-needed-requires c κs = from-sound (c .before .before)
+needed-requires c κs = let else1 : tie.Else1 = search needs in from-sound else1
 
 returns-2 : tie.Need-returns-2
 returns-2 c =
-    let e = c .before .before .before .before in
-    let a = start e .args in
+    let start : tie.Start = search needs in let e : tie.Else1 = search needs in
+    let a = start .args in
     run-short (a .more) (now (a .text)) (a .s) (now (a .out)) (from-sound e) (c .before .needed .ensures) (c .if3 .taken)
 
 pass-requires : tie.Need-pass-requires
-pass-requires c κs = from-sound (c .before .before .before)
+pass-requires c κs = let else1 : tie.Else1 = search needs in from-sound else1
 
 returns-3 : tie.Need-returns-3
 returns-3 c =
-    let j = c .before .before .before .before in
-    let e = j .before .before in
-    let a = start e .args in
-    run-came (a .more) (now (a .text)) (a .s) (now (a .out)) (from-sound e) (fits j) (c .before .before .pass .ensures)
+    let start : tie.Start = search needs in let after-pass : tie.After-pass = search needs in
+    let j : tie.Joined2 = search needs in
+    let e : tie.Else1 = search needs in
+    let a = start .args in
+    run-came (a .more) (now (a .text)) (a .s) (now (a .out)) (from-sound e) (fits j) (after-pass .pass .ensures)
 
 pub run-spec : {M : Type 1} → statement M
 run-spec =

@@ -15,21 +15,24 @@ returns : tie.Need-returns
 returns c = rw (not-true (c .before .args .more) (c .if1 .taken))
 
 returns-2 : tie.Need-returns-2
-returns-2 c = let a = c .before .before .args in rw (le-ltb (length (now (a .line))) longestSheetLine (c .if2 .taken), and-false (not (endsLine (now (a .line)))), and-false (a .more))
+returns-2 c =
+    let start : tie.Start = search needs in
+    let a = start .args in rw (le-ltb (length (now (a .line))) longestSheetLine (c .if2 .taken), and-false (not (endsLine (now (a .line)))), and-false (a .more))
 
 returns-3 : tie.Need-returns-3
-returns-3 c = let a = c .before .before .before .args in rw (
-  not-false (a .more) (c .before .before .if1 .left),
-  lt-ltb (length (now (a .line))) longestSheetLine (c .before .if2 .left),
-  List·getD-eq-default (now (a .line)) 0
-      {n = length (now (a .line)) - 1} (omega arith),
-)
+returns-3 c =
+    let start : tie.Start = search needs in let else1 : tie.Else1 = search needs in let a = start .args in rw (
+      not-false (a .more) (else1 .if1 .left),
+      lt-ltb (length (now (a .line))) longestSheetLine (c .before .if2 .left),
+      List·getD-eq-default (now (a .line)) 0
+          {n = length (now (a .line)) - 1} (omega arith),
+    )
 
 returns-4 : tie.Need-returns-4
 returns-4 c =
-    let b = c .before .before in
-    let a = b .before .before .args in rw (
-      not-false (a .more) (b .before .if1 .left),
+    let start : tie.Start = search needs in let else1 : tie.Else1 = search needs in let b : tie.Else2 = search needs in
+    let a = start .args in rw (
+      not-false (a .more) (else1 .if1 .left),
       lt-ltb (length (now (a .line))) longestSheetLine (b .if2 .left),
     )
     (sym (and-true (not (endsLine (now (a .line))))))

@@ -58,10 +58,14 @@ add-bytes : tie.Need-add-bytes Inv-loop μ-loop
 add-bytes c = omega arith
 
 slice-read-bytes : tie.Need-slice-read-bytes Inv-loop μ-loop
-slice-read-bytes c = omega (arith, c .before .before .loop .inv .0 .size)
+slice-read-bytes c =
+    let at-loop : tie.At-loop Inv-loop μ-loop = search needs in
+    omega (arith, at-loop .loop .inv .0 .size)
 
 slice-write-bytes : tie.Need-slice-write-bytes Inv-loop μ-loop
-slice-write-bytes c = omega (arith, c .before .before .loop .inv .0 .size)
+slice-write-bytes c =
+    let at-loop : tie.At-loop Inv-loop μ-loop = search needs in
+    omega (arith, at-loop .loop .inv .0 .size)
 
 add-i : tie.Need-add-i Inv-loop μ-loop
 add-i c = omega arith
@@ -70,15 +74,17 @@ loop-less : tie.Need-loop-less Inv-loop μ-loop
 loop-less c = omega arith
 
 loop-again : tie.Need-loop-again Inv-loop μ-loop
-loop-again c = let i = c .before .before .loop .inv in (moved-on _ _ _ _ (i .0) (omega arith), omega arith, i .2)
+loop-again c =
+    let at-loop : tie.At-loop Inv-loop μ-loop = search needs in
+    let i = at-loop .loop .inv in (moved-on _ _ _ _ (i .0) (omega arith), omega arith, i .2)
 
 same-length : tie.Need-same-length Inv-loop μ-loop
 same-length c = c .before .loop .inv .0 .size
 
 returns-2 : tie.Need-returns-2 Inv-loop μ-loop
 returns-2 c =
-    let l = c .before .loop in
-    let end : l .i ≡ c .before .before .before .before .before .args .count = omega arith in
+    let start : tie.Start Inv-loop μ-loop = search needs in let l = c .before .loop in
+    let end : l .i ≡ start .args .count = omega arith in
     rw (← end) (moved _ _ _ _ (l .inv .0) (omega arith))
 
 pub keep-spec : {M : Type 1} → statement M

@@ -23,18 +23,18 @@ abbrev μ-loop : tie.MeasureT-loop
 
 -- ways back to earlier places of the function
 abbrev start : tie.After-has-room Inv-loop μ-loop → tie.Start Inv-loop μ-loop
-start c = c .before .before .before
+start c = search needs
 
 returns : tie.Need-returns Inv-loop μ-loop
 returns c =
-    let a = start (c .before) .args in
+    let start : tie.Start Inv-loop μ-loop = search needs in let a = start .args in
     let n = a .at + length (now (a .bytes)) in
     wrote-short (now (a .out)) (a .at) (now (a .bytes))
     (leb-false n (length (now (a .out))) (sym (c .before .has-room .ensures) ∙ not-true _ (c .if1 .taken)))
 
 loop-holds : tie.Need-loop-holds Inv-loop μ-loop
 loop-holds c =
-    let a = start (c .before) .args in
+    let start : tie.Start Inv-loop μ-loop = search needs in let a = start .args in
     let n = a .at + length (now (a .bytes)) in
     let room = leb-true n (length (now (a .out))) (sym (c .before .has-room .ensures) ∙ not-false _ (c .if1 .left)) in
     (room, (omega arith, (refl, rw take-length)))
@@ -47,8 +47,9 @@ slice-write-out c = omega arith
 
 loop-again : tie.Need-loop-again Inv-loop μ-loop
 loop-again c =
-    let l = c .before .before .loop in
-    let a = start (c .before .before .before .before) .args in (
+    let at-loop : tie.At-loop Inv-loop μ-loop = search needs in let start : tie.Start Inv-loop μ-loop = search needs in
+    let l = at-loop .loop in
+    let a = start .args in (
       omega arith,
       (
         omega arith,
@@ -64,7 +65,7 @@ add-result c = omega arith
 
 returns-2 : tie.Need-returns-2 Inv-loop μ-loop
 returns-2 c =
-    let a = start (c .before .before .before) .args in
+    let start : tie.Start Inv-loop μ-loop = search needs in let a = start .args in
     let l = c .before .loop in
     let none : l .i ≡ 0 = omega arith in
     wrote-laid (now (a .out)) (a .at) (now (a .bytes)) (l .out) (a .at + length (now (a .bytes))) (l .inv .0)

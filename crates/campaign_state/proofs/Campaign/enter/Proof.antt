@@ -16,13 +16,13 @@ returns c = rw (said-no (c .before .sound .ensures) (c .if1 .taken))
 returns-2 : tie.Need-returns-2
 unfolding entering
 returns-2 c =
-    let b = c .before .before .before .before in
+    let b : tie.Else1 = search needs in
     rw (said-yes (b .before .sound .ensures) (b .if1 .left), said-no (c .before .both .ensures) (c .if2 .taken))
 
 take-requires : tie.Need-take-requires
 take-requires c κs =
-    let b = c .before .before .before .before in
-    let s = b .before .before .args in
+    let start : tie.Start = search needs in let b : tie.Else1 = search needs in
+    let s = start .args in
     let e = said-yes (c .before .both .ensures) (c .if2 .left) in (
       kept-from (s .self) (holds (said-yes (b .before .sound .ensures) (b .if1 .left))),
       leb-true _ _ (and-true (leb 1 (s .o .exposure)) (leb (s .o .exposure) longestTime) e .1),
@@ -31,8 +31,8 @@ take-requires c κs =
 returns-3 : tie.Need-returns-3
 unfolding entering
 returns-3 c =
-    let b = c .before .before .before .before .before in
-    rw (said-yes (b .before .sound .ensures) (b .if1 .left), said-yes (c .before .before .both .ensures) (c .before .if2 .left)) (c .take .ensures)
+    let after-both : tie.After-both = search needs in let b : tie.Else1 = search needs in
+    rw (said-yes (b .before .sound .ensures) (b .if1 .left), said-yes (after-both .both .ensures) (c .before .if2 .left)) (c .take .ensures)
 
 pub enter-spec : {M : Type 1} → statement M
 enter-spec =

@@ -7,7 +7,9 @@ use Rattle.sheet_line.proofs.Sheet.line.Tie as tie
 
 returns : tie.Need-returns
 unfolding stepping
-returns c = rw (c .before .before .before .self .given .1, said-no (c .before .sound .ensures) (c .if1 .taken))
+returns c =
+    let after-self : tie.After-self = search needs in
+    rw (after-self .self .given .1, said-no (c .before .sound .ensures) (c .if1 .taken))
 
 record-line-requires : tie.Need-record-line-requires
 record-line-requires c κs = said-yes (c .before .sound .ensures) (c .if1 .left)
@@ -18,7 +20,9 @@ returns-2 c = rw (c .before .enum-told .given .1) (c .standard-line .ensures)
 
 returns-3 : tie.Need-returns-3
 unfolding stepping
-returns-3 c = rw (c .before .before .before .before .self .given .1, said-yes (c .before .before .sound .ensures) (c .before .if1 .left)) (c .record-line .ensures)
+returns-3 c =
+    let after-self : tie.After-self = search needs in let after-sound : tie.After-sound = search needs in
+    rw (after-self .self .given .1, said-yes (after-sound .sound .ensures) (c .before .if1 .left)) (c .record-line .ensures)
 
 pub line-spec : {M : Type 1} → statement M
 line-spec =

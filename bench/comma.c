@@ -3,7 +3,7 @@
  *
  * proved      chim_comma_read: every refusal judged over all lines, nothing written before all is judged
  * same        a hand-written loop that keeps the same promise: one pass to judge, a second to write
- * loop        a hand-written loop that writes as it goes, and so leaves half a record behind a bad line
+ * loop        a hand-written loop that writes as it goes, and so leaves half a record at a bad line
  * stdio       fgets, strtoull, strtod, a line at a time, writing as it goes */
 #include <stdint.h>
 #include <stdio.h>

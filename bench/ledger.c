@@ -5,7 +5,7 @@
  * snprintf  the same judgements and one snprintf for each line, writing as it goes
  * records   chim_sheet_records: every line judged before a record is written
  * strtoull  three strtoull for each line of the text in memory, with the sheet's own checks, that keep the same promise: one pass to judge, a second to write
- * as it goes  the same in one pass, which leaves half the records behind a bad line
+ * as it goes  the same in one pass, which leaves half the records at a bad line
  * fgets     that for each line that fgets reads from the file */
 #include <stdint.h>
 #include <stdio.h>

@@ -241,7 +241,7 @@ comma_fault() {
     echo ": column $column: LF was wanted, and $rest"
 }
 
-# Behind the sentence of a malformed line that is itself a refused line.
+# After the sentence of a malformed line that is itself a refused line.
 handed_on="; it is the line by which another command refused, and no line of a sheet"
 
 # --- what is proved and built

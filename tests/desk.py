@@ -38,7 +38,7 @@ def in_pieces(words, pieces, beside=None):
 
 def in_words(wrote, fault):
     """Whether a command's standard error says in one sentence what its refused line says, and nothing else. The number
-    stands behind the line, and before a channel or a column: the third field of one file, the fourth of several."""
+    stands after the line, and before a channel or a column: the third field of one file, the fourth of several."""
     numbers = wrote.split()[2:4]
     return any(re.fullmatch(rf"[a-z]+: ([^\n]+: )?refusal {number}: [^\n]+\n", fault) for number in numbers)
 

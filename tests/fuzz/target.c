@@ -304,7 +304,7 @@ static void campaign(void) {
 }
 
 /* a sum of any numbers, and records of any samples added to it: bounds and rates are refused alike, the half-width is the least, and a record that is taken adds what its
- * result counts and its samples behind the ramp */
+ * result counts and its samples after the ramp */
 static void sum(void) {
     enum { MOST = 64 };
     uint64_t state[CHIM_SUM_NUMBERS], before[CHIM_SUM_NUMBERS], carried, channel;
@@ -530,7 +530,7 @@ static void situation(uint64_t *state) {
         chim_campaign_enter(state, CHIM_CAMPAIGN_NUMBERS, number(1) % 2, 1 + number(3) % 10000000, &carried);
 }
 
-/* what the report's line at `at` has to be, by what the campaign alone is told; the place behind it */
+/* what the report's line at `at` has to be, by what the campaign alone is told; the place after it */
 static size_t one_line(const uint8_t *report, size_t at, const uint64_t *state, size_t i, uint64_t told) {
     char line[64];
     uint64_t censored;

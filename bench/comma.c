@@ -1,5 +1,6 @@
-/* bench/comma.c FILE STEP: reads the file of samples into memory and times, best of several runs in turn over the same bytes, the proved reader and four others in
- * plain C; prints nanoseconds a line and how many times as long each took. All five have to find the same samples.
+/* bench/comma.c FILE STEP: reads the file of samples into memory and times, best of several runs in turn over the same
+ * bytes, the proved reader and four others in plain C; prints nanoseconds a line and how many times as long each took.
+ * All five have to find the same samples.
  *
  * proved      chim_comma_read: every refusal judged over all lines, nothing written before all is judged
  * same        a hand-written loop that keeps the same promise: one pass to judge, a second to write

@@ -1,4 +1,5 @@
-"""How a clerk's program is tried: its standard input handed over in pieces, each by one read, and its standard error on a terminal."""
+"""How a clerk's program is tried: its standard input handed over in pieces, each by one read, and its standard error on
+a terminal."""
 import os
 import re
 import socket
@@ -7,9 +8,10 @@ import threading
 
 
 def in_pieces(words, pieces, beside=None):
-    """The status, standard output and standard error of a program that gets each piece by a read of its own. A pipe would join those that come before the program
-    reads; a socket that keeps its messages apart does not. No piece is empty or longer than the program's buffer has room for. A second input, in pieces of its own,
-    comes on descriptor 4."""
+    """The status, standard output and standard error of a program that gets each piece by a read of its own. A pipe
+    would join those that come before the program reads; a socket that keeps its messages apart does not. No piece is
+    empty or longer than the program's buffer has room for. A second input, in pieces of its own, comes on descriptor
+    4."""
     inputs = [pieces] if beside is None else [pieces, beside]
     pairs = [socket.socketpair(socket.AF_UNIX, socket.SOCK_SEQPACKET) for _ in inputs]
     theirs = [pair[1].fileno() for pair in pairs]
@@ -53,7 +55,8 @@ def cut(text, r):
 
 
 def signs(words, text):
-    """The numbers of lines that a program shows where its standard error is a terminal; None where it shows anything else."""
+    """The numbers of lines that a program shows where its standard error is a terminal; None where it shows anything
+    else."""
     ours, theirs = os.openpty()
     try:
         process = subprocess.Popen(words, stdin=subprocess.PIPE, stdout=subprocess.DEVNULL, stderr=theirs)
@@ -67,7 +70,8 @@ def signs(words, text):
             pass
     finally:
         os.close(ours)
-    shown = re.sub(rb"^\w+: (?:standard|step) [^\n]*\n", b"", shown)  # the items in words, which a terminal is told first
+    # the items in words, which a terminal is told first
+    shown = re.sub(rb"^\w+: (?:standard|step) [^\n]*\n", b"", shown)
     return [int(n) for n in re.findall(rb"\d+", shown)] if re.fullmatch(rb"(?:\d+ lines\r)*", shown) else None
 
 

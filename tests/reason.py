@@ -1,6 +1,7 @@
-"""Why the prover refused a crate, read from what it said: for a fact that does not hold, or because the proof files no longer fit the code (a need, a field or a
-name that is missing, a parse error, another number or kind of arguments), which shows nothing of the promise. And which functions and
-declarations it refused for a fact of their own. Used by tests/edits, tests/idle and tests/mutants."""
+"""Why the prover refused a crate, read from what it said: for a fact that does not hold, or because the proof files no
+longer fit the code (a need, a field or a name that is missing, a parse error, another number or kind of arguments),
+which shows nothing of the promise. And which functions and declarations it refused for a fact of their own. Used by
+tests/edits, tests/idle and tests/mutants."""
 import re
 
 # What only follows from an earlier error.

@@ -418,7 +418,8 @@ class Records(unittest.TestCase):
             self.refused(8, 2, call, [going, broken, broken])
 
     def test_envelope(self):
-        # the peaks are 7 1 9 8 1 9 9 1 8, of which 6 and more are high, and 9 and 9 stand between lower ones, 1500 ms apart
+        # the peaks are 7 1 9 8 1 9 9 1 8, of which 6 and more are high, and 9 and 9 stand between lower ones, 1500 ms
+        # apart
         roll = [9, 0, 3, 5, 0, 5, -2, -7, 0, -7, 1, -9, 8, -1, 9, -9, 1, -8, 2]
         self.assertEqual(envelope_peaks(500, 1, 1_499, roll), [(9, 5_000), (9, 6_500)])
         self.assertEqual(envelope_peaks(500, 1, 1_500, roll), [(9, 5_000)])

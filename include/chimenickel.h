@@ -283,8 +283,8 @@ uint64_t chim_bench_give_back(uint64_t (*table)[6], size_t table_len, uint64_t b
  * before C23 has no way from rows that are not const to rows that are, which gcc -pedantic says; the cast is
  * (const uint64_t(*)[5])rows. */
 
-/* *carried is what the condition comes to: one rejected campaign makes it CHIM_REJECTED, it takes every campaign to make
- * it CHIM_ACCEPTED, and anything else leaves it CHIM_OPEN; one without a record is neither accepted nor rejected.
+/* *carried is what the condition comes to: one rejected campaign makes it CHIM_REJECTED, it takes every campaign to
+ * make it CHIM_ACCEPTED, and anything else leaves it CHIM_OPEN; one without a record is neither accepted nor rejected.
  * Refuses 18, 8 with the lowest situation. */
 uint64_t chim_condition_judge(const uint64_t (*campaigns)[5], size_t situations, uint64_t *carried);
 

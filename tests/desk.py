@@ -17,7 +17,8 @@ def in_pieces(words, pieces, beside=None):
     theirs = [pair[1].fileno() for pair in pairs]
     if beside is not None:
         words = ["bash", "-c", 'exec "$@" 4<&"$0"', str(theirs[1]), *words]
-    process = subprocess.Popen(words, stdin=theirs[0], stdout=subprocess.PIPE, stderr=subprocess.PIPE, pass_fds=theirs[1:])
+    process = subprocess.Popen(words, stdin=theirs[0], stdout=subprocess.PIPE, stderr=subprocess.PIPE,
+        pass_fds=theirs[1:])
     for pair in pairs:
         pair[1].close()
 
@@ -78,4 +79,5 @@ def signs(words, text):
 def shows_progress(words, text):
     """Whether each million lines of the text made one sign, by the end of the 64 KiB that were being read."""
     shown, lines = signs(words, text), text.count(b"\n")
-    return shown is not None and len(shown) == lines // 1_000_000 and all(0 <= n - 1_000_000 * k <= 65_536 for k, n in enumerate(shown, 1))
+    return shown is not None and len(shown) == lines // 1_000_000 and all(0 <= n - 1_000_000 * k <= 65_536
+        for k, n in enumerate(shown, 1))

@@ -27,7 +27,8 @@ FACT = re.compile(r": error: `|^note: .*(it is not proved that|is out of bounds 
 
 def reason(log):
     """("fact" or "shape" or "nothing", the line that says so)."""
-    said = [line for line in log.splitlines() if (": error" in line or line.startswith("note: ")) and not FOLLOWS.search(line)]
+    said = [line for line in log.splitlines() if (": error" in line or line.startswith("note: "))
+        and not FOLLOWS.search(line)]
     for kind, sign in (("shape", SHAPE), ("fact", FACT)):
         for line in said:
             if sign.search(line):

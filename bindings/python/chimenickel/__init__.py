@@ -153,7 +153,8 @@ for _name, _result, _parameters in [
     ("chim_record_feed", _u64, [_numbers, _size, _samples, _size, _samples, _size, _numbers, _numbers]),
     ("chim_record_end", _u64, [_numbers, _size, _numbers, _size, _numbers]),
     ("chim_record_first_crossing", _size, [_samples, _size, _samples, _size, _u64, _u64, _u64]),
-    ("chim_record_list", _u64, [_u64, _u64, _u64, _u64, _u64, _samples, _size, _samples, _size, _times, _size, _numbers, _numbers]),
+    ("chim_record_list", _u64, [_u64, _u64, _u64, _u64, _u64, _samples, _size, _samples, _size, _times, _size, _numbers,
+        _numbers]),
     ("chim_campaign_open", _u64, [_u64, _numbers, _size, _numbers]),
     ("chim_campaign_enter", _u64, [_numbers, _size, _u64, _u64, _numbers]),
     ("chim_campaign_enter_result", _u64, [_numbers, _size, _numbers, _size, _numbers]),
@@ -1121,7 +1122,8 @@ def read_records(text: Text) -> Tuple[int, List[int]]:
     places = max(text.count(b"\n"), 1)
     records, standard, line, column = (ctypes.c_int32 * places)(), _u64(), _u64(), _u64()
     try:
-        n = _ask(_lib.chim_sheet_records, text, len(text), records, places, ctypes.byref(standard), ctypes.byref(line), ctypes.byref(column))
+        n = _ask(_lib.chim_sheet_records, text, len(text), records, places, ctypes.byref(standard), ctypes.byref(line),
+            ctypes.byref(column))
     except Refusal as refusal:
         refusal.line, refusal.column = line.value, column.value
         raise

@@ -1,5 +1,6 @@
-/* 4,096 peaks in any order sorted and summed by the library (chim_tail_fit), and the same with the rate beyond the records from the sorted list after it
- * (chim_extrapolate), for tails of several lengths: microseconds, best of several runs. */
+/* 4,096 peaks in any order sorted and summed by the library (chim_tail_fit), and the same with the rate beyond the
+ * records from the sorted list after it (chim_extrapolate), for tails of several lengths: microseconds, best of several
+ * runs. */
 #include <stdint.h>
 #include <stdio.h>
 

@@ -1,5 +1,6 @@
-/* bench/binomial.c: records added to a sum, and the bounds and rates of sums, by the library (chim_sum_add, chim_sum_bounds, chim_sum_rates) and by plain C: nanoseconds a
- * call, the best of several runs in turn. Both have to come to the same. */
+/* bench/binomial.c: records added to a sum, and the bounds and rates of sums, by the library (chim_sum_add,
+ * chim_sum_bounds, chim_sum_rates) and by plain C: nanoseconds a call, the best of several runs in turn. Both have to
+ * come to the same. */
 #include <stdint.h>
 #include <stdio.h>
 #include <string.h>

@@ -2,8 +2,8 @@
 #include <stddef.h>
 #include <stdint.h>
 
-/* a roll within 39 degrees and an acceleration within 9,000 mm/s2; at every `every`-th sample (0: never) one of them is above its level, in turn. With `alone` it is always the
-   roll, and zeros are lent for the acceleration */
+/* a roll within 39 degrees and an acceleration within 9,000 mm/s2; at every `every`-th sample (0: never) one of them is
+ * above its level, in turn. With `alone` it is always the roll, and zeros are lent for the acceleration */
 static void fill(int32_t *roll, int32_t *acceleration, size_t n, size_t every, int alone) {
     uint32_t seed = 12345;
     for (size_t i = 0; i < n; i++) {

@@ -1,9 +1,10 @@
-/* bench/comma.c FILE STEP: reads the file of samples into memory and times, best of several runs in turn over the same bytes, the proved reader and four others in
- * plain C; prints nanoseconds a line and how many times as long each took. All five have to find the same samples.
+/* bench/comma.c FILE STEP: reads the file of samples into memory and times, best of several runs in turn over the same
+ * bytes, the proved reader and four others in plain C; prints nanoseconds a line and how many times as long each took.
+ * All five have to find the same samples.
  *
  * proved      chim_comma_read: every refusal judged over all lines, nothing written before all is judged
  * same        a hand-written loop that keeps the same promise: one pass to judge, a second to write
- * loop        a hand-written loop that writes as it goes, and so leaves half a record behind a bad line
+ * loop        a hand-written loop that writes as it goes, and so leaves half a record at a bad line
  * stdio       fgets, strtoull, strtod, a line at a time, writing as it goes */
 #include <stdint.h>
 #include <stdio.h>

@@ -1,5 +1,6 @@
-/* bench/condition.c: a loading condition of 64 campaigns, judged and reported by the library (chim_condition_judge, chim_condition_report) and by plain C: nanoseconds a
- * campaign, the best of several runs in turn. Both have to come to the same, and to write the same bytes. */
+/* bench/condition.c: a loading condition of 64 campaigns, judged and reported by the library (chim_condition_judge,
+ * chim_condition_report) and by plain C: nanoseconds a campaign, the best of several runs in turn. Both have to come to
+ * the same, and to write the same bytes. */
 #include <stdint.h>
 #include <stdio.h>
 #include <string.h>
@@ -15,8 +16,9 @@ enum { SITUATIONS = CHIM_MOST_SITUATIONS, RUNS = 200, CALLS = 200 };
 
 typedef const uint64_t (*rows)[5];
 
-/* Campaigns at one failure in two hours. `all accepted`: 20 to 40 quiet hours each. `as they come`: up to 40 records, of which some fail, so that all letters are there.
- * `full`: 100,000 records and 64 failures each, the longest lines. */
+/* Campaigns at one failure in two hours. `all accepted`: 20 to 40 quiet hours each. `as they come`: up to 40 records,
+ * of which some fail, so that all letters are there. `full`: 100,000 records and 64 failures each, the longest
+ * lines. */
 static void fill(uint64_t (*c)[5], const char *kind) {
     uint32_t seed = 13;
     uint64_t carried;

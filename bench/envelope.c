@@ -1,5 +1,6 @@
-/* The envelope peaks of a record of 10,000,001 samples by the library (chim_envelope_find), beside plain C that goes over it in the same passes: nanoseconds a
- * sample, best of several runs, for rolls of several periods. The answers must agree. */
+/* The envelope peaks of a record of 10,000,001 samples by the library (chim_envelope_find), beside plain C that goes
+ * over it in the same passes: nanoseconds a sample, best of several runs, for rolls of several periods. The answers
+ * must agree. */
 #include <math.h>
 #include <stddef.h>
 #include <stdint.h>
@@ -14,7 +15,8 @@ uint64_t plain_envelope(uint64_t step, uint64_t ramp, uint64_t tau, const int32_
 
 enum { SAMPLES = 10000001, STEP = 1, RAMP = 0, RUNS = 9 };
 
-/* a roll of that many samples a period, its amplitude swelling and sinking, with some noise; 0 for noise alone, which changes its sign at any sample */
+/* a roll of that many samples a period, its amplitude swelling and sinking, with some noise; 0 for noise alone, which
+ * changes its sign at any sample */
 static void fill(int32_t *samples, double period) {
     uint32_t seed = 12345;
     for (size_t i = 0; i < SAMPLES; i++) {

@@ -1,5 +1,6 @@
-/* Feeding roll and acceleration as one piece, beside plain C, plain Rust and a sum of both slices: nanoseconds a sample of each, best of several runs. 11,000,000 are the most that a
-   record takes, 88 MB; 100,000 stay in the processor's cache. */
+/* Feeding roll and acceleration as one piece, beside plain C, plain Rust and a sum of both slices: nanoseconds a sample
+ * of each, best of several runs. 11,000,000 are the most that a record takes, 88 MB; 100,000 stay in the processor's
+ * cache. */
 #include <stddef.h>
 #include <stdint.h>
 #include <stdio.h>
@@ -20,7 +21,8 @@ typedef struct {
 
 static int32_t *roll, *acceleration;
 
-/* the groups and the largest set of a record that is opened and fed as one piece, as one number; one past any such for a refusal */
+/* the groups and the largest set of a record that is opened and fed as one piece, as one number; one past any such for
+ * a refusal */
 static uint64_t counted(Job job, size_t n) {
     uint64_t record[CHIM_RECORD_NUMBERS], carried, channel;
     if (chim_record_open(job.step, job.ramp, LEVEL, DECORRELATION, ACCELERATION_LEVEL, record, CHIM_RECORD_NUMBERS, &carried) != CHIM_TAKEN ||
@@ -40,7 +42,8 @@ static uint64_t counted_in_rust(Job job, size_t n) {
     return rust_feed(&items, roll, acceleration, n, &largest) << 32 | largest;
 }
 
-/* the place of the first bad sample and its channel as a piece's refusal tells them; the number of samples where a piece is refused for its length alone */
+/* the place of the first bad sample and its channel as a piece's refusal tells them; the number of samples where a
+ * piece is refused for its length alone */
 static uint64_t bad(Job job, size_t n) {
     uint64_t record[CHIM_RECORD_NUMBERS], carried = 0, channel = 0;
     chim_record_open(job.step, job.ramp, LEVEL, DECORRELATION, ACCELERATION_LEVEL, record, CHIM_RECORD_NUMBERS, &carried);

@@ -1,11 +1,13 @@
-/* bench/ledger.c: 100,000 records, 63 of them failed, written as a job sheet and read back, by the library and by plain C in one process, the best of 25 runs in
- * turn; prints nanoseconds a record and how many times as long as the library each took. All have to write the same bytes and find the same records.
+/* bench/ledger.c: 100,000 records, 63 of them failed, written as a job sheet and read back, by the library and by plain
+ * C in one process, the best of 25 runs in turn; prints nanoseconds a record and how many times as long as the library
+ * each took. All have to write the same bytes and find the same records.
  *
  * write     chim_sheet_write: every record judged before a byte is written
  * snprintf  the same judgements and one snprintf for each line, writing as it goes
  * records   chim_sheet_records: every line judged before a record is written
- * strtoull  three strtoull for each line of the text in memory, with the sheet's own checks, that keep the same promise: one pass to judge, a second to write
- * as it goes  the same in one pass, which leaves half the records behind a bad line
+ * strtoull  three strtoull for each line of the text in memory, with the sheet's own checks, that keep the same
+ *           promise: one pass to judge, a second to write
+ * as it goes  the same in one pass, which leaves half the records at a bad line
  * fgets     that for each line that fgets reads from the file */
 #include <stdint.h>
 #include <stdio.h>

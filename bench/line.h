@@ -2,7 +2,7 @@
 #include <stddef.h>
 #include <stdint.h>
 
-/* One line at s[i], the line of the time `want`: the place behind it and the sample, or 0 where it is wrong. */
+/* One line at s[i], the line of the time `want`: the place after it and the sample, or 0 where it is wrong. */
 static inline size_t line(const uint8_t *s, size_t n, size_t i, uint64_t want, int64_t *sample) {
     uint64_t t = 0, v = 0, unit = 100;
     size_t from = i;

@@ -1,5 +1,6 @@
-/* Listing a whole record, and searching it for its first crossing, beside plain C, and plain Rust for the list, doing the same: nanoseconds a sample of both channels, best of several runs.
-   Plain C writes as it goes, and leaves a list that it refuses half written; "C twice" counts first, as one has to who leaves it as it stood. */
+/* Listing a whole record, and searching it for its first crossing, beside plain C, and plain Rust for the list, doing
+ * the same: nanoseconds a sample of both channels, best of several runs. Plain C writes as it goes, and leaves a list
+ * that it refuses half written; "C twice" counts first, as one has to who leaves it as it stood. */
 #include <stddef.h>
 #include <stdint.h>
 #include <stdio.h>

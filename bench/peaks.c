@@ -1,5 +1,6 @@
-/* What bin/peaks is measured against: plain C that reads a whole comma file into memory, judges each line as document 02 has it, and writes the peaks that
- * plain_envelope.c finds. With a word instead of a file it writes such a file of 10,000,001 lines at 1 ms: a slow roll, or noise. */
+/* What bin/peaks is measured against: plain C that reads a whole comma file into memory, judges each line as document
+ * 02 has it, and writes the peaks that plain_envelope.c finds. With a word instead of a file it writes such a file of
+ * 10,000,001 lines at 1 ms: a slow roll, or noise. */
 #include <math.h>
 #include <stdint.h>
 #include <stdio.h>

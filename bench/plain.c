@@ -1,5 +1,6 @@
-/* What feeding, listing and searching are measured against: one pass each in plain C that does the same work over both channels (range check, crossings, groups, walk,
-   times; the first crossing), and a sum of a slice, which a compiler vectorises. Compiled apart from the callers, so that nothing is folded into it. */
+/* What feeding, listing and searching are measured against: one pass each in plain C that does the same work over both
+ * channels (range check, crossings, groups, walk, times; the first crossing), and a sum of a slice, which a compiler
+ * vectorises. Compiled apart from the callers, so that nothing is folded into it. */
 #include <stdbool.h>
 #include <stddef.h>
 #include <stdint.h>

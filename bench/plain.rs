@@ -1,4 +1,5 @@
-//! The same jobs as bench/plain.c in plain safe Rust: one pass each over both channels. Compiled apart from the callers, as the C is.
+//! The same jobs as bench/plain.c in plain safe Rust: one pass each over both channels. Compiled apart from the
+//! callers, as the C is.
 
 fn bad(x: i32) -> bool {
     !(-1_000_000..=1_000_000).contains(&x)
@@ -8,7 +9,8 @@ fn above(x: i32, level: u64, y: i32, acceleration_level: u64) -> bool {
     u64::from(x.unsigned_abs()) > level || u64::from(y.unsigned_abs()) > acceleration_level
 }
 
-/// Hands each crossing's place on, in order; answers whether all samples are in range, and stops at the first that is not.
+/// Hands each crossing's place on, in order; answers whether all samples are in range, and stops at the first that is
+/// not.
 fn each_crossing(items: &Items, roll: &[i32], acceleration: &[i32], mut met: impl FnMut(u64)) -> bool {
     let mut before = false;
     for (i, (&x, &y)) in roll.iter().zip(acceleration).enumerate() {

@@ -1,5 +1,6 @@
-/* What a sum of records is measured against: the relations of the sum and of the record checked in plain C, the half-width by the float's square root, put right by one where
- * it has to be. Compiled apart from the caller, so that nothing is folded into it. */
+/* What a sum of records is measured against: the relations of the sum and of the record checked in plain C, the
+ * half-width by the float's square root, put right by one where it has to be. Compiled apart from the caller, so that
+ * nothing is folded into it. */
 #include <math.h>
 #include <stdbool.h>
 #include <stddef.h>

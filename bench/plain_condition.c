@@ -1,5 +1,6 @@
-/* What a loading condition is measured against: the rows checked and judged in plain C, and the report written by one snprintf for each line, with the same promise: it is
- * written aside first, so that a buffer too short for it keeps its bytes. Compiled apart from the caller, so that nothing is folded into it. */
+/* What a loading condition is measured against: the rows checked and judged in plain C, and the report written by one
+ * snprintf for each line, with the same promise: it is written aside first, so that a buffer too short for it keeps its
+ * bytes. Compiled apart from the caller, so that nothing is folded into it. */
 #include <stdbool.h>
 #include <stddef.h>
 #include <stdint.h>

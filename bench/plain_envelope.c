@@ -1,5 +1,5 @@
-/* What finding envelope peaks is measured against: plain C that goes over the record in the same passes, from run to run. Compiled apart from its caller, so
- * that nothing is folded into it. */
+/* What finding envelope peaks is measured against: plain C that goes over the record in the same passes, from run to
+ * run. Compiled apart from its caller, so that nothing is folded into it. */
 #include <stddef.h>
 #include <stdint.h>
 #include <stdlib.h>

@@ -1,5 +1,5 @@
-/* What the bench's calls are measured against: the table checked, judged and worked on in plain C, over the same rows of numbers. Compiled apart from the caller, so
-   that nothing is folded into it. */
+/* What the bench's calls are measured against: the table checked, judged and worked on in plain C, over the same rows
+ * of numbers. Compiled apart from the caller, so that nothing is folded into it. */
 #include <stdbool.h>
 #include <stddef.h>
 #include <stdint.h>

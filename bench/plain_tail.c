@@ -1,5 +1,5 @@
-/* What fitting a tail is measured against: a copy sorted by qsort, and log2 of each ratio in double precision, in units of 1/65,536. Compiled apart from the
- * caller, so that nothing is folded into it. */
+/* What fitting a tail is measured against: a copy sorted by qsort, and log2 of each ratio in double precision, in units
+ * of 1/65,536. Compiled apart from the caller, so that nothing is folded into it. */
 #include <math.h>
 #include <stdint.h>
 #include <stdlib.h>

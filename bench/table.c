@@ -1,5 +1,5 @@
-/* Calls of two bureaus at one table beside plain C on a table of its own: nanoseconds a call, best of several runs, on a table with one job and on a full one. The
-   answers and the tables are compared. */
+/* Calls of two bureaus at one table beside plain C on a table of its own: nanoseconds a call, best of several runs, on
+ * a table with one job and on a full one. The answers and the tables are compared. */
 #include <stdint.h>
 #include <stdio.h>
 #include <string.h>
@@ -28,7 +28,8 @@ static void fill(place *t, unsigned jobs) {
     }
 }
 
-/* one kind of call, CALLS times: verdicts of the jobs in turn; a record entered in job 0, whose figures are put back at once; a job given back and taken again */
+/* one kind of call, CALLS times: verdicts of the jobs in turn; a record entered in job 0, whose figures are put back at
+ * once; a job given back and taken again */
 static uint64_t run(int kind, int plain, place *t, unsigned jobs, unsigned calls) {
     uint64_t sum = 0, carried, kept[6];
     double lower = 0, upper = 0;

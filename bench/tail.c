@@ -1,5 +1,6 @@
-/* 4,096 peaks sorted and summed over all of them by the library (chim_tail_fit), beside plain C that sorts a copy by qsort and adds up log2: microseconds, best
- * of several runs, for lists of several kinds. The copies must agree, and the sums within what the library promises. */
+/* 4,096 peaks sorted and summed over all of them by the library (chim_tail_fit), beside plain C that sorts a copy by
+ * qsort and adds up log2: microseconds, best of several runs, for lists of several kinds. The copies must agree, and
+ * the sums within what the library promises. */
 #include <math.h>
 #include <stdint.h>
 #include <stdio.h>

@@ -1,5 +1,6 @@
-// The job of `tally` in plain C with stdio, as one would write it by hand: a line at a time with getline, fields by strtoull, output by printf. It checks
-// what document 01 asks of a line. Its argument is the table, as crates/run_rows/stdout has it.
+// The job of `tally` in plain C with stdio, as one would write it by hand: a line at a time with getline, fields by
+// strtoull, output by printf. It checks what document 01 asks of a line. Its argument is the table, as
+// crates/run_rows/stdout has it.
 #include <inttypes.h>
 #include <stdio.h>
 #include <stdlib.h>

@@ -115,8 +115,8 @@ thousandths() {
     printf '%s.%s' "${digits%???}" "${digits: -3}"
 }
 
-# says_items NAME..: the items in words on standard error, where it is a terminal or --verbose asks for it: a level of 40
-# that was meant in degrees is 0.040 degrees there.
+# says_items NAME..: the items in words on standard error, where it is a terminal or --verbose asks for it: a level of
+# 40 that was meant in degrees is 0.040 degrees there.
 says_items() {
     local name said=''
     [ -n "$verbose" ] || [ -t 2 ] || return 0

@@ -100,8 +100,8 @@ opens() {
     { command exec {opened}<"$1"; } 2>/dev/null || stop "$1: cannot be opened"
 }
 
-# files_from LIST: the names of the list go to `names`, one a line, from the file of this name, or from standard input for
-# a minus. A list has no bound: the names do not stand among the words of a command.
+# files_from LIST: the names of the list go to `names`, one a line, from the file of this name, or from standard input
+# for a minus. A list has no bound: the names do not stand among the words of a command.
 files_from() {
     if [ "$1" = - ]; then
         [ -e /dev/fd/0 ] || stop "standard input is closed"
@@ -115,9 +115,9 @@ files_from() {
     [ "${#names[@]}" -gt 0 ] || stop "${1/#-/standard input} names no file"
 }
 
-# takes_names: asks of all `names` whether they can be read, each by itself. A program opens files by their names; one that
-# stands for a descriptor is opened here, before a descriptor is taken for something else, and goes by another name. The
-# names to hand over go to `handed`.
+# takes_names: asks of all `names` whether they can be read, each by itself. A program opens files by their names; one
+# that stands for a descriptor is opened here, before a descriptor is taken for something else, and goes by another
+# name. The names to hand over go to `handed`.
 takes_names() {
     are_there "${names[@]}"
     are_apart "${names[@]}"
@@ -188,9 +188,9 @@ explain() {
     echo "$speaker: ${where:+$where: }refusal $3: $(meaning "$3" "$place")${5-}" >&2
 }
 
-# comma_fault FILE LINE STEP: where the line of a comma file goes wrong, and what was wanted there, after the sentence of
-# refusal 10; nothing where the file is no plain one, whose lines are gone once they are read. It only explains: that the
-# line is wrong is the program's answer.
+# comma_fault FILE LINE STEP: where the line of a comma file goes wrong, and what was wanted there, after the sentence
+# of refusal 10; nothing where the file is no plain one, whose lines are gone once they are read. It only explains: that
+# the line is wrong is the program's answer.
 comma_fault() {
     local LC_ALL=C line rest time degrees due=$((($2 - 1) * $3)) column=1 ended=1
     [ -f "$1" ] || return 0
@@ -241,7 +241,7 @@ comma_fault() {
     echo ": column $column: LF was wanted, and $rest"
 }
 
-# Behind the sentence of a malformed line that is itself a refused line.
+# After the sentence of a malformed line that is itself a refused line.
 handed_on="; it is the line by which another command refused, and no line of a sheet"
 
 # --- what is proved and built
@@ -293,8 +293,8 @@ build() {
     unlock_builds
 }
 
-# finds NAME WAIT: the words that start the program go to `program`. Installed, it stands beside the commands and runs on
-# the machine's own libraries; in the source tree it is proved and built first, and runs on the kit's.
+# finds NAME WAIT: the words that start the program go to `program`. Installed, it stands beside the commands and runs
+# on the machine's own libraries; in the source tree it is proved and built first, and runs on the kit's.
 finds() {
     local emulator
     if [ ! -e "$root/crates.txt" ]; then
@@ -313,9 +313,9 @@ finds() {
 # run NAME WAIT [ARGUMENT..]: runs the program NAME of crates/ with the arguments, from standard input to standard
 # output, once it is proved and built. A program of the kit has no exit status. It says how it ended by a digit on
 # descriptor 3, which goes to `status`: 0 done, 1 refused, 2 something could not be read or written. Before a 1 stand
-# what the refusal carries or nothing, for `carried`, and the refused line, for `refused`. What it writes goes straight to standard
-# output, so nothing on the way holds it back. Descriptor 4 is handed on as it is, for a second file or for a list of
-# names, each ended by a 0 byte.
+# what the refusal carries or nothing, for `carried`, and the refused line, for `refused`. What it writes goes straight
+# to standard output, so nothing on the way holds it back. Descriptor 4 is handed on as it is, for a second file or for
+# a list of names, each ended by a 0 byte.
 run() {
     local program out end IFS
     finds "$1" "$2"

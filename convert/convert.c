@@ -74,7 +74,7 @@ __attribute__((noreturn)) static void stop(const char *form, const char *name, c
 
 /* ---- numbers */
 typedef struct {
-    int negative, more; /* more: digits that are not 0 behind the 18 of the fraction */
+    int negative, more; /* more: digits that are not 0 after the 18 of the fraction */
     uint64_t whole, fraction; /* fraction in 10^-18 */
 } Decimal;
 
@@ -152,7 +152,7 @@ static Decimal degrees(Decimal radians) {
         }
         product[i + 4] += carry;
     }
-    /* the product is in 10^-63; seven figures of nine digits are behind the point */
+    /* the product is in 10^-63; seven figures of nine digits are after the point */
     Decimal x = {radians.negative, 0, product[7] + product[8] * LIMB, product[6] * LIMB + product[5]};
     x.more = (product[4] | product[3] | product[2] | product[1] | product[0] | (uint64_t)radians.more) != 0;
     /* what is left out of the ratio, and of the radians, could only matter next to a half */

@@ -1,5 +1,5 @@
-"""Envelope peaks and the rate beyond the records a second time, for the tests: [11]'s peaks of timed samples from its text,
-and [14]'s figures, whose table of e ^ (2 ^ i / 2 ^ 20) is made here."""
+"""Envelope peaks and the rate beyond the records a second time, for the tests: [11]'s peaks of timed samples from its
+text, and [14]'s figures, whose table of e ^ (2 ^ i / 2 ^ 20) is made here."""
 import functools
 import math
 
@@ -9,7 +9,8 @@ EXPONENT, ONE, MILLION = 2**20, 2**31, 10**6
 
 # ---- [11]
 def runs(timed):
-    """The runs of one sign, each a list of (magnitude, place); a zero belongs to the run before it, or to none at the start."""
+    """The runs of one sign, each a list of (magnitude, place); a zero belongs to the run before it, or to none at the
+    start."""
     found, sign = [], 0
     for place, x in enumerate(timed):
         if x == 0:
@@ -55,7 +56,8 @@ def handed_out(step, tau, timed):
 # ---- [14]
 @functools.cache
 def table():
-    """For i from 0 to 25 the greatest m and a shift s with m 2 ^ s / 2 ^ 31 at most e ^ (2 ^ i / 2 ^ 20), m of 32 bits."""
+    """For i from 0 to 25 the greatest m and a shift s with m 2 ^ s / 2 ^ 31 at most e ^ (2 ^ i / 2 ^ 20), m of 32
+    bits."""
     import mpmath
 
     rows = []

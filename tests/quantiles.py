@@ -1,5 +1,5 @@
-"""The rows of document 01, "The campaign", for the tests' own reckoning: by the exponential function itself in 80 digits, not by partial sums of its series.
-upper[n] and lower[n] for n from 1 to 64, and lower[0] = 0."""
+"""The rows of document 01, "The campaign", for the tests' own reckoning: by the exponential function itself in 80
+digits, not by partial sums of its series. upper[n] and lower[n] for n from 1 to 64, and lower[0] = 0."""
 from decimal import Decimal, getcontext
 
 getcontext().prec = 80

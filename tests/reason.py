@@ -1,6 +1,7 @@
-"""Why the prover refused a crate, read from what it said: for a fact that does not hold, or because the proof files no longer fit the code (a need, a field or a
-name that is missing, a parse error, another number or kind of arguments), which shows nothing of the promise. And which functions and
-declarations it refused for a fact of their own. Used by tests/edits, tests/idle and tests/mutants."""
+"""Why the prover refused a crate, read from what it said: for a fact that does not hold, or because the proof files no
+longer fit the code (a need, a field or a name that is missing, a parse error, another number or kind of arguments),
+which shows nothing of the promise. And which functions and declarations it refused for a fact of their own. Used by
+tests/edits, tests/idle and tests/mutants."""
 import re
 
 # What only follows from an earlier error.
@@ -26,7 +27,8 @@ FACT = re.compile(r": error: `|^note: .*(it is not proved that|is out of bounds 
 
 def reason(log):
     """("fact" or "shape" or "nothing", the line that says so)."""
-    said = [line for line in log.splitlines() if (": error" in line or line.startswith("note: ")) and not FOLLOWS.search(line)]
+    said = [line for line in log.splitlines() if (": error" in line or line.startswith("note: "))
+        and not FOLLOWS.search(line)]
     for kind, sign in (("shape", SHAPE), ("fact", FACT)):
         for line in said:
             if sign.search(line):

@@ -11,7 +11,8 @@ FUNCTION = re.compile(
     r"^impl (\w+) \{|^\}|((?:^ *//[^\n]*\n)*)(?:^ *#\[[^\n]*\n)*^( *)pub (?:extern \"C\" )?fn (\w+)(.*?)^\3\{",
     re.M | re.S,
 )
-USE = re.compile(r"^(?:ghost |(?:unfoldable |abbrev )?pub )?use (?P<path>[^\s{;]+?)(?:\.\{(?P<names>[^}]*)\}| as (?P<alias>\S+?))?;?$", re.M)
+USE = re.compile(
+    r"^(?:ghost |(?:unfoldable |abbrev )?pub )?use (?P<path>[^\s{;]+?)(?:\.\{(?P<names>[^}]*)\}| as (?P<alias>\S+?))?;?$", re.M)
 WORD = re.compile(r"[^\s(){};,⌜⌝]+")
 
 

@@ -1,5 +1,6 @@
-"""A campaign at one failure in two hours: a roll that crosses 40 degrees, then quiet records by their exposure; at the end its loading
-condition, with a second situation that has no record yet, and the first record by the binomial method. It prints what examples/c/campaign.c prints."""
+"""A campaign at one failure in two hours: a roll that crosses 40 degrees, then quiet records by their exposure; at the
+end its loading condition, with a second situation that has no record yet, and the first record by the binomial method.
+It prints what examples/c/campaign.c prints."""
 
 from chimenickel import Campaign, Case, Record, Refusal, Sum, counted_times, read_records, write_report, write_sheet
 

@@ -175,7 +175,8 @@ class Records(unittest.TestCase):
 
     def test_every_cut_leads_to_the_whole(self):
         whole = fed(array("i", ROLL))
-        self.assertEqual((whole.samples, whole.crossings, whole.counted, whole.largest_set, whole.first), (7, 3, 1, 2, 1))
+        self.assertEqual((whole.samples, whole.crossings, whole.counted, whole.largest_set, whole.first),
+            (7, 3, 1, 2, 1))
         self.assertEqual((whole.end().counted, whole.end().largest_set), (1, 2))
         for cut in range(len(ROLL) + 1):
             record = fed(ROLL[:cut])
@@ -184,7 +185,8 @@ class Records(unittest.TestCase):
 
     def test_both_channels(self):
         whole = fed(ROLL, array("i", ACCELERATION))
-        self.assertEqual((whole.samples, whole.crossings, whole.counted, whole.largest_set, whole.first), (7, 2, 1, 1, 1))
+        self.assertEqual((whole.samples, whole.crossings, whole.counted, whole.largest_set, whole.first),
+            (7, 2, 1, 1, 1))
         for cut in range(len(ROLL) + 1):
             record = fed(ROLL[:cut], ACCELERATION[:cut])
             record.feed(ROLL[cut:], ACCELERATION[cut:])
@@ -202,7 +204,8 @@ class Records(unittest.TestCase):
         record = fed(ROLL)
         before = record.numbers
         self.assertEqual(self.refused(2, 2, record.feed, [0, 0, 1_000_001]).channel, Channel.ROLL)
-        self.assertEqual(self.refused(2, 1, record.feed, [0, 0, 1_000_001], [0, -1_000_001, 0]).channel, Channel.ACCELERATION)
+        self.assertEqual(self.refused(2, 1, record.feed, [0, 0, 1_000_001], [0, -1_000_001, 0]).channel,
+            Channel.ACCELERATION)
         self.assertEqual(self.refused(2, 1, record.feed, [0, -1_000_001], [0, -1_000_001]).channel, Channel.ROLL)
         self.assertIsNone(self.refused(12, 0, record.feed, [0, 1_000_001], [0]).channel)
         self.assertRaises(OverflowError, record.feed, [1 << 31])
@@ -216,15 +219,19 @@ class Records(unittest.TestCase):
         self.assertRaises(OverflowError, Record, -1, 0, 1, 0, 1)
 
     def test_times(self):
-        self.assertEqual((counted_times(*ITEMS, ROLL), counted_times(500, 0, 40_000, 0, 9_810, ROLL)), ([500], [500, 1_500, 2_500]))
+        self.assertEqual((counted_times(*ITEMS, ROLL), counted_times(500, 0, 40_000, 0, 9_810, ROLL)),
+            ([500], [500, 1_500, 2_500]))
         self.assertEqual(counted_times(500, 0, 40_000, 0, 9_810, ROLL, ACCELERATION), [500, 1_500])
         self.assertEqual(counted_times(*ITEMS, [0, 0]), [])
         self.refused(4, 0, counted_times, *ITEMS, ROLL[:1])
         self.refused(12, 0, counted_times, *ITEMS, ROLL, ACCELERATION[:6])
-        self.assertEqual(self.refused(2, 0, counted_times, *ITEMS, [0, 1_000_001], [1_000_001, 0]).channel, Channel.ACCELERATION)
+        self.assertEqual(self.refused(2, 0, counted_times, *ITEMS, [0, 1_000_001], [1_000_001, 0]).channel,
+            Channel.ACCELERATION)
         self.assertEqual([first_crossing(ROLL, None, 0, level, 9_810) for level in (40_000, 41_000)], [1, None])
-        self.assertEqual([first_crossing(ROLL, ACCELERATION[:n], 0, 41_000, 9_810) for n in (7, 4, 3, 0)], [3, 3, None, None])
-        self.assertEqual((first_crossing([], None, 0, 1, 1), first_crossing(None, ACCELERATION, 0, 1, 9_810)), (None, 3))
+        self.assertEqual([first_crossing(ROLL, ACCELERATION[:n], 0, 41_000, 9_810) for n in (7, 4, 3, 0)],
+            [3, 3, None, None])
+        self.assertEqual((first_crossing([], None, 0, 1, 1), first_crossing(None, ACCELERATION, 0, 1, 9_810)),
+            (None, 3))
 
     def test_sheets(self):
         records = [1_800_000, -933_980, 10_000_000, -1, 1]
@@ -272,7 +279,8 @@ class Records(unittest.TestCase):
         self.assertEqual(len(from_degrees(degrees[:0])), 0)
         for form in ("f2", "f4", "g", ">f8", "i2", "u8"):
             self.assertEqual(from_degrees(numpy.array([0, 41, 7], dtype=form)).tolist(), [0, 41_000, 7_000])
-        self.assertEqual(numpy.loadtxt([line.decode() for line in write_comma(from_degrees(degrees), 50).splitlines()], delimiter=",")[:, 1].tolist(), [x / 1000 for x in from_degrees(degrees)])
+        self.assertEqual(numpy.loadtxt([line.decode() for line in write_comma(from_degrees(degrees), 50).splitlines()],
+            delimiter=",")[:, 1].tolist(), [x / 1000 for x in from_degrees(degrees)])
         for strange in (numpy.nan, numpy.inf, 1e9):
             self.assertRaises(OverflowError, from_degrees, numpy.array([strange]))
 
@@ -284,7 +292,8 @@ class Records(unittest.TestCase):
         campaign = Campaign(7_200_000)
         for exposure in (8_853_312, 8_853_312, 8_853_313):
             campaign.enter(False, exposure)
-        self.assertEqual((campaign.records, campaign.failures, campaign.exposure, campaign.censored()), (3, 0, 26_559_937, 1))
+        self.assertEqual((campaign.records, campaign.failures, campaign.exposure, campaign.censored()),
+            (3, 0, 26_559_937, 1))
         self.assertEqual(campaign.verdict().case, Case.ACCEPT)
         self.assertEqual(campaign.rates().upper, campaign.verdict().upper)
         self.refused(8, 0, campaign.enter, False, 0)
@@ -333,7 +342,8 @@ class Records(unittest.TestCase):
         campaign = Campaign(7_200_000)
         campaign.enter(False, 1_800_000)
         campaign.enter(True, 933_980)
-        self.assertEqual(Campaign.read_sheet(b"standard\t7200000\n1\t0\t1800000\n2\t1\t933980\n").numbers, campaign.numbers)
+        self.assertEqual(Campaign.read_sheet(b"standard\t7200000\n1\t0\t1800000\n2\t1\t933980\n").numbers,
+            campaign.numbers)
         with self.assertRaises(Refusal) as caught:
             Campaign.read_sheet(b"standard\t7200000\n1\t0\t0\n")
         self.assertEqual((caught.exception.number, caught.exception.line), (4, 2))
@@ -404,8 +414,10 @@ class Records(unittest.TestCase):
 
         empty, going = Campaign(7_200_000), Campaign.read_sheet(b"standard\t7200000\n1\t0\t1800000\n2\t1\t933980\n")
         accepted, rejected = campaign(3, 0, 26_559_937, 0), campaign(1, 1, 182_282, 1)
-        self.assertEqual(write_report([going, empty]), b"1\t1\t1\t2733980\tC\t1\n2\t0\t0\t0\tE\t0\ntotal\t2\t1\t2733980\t1\tO\n")
-        self.assertEqual(write_report([accepted, rejected]), b"1\t0\t1\t26559937\tA\t0\n2\t1\t1\t182282\tR\t1\ntotal\t4\t1\t26742219\t1\tR\n")
+        self.assertEqual(write_report([going, empty]),
+            b"1\t1\t1\t2733980\tC\t1\n2\t0\t0\t0\tE\t0\ntotal\t2\t1\t2733980\t1\tO\n")
+        self.assertEqual(write_report([accepted, rejected]),
+            b"1\t0\t1\t26559937\tA\t0\n2\t1\t1\t182282\tR\t1\ntotal\t4\t1\t26742219\t1\tR\n")
         self.assertEqual(judge_condition([accepted] * 64), Standing.ACCEPTED)
         self.assertEqual(judge_condition([accepted] * 63 + [rejected]), Standing.REJECTED)
         self.assertEqual([judge_condition([accepted, other]) for other in (going, empty)], [Standing.OPEN] * 2)
@@ -418,7 +430,8 @@ class Records(unittest.TestCase):
             self.refused(8, 2, call, [going, broken, broken])
 
     def test_envelope(self):
-        # the peaks are 7 1 9 8 1 9 9 1 8, of which 6 and more are high, and 9 and 9 stand between lower ones, 1500 ms apart
+        # the peaks are 7 1 9 8 1 9 9 1 8, of which 6 and more are high, and 9 and 9 stand between lower ones, 1500 ms
+        # apart
         roll = [9, 0, 3, 5, 0, 5, -2, -7, 0, -7, 1, -9, 8, -1, 9, -9, 1, -8, 2]
         self.assertEqual(envelope_peaks(500, 1, 1_499, roll), [(9, 5_000), (9, 6_500)])
         self.assertEqual(envelope_peaks(500, 1, 1_500, roll), [(9, 5_000)])
@@ -641,7 +654,8 @@ class Records(unittest.TestCase):
             self.assertNotEqual(lent.first, row.ctypes.data)
             self.assertEqual(ctypes.string_at(lent.first, 4 * lent.length), row.astype("i4").tobytes())
             self.assertEqual(lent.first % 4, 0)
-        for row in (memoryview(b"-" + roll.tobytes())[1:].cast("i"), memoryview(bytearray(b"-" + roll.tobytes()))[1:].cast("i")):
+        for row in (memoryview(b"-" + roll.tobytes())[1:].cast("i"),
+                memoryview(bytearray(b"-" + roll.tobytes()))[1:].cast("i")):
             lent = chimenickel._lent("roll", row)
             self.assertEqual((lent.first % 4, ctypes.string_at(lent.first, 4 * lent.length)), (0, roll.tobytes()))
         # as long as it is lent it stays where it is
@@ -726,9 +740,11 @@ class Records(unittest.TestCase):
         """The first number that is none of 32 bits is told by its place."""
         rows = [[0, 1 << 31, 1 << 40], (0, 1 << 31), array("q", [0, 1 << 31]), iter([0, 1 << 31])]
         if numpy:
-            rows += [numpy.array([0, 1 << 31, -1 << 40]), numpy.array([0, 1 << 31], dtype="u4"), [0, numpy.int64(1 << 31)]]
+            rows += [numpy.array([0, 1 << 31, -1 << 40]), numpy.array([0, 1 << 31], dtype="u4"),
+                [0, numpy.int64(1 << 31)]]
         for row in rows:
-            with self.assertRaisesRegex(OverflowError, "^roll is .*: 2147483648 given at place 1, which is no 32-bit number$"):
+            with self.assertRaisesRegex(OverflowError,
+                    "^roll is .*: 2147483648 given at place 1, which is no 32-bit number$"):
                 Record(*ITEMS).feed(row)
         with self.assertRaisesRegex(OverflowError, "^peaks are .*: -1 given at place 1, which is no 32-bit number$"):
             fit_tail([1, -1], 2)

@@ -1,5 +1,6 @@
-/* A campaign at one failure in 7,200,000 ms (two hours): a roll that crosses 40 degrees, then quiet records by their exposure; at the end its
- * loading condition, with a second situation that has no record yet, and the first record by the binomial method. */
+/* A campaign at one failure in 7,200,000 ms (two hours): a roll that crosses 40 degrees, then quiet records by their
+ * exposure; at the end its loading condition, with a second situation that has no record yet, and the first record by
+ * the binomial method. */
 #include "chimenickel.h"
 #include <inttypes.h>
 #include <stdio.h>

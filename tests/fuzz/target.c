@@ -1,9 +1,11 @@
-/* A fuzz target over the whole C interface. The first byte of the input picks a part; the rest is a sheet, or numbers and samples to call with. What has
- * to hold whatever comes: a refusal leaves every lent array as it stood, what is handed out is never refused as broken, a piece cut anywhere leads to
- * the same record, a record's channels changed for each other give the same failures, a sheet's campaign is that of its records, a bureau's call leaves the other's
- * places, a comma file that is read is written and read again, a sheet's records are refused as the sheet is, and written they are the sheet, envelope peaks are samples
- * of the record, apart as they have to be, and the same in two passes cut anywhere, a pass of any numbers is refused and left or goes on, a loading condition is what its campaigns are told one by one, and a sum has the groups and the samples of the records that
- * were added. */
+/* A fuzz target over the whole C interface. The first byte of the input picks a part; the rest is a sheet, or numbers
+ * and samples to call with. What has to hold whatever comes: a refusal leaves every lent array as it stood, what is
+ * handed out is never refused as broken, a piece cut anywhere leads to the same record, a record's channels changed for
+ * each other give the same failures, a sheet's campaign is that of its records, a bureau's call leaves the other's
+ * places, a comma file that is read is written and read again, a sheet's records are refused as the sheet is, and
+ * written they are the sheet, envelope peaks are samples of the record, apart as they have to be, and the same in two
+ * passes cut anywhere, a pass of any numbers is refused and left or goes on, a loading condition is what its campaigns
+ * are told one by one, and a sum has the groups and the samples of the records that were added. */
 #include <inttypes.h>
 #include <stdint.h>
 #include <stdio.h>
@@ -28,7 +30,8 @@ static uint64_t number(size_t bytes) {
     return n;
 }
 
-/* the records of a sheet that answered so: they are read where there is room, refused as the sheet is, and written they are that sheet again */
+/* the records of a sheet that answered so: they are read where there is room, refused as the sheet is, and written they
+ * are that sheet again */
 static void records(uint64_t answer, uint64_t line, uint64_t column) {
     enum { MOST = 1024 };
     static int32_t places[MOST], before[MOST];
@@ -90,7 +93,8 @@ static void sheet(void) {
     records(answer, line, column);
 }
 
-/* a comma file: what is read lies within its range, is written and read back, and a refusal leaves the samples; samples that are written read back */
+/* a comma file: what is read lies within its range, is written and read back, and a refusal leaves the samples; samples
+ * that are written read back */
 static void comma(void) {
     enum { MOST = 1024 };
     static int32_t samples[MOST], again[MOST];
@@ -116,7 +120,8 @@ static void comma(void) {
     hold(memcmp(samples, again, n * sizeof *samples) == 0);
 }
 
-/* both channels of a record: samples within three bytes, most accelerations 0; `roll` is as long as `acceleration`, or one of the two is cut shorter */
+/* both channels of a record: samples within three bytes, most accelerations 0; `roll` is as long as `acceleration`, or
+ * one of the two is cut shorter */
 enum { MOST_SAMPLES = 512 };
 typedef struct {
     int32_t roll[MOST_SAMPLES], acceleration[MOST_SAMPLES];
@@ -165,7 +170,8 @@ static void swap(uint64_t *state) {
     state[5] = state[13], state[13] = last;
 }
 
-/* a record: opened by the input, or any numbers at all; fed whole, in two pieces, and with the channels changed for each other */
+/* a record: opened by the input, or any numbers at all; fed whole, in two pieces, and with the channels changed for
+ * each other */
 static void record(void) {
     uint64_t whole[CHIM_RECORD_NUMBERS], cut[CHIM_RECORD_NUMBERS], turned[CHIM_RECORD_NUMBERS], before[CHIM_RECORD_NUMBERS], carried, channel;
     if (number(1) % 2 == 0) {
@@ -220,7 +226,8 @@ static void record(void) {
     hold(memcmp(campaign, again, sizeof again) == 0);
 }
 
-/* the groups of a whole record, by their first crossings' times: a run of crossings, each less than `decorrelation` after the one just before it */
+/* the groups of a whole record, by their first crossings' times: a run of crossings, each less than `decorrelation`
+ * after the one just before it */
 static size_t groups(uint64_t step, uint64_t ramp, uint64_t level, uint64_t decorrelation, uint64_t acceleration_level, const Channels *c,
                      uint32_t *firsts) {
     size_t number = 0;
@@ -244,8 +251,8 @@ static void search(const Channels *c, uint64_t ramp, uint64_t level, uint64_t ac
     hold(chim_record_first_crossing(c->roll, c->roll_len, c->acceleration, c->acceleration_len, ramp, level, acceleration_level) == (place < n ? place : n));
 }
 
-/* listing into a slice of any length: beyond its places nothing is written, and a refusal writes nothing; the times are those of the groups, as many as the
- * record has when it is fed and ended */
+/* listing into a slice of any length: beyond its places nothing is written, and a refusal writes nothing; the times are
+ * those of the groups, as many as the record has when it is fed and ended */
 static void list(void) {
     enum { PLACES = 16 };
     uint64_t step = number(2), ramp = number(1), level = number(3), decorrelation = number(2), acceleration_level = number(3);
@@ -303,8 +310,8 @@ static void campaign(void) {
     }
 }
 
-/* a sum of any numbers, and records of any samples added to it: bounds and rates are refused alike, the half-width is the least, and a record that is taken adds what its
- * result counts and its samples behind the ramp */
+/* a sum of any numbers, and records of any samples added to it: bounds and rates are refused alike, the half-width is
+ * the least, and a record that is taken adds what its result counts and its samples after the ramp */
 static void sum(void) {
     enum { MOST = 64 };
     uint64_t state[CHIM_SUM_NUMBERS], before[CHIM_SUM_NUMBERS], carried, channel;
@@ -379,7 +386,8 @@ static void bench(void) {
     }
 }
 
-/* a tail of any peaks, into a slice of any length: sorted downwards with the same sum, k figures of less than 20 whole units each, and nothing beyond */
+/* a tail of any peaks, into a slice of any length: sorted downwards with the same sum, k figures of less than 20 whole
+ * units each, and nothing beyond */
 static void tail(void) {
     enum { MOST = 64 };
     uint32_t peaks[MOST], sorted[MOST + 1];
@@ -401,8 +409,8 @@ static void tail(void) {
     hold(before == after);
 }
 
-/* the rate beyond the records from any peaks, as they come and sorted: a refusal leaves the times, and without one they are in order, the letter is that of
- * the standard, and a shorter one that was accepted is accepted again */
+/* the rate beyond the records from any peaks, as they come and sorted: a refusal leaves the times, and without one they
+ * are in order, the letter is that of the standard, and a shorter one that was accepted is accepted again */
 static void beyond(void) {
     enum { MOST = 64 };
     uint32_t peaks[MOST], sorted[MOST];
@@ -434,7 +442,8 @@ static void beyond(void) {
     }
 }
 
-/* the same samples in two passes, cut at a place in each: refused where the whole record is, and else handed out as its peaks */
+/* the same samples in two passes, cut at a place in each: refused where the whole record is, and else handed out as its
+ * peaks */
 static void two_passes(uint64_t step, uint64_t ramp, uint64_t tau, const int32_t *samples, size_t n, size_t cut, size_t other) {
     enum { MOST = 256 };
     uint64_t first[CHIM_SURVEY_NUMBERS], second[CHIM_HANDING_NUMBERS], carried, k;
@@ -484,8 +493,8 @@ static void any_pass(void) {
         hold(memcmp(before, second, sizeof second) == 0);
 }
 
-/* the envelope peaks of any samples, into slices of any lengths: more than the decorrelation time apart, each a sample of that size at that time, and nothing
- * beyond; with places enough the same call is taken */
+/* the envelope peaks of any samples, into slices of any lengths: more than the decorrelation time apart, each a sample
+ * of that size at that time, and nothing beyond; with places enough the same call is taken */
 static void envelope(void) {
     enum { MOST = 256 };
     int32_t samples[MOST];
@@ -530,7 +539,7 @@ static void situation(uint64_t *state) {
         chim_campaign_enter(state, CHIM_CAMPAIGN_NUMBERS, number(1) % 2, 1 + number(3) % 10000000, &carried);
 }
 
-/* what the report's line at `at` has to be, by what the campaign alone is told; the place behind it */
+/* what the report's line at `at` has to be, by what the campaign alone is told; the place after it */
 static size_t one_line(const uint8_t *report, size_t at, const uint64_t *state, size_t i, uint64_t told) {
     char line[64];
     uint64_t censored;
@@ -541,8 +550,8 @@ static size_t one_line(const uint8_t *report, size_t at, const uint64_t *state, 
     return at + (size_t)n;
 }
 
-/* a loading condition of up to 66 campaigns, into a buffer of any length: judged and reported alike, refused by the first campaign that is refused alone, told by what
- * each is told alone, and nothing beyond the report */
+/* a loading condition of up to 66 campaigns, into a buffer of any length: judged and reported alike, refused by the
+ * first campaign that is refused alone, told by what each is told alone, and nothing beyond the report */
 static void condition(void) {
     enum { MOST = CHIM_MOST_SITUATIONS + 2, BYTES = CHIM_REPORT_BYTES };
     static uint64_t rows[MOST][CHIM_CAMPAIGN_NUMBERS], before[MOST][CHIM_CAMPAIGN_NUMBERS], told[MOST];

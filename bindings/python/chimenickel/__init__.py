@@ -14,7 +14,8 @@ ValueError, before the library is asked. Record.feed and first_crossing read an 
 they run no other thread may write to it. Nothing else is shared by calls: those on different states may run at the same
 time, two on one state may not. While the library works other threads of Python go on.
 
-States (Record, Campaign, Sum, Bench, PeakSurvey, PeakPass) compare by their numbers, print as what makes them again, and pickle.
+States (Record, Campaign, Sum, Bench, PeakSurvey, PeakPass) compare by their numbers, print as what makes them again,
+and pickle.
 
 The library is looked for in the folder that CHIMENICKEL_LIB names; else beside this module, where a wheel carries it;
 else, in a source tree, where bin/build-lib writes it; else among the system's libraries.
@@ -152,7 +153,8 @@ for _name, _result, _parameters in [
     ("chim_record_feed", _u64, [_numbers, _size, _samples, _size, _samples, _size, _numbers, _numbers]),
     ("chim_record_end", _u64, [_numbers, _size, _numbers, _size, _numbers]),
     ("chim_record_first_crossing", _size, [_samples, _size, _samples, _size, _u64, _u64, _u64]),
-    ("chim_record_list", _u64, [_u64, _u64, _u64, _u64, _u64, _samples, _size, _samples, _size, _times, _size, _numbers, _numbers]),
+    ("chim_record_list", _u64, [_u64, _u64, _u64, _u64, _u64, _samples, _size, _samples, _size, _times, _size, _numbers,
+        _numbers]),
     ("chim_campaign_open", _u64, [_u64, _numbers, _size, _numbers]),
     ("chim_campaign_enter", _u64, [_numbers, _size, _u64, _u64, _numbers]),
     ("chim_campaign_enter_result", _u64, [_numbers, _size, _numbers, _size, _numbers]),
@@ -212,9 +214,9 @@ class Channel(enum.IntEnum):
 
 
 class Refusal(Exception):
-    """Why nothing was done: the refusal's number and what it carries, which for 8 is the situation's number in a loading condition and else 0; for 2 the
-    channel of a record whose sample it is; for a job sheet also the line that it stands on, and the column where a malformed line is at fault (0 where the
-    line as a whole is)."""
+    """Why nothing was done: the refusal's number and what it carries, which for 8 is the situation's number in a
+    loading condition and else 0; for 2 the channel of a record whose sample it is; for a job sheet also the line that
+    it stands on, and the column where a malformed line is at fault (0 where the line as a whole is)."""
 
     MEANINGS = {
         1: "opening item {} is outside its range",
@@ -622,8 +624,8 @@ class _State:
 
 
 class Result(NamedTuple):
-    """What a record comes to: crossings, counted failures (the groups of crossings), the first failure's place or None, the exposure in ms, and the largest
-    set of crossings pairwise at least the decorrelation time apart."""
+    """What a record comes to: crossings, counted failures (the groups of crossings), the first failure's place or None,
+    the exposure in ms, and the largest set of crossings pairwise at least the decorrelation time apart."""
 
     crossings: int
     counted: int
@@ -638,8 +640,9 @@ class Result(NamedTuple):
 
 
 class Record(_State):
-    """Roll and acceleration, so far. It is above where the roll is above its level or the acceleration above its own; a crossing is a sample above after one that
-    was above in neither. The step is 1 to 10,000 ms, the ramp 0 to 1,000,000 samples, each level 1 to 1,000,000, the decorrelation time 0 to 10,000,000 ms."""
+    """Roll and acceleration, so far. It is above where the roll is above its level or the acceleration above its own; a
+    crossing is a sample above after one that was above in neither. The step is 1 to 10,000 ms, the ramp 0 to 1,000,000
+    samples, each level 1 to 1,000,000, the decorrelation time 0 to 10,000,000 ms."""
 
     LENGTH = 14  # 12 while it had one channel
 
@@ -697,7 +700,8 @@ class Record(_State):
 
     @property
     def counted(self) -> int:
-        """The groups: runs of successive crossings, each less than the decorrelation time after the crossing just before it."""
+        """The groups: runs of successive crossings, each less than the decorrelation time after the crossing just
+        before it."""
         return self._at(11)
 
     @property
@@ -811,7 +815,8 @@ class Campaign(_State):
         return cls.from_numbers(list(state))
 
     def enter(self, failed: object, exposure: Whole) -> None:
-        """Enters a result by what a campaign takes of it: whether there is a first failure, and the exposure, 1 to 10,000,000 ms."""
+        """Enters a result by what a campaign takes of it: whether there is a first failure, and the exposure, 1 to
+        10,000,000 ms."""
         _ask(_lib.chim_campaign_enter, self._state, self.LENGTH, int(bool(failed)), *_items(exposure=exposure))
 
     def enter_result(self, result: Result) -> None:
@@ -881,7 +886,8 @@ class Sum(_State):
         return self._at(2)
 
     def bounds(self) -> Optional[Bounds]:
-        """The estimate and its 95% bounds in thousandths of a failure, and the time in ms; None while there is no record."""
+        """The estimate and its 95% bounds in thousandths of a failure, and the time in ms; None while there is no
+        record."""
         bounds = (_u64 * 4)()
         return Bounds(*bounds) if _ask(_lib.chim_sum_bounds, self._state, self.LENGTH, bounds, len(bounds)) else None
 
@@ -905,14 +911,15 @@ def _situations(campaigns: Iterable[Campaign]) -> Tuple[_Memory, int]:
 
 
 def judge_condition(campaigns: Iterable[Campaign]) -> Standing:
-    """What a loading condition of 1 to 64 campaigns, one for each design situation, comes to: one that is rejected rejects it, it takes every one to
-    accept it, and anything else leaves it open. A broken campaign raises Refusal 8 with its situation's number, 1 for the first."""
+    """What a loading condition of 1 to 64 campaigns, one for each design situation, comes to: one that is rejected
+    rejects it, it takes every one to accept it, and anything else leaves it open. A broken campaign raises Refusal 8
+    with its situation's number, 1 for the first."""
     return Standing(_ask(_lib.chim_condition_judge, *_situations(campaigns)))
 
 
 def write_report(campaigns: Iterable[Campaign]) -> bytes:
-    """The report of a loading condition as bytes: for each situation its number, N, N*, T, letter and blocks billed; then total, the sums of M, N, T and blocks, and
-    A, R or O. Refuses as judge_condition does."""
+    """The report of a loading condition as bytes: for each situation its number, N, N*, T, letter and blocks billed;
+    then total, the sums of M, N, T and blocks, and A, R or O. Refuses as judge_condition does."""
     rows, n = _situations(campaigns)
     # room for any report of so many situations, of which no more than 64 are taken
     size = 40 + 28 * min(n, 64)
@@ -922,7 +929,8 @@ def write_report(campaigns: Iterable[Campaign]) -> bytes:
 
 
 class Bench:
-    """One table of 32 places that bureaus 1 and 2 share, at most 16 jobs each. Each bureau is answered as at a table of its own."""
+    """One table of 32 places that bureaus 1 and 2 share, at most 16 jobs each. Each bureau is answered as at a table of
+    its own."""
 
     PLACES = 32
 
@@ -1003,8 +1011,8 @@ def envelope_peaks(step: Whole, ramp: Whole, decorrelation: Whole, samples: Row)
 
 
 class PeakSurvey(_State):
-    """The first of two passes over a record that is not held: how many peaks its pieces have, and their sum. Samples are
-    fed from the first one on, the ramp's too, and cut anywhere. The step is 1 to 10,000 ms, the ramp 0 to 1,000,000
+    """The first of two passes over a record that is not held: how many peaks its pieces have, and their sum. Samples
+    are fed from the first one on, the ramp's too, and cut anywhere. The step is 1 to 10,000 ms, the ramp 0 to 1,000,000
     samples."""
 
     LENGTH = 10
@@ -1019,8 +1027,8 @@ class PeakSurvey(_State):
         _ask(_lib.chim_peaks_take, self._state, self.LENGTH, xs, n)
 
     def begin(self, decorrelation: Whole) -> PeakPass:
-        """The second pass over the same samples, for a decorrelation time of 0 to 10,000,000 ms; the first stays as it is
-        and serves other times too. Refuses 1 with item 4, 4 after fewer than two samples past the ramp."""
+        """The second pass over the same samples, for a decorrelation time of 0 to 10,000,000 ms; the first stays as it
+        is and serves other times too. Refuses 1 with item 4, 4 after fewer than two samples past the ramp."""
         second = PeakPass.from_numbers([0] * PeakPass.LENGTH)
         items = _items(decorrelation=decorrelation)
         _ask(_lib.chim_peaks_begin, self._state, self.LENGTH, *items, second._state, second.LENGTH)
@@ -1070,8 +1078,9 @@ def fit_tail(peaks: Row, k: Whole) -> Tail:
 
 
 def read_comma(text: Text, step: Whole) -> array[int]:
-    """The samples of a simulator's comma file, as bytes: one a line, time in ms, comma, roll in degrees, each line ended by LF; times start at 0 and grow by
-    the step. An array of 32-bit numbers, thousandths of a degree, which Record.feed takes at once."""
+    """The samples of a simulator's comma file, as bytes: one a line, time in ms, comma, roll in degrees, each line
+    ended by LF; times start at 0 and grow by the step. An array of 32-bit numbers, thousandths of a degree, which
+    Record.feed takes at once."""
     text = _text(text)
     samples = array("i", bytes(4 * max(text.count(b"\n"), 1)))
     lent = (ctypes.c_int32 * len(samples)).from_buffer(samples)
@@ -1096,7 +1105,8 @@ def write_comma(samples: Row, step: Whole) -> bytes:
 
 
 def write_sheet(standard: Whole, records: Row) -> bytes:
-    """The job sheet of a standard and its records as bytes, in order: exposures in ms, with a minus on the failed ones."""
+    """The job sheet of a standard and its records as bytes, in order: exposures in ms, with a minus on the failed
+    ones."""
     xs, n, _owner = _own("records", records)
     # room for any sheet of so many records, of which no more than 100,000 are taken
     size = 22 + 18 * min(n, 100_000)
@@ -1106,12 +1116,14 @@ def write_sheet(standard: Whole, records: Row) -> bytes:
 
 
 def read_records(text: Text) -> Tuple[int, List[int]]:
-    """The standard of a whole job sheet, as bytes, and the list of its records, as write_sheet takes them. A Refusal has the line and the column of the fault."""
+    """The standard of a whole job sheet, as bytes, and the list of its records, as write_sheet takes them. A Refusal
+    has the line and the column of the fault."""
     text = _text(text)
     places = max(text.count(b"\n"), 1)
     records, standard, line, column = (ctypes.c_int32 * places)(), _u64(), _u64(), _u64()
     try:
-        n = _ask(_lib.chim_sheet_records, text, len(text), records, places, ctypes.byref(standard), ctypes.byref(line), ctypes.byref(column))
+        n = _ask(_lib.chim_sheet_records, text, len(text), records, places, ctypes.byref(standard), ctypes.byref(line),
+            ctypes.byref(column))
     except Refusal as refusal:
         refusal.line, refusal.column = line.value, column.value
         raise
@@ -1188,8 +1200,8 @@ def lower_row(n: Whole) -> int:
 
 class Beyond(NamedTuple):
     """What extrapolation comes to, in ms: at most the estimated mean time between failures at the level, the longest
-    standard found to be accepted and the shortest found to be rejected (None for none); the letter for the standard that
-    was asked, A, R or C; and the tail that it was found from."""
+    standard found to be accepted and the shortest found to be rejected (None for none); the letter for the standard
+    that was asked, A, R or C; and the tail that it was found from."""
 
     estimate: int
     accepted: Optional[int]
@@ -1201,9 +1213,10 @@ class Beyond(NamedTuple):
 def extrapolate(
     peaks: Row, k: Whole, level: Whole, step: Whole, timed_samples: Whole, standard: Whole
 ) -> Beyond:
-    """The mean time between failures at a level that no record need reach, from up to 4,096 envelope peaks in any order:
-    by the k largest of them, the level in thousandths of a degree, the step in ms, the timed samples of all records and a
-    standard in ms. Refuses 1 with item 1, 3 or 5, 16, 17, 19, 20 with the k-th peak, 21, in this order."""
+    """The mean time between failures at a level that no record need reach, from up to 4,096 envelope peaks in any
+    order: by the k largest of them, the level in thousandths of a degree, the step in ms, the timed samples of all
+    records and a standard in ms. Refuses 1 with item 1, 3 or 5, 16, 17, 19, 20 with the k-th peak, 21, in this
+    order."""
     items = _items(level=level, step=step, timed_samples=timed_samples, standard=standard)
     [largest] = _items(k=k)
     times = (_u64 * 3)()

@@ -27,7 +27,7 @@
 //! What hands out a list or a text needs memory of its own, and stands behind the feature `std`, which is on unless it is turned off;
 //! without it the crate is `no_std` and touches nothing but what it is lent.
 //!
-//! # The cases of README
+//! # Worked cases
 //!
 //! A simulator's file is counted: two groups of six crossings, the first failure 7 s after the ramp.
 //!

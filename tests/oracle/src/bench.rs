@@ -1,6 +1,7 @@
-// Document 02, [9], read once more: two bureaus at one table. Here each bureau has a desk of its own that knows nothing of the other; of the shared table there is
-// only which job stands in which place. Every answer of the library is that of the caller's own desk, the place number aside, which is the lowest that is free;
-// and the whole table afterwards is that of both desks.
+// Document 02, [9], read once more: two bureaus at one table. Here each bureau has a desk of its own that knows nothing
+// of the other; of the shared table there is only which job stands in which place. Every answer of the library is that
+// of the caller's own desk, the place number aside, which is the lowest that is free; and the whole table afterwards is
+// that of both desks.
 use crate::library;
 use crate::paper::{self, Campaign, Verdict, LONGEST, MOST_RECORDS, ROWS};
 use crate::{campaign_in, campaign_numbers, Bench};
@@ -43,7 +44,8 @@ fn row(owner: u64, c: &Campaign) -> Row {
     [owner, n[0], n[1], n[2], n[3], n[4]]
 }
 
-/// "or free and all zeros", "owned by bureau 1 or 2", "at most 16 each", 32 long; a campaign keeps document 01's relations.
+/// "or free and all zeros", "owned by bureau 1 or 2", "at most 16 each", 32 long; a campaign keeps document 01's
+/// relations.
 fn table_ok(rows: &[Row]) -> bool {
     let place_ok = |r: &Row| match r[0] {
         0 => *r == [0; 6],
@@ -80,7 +82,8 @@ impl Bench {
         c
     }
 
-    /// A call of bureau `bureau` about a place, or about none where it takes a job; what the library answers and leaves, against the desks.
+    /// A call of bureau `bureau` about a place, or about none where it takes a job; what the library answers and
+    /// leaves, against the desks.
     fn bench_call(&mut self, shared: &mut Shared, rows: &mut Vec<Row>, bureau: u64, place: u64, ask: Ask) {
         let before = rows.clone();
         let bits = |rates: &[f64]| rates.iter().map(|r| r.to_bits()).collect::<Vec<u64>>();
@@ -187,7 +190,8 @@ impl Bench {
         }
     }
 
-    /// Histories of both bureaus from a table that has some jobs already: calls about own places, the other's, free ones and none; broken tables in between.
+    /// Histories of both bureaus from a table that has some jobs already: calls about own places, the other's, free
+    /// ones and none; broken tables in between.
     pub fn histories(&mut self, many: usize) {
         for _ in 0..many {
             let mut shared = Shared { places: [None; PLACES], desks: [Vec::new(), Vec::new()] };

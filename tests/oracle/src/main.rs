@@ -1,5 +1,6 @@
-// The library against documents 01 and 02 (`paper`), through its C functions: every answer, what it carries, and the later contents of everything lent, on
-// generated cases. The seed is fixed. The last line says how many cases agreed; a disagreement, or a refusal that was hardly met, ends the run.
+// The library against documents 01 and 02 (`paper`), through its C functions: every answer, what it carries, and the
+// later contents of everything lent, on generated cases. The seed is fixed. The last line says how many cases agreed; a
+// disagreement, or a refusal that was hardly met, ends the run.
 mod bench;
 mod library;
 mod paper;
@@ -11,7 +12,8 @@ use random::Random;
 use std::collections::BTreeMap;
 use std::fmt::Debug;
 
-/// What each entry may answer (include/chimenickel.h); each has to be met at least this often. Where refusal 2 names the acceleration it stands in a row of its own.
+/// What each entry may answer (include/chimenickel.h); each has to be met at least this often. Where refusal 2 names
+/// the acceleration it stands in a row of its own.
 const EXPECTED: [(&str, &[u64]); 17] = [
     ("record_open", &[0, 1, 8]),
     ("record_feed", &[0, 2, 3, 8, 12]),
@@ -331,8 +333,8 @@ impl Bench {
         (0..n).map(|_| if self.random.one_in(lively) { self.sample(level) } else { self.calm_sample(level) }).collect()
     }
 
-    /// Both channels about their levels; one in `odd` pairs has a sample out of range, in either channel or in both at the same or at neighbouring places, and at
-    /// times more.
+    /// Both channels about their levels; one in `odd` pairs has a sample out of range, in either channel or in both at
+    /// the same or at neighbouring places, and at times more.
     fn samples(&mut self, n: usize, levels: [u64; 2], odd: u64) -> [Vec<i32>; 2] {
         let mut xs = levels.map(|level| self.channel(n, level));
         while n > 0 && self.random.one_in(odd) {
@@ -351,7 +353,8 @@ impl Bench {
         xs
     }
 
-    /// The same, but for one in `odd` times, when one of the two slices is cut shorter than the other, or made longer where there is nothing to cut.
+    /// The same, but for one in `odd` times, when one of the two slices is cut shorter than the other, or made longer
+    /// where there is nothing to cut.
     fn unequal<'a>(&mut self, samples: [&'a [i32]; 2], odd: u64) -> [&'a [i32]; 2] {
         let [roll, acceleration] = samples;
         if !self.random.one_in(odd) {
@@ -375,7 +378,8 @@ impl Bench {
         }
     }
 
-    /// What the two channels do at the samples of a record: which of them makes a crossing, and where one is above just after the other was.
+    /// What the two channels do at the samples of a record: which of them makes a crossing, and where one is above just
+    /// after the other was.
     fn meet_channels(&mut self, [roll, acceleration]: [&[i32]; 2], ramp: u64, levels: [u64; 2]) {
         let above = |i: usize| paper::each_above(levels, [roll[i], acceleration[i]]);
         for i in 1..roll.len() {
@@ -390,8 +394,8 @@ impl Bench {
         }
     }
 
-    /// Whole records, fed in random cuts, both channels at the same place: every state on the way, and the figures of the joined lists at the end. Pieces of
-    /// unequal lengths in between.
+    /// Whole records, fed in random cuts, both channels at the same place: every state on the way, and the figures of
+    /// the joined lists at the end. Pieces of unequal lengths in between.
     fn records(&mut self, times: u64) {
         for _ in 0..times {
             let items = self.lively();
@@ -485,7 +489,8 @@ impl Bench {
         }
     }
 
-    /// An exposure at, just below or just above one of the verdict's two lines, with a standard that brings the line near.
+    /// An exposure at, just below or just above one of the verdict's two lines, with a standard that brings the line
+    /// near.
     fn near_a_line(&mut self, c: &Campaign) -> u64 {
         let row = if self.random.one_in(2) {
             self.rows.upper[paper::censored(c) as usize]
@@ -496,7 +501,8 @@ impl Bench {
         (line + self.random.within(0, 2)).saturating_sub(1)
     }
 
-    /// One number of a state changed to something near it, to a limit, or to anything; or the array made shorter or longer.
+    /// One number of a state changed to something near it, to a limit, or to anything; or the array made shorter or
+    /// longer.
     fn damaged(&mut self, state: &[u64], place: usize) -> Vec<u64> {
         let mut s = state.to_vec();
         if place == s.len() {
@@ -546,7 +552,8 @@ impl Bench {
         }
     }
 
-    /// The last crossing's place and the groups at each end of what document 02's [5] asks for, and one past it; and arrays of the lengths of before it.
+    /// The last crossing's place and the groups at each end of what document 02's [5] asks for, and one past it; and
+    /// arrays of the lengths of before it.
     fn grouped_states(&mut self, times: u64) {
         for _ in 0..times {
             let (r, record, campaign, piece) = self.sound_case(50);
@@ -570,7 +577,8 @@ impl Bench {
         }
     }
 
-    /// Each level and each last sample alone at the ends of its range and past them, and the last samples of a record that has none.
+    /// Each level and each last sample alone at the ends of its range and past them, and the last samples of a record
+    /// that has none.
     fn two_channel_states(&mut self, times: u64) {
         for _ in 0..times {
             let (r, record, campaign, piece) = self.sound_case(50);
@@ -648,9 +656,9 @@ impl Bench {
         }
     }
 
-    /// A bad sample, or one just within the range, at the first and the last place of the first, a middle and the last block of a library that looks at
-    /// 64 samples at a time, in either channel, in both at once and in both at neighbouring places; in a piece, in a piece that there is no room for, and in a whole
-    /// record.
+    /// A bad sample, or one just within the range, at the first and the last place of the first, a middle and the last
+    /// block of a library that looks at 64 samples at a time, in either channel, in both at once and in both at
+    /// neighbouring places; in a piece, in a piece that there is no room for, and in a whole record.
     fn ends(&mut self) {
         let values = [i32::MIN, i32::MIN + 1, -SAMPLE - 1, -SAMPLE, SAMPLE, SAMPLE + 1, i32::MAX];
         for n in [64, 65, 175, 192, 257] {
@@ -689,8 +697,8 @@ impl Bench {
         }
     }
 
-    /// The roll above its level at one place and the acceleration at another, each at an end of a block of 64 or beside it, or nowhere; fed whole, cut at
-    /// either place or between the blocks, listed and searched.
+    /// The roll above its level at one place and the acceleration at another, each at an end of a block of 64 or beside
+    /// it, or nowhere; fed whole, cut at either place or between the blocks, listed and searched.
     fn boundaries(&mut self) {
         for n in [64, 65, 129, 192] {
             let places: Vec<usize> = [0, 1, 62, 63, 64, 65, 127, 128, n - 1, n].into_iter().filter(|&place| place <= n).collect();
@@ -717,7 +725,8 @@ impl Bench {
         }
     }
 
-    /// Jobs of one channel, the roll or the acceleration, with zeros lent for the other and any level for it: what document 01 says of one channel.
+    /// Jobs of one channel, the roll or the acceleration, with zeros lent for the other and any level for it: what
+    /// document 01 says of one channel.
     fn one_channel(&mut self, times: u64) {
         for _ in 0..times {
             let [step, ramp, level, gap, other] = self.lively();
@@ -758,8 +767,9 @@ impl Bench {
         }
     }
 
-    /// Document 01's marked cases A to H, with document 02's groups, each sample put into either channel in every way, zeros into the other: all into the roll, all into
-    /// the acceleration, and handed to and fro. The figures are the papers'; `paper` and the library have to have them.
+    /// Document 01's marked cases A to H, with document 02's groups, each sample put into either channel in every way,
+    /// zeros into the other: all into the roll, all into the acceleration, and handed to and fro. The figures are the
+    /// papers'; `paper` and the library have to have them.
     fn marked(&mut self) {
         const A: &[i32] = &[0, 41_000, 39_000, 41_000, 39_000, 41_000, 0];
         // the ramp, the decorrelation time and the samples; the crossings' times, the largest set, the counted times

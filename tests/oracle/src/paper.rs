@@ -1,6 +1,7 @@
-// Document 01 read once more with document 02's [4], [5] and [8], in plain Rust, sharing no line with the proved code. Where they speak of a whole record, so does this: it
-// keeps every sample and looks back at all of them. Only `fed` goes sample by sample, since a state that was handed in has no samples to look back at. What has two
-// channels is a pair here, the roll's first.
+// Document 01 read once more with document 02's [4], [5] and [8], in plain Rust, sharing no line with the proved code.
+// Where they speak of a whole record, so does this: it keeps every sample and looks back at all of them. Only `fed`
+// goes sample by sample, since a state that was handed in has no samples to look back at. What has two channels is a
+// pair here, the roll's first.
 
 /// A refusal number and what is returned with it.
 pub type Refused = (u64, u64);
@@ -63,7 +64,8 @@ pub fn crossings([roll, acceleration]: [&[i32]; 2], ramp: u64, levels: [u64; 2])
     places
 }
 
-/// Document 02, [5], as document 000, section 6.3, arranges it: the crossings group by group, each less than the time after the one before it in its group.
+/// Document 02, [5], as document 000, section 6.3, arranges it: the crossings group by group, each less than the time
+/// after the one before it in its group.
 pub fn groups(places: &[usize], step: u64, ramp: u64, decorrelation: u64) -> Vec<Vec<usize>> {
     let time = |i: usize| (i as u64 - ramp) * step;
     let mut groups: Vec<Vec<usize>> = Vec::new();
@@ -277,7 +279,8 @@ pub fn campaign_ok(c: &Campaign) -> bool {
         && !(n == ROWS && !c.failed)
 }
 
-/// Document 02, [4], the first step: crossings, count, first failure and exposure; by [5] the groups are the count, and the largest set stands beside it.
+/// Document 02, [4], the first step: crossings, count, first failure and exposure; by [5] the groups are the count, and
+/// the largest set stands beside it.
 pub fn ended(r: &Record) -> Result<[u64; 5], Refused> {
     if !record_ok(r) {
         return Err((8, 0));
@@ -290,7 +293,8 @@ pub fn ended(r: &Record) -> Result<[u64; 5], Refused> {
     Ok([r.crossings, r.groups, r.first, (last - ramp) * step, r.largest])
 }
 
-/// The second step, which reads only whether there is a first failure and the exposure: 8 for the campaign or the result, 5, 6.
+/// The second step, which reads only whether there is a first failure and the exposure: 8 for the campaign or the
+/// result, 5, 6.
 pub fn entered(c: &Campaign, failed: bool, exposure: u64) -> Result<Campaign, Refused> {
     if !campaign_ok(c) || !(1..=LONGEST).contains(&exposure) {
         return Err((8, 0));

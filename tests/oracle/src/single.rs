@@ -1,5 +1,6 @@
-// Document 01's reading of a record as it stood before document 02's [8]: one channel and one level, for jobs of one channel, which lend zeros for the other. Nothing here
-// knows of two; what is said of crossings by their places alone (groups, the walk) is `paper`'s.
+// Document 01's reading of a record as it stood before document 02's [8]: one channel and one level, for jobs of one
+// channel, which lend zeros for the other. Nothing here knows of two; what is said of crossings by their places alone
+// (groups, the walk) is `paper`'s.
 use crate::paper::{apart, groups, most_samples, Refused, SAMPLE};
 
 fn above(level: u64, x: i32) -> bool {

@@ -30,7 +30,7 @@ use Rattle.record_state.specs.declared.RecordAnswer.the-variants.{Taken, Refuse
 use Rattle.record_state.specs.State.{stateOf, sound}
 use Rattle.record_state.specs.Answers.{opened}
 use Rattle.record_state.proofs.Relations.{kept-from}
-use Rattle.record_state.proofs.Bounds.{items-of, small}
+use Rattle.record_state.proofs.Bounds.{small}
 use Rattle.record_step.specs.Step.{crosses, stepped}
 use Rattle.record_feed.specs.Answers.{fed}
 use Rattle.record_feed.proofs.Fed.{fed-full, fed-taken, not-broken}
@@ -51,7 +51,7 @@ use Rattle.comma_count.specs.Taking.{isRefused, fresh, opening, onward, 
 use Rattle.comma_count.proofs.Zeros.{zeros-length, zeros-good}
 use Rattle.comma_count.proofs.Joining.{none-outside}
 use Rattle.comma_count.proofs.Piece.{sound-step, sound-lines, sound-noted}
-use Rattle.comma_count.proofs.Whole.{start, standing, opens, start-sound}
+use Rattle.comma_count.proofs.Whole.{start, standing, opens, start-sound, step-ok}
 
 -- ---- where a reading stands after right lines: their times have 12 digits, and a line that is noted is one of them
 pub fresh-stands : (D : ℕ) → stepInRange D ≡ true → soundFollow (fresh D) ≡ true
@@ -111,8 +111,7 @@ of-back {f} {r} o =
 record-stands : (f : Follow) (r : Record) → Of f r → soundFollow f ≡ true
 record-stands f r o =
     let k = kept-from r (o .whole) in
-    both-true
-    (both-true (le-leb 1 (f .step) (omega (arith, o .step, items-of k .step-low))) (le-leb (f .step) 10000 (omega (arith, o .step, items-of k .step-high))))
+    both-true (ap stepInRange (sym (o .step)) ∙ step-ok (r .items) (k .outside))
     (both-true (le-leb (f .lines) 1000000000000 (omega (arith, o .number, k .length, small k))) (le-leb (f .outside) (f .lines) (omega (arith, o .none))))
 
 pub stands : (f : Follow) (a : RecordAnswer) → agrees f a ≡ true → soundFollow f ≡ true

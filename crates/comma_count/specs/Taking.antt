@@ -93,7 +93,7 @@ soundFollow f = stepInRange (f .step) && (leb (f .lines) 1000000000000 && leb (f
 abbrev pub ofLines : Follow → Record → Bool
 ofLines f r = sound r && (eqb (r .items .step) (f .step) && (eqb (r .n) (f .lines) && eqb (f .outside) 0))
 
--- where lines lead goes with what was answered to them; after a refusal no record is left to ask of
+-- lines that lead to f can have been answered by a; after a refusal there is no record to ask about
 abbrev pub agrees : Follow → RecordAnswer → Bool
 agrees f (Taken r) = ofLines f r
 agrees f (Refused q) = soundFollow f

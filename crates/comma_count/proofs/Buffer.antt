@@ -14,7 +14,7 @@ use Rattle.comma_stream.specs.declared.Rest.{Rest}
 use Rattle.comma_stream.specs.declared.Rest.the-variants.{Waits, Over, Wrong}
 use Rattle.comma_stream.specs.Follow.{bytesOf, rightLines, resting}
 use Rattle.comma_count.specs.declared.Counting.{Counting}
-use Rattle.comma_count.specs.Taking.{withLines, rested, soundFollow, taking, turning, turnLeft}
+use Rattle.comma_count.specs.Taking.{withLines, rested, agrees, taking, turning, turnLeft}
 use Rattle.comma_count.proofs.Way.{some-parts}
 
 -- ---- no more than a piece is used
@@ -31,7 +31,7 @@ taking-used c text more =
     by-test (c .over)
     (λ o. rw o (omega arith))
     (λ o.
-    by-test (soundFollow (c .follow))
+    by-test (agrees (c .follow) (c .answer))
     (λ s. rw (o, s) (rested-used (resting (drop (bytesOf lines) text) more) (withLines c lines) (bytesOf lines) (length text) within))
     (λ s. rw (o, s) (omega arith)))
 

@@ -7,14 +7,13 @@ use mathlib.Core.Bool.{Bool, true, false, cond, not, _&&_}
 use mathlib.Core.List.{List, [], _∷_, _++_, append-nil, append-assoc}
 use native.Mathlib.Nat.{zero-add}
 use native.Mathlib.Omega.{arith}
-use lib.Dec.{eqb, leb, ltb}
+use lib.Dec.{eqb, ltb}
 use lib.ListN.{length, drop, length-append}
-use borrow.Author.Tests.{eq-eqb, ne-eqb, eqb-true, eqb-false, le-leb}
+use borrow.Author.Tests.{eq-eqb, ne-eqb, eqb-true, eqb-false}
 use Rattle.truth.proofs.Cases.{by-test}
-use Rattle.truth.proofs.Laws.{both-true, impossible}
+use Rattle.truth.proofs.Laws.{impossible}
 use Rattle.refusal.specs.declared.Refusal.the-variants.{Item}
 use Rattle.sample_items.specs.Limits.{itemOutside}
-use Rattle.sample_items.proofs.Ranges.{low}
 use Rattle.record_state.specs.declared.RecordAnswer.the-variants.{Taken, Refused}
 use Rattle.record_state.specs.Answers.{opened}
 use Rattle.record_feed.specs.Answers.{fed}
@@ -30,16 +29,17 @@ use Rattle.comma_stream.specs.Follow.{bytesOf, rightLines, afterLines, mayBegin
 use Rattle.comma_stream.specs.Pieces.{Passed, withPiece}
 use Rattle.text.specs.Pieces.{joined}
 use Rattle.comma_stream.proofs.Pieces.{Rights, Left, Level, level-on}
-use Rattle.comma_stream.proofs.Whole.{lines-few, all-right, one-wrong, stays}
+use Rattle.comma_stream.proofs.Whole.{all-right, one-wrong, stays}
 use Rattle.sample_items.specs.declared.Items.{Items}
 use Rattle.comma_count.specs.declared.Counting.{Counting}
 use Rattle.comma_count.specs.declared.Took.{Took}
 use Rattle.comma_count.specs.Line.{countSaid, endOfLines, endOfText}
-use Rattle.comma_count.specs.Taking.{isRefused, fresh, opening, going, answering, withLines, rested, soundFollow, taking, endOf, saidEnd, saying}
+use Rattle.comma_count.specs.Taking.{isRefused, fresh, opening, going, answering, withLines, rested, agrees, taking, endOf, saidEnd, saying}
 use Rattle.comma_count.specs.Pieces.{carrying}
 use Rattle.comma_count.proofs.Joining.{answering-join}
 use Rattle.comma_count.proofs.Piece.{taking-over}
-use Rattle.comma_count.proofs.Whole.{start, standing, wrongAfter, opens, start-sound, step-ok, end-wrong, end-right, said-end}
+use Rattle.comma_count.proofs.Whole.{start, standing, wrongAfter, opens, start-sound, end-wrong, end-right, said-end}
+use Rattle.comma_count.proofs.Agreeing.{standing-agrees}
 
 -- ---- what is over stays
 over-stays : (c : Counting) (kept : List ℕ) (pieces : List (List ℕ)) → c .over ≡ true → carrying c kept pieces ≡ c
@@ -104,11 +104,8 @@ module _ (i : Items) (ok : itemOutside i ≡ 0) where
         ∙ ap (λ f. going f (answering f (Taken (start i)) (samplesOf us ++ samplesOf more-lines))) (level .stands)
         ∙ ap (λ xs. going (afterLines (fresh D) (Rights D 0 (text ++ piece))) (answering (afterLines (fresh D) (Rights D 0 (text ++ piece))) (Taken (start i)) xs)) (level .samples)
 
-    stands-well : soundFollow stand ≡ true
-    unfolding afterLines
-    stands-well =
-        both-true (step-ok i ok)
-        (le-leb (0 + length us) 1000000000000 (omega (arith, lines-few (length text) D 0 text (low 1 10000 D (step-ok i ok)) (omega arith))))
+    stands-well : agrees (standing i us .follow) (standing i us .answer) ≡ true
+    stands-well = standing-agrees i ok text
 
     abbrev used-bytes : ℕ
     used-bytes = bytesOf more-lines

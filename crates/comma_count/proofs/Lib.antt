@@ -4,6 +4,7 @@ pub mod Joining
 pub mod Way
 pub mod Piece
 pub mod Whole
+pub mod Agreeing
 pub mod Cut
 pub mod Unique
 pub mod Buffer

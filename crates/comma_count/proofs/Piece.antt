@@ -23,14 +23,17 @@ use Rattle.comma_stream.specs.declared.Rest.the-variants.{Waits, Over, Wrong}
 use Rattle.comma_stream.specs.Follow.{longestCommaLine, unended, mayBegin, resting}
 use Rattle.comma_count.specs.declared.Counting.{Counting}
 use Rattle.comma_count.specs.declared.Took.{Took}
-use Rattle.comma_count.specs.Taking.{Leads, going, over, rested, soundFollow, taking, turning, turnLeft}
+use Rattle.comma_count.specs.Taking.{Leads, going, over, rested, soundFollow, agrees, taking, turning, turnLeft}
 
 -- where a reading may stand
 pub sound-step : (f : Follow) → soundFollow f ≡ true → stepInRange (f .step) ≡ true
-sound-step f s = and-true (stepInRange (f .step)) (leb (f .lines) 1000000000000) s .0
+sound-step f s = and-true (stepInRange (f .step)) _ s .0
 
 pub sound-lines : (f : Follow) → soundFollow f ≡ true → f .lines ≤ 1000000000000
-sound-lines f s = leb-true (f .lines) 1000000000000 (and-true (stepInRange (f .step)) (leb (f .lines) 1000000000000) s .1)
+sound-lines f s = leb-true (f .lines) 1000000000000 (and-true (leb (f .lines) 1000000000000) _ (and-true (stepInRange (f .step)) _ s .1) .0)
+
+pub sound-noted : (f : Follow) → soundFollow f ≡ true → f .outside ≤ f .lines
+sound-noted f s = leb-true (f .outside) (f .lines) (and-true (leb (f .lines) 1000000000000) _ (and-true (stepInRange (f .step)) _ s .1) .1)
 
 -- what is left is wrong, or less than a line
 rest-few : (text : List ℕ) (more : Bool) → (resting text more ≡ Wrong) ⊎ (length text < 31)
@@ -66,11 +69,11 @@ module _ (c : Counting) (text : List ℕ) (more : Bool) where
   taking-over o = rw o
 
   module _ (o : c .over ≡ false) where
-    pub taking-broken : soundFollow (c .follow) ≡ false → record { counting = over (c .follow) BrokenState; used = length text } ≡ taking c text more
+    pub taking-broken : agrees (c .follow) (c .answer) ≡ false → record { counting = over (c .follow) BrokenState; used = length text } ≡ taking c text more
     unfolding taking
     taking-broken s = rw (o, s)
 
-    pub taking-on : {g : Follow} {b : RecordAnswer} {at : ℕ} {rest : Rest} → soundFollow (c .follow) ≡ true → Leads (c .follow) (c .answer) text g b at → rest ≡ resting (drop at text) more
+    pub taking-on : {g : Follow} {b : RecordAnswer} {at : ℕ} {rest : Rest} → agrees (c .follow) (c .answer) ≡ true → Leads (c .follow) (c .answer) text g b at → rest ≡ resting (drop at text) more
         → rested rest (going g b) at (length text) ≡ taking c text more
     unfolding taking
     taking-on s l r = rw (o, s, r, l .stands, l .says, l .place)

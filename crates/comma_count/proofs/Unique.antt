@@ -7,16 +7,21 @@ use Prim.Native.Nat.{ℕ}
 use lib.ListN.{take}
 use Rattle.truth.proofs.Unique.{settled}
 use Rattle.sample_items.specs.declared.Items.{Items}
+use Rattle.record_state.specs.declared.RecordAnswer.{RecordAnswer}
+use Rattle.comma_stream.specs.declared.Follow.{Follow}
 use Rattle.desk_line.specs.declared.Finished.{Finished}
 use Rattle.desk_line.specs.Said.{putting, putLeft}
 use Rattle.comma_count.specs.declared.Counting.{Counting}
 use Rattle.comma_count.specs.declared.Took.{Took}
 use Rattle.comma_count.specs.declared.Turned.{Turned}
 use Rattle.comma_count.specs.declared.End.{End}
-use Rattle.comma_count.specs.Taking.{opening, taking, turning, turnLeft, endOf, saying}
+use Rattle.comma_count.specs.Taking.{opening, agrees, taking, turning, turnLeft, endOf, saying}
 
 pub open-unique : (i : Items) (c d : Counting) → c ≡ opening i → d ≡ opening i → c ≡ d
 open-unique i c d = settled
+
+pub agrees-unique : (f : Follow) (a : RecordAnswer) (b d : Bool) → b ≡ agrees f a → d ≡ agrees f a → b ≡ d
+agrees-unique f a b d = settled
 
 pub came-to-unique : (c : Counting) (r q : End) → r ≡ endOf c → q ≡ endOf c → r ≡ q
 came-to-unique c r q = settled

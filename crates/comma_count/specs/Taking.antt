@@ -14,6 +14,7 @@ use Rattle.sample_items.specs.Limits.{stepInRange}
 use Rattle.record_state.specs.declared.Record.{Record}
 use Rattle.record_state.specs.declared.RecordAnswer.{RecordAnswer}
 use Rattle.record_state.specs.declared.RecordAnswer.the-variants.{Taken, Refused}
+use Rattle.record_state.specs.State.{sound}
 use Rattle.record_state.specs.Answers.{opened}
 use Rattle.record_feed.specs.Answers.{fed}
 use Rattle.record_end.specs.declared.Ended.{Ended}
@@ -83,15 +84,25 @@ rested (Waits n) c at all = record { counting = c; used = at }
 rested Over c at all = record { counting = c; used = at }
 rested Wrong c at all = record { counting = over (c .follow) (CommaLine (c .follow .lines + 1)); used = all }
 
--- no reading stands where times have more than 12 digits
+-- ---- refusal 8: whether a count that is not over can have been handed out
+-- no reading stands where times have more than 12 digits, and the line that it noted is one that it has read
 abbrev pub soundFollow : Follow → Bool
-soundFollow f = stepInRange (f .step) && leb (f .lines) 1000000000000
+soundFollow f = stepInRange (f .step) && (leb (f .lines) 1000000000000 && leb (f .outside) (f .lines))
 
--- what is over stays, and all of the text is used; 8 for a reading that stands nowhere
+-- a record of the lines so far is sound, of their step, and has a sample for each of them, none out of range
+abbrev pub ofLines : Follow → Record → Bool
+ofLines f r = sound r && (eqb (r .items .step) (f .step) && (eqb (r .n) (f .lines) && eqb (f .outside) 0))
+
+-- lines that lead to f can have been answered by a; after a refusal there is no record to ask about
+abbrev pub agrees : Follow → RecordAnswer → Bool
+agrees f (Taken r) = ofLines f r
+agrees f (Refused q) = soundFollow f
+
+-- ---- what is over stays, and all of the text is used; 8 where lines and answer do not agree
 unfoldable pub taking : Counting → List ℕ → Bool → Took
 taking c text more =
     cond (c .over) (record { counting = c; used = length text })
-    (cond (not (soundFollow (c .follow))) (record { counting = over (c .follow) BrokenState; used = length text })
+    (cond (not (agrees (c .follow) (c .answer))) (record { counting = over (c .follow) BrokenState; used = length text })
     (rested (resting (drop (bytesOf (rightLines (c .follow) text)) text) more) (withLines c (rightLines (c .follow) text)) (bytesOf (rightLines (c .follow) text)) (length text)))
 
 -- ---- a turn through a buffer, whose first bytes are a piece: the bytes that the piece leaves unused go to its start

@@ -11,9 +11,9 @@ ghost use Rattle.sample_items.specs.Limits.{stepInRange};
 ghost use Rattle.record_feed.specs.Answers.{fed};
 ghost use Rattle.desk_line.specs.Said.{longestSaid, Puts, putting, putLeft};
 ghost use Rattle.comma_count.specs.Line.{zeros, firstText, counted};
-ghost use Rattle.comma_count.specs.Taking.{isRefused, opening, onward, answering, soundFollow, taking, turning};
-ghost use Rattle.comma_count.specs.Taking.{turnLeft, lineFor, saidEnded, endBy, endOf, saidEnd, Leads, over};
-ghost use Rattle.comma_count.specs.Taking.{going, rested, saying};
+ghost use Rattle.comma_count.specs.Taking.{isRefused, opening, onward, answering, soundFollow, ofLines, agrees};
+ghost use Rattle.comma_count.specs.Taking.{taking, turning, turnLeft, lineFor, saidEnded, endBy, endOf, saidEnd};
+ghost use Rattle.comma_count.specs.Taking.{Leads, over, going, rested, saying};
 use comma_stream::Follow;
 use comma_stream::Followed;
 use comma_stream::Rest;
@@ -140,7 +140,32 @@ fn lines(start: Follow, before: RecordAnswer, text: &[u8]) -> Reached
 fn sound(f: Follow) -> bool
     ensures { λ b. ⌜ b ≡ soundFollow f ⌝ }
 {
-    truth::both(comma_line::step_in_range(f.step), f.lines <= LATEST)
+    truth::both(
+        comma_line::step_in_range(f.step),
+        truth::both(f.lines <= LATEST, f.outside <= f.lines),
+    )
+}
+
+fn of_lines(f: Follow, r: Record) -> bool
+    ensures { λ b. ⌜ b ≡ ofLines f r ⌝ }
+{
+    truth::both(
+        record_state::sound(r),
+        truth::both(
+            r.items.step == f.step,
+            truth::both(r.n == f.lines, f.outside == 0),
+        ),
+    )
+}
+
+// Whether lines that lead to `f` can have been answered so, as refusal 8 asks.
+pub fn agrees(f: Follow, a: RecordAnswer) -> bool
+    ensures { λ b. ⌜ b ≡ agrees f a ⌝ }
+{
+    match a {
+        RecordAnswer::Taken(r) => of_lines(f, r),
+        RecordAnswer::Refused(_) => sound(f),
+    }
 }
 
 // A count that is over.
@@ -187,7 +212,7 @@ fn rested(r: Reached, rest: Rest, all: usize) -> Took
 
 // Takes the right lines of a piece, of which `more` says whether others follow. A line begun is left unused; a
 // malformed one, or one with a wrong time, ends the count with refusal 10, and all of the piece is used, as it is where
-// the count is over. Or 8 for a count that was never handed out.
+// the count is over. Or 8 for a count whose lines and answer do not agree: none such was handed out.
 pub fn take(c: Counting, text: &[u8], more: bool) -> Took
     ensures { λ t. ⌜ t ≡ taking c (now (text .entry)) more ⌝ }
     ensures { λ t. ⌜ (t .used ≤ length (now (text .entry))) × (length (now (text .entry)) - t .used < 31) ⌝ }
@@ -200,13 +225,13 @@ pub fn take(c: Counting, text: &[u8], more: bool) -> Took
         };
     }
     let f = c.follow;
-    if !sound(f) {
+    let before = c.answer;
+    if !agrees(f, before) {
         return Took {
             counting: stopped(f, Refusal::BrokenState),
             used: all,
         };
     }
-    let before = c.answer;
     let reached = lines(f, before, text);
     let at = reached.at;
     rested(reached, comma_stream::left(text, at, more), all)

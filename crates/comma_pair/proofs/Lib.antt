@@ -3,6 +3,7 @@ pub mod Front
 pub mod Joining
 pub mod Way
 pub mod Piece
+pub mod Agreeing
 pub mod Text
 pub mod Whole
 pub mod Stands

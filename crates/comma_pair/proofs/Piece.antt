@@ -1,15 +1,15 @@
 -- What pieces of both files come to: the tests that pick the case, that no more is used than there is, and that less
 -- than a line is left of the file that has to be read. Assumes nothing.
-use Prim.Native.Nat.{ℕ, _+_, _-_, _≤_, _<_}
+use Prim.Native.Nat.{ℕ, _+_, _-_, _≤_, _<_, min}
 use mathlib.Core.Path.{_≡_, refl, sym, ap, _∙_}
 use mathlib.Core.Bool.{Bool, true, false, cond, _&&_}
 use mathlib.Core.List.{List}
 use native.Mathlib.Omega.{arith}
 use lib.Dec.{eqb, ltb}
 use lib.ListN.{length, take, drop, length-drop, length-take}
-use borrow.Author.Tests.{eqb-true, ltb-true}
+use borrow.Author.Tests.{eqb-true, le-leb, ltb-true}
 use Rattle.truth.proofs.Cases.{by-test}
-use Rattle.truth.proofs.Laws.{and-true, impossible}
+use Rattle.truth.proofs.Laws.{and-true, both-true, impossible}
 use Rattle.refusal.specs.declared.Refusal.the-variants.{BrokenState}
 use Rattle.record_state.specs.declared.RecordAnswer.{RecordAnswer}
 use Rattle.record_state.specs.declared.RecordAnswer.the-variants.{Refused}
@@ -20,12 +20,12 @@ use Rattle.comma_stream.specs.Follow.{longestCommaLine, unended, mayBegin, byte
 use Rattle.comma_count.specs.declared.Counting.{Counting}
 use Rattle.comma_count.specs.declared.Took as one
 use Rattle.comma_count.specs.Taking as count
-use Rattle.comma_count.specs.Taking.{soundFollow, withLines}
-use Rattle.comma_count.proofs.Piece.{NearlyAll, used}
+use Rattle.comma_count.specs.Taking.{soundFollow, agrees, withLines}
+use Rattle.comma_count.proofs.Piece.{sound-step, sound-lines, NearlyAll, used}
 use Rattle.comma_pair.specs.declared.Watching.{Watching}
 use Rattle.comma_pair.specs.declared.Abreast.{Abreast}
 use Rattle.comma_pair.specs.declared.Took.{Took}
-use Rattle.comma_pair.specs.Taking.{pairsOf, sideBySide, stopped, ended, alone, rollAlone, accelerationAlone, accelerationBehind, rollBehind, judged, taking, leftOver}
+use Rattle.comma_pair.specs.Taking.{pairsOf, sideBySide, shared, agreeing, stopped, ended, alone, rollAlone, accelerationAlone, accelerationBehind, rollBehind, judged, taking, leftOver}
 use Rattle.comma_pair.proofs.Front.{within, some, all-within}
 
 -- ---- what is left after right lines and waits is less than a line
@@ -47,7 +47,7 @@ nearly c text more =
     by-test (c .over)
     (λ o. rw o (omega arith, omega arith))
     (λ o.
-    by-test (soundFollow (c .follow))
+    by-test (agrees (c .follow) (c .answer))
     (λ s. rw (o, s) (used (resting (drop (bytesOf lines) text) more) (withLines c lines) text (bytesOf lines) more (all-within (c .follow) text) refl))
     (λ s. rw (o, s) (omega arith, omega arith)))
 
@@ -90,6 +90,15 @@ module _ (x y : List ℕ) (s : Abreast) (h : s .at ≤ length x) (k : s .beside 
   roll-spare Over e = acceleration-alone-spare x y s more (count.taking (alone (s .acceleration)) (drop (s .beside) y) more) (nearly (alone (s .acceleration)) (drop (s .beside) y) more) h k
   roll-spare Wrong e = spare-ended x y
 
+-- ---- where lines and answer agree, both files stand where one may, and so does one with the lines that both have
+pub both-stand : (f g : Follow) (a : RecordAnswer) → agreeing f g a ≡ true → (soundFollow f ≡ true) × (soundFollow g ≡ true)
+both-stand f g a e = and-true (soundFollow f) (soundFollow g) (and-true (eqb (f .step) (g .step)) _ (and-true (agrees (shared f g) a) _ e .1) .1)
+
+pub shared-stands : (f g : Follow) → soundFollow f ≡ true → soundFollow (shared f g) ≡ true
+shared-stands f g s =
+    both-true (sound-step f s)
+    (both-true (le-leb (min (f .lines) (g .lines)) 1000000000000 (omega (arith, sound-lines f s))) (le-leb 0 (min (f .lines) (g .lines)) (omega arith)))
+
 -- ---- the tests in their order
 module _ (w : Watching) (x : List ℕ) (xMore : Bool) (y : List ℕ) (yMore : Bool) where
   pub taking-over : w .over ≡ true → ended w (length x) (length y) ≡ taking w x xMore y yMore
@@ -97,12 +106,12 @@ module _ (w : Watching) (x : List ℕ) (xMore : Bool) (y : List ℕ) (yMore : Bo
   taking-over o = rw o
 
   module _ (o : w .over ≡ false) where
-    pub taking-broken : (soundFollow (w .roll) && soundFollow (w .acceleration)) ≡ false
+    pub taking-broken : agreeing (w .roll) (w .acceleration) (w .answer) ≡ false
         → ended (stopped (w .roll) (w .acceleration) (Refused BrokenState) 0) (length x) (length y) ≡ taking w x xMore y yMore
     unfolding taking
     taking-broken s = rw (o, s)
 
-    module _ (well : (soundFollow (w .roll) && soundFollow (w .acceleration)) ≡ true) {s : Abreast} (is : s ≡ sideBySide (w .roll) (w .acceleration) (w .answer) x y) where
+    module _ (well : agreeing (w .roll) (w .acceleration) (w .answer) ≡ true) {s : Abreast} (is : s ≡ sideBySide (w .roll) (w .acceleration) (w .answer) x y) where
       taking-judged : judged s x xMore y yMore ≡ taking w x xMore y yMore
       unfolding taking
       taking-judged = rw (o, well) (ap (λ a. judged a x xMore y yMore) is)
@@ -129,7 +138,7 @@ side-within : (f g : Follow) (a : RecordAnswer) (x y : List ℕ) → (sideBySide
 unfolding sideBySide
 side-within f g a x y = (within f x (pairsOf f g x y), within g y (pairsOf f g x y))
 
-either-way : (P : Took → Type 0) (b : Bool) (t u : Took) → P t → P u → P (cond b t u)
+pub either-way : (P : Took → Type 0) (b : Bool) (t u : Took) → P t → P u → P (cond b t u)
 either-way P true t u p q = p
 either-way P false t u p q = q
 
@@ -146,7 +155,7 @@ spare w x xMore y yMore =
     by-test (w .over)
     (λ o. rw o (spare-ended x y))
     (λ o.
-    by-test (soundFollow (w .roll) && soundFollow (w .acceleration))
+    by-test (agreeing (w .roll) (w .acceleration) (w .answer))
     (λ s.
     let t = side-within (w .roll) (w .acceleration) (w .answer) x y in
     rw (o, s) (judged-spare (sideBySide (w .roll) (w .acceleration) (w .answer) x y) x xMore y yMore (t .0) (t .1)))

@@ -10,7 +10,7 @@ use native.Mathlib.Omega.{arith}
 use lib.Dec.{eqb, ltb}
 use lib.ListN.{length, take, drop, length-drop, length-take}
 use lib.Seq.{length-take-le, take-length, drop-drop}
-use borrow.Author.Tests.{lt-ltb, le-ltb, eqb-true, eqb-false}
+use borrow.Author.Tests.{lt-ltb, le-ltb, eq-eqb, eqb-true, eqb-false}
 use Rattle.truth.proofs.Cases.{by-test, by-order}
 use Rattle.truth.proofs.Laws.{both-true, impossible, true≢false}
 use Rattle.refusal.specs.declared.Refusal.the-variants.{CommaLine, Unequal}
@@ -27,15 +27,18 @@ use Rattle.comma_count.specs.declared.Took as one
 use Rattle.comma_count.specs.Taking as count
 use Rattle.comma_count.specs.Taking.{soundFollow, withLines}
 use Rattle.comma_count.proofs.Whole.{start, step-ok}
+use Rattle.comma_count.proofs.Agreeing.{start-of, fed-agrees}
 use Rattle.comma_pair.specs.declared.Watching.{Watching}
 use Rattle.comma_pair.specs.declared.Abreast.{Abreast}
 use Rattle.comma_pair.specs.declared.Took.{Took}
 use Rattle.comma_pair.specs.declared.Next.the-variants as next
-use Rattle.comma_pair.specs.Taking.{onward, heldOf, pairsOf, sideBySide, watched, stopped, ended, alone, rollAlone, accelerationAlone, accelerationBehind, rollBehind, judged, taking}
+use Rattle.comma_pair.specs.Taking.{onward, heldOf, pairsOf, sideBySide, shared, agreeing, watched, stopped}
+use Rattle.comma_pair.specs.Taking.{ended, alone, rollAlone, accelerationAlone, accelerationBehind, rollBehind, judged, taking}
 use Rattle.comma_pair.proofs.Front.{after-them, lines-on, held-on, held-many}
 use Rattle.comma_pair.proofs.Joining.{Good, held-good, onward-join}
 use Rattle.comma_pair.proofs.Way.{good}
-use Rattle.comma_pair.proofs.Text.{R, after, unread, unread-all, unread-on, lines-at, stands-well, rest-waits, rest-over, rest-wrong, WrongHere}
+use Rattle.comma_pair.proofs.Piece.{shared-stands}
+use Rattle.comma_pair.proofs.Text.{R, after, unread, unread-all, unread-on, lines-at, step-after, stands-well, rest-waits, rest-over, rest-wrong, WrongHere}
 
 module _ (i : Items) (ok : itemOutside i ≡ 0) where
   abbrev D : ℕ
@@ -131,7 +134,7 @@ module _ (i : Items) (ok : itemOutside i ≡ 0) where
     goes-alone : T ≡ by-rest (resting (Left D 0 text) more)
     unfolding count.taking
     goes-alone =
-        rw (stands-well D (step-ok i ok) text k h, lines-left)
+        rw (stands-well D (step-ok i ok) text k, lines-left)
         (ap (λ l. by-rest (resting l more)) bytes-end)
 
     -- it waits or is over
@@ -251,9 +254,24 @@ module _ (i : Items) (ok : itemOutside i ≡ 0) where
           ahead = ltb (N - b) (U - a);
         })
 
+    -- the record is of the lines that both have
+    agree : agreeing (after D A a) (after D B b) (answerAt A B (min a b)) ≡ true
+    agree =
+        let us = take (min a b) (R D A) in
+        let vs = take (min a b) (R D B) in
+        let us-long : length us ≡ min a b = length-take-le (min a b) (R D A) (omega (arith, few-a)) in
+        let vs-long : length vs ≡ min a b = length-take-le (min a b) (R D B) (omega (arith, few-b)) in
+        let g = good us vs (us-long ∙ sym vs-long) in
+        let well-a = stands-well D (step-ok i ok) A a in
+        let well-b = stands-well D (step-ok i ok) B b in
+        both-true
+        (fed-agrees (count.fresh D) (start i) (start-of i ok) (heldOf us) (heldOf vs) (g .equal) (g .roll) (g .acceleration) (shared (after D A a) (after D B b)) (step-after D A a)
+        (omega (arith, lines-at D A a few-a, lines-at D B b few-b, held-many us, us-long)) refl (shared-stands (after D A a) (after D B b) well-a))
+        (both-true (eq-eqb (after D A a .step) (after D B b .step) (step-after D A a ∙ sym (step-after D B b))) (both-true well-a well-b))
+
     call : taking w x mA y mB ≡ judged S x mA y mB
     unfolding taking
-    call = rw (stands-well D (step-ok i ok) A a few-a, stands-well D (step-ok i ok) B b few-b) (ap (λ s. judged s x mA y mB) side)
+    call = rw agree (ap (λ s. judged s x mA y mB) side)
 
     -- ---- by which file has fewer lines left
     abbrev Result : Took → Type 0

@@ -7,24 +7,23 @@ use mathlib.Core.Bool.{Bool, true, false, cond, _&&_}
 use mathlib.Core.List.{List, [], _∷_, _++_, append-nil}
 use native.Mathlib.Nat.{zero-add}
 use native.Mathlib.Omega.{arith}
-use lib.Dec.{eqb, leb, ltb}
+use lib.Dec.{eqb, ltb}
 use lib.ListN.{length, take, drop, length-append, length-drop}
 use lib.Seq.{take-append-le, drop-append-le, drop-drop, take-length, length-take-le}
-use borrow.Author.Tests.{eqb-true, eqb-false, ne-eqb, le-leb}
+use borrow.Author.Tests.{eqb-true, eqb-false, ne-eqb}
 use Rattle.truth.proofs.Cases.{by-test}
-use Rattle.truth.proofs.Laws.{both-true, impossible, true≢false}
-use Rattle.decimal.specs.Decimal.{longest}
+use Rattle.truth.proofs.Laws.{impossible, true≢false}
 use Rattle.decimal.specs.Lines.{linesOf}
 use Rattle.comma_line.specs.Text.{firstWrong}
 use Rattle.sample_items.specs.Limits.{stepInRange}
-use Rattle.sample_items.proofs.Ranges.{low}
 use Rattle.comma_stream.specs.declared.Follow.{Follow}
 use Rattle.comma_stream.specs.declared.Rest.{Rest}
 use Rattle.comma_stream.specs.declared.Rest.the-variants.{Waits, Over, Wrong}
 use Rattle.comma_stream.specs.Follow.{bytesOf, rightLines, afterLines, mayBegin, resting}
 use Rattle.comma_stream.proofs.Pieces.{Rights, Left, joins, wrong-within}
-use Rattle.comma_stream.proofs.Whole.{lines-few, all-right, one-wrong, stays}
+use Rattle.comma_stream.proofs.Whole.{all-right, one-wrong, stays}
 use Rattle.comma_count.specs.Taking.{fresh, soundFollow}
+use Rattle.comma_count.proofs.Agreeing.{fresh-stands, stands-after}
 use Rattle.comma_pair.proofs.Front.{within, bytes-on}
 
 -- ---- what is left after right lines, by what it says
@@ -81,6 +80,10 @@ module _ (D : ℕ) where
   unfolding afterLines
   lines-at text k h = zero-add (length (take k (R text))) ∙ length-take-le k (R text) h
 
+  pub step-after : (text : List ℕ) (k : ℕ) → after text k .step ≡ D
+  unfolding afterLines
+  step-after text k = refl
+
   -- ---- more text after it
   module _ (text p : List ℕ) where
     joined-lines : R (text ++ p) ≡ R text ++ Rights D (0 + length (Rights D 0 text) * D) (Left D 0 text ++ p)
@@ -98,16 +101,8 @@ module _ (D : ℕ) where
           sym (drop-append-le (bytesOf (take k (R text))) text p (within (fresh D) text k)) ∙ ap (λ l. drop (bytesOf l) (text ++ p)) (sym more-lines)
 
   -- ---- the count of lines has 12 digits at most
-  pub stands-well : stepInRange D ≡ true → (text : List ℕ) (k : ℕ) → k ≤ length (R text) → soundFollow (after text k) ≡ true
-  unfolding afterLines
-  stands-well step text k h =
-      both-true step
-      (le-leb (0 + length (take k (R text))) 1000000000000 (omega (
-        arith,
-        length-take-le k (R text) h,
-        ap length (lines-are text),
-        lines-few (length text) D 0 text (low 1 10000 D step) (omega arith),
-      )))
+  pub stands-well : stepInRange D ≡ true → (text : List ℕ) (k : ℕ) → soundFollow (after text k) ≡ true
+  stands-well step text k = stands-after (fresh D) (fresh-stands D step) text k
 
   -- ---- the whole file
   -- its first wrong line is the one after the right ones

@@ -25,7 +25,7 @@ use Rattle.comma_count.specs.declared.Counting.{Counting}
 use Rattle.comma_count.specs.declared.Took as one
 use Rattle.comma_count.specs.Line.{refusedAt}
 use Rattle.comma_count.specs.Taking as count
-use Rattle.comma_count.specs.Taking.{isRefused, fresh, soundFollow, saidEnded}
+use Rattle.comma_count.specs.Taking.{isRefused, fresh, soundFollow, agrees, saidEnded}
 use Rattle.comma_pair.specs.declared.Watching.{Watching}
 use Rattle.comma_pair.specs.declared.Abreast.{Abreast}
 use Rattle.comma_pair.specs.declared.Took.{Took}
@@ -141,11 +141,20 @@ judged s x xMore y yMore =
     cond (s .ahead) (accelerationBehind (resting (drop (s .beside) y) yMore) s x xMore (length y))
     (rollBehind (resting (drop (s .at) x) xMore) s (length x) y yMore)
 
--- ---- pieces of both: what is over stays; 8 for what stands nowhere
+-- ---- refusal 8: whether a count that is not over can be that of two files
+-- the lines that both have, as those of one; a sample out of range is held as 0 in the record
+abbrev pub shared : Follow → Follow → Follow
+shared f g = record { step = f .step; lines = min (f .lines) (g .lines); outside = 0 }
+
+-- the answer is that to these lines, both files have one step, and each stands where one may
+abbrev pub agreeing : Follow → Follow → RecordAnswer → Bool
+agreeing f g a = agrees (shared f g) a && (eqb (f .step) (g .step) && (soundFollow f && soundFollow g))
+
+-- ---- pieces of both: what is over stays; 8 where lines and answer do not agree
 unfoldable pub taking : Watching → List ℕ → Bool → List ℕ → Bool → Took
 taking w x xMore y yMore =
     cond (w .over) (ended w (length x) (length y))
-    (cond (not (soundFollow (w .roll) && soundFollow (w .acceleration)))
+    (cond (not (agreeing (w .roll) (w .acceleration) (w .answer)))
     (ended (stopped (w .roll) (w .acceleration) (Refused BrokenState) 0) (length x) (length y))
     (judged (sideBySide (w .roll) (w .acceleration) (w .answer) x y) x xMore y yMore))
 

@@ -5,20 +5,19 @@
 // no sample is kept for the other's: what one file has more than the other stays unused. The state goes in by value and
 // comes back.
 ghost use mathlib.Core.Path.{_≡_};
-ghost use mathlib.Core.Bool.{true, _&&_};
+ghost use mathlib.Core.Bool.{true};
 ghost use mathlib.Core.List.{map};
-ghost use Prim.Native.Nat.{_+_, _-_, _≤_, _<_};
+ghost use Prim.Native.Nat.{_+_, _-_, _≤_, _<_, min};
 ghost use lib.ListN.{length, take, drop};
 ghost use Rattle.text.specs.Write.{written};
 ghost use Rattle.sample_items.specs.Limits.{stepInRange};
 ghost use Rattle.desk_line.specs.Said.{longestSaid, Puts, putting, putLeft};
-ghost use Rattle.comma_count.specs.Taking.{soundFollow};
 ghost use Rattle.comma_count.specs.Taking as count;
 ghost use Rattle.record_state.specs.declared.RecordAnswer.the-variants.{Refused};
 ghost use Rattle.comma_pair.specs.declared.PairEnd.the-variants.{Counted};
 ghost use Rattle.comma_pair.specs.Line.{refusedOf};
-ghost use Rattle.comma_pair.specs.Taking.{opening, onward, sideBySide, watched, stopped, ended, waiting};
-ghost use Rattle.comma_pair.specs.Taking.{alone, rollAlone, accelerationAlone};
+ghost use Rattle.comma_pair.specs.Taking.{opening, onward, sideBySide, shared, agreeing, watched, stopped, ended};
+ghost use Rattle.comma_pair.specs.Taking.{waiting, alone, rollAlone, accelerationAlone};
 ghost use Rattle.comma_pair.specs.Taking.{accelerationBehind, rollBehind, taking, leftOver, rollOutside, endBy};
 ghost use Rattle.comma_pair.specs.Taking.{endOf, saidEnd, saying};
 ghost use Rattle.comma_pair.specs.Step.{Some, Both};
@@ -46,9 +45,6 @@ const COMMA_LINE: u64 = 10;
 
 // The most lines that are fed at once.
 const LINES: usize = 1024;
-
-// Past it no time has 12 digits.
-const LATEST: u64 = 1_000_000_000_000;
 
 // Where the counting of two files stands.
 pub struct Watching {
@@ -253,12 +249,37 @@ fn side_by_side(
     }
 }
 
-fn sound(f: Follow, g: Follow) -> bool
-    ensures { λ b. ⌜ b ≡ (soundFollow f && soundFollow g) ⌝ }
+fn least(a: u64, b: u64) -> u64
+    ensures { λ r. ⌜ r ≡ min a b ⌝ }
 {
+    if a < b { a } else { b }
+}
+
+// The lines that both files have, as those of one.
+fn shared(f: Follow, g: Follow) -> Follow
+    ensures { λ h. ⌜ h ≡ shared f g ⌝ }
+{
+    Follow {
+        step: f.step,
+        lines: least(f.lines, g.lines),
+        outside: 0,
+    }
+}
+
+// Whether two files can lead here, with this answer to the lines that both have.
+fn sound(f: Follow, g: Follow, a: RecordAnswer) -> bool
+    ensures { λ b. ⌜ b ≡ agreeing f g a ⌝ }
+{
+    let refused = RecordAnswer::Refused(Refusal::Unequal);
     truth::both(
-        truth::both(comma_line::step_in_range(f.step), f.lines <= LATEST),
-        truth::both(comma_line::step_in_range(g.step), g.lines <= LATEST),
+        comma_count::agrees(shared(f, g), a),
+        truth::both(
+            f.step == g.step,
+            truth::both(
+                comma_count::agrees(f, refused),
+                comma_count::agrees(g, refused),
+            ),
+        ),
     )
 }
 
@@ -424,8 +445,8 @@ fn roll_behind(s: Abreast, rest: Rest, x: usize, acceleration: &[u8], more: bool
 // Takes the right lines of pieces of both files, of each of which it is said whether more of it follows. What is over
 // stays over. A line begun, and lines that the other file has not shown yet, are left unused, and `next` says which
 // file has to be read: of that one less than a line is left. A malformed line or one with a wrong time ends the count
-// with refusal 10, the lower one of both files, the roll's of two with one number. Or 8 for a count that was never
-// handed out.
+// with refusal 10, the lower one of both files, the roll's of two with one number. Or 8 where lines and answer do not
+// agree: no two files lead there.
 pub fn take(
     w: Watching,
     roll: &[u8],
@@ -445,7 +466,7 @@ pub fn take(
     if w.over {
         return ended(w, x, y);
     }
-    if !sound(f, g) {
+    if !sound(f, g, before) {
         return ended(
             stopped(f, g, RecordAnswer::Refused(Refusal::BrokenState), 0),
             x,

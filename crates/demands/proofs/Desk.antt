@@ -2,20 +2,24 @@
 -- digit by which it ends are those of a definition over whole texts, however the texts come: in one piece or in many,
 -- cut within a line or a number. Which line it is, is decided by the command's tests in their order, each over the whole
 -- file (demand 1). Assumes nothing.
-use mathlib.Core.Path.{_≡_, refl}
-use mathlib.Core.Bool.{Bool, cond, false, not, true}
+use mathlib.Core.Path.{_≡_, refl, sym, _∙_}
+use mathlib.Core.Bool.{Bool, cond, false, not, true, _&&_}
 use mathlib.Core.List.{List, [], _∷_, _++_, map}
+use mathlib.Core.Logic.{_⊎_, inl, inr}
 use Prim.Native.Nat.{ℕ, _+_, _≤_}
 use lib.Dec.{eqb, leb, ltb}
 use lib.IntN.{ℤ}
 use lib.ListN.{length, take, drop}
 use Rattle.refusal.specs.declared.Refusal.{Refusal}
-use Rattle.refusal.specs.declared.Refusal.the-variants.{CampaignFull, CommaLine, Item, RowsUsedUp, Sample, SumFull, TooLong, TooShort}
+use Rattle.refusal.specs.declared.Refusal.the-variants.{BrokenState, CampaignFull, CommaLine, Item, RowsUsedUp, Sample, SumFull, TooLong, TooShort}
 use Rattle.refusal.specs.Numbers.{numberOf, valueOf}
 use Rattle.sample_items.specs.declared.Items.{Items}
-use Rattle.sample_items.specs.Limits.{itemOutside, mostSamples}
+use Rattle.sample_items.specs.Limits.{itemOutside, mostSamples, stepInRange}
 use Rattle.sample_range.specs.Range.{firstBad}
 use Rattle.crossing_places.specs.Reading.{tooFew}
+use Rattle.record_state.specs.declared.RecordAnswer.{RecordAnswer}
+use Rattle.record_state.specs.declared.RecordAnswer.the-variants.{Refused, Taken}
+use Rattle.record_state.specs.State.{sound}
 use Rattle.campaign_state.specs.State.{mostRecords, standardInRange}
 use Rattle.binomial_sum.specs.declared.Sum.{Sum}
 use Rattle.binomial_sum.specs.State.{empty, grown, wouldPass}
@@ -23,13 +27,16 @@ use Rattle.binomial_bounds.specs.Bounds.{boundsOf}
 use Rattle.text.specs.Pieces.{joined}
 use Rattle.decimal.specs.Lines.{linesOf}
 use Rattle.comma_line.specs.Text.{firstWrong, samplesOf}
+use Rattle.comma_stream.specs.declared.Follow.{Follow}
 use Rattle.desk_line.specs.Said.{Said, longestSaid}
 use Rattle.comma_count.specs.declared.Counting.{Counting}
 use Rattle.comma_count.specs.Line.{countSaid, countSaidOfLines, counted, oneChannel, refusedAt, resultFor}
-use Rattle.comma_count.specs.Taking.{opening, saying, taking, turnLeft, turning}
+use Rattle.comma_count.specs.Taking.{agrees, going, opening, over, saying, taking, turnLeft, turning}
 use Rattle.comma_count.specs.Pieces.{carrying}
+use Rattle.comma_count.proofs.Agreeing.{Agrees, never-eight, opening-agrees, taking-agrees}
 use Rattle.comma_count.proofs.Buffer.{kept-first}
 use Rattle.comma_count.proofs.Cut.{cut-anywhere}
+use Rattle.comma_count.proofs.Piece.{taking-broken}
 use Rattle.binomial_files.specs.Files.{binomialFrom, binomialSaid, groupsOf, refusedIn, summed, timedOf}
 use Rattle.binomial_files.specs.Adding.{addedSaid, filesAfter, openedFiles}
 use Rattle.binomial_files.proofs.Anywhere.{files-anywhere}
@@ -78,6 +85,21 @@ sheetTests i records lines =
     ∷ (leb 64 (failuresIn records) gives RowsUsedUp
     ∷ [])))))
 
+-- the relations of 8 for a count that goes on. Of its lines: the step is in range, no time has more than 12 digits, and
+-- the line of the first sample out of range is one of them
+abbrev pub linesKept : Follow → Bool
+linesKept f = stepInRange (f .step) && (leb (f .lines) 1000000000000 && leb (f .outside) (f .lines))
+
+-- its record is sound, of the step of the lines, and has a sample for each of them, none out of range; where they were
+-- refused there is no record
+abbrev pub countKept : Follow → RecordAnswer → Bool
+countKept f (Taken r) = sound r && (eqb (r .items .step) (f .step) && (eqb (r .n) (f .lines) && eqb (f .outside) 0))
+countKept f (Refused q) = linesKept f
+
+-- what may be handed out: a count that is over, or one that keeps the relations
+abbrev pub Handed : Counting → Type 0
+Handed c = (c .over ≡ true) ⊎ (countKept (c .follow) (c .answer) ≡ true)
+
 pub record Desk : Type 0 where
   -- bin/count: what is said of a file does not depend on the pieces in which it comes
   pub count-pieces : (i : Items) (pieces : List (List ℕ)) → saying (carrying (opening i) [] pieces) ≡ countSaid i (joined pieces)
@@ -85,6 +107,14 @@ pub record Desk : Type 0 where
   pub count-order : (i : Items) (text : List ℕ)
       → let lines = linesOf text in
       countSaid i text ≡ decide refusedFile (countTests i lines) (counted (length lines) (resultFor i (oneChannel (samplesOf lines))))
+  -- a count that breaks a relation of 8 is over with 8, and all of the piece is used; one that breaks none is not
+  -- answered by 8, and what is handed out breaks none
+  pub count-broken : (f : Follow) (a : RecordAnswer) (text : List ℕ) (more : Bool) → countKept f a ≡ false
+      → taking (going f a) text more ≡ record { counting = over f BrokenState; used = length text }
+  pub count-kept : (f : Follow) (a : RecordAnswer) (text : List ℕ) (more : Bool) → countKept f a ≡ true → (a ≡ Refused BrokenState → ⊥)
+      → taking (going f a) text more .counting .answer ≡ Refused BrokenState → ⊥
+  pub count-opened : (i : Items) → Handed (opening i)
+  pub count-handed : (f : Follow) (a : RecordAnswer) (text : List ℕ) (more : Bool) → countKept f a ≡ true → Handed (taking (going f a) text more .counting)
   -- bin/binomial: what is said of several files does not depend on the pieces in which each comes
   pub binomial-pieces : (i : Items) (files : List (List (List ℕ))) → addedSaid (filesAfter i 1 (openedFiles i) files) ≡ binomialSaid i (map joined files)
   -- an item goes first; then file by file the tests of bin/count, and 11; the first that is refused is named by its number
@@ -142,12 +172,29 @@ by-record : (q : ℕ) (i : Items) (records : List ℤ) (text : List ℕ) (texts 
 unfolding sheetFrom decide
 by-record q i records text texts = refl
 
+-- `countKept` is written out, so that each of its cases has to be what is asked
+kept-is : (f : Follow) (a : RecordAnswer) → countKept f a ≡ agrees f a
+kept-is f (Taken r) = refl
+kept-is f (Refused q) = refl
+
+by-relations : (f : Follow) (a : RecordAnswer) (text : List ℕ) (more : Bool) → countKept f a ≡ false
+    → taking (going f a) text more ≡ record { counting = over f BrokenState; used = length text }
+by-relations f a text more e = sym (taking-broken (going f a) text more refl (sym (kept-is f a) ∙ e))
+
+by-handed : (c : Counting) → Agrees c → Handed c
+by-handed c (inl o) = inl o
+by-handed c (inr e) = inr (kept-is (c .follow) (c .answer) ∙ e)
+
 pub desk : Desk
 unfolding binomialSaid binomialFrom sheetSaid sheetFrom
 desk =
     record {
       count-pieces = cut-anywhere;
       count-order = by-tests;
+      count-broken = by-relations;
+      count-kept = λ f a text more e other. never-eight f a (sym (kept-is f a) ∙ e) other text more;
+      count-opened = λ i. by-handed (opening i) (opening-agrees i);
+      count-handed = λ f a text more e. by-handed (taking (going f a) text more .counting) (taking-agrees f a text more (sym (kept-is f a) ∙ e));
       binomial-pieces = files-anywhere;
       binomial-item = λ i texts e. rw e;
       binomial-none = λ i e texts. rw e;

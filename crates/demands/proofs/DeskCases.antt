@@ -2,8 +2,11 @@
 -- a figure of its own, so that two that change places show here, and each refusal's line. Each declaration has the name
 -- of its sentence. Assumes nothing.
 use mathlib.Core.Path.{_≡_, refl}
+use mathlib.Core.Bool.{false}
 use mathlib.Core.List.{List, [], _∷_, _++_}
 use Prim.Native.Nat.{ℕ}
+use lib.IntN.{pos}
+use Rattle.refusal.specs.declared.Refusal.the-variants.{BrokenState, CommaLine, TooLong}
 use Rattle.decimal.specs.Decimal.{allDigits, digitsOf, digitsWithin, isNumber, valueOf}
 use Rattle.decimal.specs.Field.{fieldText}
 use Rattle.decimal.specs.Leading.{leading}
@@ -18,8 +21,14 @@ use Rattle.sample_channels.specs.Channels.{moments}
 use Rattle.crossing_places.specs.Reading.{firstOf, passing}
 use Rattle.crossing_sets.specs.Groups.{attach, groups}
 use Rattle.crossing_sets.specs.Walk.{later, walk}
+use Rattle.record_state.specs.declared.Record.{Record}
+use Rattle.record_state.specs.declared.RecordAnswer.{RecordAnswer}
+use Rattle.record_state.specs.declared.RecordAnswer.the-variants.{Refused, Taken}
+use Rattle.record_state.specs.State.{sound}
+use Rattle.comma_stream.specs.Follow.{afterLines, bytesOf, resting, rightLines}
 use Rattle.desk_line.specs.Said.{Said, placesThen, refusedLine, whyText}
 use Rattle.comma_count.specs.Line.{countSaid, countSaidOfLines, figuresLine, firstText, resultFor}
+use Rattle.comma_count.specs.Taking.{going, taking}
 use Rattle.root.specs.HalfWidth as root
 use Rattle.root.specs.Root.{firstFrom}
 use Rattle.binomial_files.specs.Files.{binomialFrom, binomialSaid, sumLine}
@@ -95,6 +104,51 @@ count-short : countSaid items (48 ∷ 44 ∷ 48 ∷ 10 ∷ []) ≡ refused (114 
 unfolding countSaidOfLines linesOf firstWrong right isCommaLine isNumber allDigits leading valueOf isSize sizeLength filled
     size digitsOf digitsWithin fieldText firstBad itemOutside placesThen refusedLine whyText
 count-short = refl
+
+-- ---- a count that was not handed out
+-- so many samples of 0 at a step, and how many crossings are told of them
+abbrev pub still : ℕ → ℕ → ℕ → Record
+still D n crossings =
+    record {
+      items = record { step = D; ramp = 0; levels = record { roll = 40000; acceleration = 1000000 }; decorrelation = 1500 };
+      n = n;
+      last = record { roll = pos 0; acceleration = pos 0 };
+      crossings = crossings;
+      largest = 0;
+      first = 0;
+      «last_chosen» = 0;
+      «last_crossing» = 0;
+      groups = 0;
+    }
+
+-- lines at 500 ms, the first out of range among them, and what is answered when the next is malformed
+abbrev answered : ℕ → ℕ → RecordAnswer → RecordAnswer
+answered lines outside a = taking (going (record { step = 500; lines = lines; outside = outside }) a) (120 ∷ []) false .counting .answer
+
+-- 8, before 10: a record of another step, of a sample too many, of one too few, of lines of which one was out of range,
+-- with a crossing that stands nowhere; lines out of range or refused as too many, of which the noted one was not read
+count-eight :
+    answered 2 0 (Taken (still 500 2 0))
+    ∷ answered 2 0 (Taken (still 499 2 0))
+    ∷ answered 2 0 (Taken (still 500 3 0))
+    ∷ answered 2 0 (Taken (still 500 1 0))
+    ∷ answered 2 1 (Taken (still 500 2 0))
+    ∷ answered 2 0 (Taken (still 500 2 1))
+    ∷ answered 2 2 (Refused TooLong)
+    ∷ answered 2 3 (Refused TooLong)
+    ∷ []
+    ≡ Refused (CommaLine 3)
+    ∷ Refused BrokenState
+    ∷ Refused BrokenState
+    ∷ Refused BrokenState
+    ∷ Refused BrokenState
+    ∷ Refused BrokenState
+    ∷ Refused (CommaLine 3)
+    ∷ Refused BrokenState
+    ∷ []
+unfolding taking sound itemOutside resting rightLines bytesOf afterLines linesOf firstWrong right isCommaLine isNumber
+    allDigits leading
+count-eight = refl
 
 -- ---- bin/binomial
 abbrev calm : List ℕ

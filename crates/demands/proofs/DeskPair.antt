@@ -5,7 +5,7 @@
 use mathlib.Core.Path.{_≡_, refl, sym, _∙_}
 use mathlib.Core.Bool.{Bool, cond, false, not, true, _&&_, _||_}
 use mathlib.Core.List.{List, [], _∷_}
-use Prim.Native.Nat.{ℕ, _+_, _≤_, _<_}
+use Prim.Native.Nat.{ℕ, _+_, _≤_, _<_, min}
 use native.Mathlib.Omega.{arith}
 use lib.Dec.{eqb, leb, ltb}
 use lib.IntN.{ℤ}
@@ -13,22 +13,27 @@ use lib.ListN.{length}
 use borrow.Author.Tests.{leb-true, leb-false, ltb-true, lt-ltb}
 use Rattle.truth.proofs.Cases.{by-order}
 use Rattle.truth.proofs.Laws.{and-true, true≢false}
-use Rattle.refusal.specs.declared.Refusal.the-variants.{Acceleration, CommaLine, Item, Sample, TooLong, TooShort, Unequal}
+use Rattle.refusal.specs.declared.Refusal.the-variants.{Acceleration, BrokenState, CommaLine, Item, Sample, TooLong, TooShort, Unequal}
 use Rattle.sample_channels.specs.Channels.{hasBad}
 use Rattle.sample_items.specs.declared.Items.{Items}
 use Rattle.sample_items.specs.Limits.{itemOutside, mostSamples}
 use Rattle.sample_range.specs.Range.{firstBad}
 use Rattle.crossing_places.specs.Reading.{tooFew}
+use Rattle.record_state.specs.declared.RecordAnswer.{RecordAnswer}
+use Rattle.record_state.specs.declared.RecordAnswer.the-variants.{Refused, Taken}
 use Rattle.decimal.specs.Lines.{linesOf}
 use Rattle.comma_line.specs.Text.{firstWrong, samplesOf}
+use Rattle.comma_stream.specs.declared.Follow.{Follow}
 use Rattle.desk_line.specs.Said.{Said}
 use Rattle.comma_count.specs.Line.{counted, refusedAt, resultFor}
 use Rattle.comma_pair.specs.declared.Watching.{Watching}
 use Rattle.comma_pair.specs.Line.{anyWrong, badRoll, bothChannels, pairSaid, pairSaidOfLines, refusedOf, wrongRoll}
-use Rattle.comma_pair.specs.Taking.{leftOver, opening, saying, taking}
+use Rattle.comma_pair.specs.Taking.{agreeing, ended, leftOver, opening, saying, stopped, taking, watched}
 use Rattle.comma_pair.specs.Pieces.{Rest, Turn, accelerationText, carrying, rollText}
+use Rattle.comma_pair.proofs.Agreeing.{never-eight}
 use Rattle.comma_pair.proofs.Cut.{cut-anywhere}
-use Rattle.comma_pair.proofs.Piece.{spare}
+use Rattle.comma_pair.proofs.Piece.{spare, taking-broken}
+use Rattle.demands.proofs.Desk.{countKept, linesKept}
 
 -- ---- the statement
 -- a condition, and what is said where it holds
@@ -58,6 +63,13 @@ pairTests i ls ms =
     ∷ (tooFew (i .ramp) (length ls) says refusedAt 0 TooShort
     ∷ [])))))))
 
+-- the relations of 8 for a count of two files that goes on: its record is of the lines that both have, a sample out of
+-- range of which is held as 0; both have one step, and each keeps the relations of lines
+abbrev pub pairKept : Follow → Follow → RecordAnswer → Bool
+pairKept f g a =
+    countKept (record { step = f .step; lines = min (f .lines) (g .lines); outside = 0 }) a
+    && (eqb (f .step) (g .step) && (linesKept f && linesKept g))
+
 pub record DeskPair : Type 0 where
   -- what is said of two files depends neither on the pieces in which they come nor on the order of these
   pub pair-pieces : (i : Items) (turns : List Turn) (rest : Rest)
@@ -80,6 +92,12 @@ pub record DeskPair : Type 0 where
   pub pair-room : (w : Watching) (x : List ℕ) (xMore : Bool) (y : List ℕ) (yMore : Bool)
       → let t = taking w x xMore y yMore in
       ((t .roll ≤ length x) × (t .acceleration ≤ length y)) × (leftOver (t .next) t x y < 31)
+  -- a count that breaks a relation of 8 is over with 8, which has no channel, and all of both pieces is used; one that
+  -- breaks none is not answered by 8
+  pub pair-broken : (f g : Follow) (a : RecordAnswer) (x : List ℕ) (xMore : Bool) (y : List ℕ) (yMore : Bool) → pairKept f g a ≡ false
+      → taking (watched f g a) x xMore y yMore ≡ ended (stopped f g (Refused BrokenState) 0) (length x) (length y)
+  pub pair-kept : (f g : Follow) (a : RecordAnswer) (x : List ℕ) (xMore : Bool) (y : List ℕ) (yMore : Bool) → pairKept f g a ≡ true
+      → (a ≡ Refused BrokenState → ⊥) → taking (watched f g a) x xMore y yMore .watching .answer ≡ Refused BrokenState → ⊥
 
 -- ---- the proof
 by-tests : (i : Items) (roll acceleration : List ℕ)
@@ -114,6 +132,15 @@ lower-bad-roll xs ys e =
 lower-bad-acceleration : (xs ys : List ℤ) → badRoll xs ys ≡ false → firstBad xs < length xs → firstBad ys < firstBad xs
 lower-bad-acceleration xs ys e h = leb-false (firstBad xs) (firstBad ys) (rw (lt-ltb (firstBad xs) (length xs) h) at e)
 
+-- `pairKept` is written out, so that each of its cases has to be what is asked
+kept-is : (f g : Follow) (a : RecordAnswer) → pairKept f g a ≡ agreeing f g a
+kept-is f g (Taken r) = refl
+kept-is f g (Refused q) = refl
+
+by-relations : (f g : Follow) (a : RecordAnswer) (x : List ℕ) (xMore : Bool) (y : List ℕ) (yMore : Bool) → pairKept f g a ≡ false
+    → taking (watched f g a) x xMore y yMore ≡ ended (stopped f g (Refused BrokenState) 0) (length x) (length y)
+by-relations f g a x xMore y yMore e = sym (taking-broken (watched f g a) x xMore y yMore refl (sym (kept-is f g a) ∙ e))
+
 pub desk-pair : DeskPair
 desk-pair =
     record {
@@ -124,4 +151,6 @@ desk-pair =
       lower-bad-roll = lower-bad-roll;
       lower-bad-acceleration = lower-bad-acceleration;
       pair-room = spare;
+      pair-broken = by-relations;
+      pair-kept = λ f g a x xMore y yMore e other. never-eight f g a (sym (kept-is f g a) ∙ e) other x xMore y yMore;
     }

@@ -1,8 +1,10 @@
 -- What `bin/count` writes of two small files, byte for byte, computed of the definition: each refusal with its line and
 -- its channel or item. Each declaration has the name of its sentence. Assumes nothing.
 use mathlib.Core.Path.{_≡_, refl}
+use mathlib.Core.Bool.{false}
 use mathlib.Core.List.{List, [], _∷_}
 use Prim.Native.Nat.{ℕ}
+use Rattle.refusal.specs.declared.Refusal.the-variants.{BrokenState, CommaLine, TooLong}
 use Rattle.decimal.specs.Decimal.{allDigits, digitsOf, digitsWithin, isNumber, valueOf}
 use Rattle.decimal.specs.Field.{fieldText}
 use Rattle.decimal.specs.Leading.{leading}
@@ -17,9 +19,16 @@ use Rattle.sample_channels.specs.Channels.{moments}
 use Rattle.crossing_places.specs.Reading.{firstOf, passing}
 use Rattle.crossing_sets.specs.Groups.{attach, groups}
 use Rattle.crossing_sets.specs.Walk.{later, walk}
+use Rattle.record_state.specs.declared.RecordAnswer.{RecordAnswer}
+use Rattle.record_state.specs.declared.RecordAnswer.the-variants.{Refused, Taken}
+use Rattle.record_state.specs.State.{sound}
+use Rattle.comma_stream.specs.declared.Follow.{Follow}
+use Rattle.comma_stream.specs.Follow.{afterLines, bytesOf, resting, rightLines}
 use Rattle.desk_line.specs.Said.{Said, placesThen, refusedLine, whyText}
 use Rattle.comma_count.specs.Line.{figuresLine, firstText, resultFor}
 use Rattle.comma_pair.specs.Line.{channelLine, pairSaid, pairSaidOfLines}
+use Rattle.comma_pair.specs.Taking.{judged, sideBySide, taking, watched}
+use Rattle.demands.proofs.DeskCases.{still}
 
 -- the step 500 ms, no ramp, 40 degrees, 9.81 m/s², 1,500 ms
 abbrev items : Items
@@ -109,3 +118,38 @@ pair-short : pairSaid items (48 ∷ 44 ∷ 52 ∷ 49 ∷ 10 ∷ []) (48 ∷ 44 �
 unfolding pairSaidOfLines linesOf firstWrong right isCommaLine isNumber allDigits leading valueOf isSize sizeLength filled
     size digitsOf digitsWithin fieldText firstBad itemOutside placesThen refusedLine whyText channelLine
 pair-short = refl
+
+-- ---- a count that was not handed out
+-- lines at a step, the first out of range among them
+abbrev lines : ℕ → ℕ → ℕ → Follow
+lines D n outside = record { step = D; lines = n; outside = outside }
+
+-- what is answered when the next line of the roll is malformed
+abbrev answered : Follow → Follow → RecordAnswer → RecordAnswer
+answered f g a = taking (watched f g a) (120 ∷ []) false [] false .watching .answer
+
+-- 8, before 10: a record of another step, of more samples than both files have, of fewer, with a crossing that stands
+-- nowhere; files of two steps; a noted line that was not read, of either. A record has the samples of the shorter file,
+-- and one out of range counts among them
+pair-eight :
+    answered (lines 500 3 0) (lines 500 2 2) (Taken (still 500 2 0))
+    ∷ answered (lines 500 3 0) (lines 500 2 0) (Taken (still 499 2 0))
+    ∷ answered (lines 500 3 0) (lines 500 2 0) (Taken (still 500 3 0))
+    ∷ answered (lines 500 2 0) (lines 500 2 0) (Taken (still 500 1 0))
+    ∷ answered (lines 500 2 0) (lines 500 2 0) (Taken (still 500 2 1))
+    ∷ answered (lines 500 2 0) (lines 499 2 0) (Taken (still 500 2 0))
+    ∷ answered (lines 500 2 3) (lines 500 2 0) (Refused TooLong)
+    ∷ answered (lines 500 2 0) (lines 500 2 3) (Refused TooLong)
+    ∷ []
+    ≡ Refused (CommaLine 4)
+    ∷ Refused BrokenState
+    ∷ Refused BrokenState
+    ∷ Refused BrokenState
+    ∷ Refused BrokenState
+    ∷ Refused BrokenState
+    ∷ Refused BrokenState
+    ∷ Refused BrokenState
+    ∷ []
+unfolding taking judged sideBySide sound itemOutside resting rightLines bytesOf afterLines linesOf firstWrong right
+    isCommaLine isNumber allDigits leading
+pair-eight = refl

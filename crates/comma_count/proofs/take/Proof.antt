@@ -8,8 +8,9 @@ use lib.ListN.{length}
 use borrow.Author.Needs.{needs}
 use denote.Ref.{now}
 use Rattle.truth.proofs.Laws.{said-no, said-yes}
-use Rattle.comma_count.specs.Taking.{Leads, soundFollow}
+use Rattle.comma_count.specs.Taking.{Leads, soundFollow, agrees}
 use Rattle.comma_count.proofs.Piece.{sound-step, sound-lines, NearlyAll, used, taking-over, taking-broken, taking-on}
+use Rattle.comma_count.proofs.Agreeing.{stands}
 use Rattle.comma_count.proofs.take.Statement.{statement}
 use Rattle.comma_count.proofs.take.Tie as tie
 
@@ -17,8 +18,11 @@ use Rattle.comma_count.proofs.take.Tie as tie
 abbrev start : tie.Else2 → tie.Start
 start c = c .before .before .before .before .before
 
+well : (c : tie.Else2) → let a = start c .args in agrees (a .c .follow) (a .c .answer) ≡ true
+well c = said-yes (c .before .agrees .ensures) (c .if2 .left)
+
 sound : (c : tie.Else2) → soundFollow (start c .args .c .follow) ≡ true
-sound c = said-yes (c .before .sound .ensures) (c .if2 .left)
+sound c = let a = start c .args in stands (a .c .follow) (a .c .answer) (well c)
 
 short : (c : tie.Start) → length (now (c .args .text)) ≤ 9223372036854775807
 short c = search needs
@@ -29,8 +33,8 @@ leads c = c .lines .ensures
 returns : tie.Need-returns
 returns c = let a = c .before .before .args in (taking-over (a .c) (now (a .text)) (a .more) (c .if1 .taken), (omega arith, omega arith))
 
-sound-requires : tie.Need-sound-requires
-sound-requires c κs = search needs
+agrees-requires : tie.Need-agrees-requires
+agrees-requires c κs = search needs
 
 stopped-requires : tie.Need-stopped-requires
 stopped-requires c κs = search needs
@@ -38,7 +42,7 @@ stopped-requires c κs = search needs
 returns-2 : tie.Need-returns-2
 returns-2 c =
     let a = c .before .before .before .before .before .before .args in
-    let broken = said-no (c .before .before .sound .ensures) (c .before .if2 .taken) in
+    let broken = said-no (c .before .before .agrees .ensures) (c .before .if2 .taken) in
     (rw (c .stopped .ensures) (taking-broken (a .c) (now (a .text)) (a .more) (c .before .before .before .before .if1 .left) broken), (omega arith, omega arith))
 
 lines-requires : tie.Need-lines-requires
@@ -60,14 +64,14 @@ returns-3 c =
     let is = c .rested .ensures in
     let rest = c .before .left .ensures .0 in
     let all = used (c .before .left .result) _ (now (a .text)) (l .lines .result .at) (a .more) (leads l .within) rest in
-    (is ∙ taking-on (a .c) (now (a .text)) (a .more) (l .before .before .before .before .if1 .left) (sound (l .before)) (leads l) rest, subst (NearlyAll (now (a .text))) (sym is) all)
+    (is ∙ taking-on (a .c) (now (a .text)) (a .more) (l .before .before .before .before .if1 .left) (well (l .before)) (leads l) rest, subst (NearlyAll (now (a .text))) (sym is) all)
 
 pub take-spec : {M : Type 1} → statement M
 take-spec =
     tie.close
     (tie.spec
     returns
-    sound-requires
+    agrees-requires
     stopped-requires
     returns-2
     lines-requires

@@ -2,16 +2,15 @@
 -- is left after them. Assumes nothing.
 use Prim.Native.Nat.{_≤_, _<_}
 use mathlib.Core.Path.{_≡_, sym, subst, _∙_}
-use mathlib.Core.Bool.{true, _&&_}
+use mathlib.Core.Bool.{true}
 use native.Mathlib.Omega.{arith}
 use lib.ListN.{length}
 use denote.Ref.{now}
-use Rattle.truth.proofs.Laws.{and-true, said-no, said-yes}
-use Rattle.comma_count.specs.Taking.{soundFollow}
+use Rattle.truth.proofs.Laws.{said-no, said-yes}
 use Rattle.comma_count.proofs.Piece.{sound-step, sound-lines}
 use Rattle.comma_pair.specs.declared.Took.{Took}
-use Rattle.comma_pair.specs.Taking.{taking}
-use Rattle.comma_pair.proofs.Piece.{Spare, spare-ended, acceleration-spare, roll-spare, taking-over, taking-broken, taking-ahead, taking-not-ahead, few-lines}
+use Rattle.comma_pair.specs.Taking.{agreeing, taking}
+use Rattle.comma_pair.proofs.Piece.{Spare, spare-ended, both-stand, acceleration-spare, roll-spare, taking-over, taking-broken, taking-ahead, taking-not-ahead, few-lines}
 use borrow.Author.Needs.{needs}
 use Rattle.comma_pair.proofs.take.Statement.{statement}
 use Rattle.comma_pair.proofs.take.Tie as tie
@@ -20,7 +19,7 @@ use Rattle.comma_pair.proofs.take.Tie as tie
 abbrev start : tie.After-sound → tie.Start
 start c = c .before .before .before .before .before .before
 
-well : (c : tie.Else2) → let w = start (c .before) .args .w in (soundFollow (w .roll) && soundFollow (w .acceleration)) ≡ true
+well : (c : tie.Else2) → let w = start (c .before) .args .w in agreeing (w .roll) (w .acceleration) (w .answer) ≡ true
 well c = said-yes (c .before .sound .ensures) (c .if2 .left)
 
 short-roll : (c : tie.Start) → length (now (c .args .roll)) ≤ 9223372036854775807
@@ -35,7 +34,7 @@ S c = start (c .before .before)
 few : (c : tie.After-side-by-side) → let s = c .side-by-side .result in (s .roll .lines < 18446744073709551615) × (s .acceleration .lines < 18446744073709551615)
 few c =
     let w = S c .args .w in
-    let p = and-true (soundFollow (w .roll)) (soundFollow (w .acceleration)) (well (c .before)) in
+    let p = both-stand (w .roll) (w .acceleration) (w .answer) (well (c .before)) in
     let l = few-lines (w .roll) (w .acceleration) (w .answer) (now (S c .args .roll)) (now (S c .args .acceleration)) (c .side-by-side .ensures .0) in
     (omega (arith, l .0, sound-lines (w .roll) (p .0), short-roll (S c)), omega (arith, l .1, sound-lines (w .acceleration) (p .1), short-acceleration (S c)))
 
@@ -66,7 +65,7 @@ returns-2 c =
 side-by-side-requires : tie.Need-side-by-side-requires
 side-by-side-requires c κs =
     let w = start (c .before) .args .w in
-    let p = and-true (soundFollow (w .roll)) (soundFollow (w .acceleration)) (well c) in
+    let p = both-stand (w .roll) (w .acceleration) (w .answer) (well c) in
     (sound-step (w .roll) (p .0), sound-step (w .acceleration) (p .1))
 
 acceleration-behind-requires : tie.Need-acceleration-behind-requires

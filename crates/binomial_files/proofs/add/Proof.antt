@@ -6,7 +6,9 @@ use Rattle.binomial_files.proofs.add.Statement.{statement}
 use Rattle.binomial_files.proofs.add.Tie as tie
 
 returns : tie.Need-returns
-returns c = let s : tie.Start = search needs in c .added-in .ensures ∙ ap (addedIn (s .args .file) (s .args .a)) (c .before .came-to .ensures)
+returns c =
+    let s : tie.Start = search needs in
+    c .added-in .ensures ∙ ap (addedIn (s .args .file) (s .args .a)) (c .before .came-to .ensures)
 
 pub add-spec : {M : Type 1} → statement M
 add-spec = tie.close (tie.spec (λ c κs. search needs) (λ c κs. search needs) returns)

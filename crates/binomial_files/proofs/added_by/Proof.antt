@@ -11,7 +11,9 @@ returns c =
     c .added-to .ensures ∙ sym (ap (addedBy (s .args .file) (s .args .s)) (after-e .e .given .1))
 
 returns-2 : tie.Need-returns-2
-returns-2 c = let s : tie.Start = search needs in sym (ap (addedBy (s .args .file) (s .args .s)) (c .before .e2 .given .1))
+returns-2 c =
+    let s : tie.Start = search needs in
+    sym (ap (addedBy (s .args .file) (s .args .s)) (c .before .e2 .given .1))
 
 pub added-by-spec : {M : Type 1} → statement M
 added-by-spec =

@@ -11,7 +11,9 @@ returns c =
     c .added-by .ensures ∙ sym (ap (λ a. addedIn (s .args .file) a (s .args .e)) (after-a .a .given .1))
 
 returns-2 : tie.Need-returns-2
-returns-2 c = let s : tie.Start = search needs in sym (ap (λ a. addedIn (s .args .file) a (s .args .e)) (c .before .a2 .given .1))
+returns-2 c =
+    let s : tie.Start = search needs in
+    sym (ap (λ a. addedIn (s .args .file) a (s .args .e)) (c .before .a2 .given .1))
 
 pub added-in-spec : {M : Type 1} → statement M
 added-in-spec =

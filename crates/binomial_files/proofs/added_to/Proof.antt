@@ -6,10 +6,14 @@ use Rattle.binomial_files.proofs.added_to.Statement.{statement}
 use Rattle.binomial_files.proofs.added_to.Tie as tie
 
 returns : tie.Need-returns
-returns c = let k : tie.After-add = search needs in sym (ap (addedAs (k .before .args .file)) (sym (k .add .ensures) ∙ c .before .t .given .1))
+returns c =
+    let k : tie.After-add = search needs in
+    sym (ap (addedAs (k .before .args .file)) (sym (k .add .ensures) ∙ c .before .t .given .1))
 
 returns-2 : tie.Need-returns-2
-returns-2 c = let k : tie.After-add = search needs in sym (ap (addedAs (k .before .args .file)) (sym (k .add .ensures) ∙ c .before .q .given .1))
+returns-2 c =
+    let k : tie.After-add = search needs in
+    sym (ap (addedAs (k .before .args .file)) (sym (k .add .ensures) ∙ c .before .q .given .1))
 
 pub added-to-spec : {M : Type 1} → statement M
 added-to-spec =

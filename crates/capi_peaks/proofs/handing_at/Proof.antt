@@ -11,7 +11,8 @@ reading-at-requires c κs =
 
 group-at-requires : tie.Need-group-at-requires
 group-at-requires c κs =
-    let b : tie.Start = search needs in (omega (arith, b .pre .0), handing-small (b .args .s .now) (b .pre .1) .stretches)
+    let b : tie.Start = search needs in
+    (omega (arith, b .pre .0), handing-small (b .args .s .now) (b .pre .1) .stretches)
 
 group-at-requires-2 : tie.Need-group-at-requires-2
 group-at-requires-2 c κs =

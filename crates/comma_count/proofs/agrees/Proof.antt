@@ -7,8 +7,8 @@ use Rattle.comma_count.proofs.agrees.Tie as tie
 
 returns : tie.Need-returns
 returns c =
-    let start : tie.Start = search needs in
-    c .of-lines .ensures ∙ sym (ap (agrees (start .args .f)) (c .before .before .a .given .1))
+    let after-a : tie.After-a = search needs in let start : tie.Start = search needs in
+    c .of-lines .ensures ∙ sym (ap (agrees (start .args .f)) (after-a .a .given .1))
 
 returns-2 : tie.Need-returns-2
 returns-2 c =

@@ -11,14 +11,16 @@ onward-requires c κs = search needs
 
 returns : tie.Need-returns
 unfolding answering
-returns c = rw (eq-eqb (c .before .before .before .args .f .outside) 0 (c .before .if1 .taken)) (c .onward .ensures)
+returns c =
+    let start : tie.Start = search needs in
+    rw (eq-eqb (start .args .f .outside) 0 (c .before .if1 .taken)) (c .onward .ensures)
 
 sub-t5 : tie.Need-sub-t5
 sub-t5 c = search needs
 
 returns-2 : tie.Need-returns-2
 unfolding answering
-returns-2 c = rw (ne-eqb (c .before .before .before .args .f .outside) 0 (c .before .if1 .left))
+returns-2 c = let start : tie.Start = search needs in rw (ne-eqb (start .args .f .outside) 0 (c .before .if1 .left))
 
 pub answering-spec : {M : Type 1} → statement M
 answering-spec = tie.close (tie.spec onward-requires returns sub-t5 returns-2)

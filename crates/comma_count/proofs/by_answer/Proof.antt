@@ -16,12 +16,12 @@ line-for-requires : tie.Need-line-for-requires
 line-for-requires c κs = search needs
 
 returns : tie.Need-returns
-returns c = sym (ap (endBy (c .before .before .before .args .f)) (c .before .a .given .1))
+returns c = let start : tie.Start = search needs in sym (ap (endBy (start .args .f)) (c .before .a .given .1))
 
 returns-2 : tie.Need-returns-2
 returns-2 c =
-    let k = c .before .before in
-    ap (λ n. end.Refused n (k .a2 .given .0 .0)) (c .line-for .ensures) ∙ sym (ap (endBy (k .before .before .args .f)) (k .a2 .given .1))
+    let start : tie.Start = search needs in let k : tie.After-a2 = search needs in
+    ap (λ n. end.Refused n (k .a2 .given .0 .0)) (c .line-for .ensures) ∙ sym (ap (endBy (start .args .f)) (k .a2 .given .1))
 
 pub by-answer-spec : {M : Type 1} → statement M
 by-answer-spec =

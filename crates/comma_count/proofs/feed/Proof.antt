@@ -24,7 +24,9 @@ feed-requires : tie.Need-feed-requires
 feed-requires c κs = search needs
 
 returns : tie.Need-returns
-returns c = let s = c .before .before in c .feed .ensures ∙ ap (fed (s .args .r) (now (s .args .samples))) (lent s)
+returns c =
+    let s : tie.Start = search needs in
+    c .feed .ensures ∙ ap (fed (s .args .r) (now (s .args .samples))) (lent s)
 
 pub feed-spec : {M : Type 1} → statement M
 feed-spec =

@@ -9,14 +9,15 @@ use Rattle.comma_count.proofs.finish.Statement.{statement}
 use Rattle.comma_count.proofs.finish.Tie as tie
 
 returns : tie.Need-returns
-returns c = let s = c .before .before in without (saying (s .args .c)) (now (s .args .out)) (c .if1 .taken)
+returns c = let s : tie.Start = search needs in without (saying (s .args .c)) (now (s .args .out)) (c .if1 .taken)
 
 returns-2 : tie.Need-returns-2
 unfolding saying
 returns-2 c =
-    let k = c .before .before .before .before in
-    let s = k .before .before .before in
-    finished (saying (s .args .c)) (k .before .if1 .left) (puts-same (ap saidEnd (k .came-to .ensures)) (c .before .before .put-end .ensures))
+    let else1 : tie.Else1 = search needs in let after-put-end : tie.After-put-end = search needs in
+    let k : tie.After-came-to = search needs in
+    let s : tie.Start = search needs in
+    finished (saying (s .args .c)) (else1 .if1 .left) (puts-same (ap saidEnd (k .came-to .ensures)) (after-put-end .put-end .ensures))
 
 pub finish-spec : {M : Type 1} → statement M
 finish-spec = tie.close (tie.spec returns (λ c κs. search needs) (λ c κs. search needs) (λ c. search needs) returns-2)

@@ -16,7 +16,9 @@ pick-requires-2 : tie.Need-pick-requires-2
 pick-requires-2 c κs = search needs
 
 returns : tie.Need-returns
-returns c = rw (c .pick2 .ensures, c .before .pick .ensures, c .before .before .carried .ensures, c .before .before .before .number .ensures)
+returns c =
+    let after-carried : tie.After-carried = search needs in let after-number : tie.After-number = search needs in
+    rw (c .pick2 .ensures, c .before .pick .ensures, after-carried .carried .ensures, after-number .number .ensures)
 
 pub line-for-spec : {M : Type 1} → statement M
 line-for-spec = tie.close (tie.spec number-requires carried-requires pick-requires pick-requires-2 returns)

@@ -27,22 +27,22 @@ short c = search needs
 
 -- the step is in range all along
 step : (c : tie.At-loop Inv-loop μ-loop) → stepInRange (c .loop .follow .step) ≡ true
-step c = ap stepInRange (c .loop .inv .1 .step) ∙ c .before .before .pre
+step c = let start : tie.Start Inv-loop μ-loop = search needs in ap stepInRange (c .loop .inv .1 .step) ∙ start .pre
 
 -- lines were taken
 module _ (c : tie.After-known-told Inv-loop μ-loop) where
   abbrev L : tie.At-loop Inv-loop μ-loop
-  L = c .before .before .before .before .before .before .before
+  L = search needs
 
   abbrev text : List ℕ
   text = now (L .before .before .args .text)
 
   abbrev later : List ℤ
-  later = c .before .before .before .before .take .last .1 .1 .0
+  later = let after-take : tie.After-take Inv-loop μ-loop = search needs in after-take .take .last .1 .1 .0
 
   taken : Took (L .loop .follow) (drop (L .loop .at) text) (L .loop .samples) (step L) (c .before .f .given .0 .0) (c .before .f .given .0 .1 .0) (c .before .f .given .0 .1 .1 .0) later
   taken =
-      let t = c .before .before .before .before .take in
+      let after-take : tie.After-take Inv-loop μ-loop = search needs in let t = after-take .take in
       took (L .loop .follow) (drop (L .loop .at) text) (L .loop .samples) (step L) (from text (L .loop .at)) (t .ensures .0) (t .ensures .1 .0) (c .before .f .given .1)
 
   later-long : length later ≡ 1024
@@ -64,7 +64,7 @@ part-take-end : tie.Need-part-take-end Inv-loop μ-loop
 part-take-end c = search needs
 
 slice-aggregate-take : tie.Need-slice-aggregate-take Inv-loop μ-loop
-slice-aggregate-take c = sym (c .before .before .loop .inv .0)
+slice-aggregate-take c = let at-loop : tie.At-loop Inv-loop μ-loop = search needs in sym (at-loop .loop .inv .0)
 
 take-requires : tie.Need-take-requires Inv-loop μ-loop
 take-requires c κs = search needs
@@ -77,9 +77,11 @@ enum-told c = search needs
 
 returns : tie.Need-returns Inv-loop μ-loop
 returns c =
-    let l = c .before .before .before .before .before .before in
-    let text = now (l .before .before .args .text) in
-    let told = c .before .before .before .take .ensures .0 in
+    let start : tie.Start Inv-loop μ-loop = search needs in
+    let after-take : tie.After-take Inv-loop μ-loop = search needs in
+    let l : tie.At-loop Inv-loop μ-loop = search needs in
+    let text = now (start .args .text) in
+    let told = after-take .take .ensures .0 in
     absurd (never-refused (l .loop .follow) (drop (l .loop .at) text) (l .loop .samples) (step l) (from text (l .loop .at)) told (c .enum-told .given .1))
 
 array-share-prefix-samples : tie.Need-array-share-prefix-samples Inv-loop μ-loop
@@ -89,19 +91,30 @@ slice-aggregate-answering : tie.Need-slice-aggregate-answering Inv-loop μ-loop
 slice-aggregate-answering c = sym (length-take-le _ _ (omega (arith, few (c .before), later-long (c .before))))
 
 answering-requires : tie.Need-answering-requires Inv-loop μ-loop
-answering-requires c κs = omega (arith, few (c .before), length-take (c .before .before .f .given .0 .1 .1 .0) (later (c .before)))
+answering-requires c κs =
+    let after-known-told : tie.After-known-told Inv-loop μ-loop = search needs in
+    let after-f : tie.After-f Inv-loop μ-loop = search needs in
+    omega (arith, few after-known-told, length-take (after-f .f .given .0 .1 .1 .0) (later after-known-told))
 
 add-at : tie.Need-add-at Inv-loop μ-loop
-add-at c = let k = c .before .before in omega (arith, turn-within (L k .loop .inv .1) (taken k), short (L k .before .before))
+add-at c =
+    let k : tie.After-known-told Inv-loop μ-loop = search needs in
+    omega (arith, turn-within (L k .loop .inv .1) (taken k), short (L k .before .before))
 
 returns-2 : tie.Need-returns-2 Inv-loop μ-loop
-returns-2 c = let k = c .before .before .before in turn-ends (L k .loop .inv .1) (taken k) (c .before .answering .ensures) (omega (arith, c .if1 .taken, L k .loop .inv .0))
+returns-2 c =
+    let k : tie.After-known-told Inv-loop μ-loop = search needs in
+    turn-ends (L k .loop .inv .1) (taken k) (c .before .answering .ensures) (omega (arith, c .if1 .taken, L k .loop .inv .0))
 
 loop-less : tie.Need-loop-less Inv-loop μ-loop
-loop-less c = let k = c .before .before .before in turn-falls (L k .loop .inv .1) (taken k) (omega (arith, c .if1 .left))
+loop-less c =
+    let k : tie.After-known-told Inv-loop μ-loop = search needs in
+    turn-falls (L k .loop .inv .1) (taken k) (omega (arith, c .if1 .left))
 
 loop-again : tie.Need-loop-again Inv-loop μ-loop
-loop-again c = let k = c .before .before .before in (later-long k, turn-on (L k .loop .inv .1) (taken k) (c .before .answering .ensures))
+loop-again c =
+    let k : tie.After-known-told Inv-loop μ-loop = search needs in
+    (later-long k, turn-on (L k .loop .inv .1) (taken k) (c .before .answering .ensures))
 
 pub lines-spec : {M : Type 1} → statement M
 lines-spec =

@@ -9,15 +9,17 @@ use Rattle.comma_count.proofs.put_end.Tie as tie
 
 returns : tie.Need-returns
 returns c =
-    let k = c .before .before .before .before in
-    puts-same (ap (saidEnded _) (k .end .ensures) ∙ sym (ap saidEnd (k .before .before .e .given .1))) (c .before .before .put-ended .ensures)
+    let after-e : tie.After-e = search needs in let after-put-ended : tie.After-put-ended = search needs in
+    let k : tie.After-end = search needs in
+    puts-same (ap (saidEnded _) (k .end .ensures) ∙ sym (ap saidEnd (after-e .e .given .1))) (after-put-ended .put-ended .ensures)
 
 returns-2 : tie.Need-returns-2
 returns-2 c =
-    let s = c .before .before .before .before .before .before .before .before in
-    let e = c .before .before .before .before .before .e2 .given in
+    let after-e2 : tie.After-e2 = search needs in let after-refuse : tie.After-refuse = search needs in
+    let s : tie.Start = search needs in
+    let e = after-e2 .e2 .given in
     puts-same (sym (ap saidEnd (e .1)))
-    (with-room (refusedAt (e .0 .0) (e .0 .1 .0)) (s .pre) (c .before .before .refuse .ensures .0) (c .before .before .refuse .ensures .1))
+    (with-room (refusedAt (e .0 .0) (e .0 .1 .0)) (s .pre) (after-refuse .refuse .ensures .0) (after-refuse .refuse .ensures .1))
 
 pub put-end-spec : {M : Type 1} → statement M
 put-end-spec =

@@ -17,16 +17,16 @@ use Rattle.comma_count.proofs.put_figures.Tie as tie
 
 -- the places on the way back
 abbrev third-of : tie.After-write-field4 → tie.After-write-field3
-third-of c = c .before .before .before .before
+third-of c = search needs
 
 abbrev second-of : tie.After-write-field4 → tie.After-write-field2
-second-of c = third-of c .before .before .before .before
+second-of c = search needs
 
 abbrev first-of : tie.After-write-field4 → tie.After-write-field
-first-of c = second-of c .before .before .before .before
+first-of c = search needs
 
 abbrev start : tie.After-write-field4 → tie.Start
-start c = first-of c .before .before .before
+start c = search needs
 
 abbrev X : tie.After-write-field4 → Result
 X c = start c .args .x
@@ -37,12 +37,12 @@ Stands c rest out at = Left (now (start c .args .out)) 0 (figuresLine (start c .
 
 room : (c : tie.After-write-field4) → Stands c (figuresLine (start c .args .n) (X c)) (now (start c .args .out)) 0
 room c =
-    let n : Small (start c .args .n) = search needs in
+    let start : tie.Start = search needs in let n : Small (start .args .n) = search needs in
     let crossings : Small (X c .crossings) = search needs in
     let groups : Small (X c .counted) = search needs in
     let largest : Small (X c .largest) = search needs in
     let exposure : Small (X c .exposure) = search needs in
-    left-all _ 0 _ (omega (arith, start c .pre, figures-few (start c .args .n) (X c) n crossings groups largest exposure))
+    left-all _ 0 _ (omega (arith, start .pre, figures-few (start .args .n) (X c) n crossings groups largest exposure))
 
 left4 : (c : tie.After-write-field4) → Stands c (firstText (X c .first) (X c .exposure) ++ fieldText (X c .exposure) lineFeed) (c .write-field4 .last .1 .1 .0) (c .write-field4 .result)
 unfolding figuresLine
@@ -68,7 +68,9 @@ write-field-requires-4 : tie.Need-write-field-requires-4
 write-field-requires-4 c κs = search needs
 
 put-first-requires : tie.Need-put-first-requires
-put-first-requires c κs = let d = c .before .before .before in left-room (firstText (X d .first) (X d .exposure)) _ (left4 d)
+put-first-requires c κs =
+    let d : tie.After-write-field4 = search needs in
+    left-room (firstText (X d .first) (X d .exposure)) _ (left4 d)
 
 write-field-requires-5 : tie.Need-write-field-requires-5
 write-field-requires-5 c κs = search needs
@@ -78,10 +80,11 @@ same-length c = search needs
 
 returns : tie.Need-returns
 returns c =
-    let p = c .before .before .before .before .before .before in
-    let d = p .before .before .before .before in
-    puts (counted (start d .args .n) (X d)) (room d) refl
-    (left-last (left-next (firstText (X d .first) (X d .exposure)) _ (left4 d) (p .put-first .ensures)) (c .before .before .write-field5 .ensures))
+    let start : tie.Start = search needs in let after-write-field5 : tie.After-write-field5 = search needs in
+    let p : tie.After-put-first = search needs in
+    let d : tie.After-write-field4 = search needs in
+    puts (counted (start .args .n) (X d)) (room d) refl
+    (left-last (left-next (firstText (X d .first) (X d .exposure)) _ (left4 d) (p .put-first .ensures)) (after-write-field5 .write-field5 .ensures))
 
 pub put-figures-spec : {M : Type 1} → statement M
 put-figures-spec =

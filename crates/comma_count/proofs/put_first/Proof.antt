@@ -10,11 +10,11 @@ use Rattle.comma_count.proofs.put_first.Tie as tie
 
 none : (c : tie.Then1) → let a = c .before .before .args in firstText (a .first) (a .time) ≡ 45 ∷ tab ∷ []
 unfolding firstText
-none c = rw (eq-eqb (c .before .before .args .first) 0 (c .if1 .taken))
+none c = let start : tie.Start = search needs in rw (eq-eqb (start .args .first) 0 (c .if1 .taken))
 
 some : (c : tie.Else1) → let a = c .before .before .args in firstText (a .first) (a .time) ≡ fieldText (a .time) tab
 unfolding firstText
-some c = rw (ne-eqb (c .before .before .args .first) 0 (c .if1 .left))
+some c = let start : tie.Start = search needs in rw (ne-eqb (start .args .first) 0 (c .if1 .left))
 
 slice-aggregate-write-bytes : tie.Need-slice-aggregate-write-bytes
 slice-aggregate-write-bytes c = search needs
@@ -26,7 +26,9 @@ same-length : tie.Need-same-length
 same-length c = search needs
 
 returns : tie.Need-returns
-returns c = rw (none (c .before .before .before .before .before)) (c .before .before .write-bytes .ensures)
+returns c =
+    let then1 : tie.Then1 = search needs in let after-write-bytes : tie.After-write-bytes = search needs in
+    rw (none then1) (after-write-bytes .write-bytes .ensures)
 
 write-field-requires : tie.Need-write-field-requires
 write-field-requires c κs = search needs
@@ -35,7 +37,9 @@ same-length-2 : tie.Need-same-length-2
 same-length-2 c = search needs
 
 returns-2 : tie.Need-returns-2
-returns-2 c = rw (some (c .before .before .before .before)) (c .before .before .write-field .ensures)
+returns-2 c =
+    let else1 : tie.Else1 = search needs in let after-write-field : tie.After-write-field = search needs in
+    rw (some else1) (after-write-field .write-field .ensures)
 
 pub put-first-spec : {M : Type 1} → statement M
 put-first-spec =

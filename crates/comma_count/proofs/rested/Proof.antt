@@ -27,15 +27,15 @@ stopped-requires : tie.Need-stopped-requires
 stopped-requires c κs = search needs
 
 returns : tie.Need-returns
-returns c = let s = c .before .before .before in sym (ap (by-rest s) (c .enum-told .given .1))
+returns c = let s : tie.Start = search needs in sym (ap (by-rest s) (c .enum-told .given .1))
 
 returns-2 : tie.Need-returns-2
-returns-2 c = let s = c .before .before .before in sym (ap (by-rest s) (c .enum-told2 .given .1))
+returns-2 c = let s : tie.Start = search needs in sym (ap (by-rest s) (c .enum-told2 .given .1))
 
 returns-3 : tie.Need-returns-3
 returns-3 c =
-    let s = c .before .before .before .before .before in
-    rw (c .stopped .ensures) (sym (ap (by-rest s) (c .before .before .enum-told3 .given .1)))
+    let after-enum-told3 : tie.After-enum-told3 = search needs in let s : tie.Start = search needs in
+    rw (c .stopped .ensures) (sym (ap (by-rest s) (after-enum-told3 .enum-told3 .given .1)))
 
 pub rested-spec : {M : Type 1} → statement M
 rested-spec =

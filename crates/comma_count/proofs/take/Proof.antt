@@ -16,13 +16,13 @@ use Rattle.comma_count.proofs.take.Tie as tie
 
 -- past the tests
 abbrev start : tie.Else2 → tie.Start
-start c = c .before .before .before .before .before
+start c = search needs
 
 well : (c : tie.Else2) → let a = start c .args in agrees (a .c .follow) (a .c .answer) ≡ true
 well c = said-yes (c .before .agrees .ensures) (c .if2 .left)
 
 sound : (c : tie.Else2) → soundFollow (start c .args .c .follow) ≡ true
-sound c = let a = start c .args in stands (a .c .follow) (a .c .answer) (well c)
+sound c = let start : tie.Start = search needs in let a = start .args in stands (a .c .follow) (a .c .answer) (well c)
 
 short : (c : tie.Start) → length (now (c .args .text)) ≤ 9223372036854775807
 short c = search needs
@@ -31,7 +31,9 @@ leads : (c : tie.After-lines) → let a = start (c .before) .args in Leads (a .c
 leads c = c .lines .ensures
 
 returns : tie.Need-returns
-returns c = let a = c .before .before .args in (taking-over (a .c) (now (a .text)) (a .more) (c .if1 .taken), (omega arith, omega arith))
+returns c =
+    let start : tie.Start = search needs in
+    let a = start .args in (taking-over (a .c) (now (a .text)) (a .more) (c .if1 .taken), (omega arith, omega arith))
 
 agrees-requires : tie.Need-agrees-requires
 agrees-requires c κs = search needs
@@ -41,30 +43,33 @@ stopped-requires c κs = search needs
 
 returns-2 : tie.Need-returns-2
 returns-2 c =
-    let a = c .before .before .before .before .before .before .args in
-    let broken = said-no (c .before .before .agrees .ensures) (c .before .if2 .taken) in
-    (rw (c .stopped .ensures) (taking-broken (a .c) (now (a .text)) (a .more) (c .before .before .before .before .if1 .left) broken), (omega arith, omega arith))
+    let start : tie.Start = search needs in let after-agrees : tie.After-agrees = search needs in
+    let else1 : tie.Else1 = search needs in let a = start .args in
+    let broken = said-no (after-agrees .agrees .ensures) (c .before .if2 .taken) in
+    (rw (c .stopped .ensures) (taking-broken (a .c) (now (a .text)) (a .more) (else1 .if1 .left) broken), (omega arith, omega arith))
 
 lines-requires : tie.Need-lines-requires
-lines-requires c κs = sound-step (start c .args .c .follow) (sound c)
+lines-requires c κs = let start : tie.Start = search needs in sound-step (start .args .c .follow) (sound c)
 
 left-requires : tie.Need-left-requires
 left-requires c κs = search needs
 
 rested-requires : tie.Need-rested-requires
 rested-requires c κs =
-    let l = c .before in
-    let s = start (l .before) in
-    omega (arith, leads l .few, sound-lines (s .args .c .follow) (sound (l .before)), short s)
+    let else2 : tie.Else2 = search needs in let l = c .before in
+    let s : tie.Start = search needs in
+    omega (arith, leads l .few, sound-lines (s .args .c .follow) (sound else2), short s)
 
 returns-3 : tie.Need-returns-3
 returns-3 c =
-    let l = c .before .before in
-    let a = start (l .before) .args in
+    let start : tie.Start = search needs in let after-left : tie.After-left = search needs in
+    let else1 : tie.Else1 = search needs in let else2 : tie.Else2 = search needs in
+    let l : tie.After-lines = search needs in
+    let a = start .args in
     let is = c .rested .ensures in
-    let rest = c .before .left .ensures .0 in
-    let all = used (c .before .left .result) _ (now (a .text)) (l .lines .result .at) (a .more) (leads l .within) rest in
-    (is ∙ taking-on (a .c) (now (a .text)) (a .more) (l .before .before .before .before .if1 .left) (well (l .before)) (leads l) rest, subst (NearlyAll (now (a .text))) (sym is) all)
+    let rest = after-left .left .ensures .0 in
+    let all = used (after-left .left .result) _ (now (a .text)) (l .lines .result .at) (a .more) (leads l .within) rest in
+    (is ∙ taking-on (a .c) (now (a .text)) (a .more) (else1 .if1 .left) (well else2) (leads l) rest, subst (NearlyAll (now (a .text))) (sym is) all)
 
 pub take-spec : {M : Type 1} → statement M
 take-spec =

@@ -20,15 +20,17 @@ slice-reshare-prefix-take : tie.Need-slice-reshare-prefix-take
 slice-reshare-prefix-take c = search needs
 
 slice-aggregate-take : tie.Need-slice-aggregate-take
-slice-aggregate-take c = let a = c .before .before .before .args in sym (piece-long (a .c) (now (a .text)) (a .end) (a .more) (stop (c .before)))
+slice-aggregate-take c =
+    let start : tie.Start = search needs in
+    let a = start .args in sym (piece-long (a .c) (now (a .text)) (a .end) (a .more) (stop (c .before)))
 
 take-requires : tie.Need-take-requires
 take-requires c κs = search needs
 
 sub-kept : tie.Need-sub-kept
 sub-kept c =
-    let l = c .before .before in
-    let a = l .before .before .args in
+    let start : tie.Start = search needs in let l : tie.After-least = search needs in
+    let a = start .args in
     omega (arith, c .take .ensures .1 .0, piece-long (a .c) (now (a .text)) (a .end) (a .more) (stop l))
 
 keep-requires : tie.Need-keep-requires
@@ -39,10 +41,11 @@ same-length c = search needs
 
 returns : tie.Need-returns
 returns c =
-    let t = c .before .before .before .before .before in
-    let l = t .before .before in
-    let a = l .before .before .args in
-    let r = turned (a .c) (now (a .text)) (a .end) (a .more) (stop l) (t .take .ensures .0) (t .take .ensures .1) (c .before .before .keep .ensures) in
+    let start : tie.Start = search needs in let after-keep : tie.After-keep = search needs in
+    let t : tie.After-take = search needs in
+    let l : tie.After-least = search needs in
+    let a = start .args in
+    let r = turned (a .c) (now (a .text)) (a .end) (a .more) (stop l) (t .take .ensures .0) (t .take .ensures .1) (after-keep .keep .ensures) in
     (r .0, (r .1, r .2))
 
 pub turn-spec : {M : Type 1} → statement M

@@ -44,7 +44,9 @@ module _ (c : tie.After-known-told) where
 
 -- the byte after it
 mark : (c : tie.After-stands) → let d = c .before .before in c .stands .result ≡ eqb (getD (S d) (End d) 0) comma
-mark c = let d : tie.After-known-told = search needs in c .stands .ensures ∙ stands-byte (S d) (End d) comma (omega arith)
+mark c =
+    let d : tie.After-known-told = search needs in
+    c .stands .ensures ∙ stands-byte (S d) (End d) comma (omega arith)
 
 -- the degrees after the comma
 module _ (c : tie.After-known-told2) where
@@ -78,10 +80,14 @@ returns-2 : tie.Need-returns-2
 returns-2 c = let d = c .before in sym (other-time (S d) (At d) (Time d) (Found d) (End d) (leads d) (c .if1 .taken))
 
 returns-3 : tie.Need-returns-3
-returns-3 c = let d : tie.After-known-told = search needs in sym (no-comma (S d) (At d) (Time d) (Found d) (End d) (leads d) (said-no (mark (c .before)) (c .if2 .taken)))
+returns-3 c =
+    let d : tie.After-known-told = search needs in
+    sym (no-comma (S d) (At d) (Time d) (Found d) (End d) (leads d) (said-no (mark (c .before)) (c .if2 .taken)))
 
 add-roll-at : tie.Need-add-roll-at
-add-roll-at c = let d : tie.After-known-told = search needs in omega (arith, stands-inside (S d) (End d) comma (omega arith) (said-yes (mark (c .before)) (c .if2 .left)))
+add-roll-at c =
+    let d : tie.After-known-told = search needs in
+    omega (arith, stands-inside (S d) (End d) comma (omega arith) (said-yes (mark (c .before)) (c .if2 .left)))
 
 returns-4 : tie.Need-returns-4
 returns-4 c =

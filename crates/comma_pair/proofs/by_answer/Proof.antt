@@ -6,12 +6,12 @@ use Rattle.comma_pair.proofs.by_answer.Statement.{statement}
 use Rattle.comma_pair.proofs.by_answer.Tie as tie
 
 returns : tie.Need-returns
-returns c = sym (ap (endBy (c .before .before .before .args .channel)) (c .before .a .given .1))
+returns c = let start : tie.Start = search needs in sym (ap (endBy (start .args .channel)) (c .before .a .given .1))
 
 returns-2 : tie.Need-returns-2
 returns-2 c =
-    let k = c .before .before in
-    c .by-refusal .ensures ∙ sym (ap (endBy (k .before .before .args .channel)) (k .a2 .given .1))
+    let start : tie.Start = search needs in let k : tie.After-a2 = search needs in
+    c .by-refusal .ensures ∙ sym (ap (endBy (start .args .channel)) (k .a2 .given .1))
 
 pub by-answer-spec : {M : Type 1} → statement M
 by-answer-spec =

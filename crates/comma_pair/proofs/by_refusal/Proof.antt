@@ -8,14 +8,14 @@ use Rattle.comma_pair.proofs.by_refusal.Tie as tie
 
 returns : tie.Need-returns
 returns c =
-    let k = c .before .before in
-    let q = k .before .args .q in
+    let start : tie.Start = search needs in let k : tie.After-number = search needs in
+    let q = start .args .q in
     rw (c .carried .ensures, eq-eqb (numberOf q) 10 (sym (k .number .ensures) ∙ c .before .if1 .taken))
 
 returns-2 : tie.Need-returns-2
 returns-2 c =
-    let k = c .before in
-    let q = k .before .args .q in
+    let start : tie.Start = search needs in let k = c .before in
+    let q = start .args .q in
     rw (ne-eqb (numberOf q) 10 (λ z. c .if1 .left (k .number .ensures ∙ z)))
 
 pub by-refusal-spec : {M : Type 1} → statement M

@@ -8,12 +8,12 @@ use Rattle.comma_pair.proofs.onward.Tie as tie
 
 returns : tie.Need-returns
 returns c =
-    let s = c .before .before .before .before in
-    c .feed .ensures ∙ sym (ap (λ a. onward a (now (s .args .rolls)) (now (s .args .accelerations))) (c .before .before .a .given .1))
+    let after-a : tie.After-a = search needs in let s : tie.Start = search needs in
+    c .feed .ensures ∙ sym (ap (λ a. onward a (now (s .args .rolls)) (now (s .args .accelerations))) (after-a .a .given .1))
 
 returns-2 : tie.Need-returns-2
 returns-2 c =
-    let s = c .before .before .before in
+    let s : tie.Start = search needs in
     sym (ap (λ a. onward a (now (s .args .rolls)) (now (s .args .accelerations))) (c .before .a2 .given .1))
 
 pub onward-spec : {M : Type 1} → statement M

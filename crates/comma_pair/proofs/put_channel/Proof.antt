@@ -18,13 +18,13 @@ use Rattle.comma_pair.proofs.put_channel.Tie as tie
 
 -- the places on the way back
 abbrev line-of : tie.After-write-field2 → tie.After-write-field
-line-of c = c .before .before .before .before .before
+line-of c = search needs
 
 abbrev word-of : tie.After-write-field2 → tie.After-write-bytes
-word-of c = line-of c .before .before .before .before
+word-of c = search needs
 
 abbrev start : tie.After-write-field2 → tie.Start
-start c = word-of c .before .before .before .before
+start c = search needs
 
 abbrev Whole : tie.After-write-field2 → List ℕ
 Whole c = channelLine (start c .args .line) (start c .args .r) (start c .args .channel)
@@ -35,9 +35,9 @@ Stands c rest out at = Left (now (start c .args .out)) 0 (Whole c) rest out at
 
 room : (c : tie.After-write-field2) → Stands c (Whole c) (now (start c .args .out)) 0
 room c =
-    let line : Small (start c .args .line) = search needs in
-    let channel : Small (start c .args .channel) = search needs in
-    left-all _ 0 _ (omega (arith, start c .pre, channel-few (start c .args .line) (start c .args .r) (start c .args .channel) line channel))
+    let start : tie.Start = search needs in let line : Small (start .args .line) = search needs in
+    let channel : Small (start .args .channel) = search needs in
+    left-all _ 0 _ (omega (arith, start .pre, channel-few (start .args .line) (start .args .r) (start .args .channel) line channel))
 
 abbrev Number : tie.After-write-field2 → ℕ → List ℕ
 Number c n = fieldText n tab ++ fieldText (start c .args .channel) lineFeed
@@ -58,9 +58,10 @@ left3 c = left-next (fieldText (c .before .before .number .result) tab) _ (asked
 
 returns : tie.Need-returns
 returns c =
-    let d = c .before .before .before .before .before .before in
-    let a = start d .args in
-    puts (refusedOf (a .line) (a .r) (a .channel)) (room d) refl (left-last (left3 d) (c .before .before .write-field3 .ensures))
+    let start : tie.Start = search needs in let after-write-field3 : tie.After-write-field3 = search needs in
+    let d : tie.After-write-field2 = search needs in
+    let a = start .args in
+    puts (refusedOf (a .line) (a .r) (a .channel)) (room d) refl (left-last (left3 d) (after-write-field3 .write-field3 .ensures))
 
 pub put-channel-spec : {M : Type 1} → statement M
 put-channel-spec =

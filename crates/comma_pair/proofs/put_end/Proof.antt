@@ -9,20 +9,20 @@ use Rattle.comma_pair.proofs.put_end.Tie as tie
 
 returns : tie.Need-returns
 returns c =
-    let k = c .before .before in
-    puts-same (sym (ap saidEnd (k .before .before .before .e .given .1))) (k .put-record .ensures)
+    let after-e : tie.After-e = search needs in let k : tie.After-put-record = search needs in
+    puts-same (sym (ap saidEnd (after-e .e .given .1))) (k .put-record .ensures)
 
 returns-2 : tie.Need-returns-2
 returns-2 c =
-    let k = c .before .before in
-    let e = k .before .before .before .e2 .given in
-    let s = k .before .before .before .before .before .before in
+    let after-e2 : tie.After-e2 = search needs in let k : tie.After-refuse = search needs in
+    let e = after-e2 .e2 .given in
+    let s : tie.Start = search needs in
     puts-same (sym (ap saidEnd (e .1))) (with-room (refusedAt 0 (e .0 .0)) (s .pre) (k .refuse .ensures .0) (k .refuse .ensures .1))
 
 returns-3 : tie.Need-returns-3
 returns-3 c =
-    let k = c .before .before in
-    puts-same (sym (ap saidEnd (k .before .before .before .e3 .given .1))) (k .put-channel .ensures)
+    let after-e3 : tie.After-e3 = search needs in let k : tie.After-put-channel = search needs in
+    puts-same (sym (ap saidEnd (after-e3 .e3 .given .1))) (k .put-channel .ensures)
 
 pub put-end-spec : {M : Type 1} → statement M
 put-end-spec =

@@ -11,8 +11,8 @@ use Rattle.comma_pair.proofs.put_record.Tie as tie
 returns : tie.Need-returns
 unfolding count.saying
 returns c =
-    let k = c .before .before in
-    let s = k .before .before .before in
+    let k : tie.After-finish = search needs in
+    let s : tie.Start = search needs in
     with-room (saidEnd (end.Counted (s .args .r))) (s .pre) (k .finish .ensures .0) (k .finish .ensures .1)
 
 pub put-record-spec : {M : Type 1} → statement M

@@ -31,12 +31,12 @@ short-acceleration : (c : tie.Start Inv-loop μ-loop) → length (now (c .args .
 short-acceleration c = search needs
 
 abbrev start : tie.At-loop Inv-loop μ-loop → tie.Start Inv-loop μ-loop
-start c = c .before .before .before
+start c = search needs
 
 -- lines of both were taken
 module _ (c : tie.After-next-pairs Inv-loop μ-loop) where
   abbrev L : tie.At-loop Inv-loop μ-loop
-  L = c .before .before .before .before .before
+  L = search needs
 
   abbrev w : Way (start L .args .f) (start L .args .g) (start L .args .before) (now (start L .args .roll))
       (now (start L .args .acceleration)) (L .loop .r) (L .loop .s) (L .loop .answer) (L .loop .at) (L .loop .beside)
@@ -80,35 +80,39 @@ part-next-pairs-end-2 : tie.Need-part-next-pairs-end-2 Inv-loop μ-loop
 part-next-pairs-end-2 c = search needs
 
 slice-aggregate-next-pairs : tie.Need-slice-aggregate-next-pairs Inv-loop μ-loop
-slice-aggregate-next-pairs c = sym (c .before .before .before .loop .inv .0)
+slice-aggregate-next-pairs c = let at-loop : tie.At-loop Inv-loop μ-loop = search needs in sym (at-loop .loop .inv .0)
 
 slice-aggregate-next-pairs-2 : tie.Need-slice-aggregate-next-pairs-2 Inv-loop μ-loop
-slice-aggregate-next-pairs-2 c = sym (c .before .before .before .before .loop .inv .1)
+slice-aggregate-next-pairs-2 c = let at-loop : tie.At-loop Inv-loop μ-loop = search needs in sym (at-loop .loop .inv .1)
 
 next-pairs-requires : tie.Need-next-pairs-requires Inv-loop μ-loop
 next-pairs-requires c κs =
-    let l = c .before .before .before .before in
-    let s = start l in
+    let l : tie.At-loop Inv-loop μ-loop = search needs in
+    let s : tie.Start Inv-loop μ-loop = search needs in
     let w = l .loop .inv .4 in
     (ap stepInRange (ap (λ h. h .step) (w .roll) ∙ step-same _ _) ∙ s .pre .0, ap stepInRange (ap (λ h. h .step) (w .acceleration) ∙ step-same _ _) ∙ s .pre .1, l .loop .inv .0, l .loop .inv .1)
 
 add-at : tie.Need-add-at Inv-loop μ-loop
-add-at c = let k = c .before .before .before .before .before in omega (arith, on-within (w k) (taken k) .0, short-roll (start (L k)))
+add-at c =
+    let k : tie.After-next-pairs Inv-loop μ-loop = search needs in
+    omega (arith, on-within (w k) (taken k) .0, short-roll (start (L k)))
 
 add-beside : tie.Need-add-beside Inv-loop μ-loop
-add-beside c = let k = c .before .before .before .before .before .before in omega (arith, on-within (w k) (taken k) .1, short-acceleration (start (L k)))
+add-beside c =
+    let k : tie.After-next-pairs Inv-loop μ-loop = search needs in
+    omega (arith, on-within (w k) (taken k) .1, short-acceleration (start (L k)))
 
 returns : tie.Need-returns Inv-loop μ-loop
 returns c =
-    let k = c .before .before .before .before .before .before .before .before in
+    let k : tie.After-next-pairs Inv-loop μ-loop = search needs in
     (way-ends (w k) (taken k) (c .if1 .taken), on-within (w k) (taken k))
 
 loop-less : tie.Need-loop-less Inv-loop μ-loop
-loop-less c = let k = c .before .before .before .before .before .before .before .before in on-falls (w k) (taken k) (c .if1 .left)
+loop-less c = let k : tie.After-next-pairs Inv-loop μ-loop = search needs in on-falls (w k) (taken k) (c .if1 .left)
 
 loop-again : tie.Need-loop-again Inv-loop μ-loop
 loop-again c =
-    let k = c .before .before .before .before .before .before .before .before in
+    let k : tie.After-next-pairs Inv-loop μ-loop = search needs in
     (search needs, search needs, on-within (w k) (taken k) .0, on-within (w k) (taken k) .1, way-on (w k) (taken k))
 
 pub side-by-side-spec : {M : Type 1} → statement M

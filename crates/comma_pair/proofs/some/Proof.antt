@@ -9,14 +9,14 @@ use Rattle.comma_pair.proofs.some.Tie as tie
 
 returns : tie.Need-returns
 returns c =
-    let k = c .before .before .before .before in
-    let s = k .before .before .before in
+    let k : tie.After-take = search needs in
+    let s : tie.Start = search needs in
     told (s .args .f) (now (s .args .text)) (now (s .args .samples)) (s .pre) (k .take .ensures .0) (k .take .ensures .1 .0) (c .before .follow .given .1)
 
 returns-2 : tie.Need-returns-2
 returns-2 c =
-    let k = c .before .before .before in
-    let s = k .before .before .before in
+    let k : tie.After-take = search needs in
+    let s : tie.Start = search needs in
     absurd (never-refused (s .args .f) (now (s .args .text)) (now (s .args .samples)) (s .pre) refl (k .take .ensures .0) (c .enum-told .given .1))
 
 pub some-spec : {M : Type 1} → statement M

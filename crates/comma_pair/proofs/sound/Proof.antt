@@ -6,14 +6,14 @@ use Rattle.comma_pair.proofs.sound.Tie as tie
 
 returns : tie.Need-returns
 returns c =
-    let lines : tie.After-shared = search needs in
+    let after-both : tie.After-both = search needs in let lines : tie.After-shared = search needs in
     let record-asked : tie.After-agrees = search needs in
     let roll-asked : tie.After-agrees2 = search needs in
     let acceleration-asked : tie.After-agrees3 = search needs in
     rw (
       c .both3 .ensures,
       c .before .both2 .ensures,
-      c .before .before .both .ensures,
+      after-both .both .ensures,
       acceleration-asked .agrees3 .ensures,
       roll-asked .agrees2 .ensures,
       record-asked .agrees .ensures,

@@ -124,7 +124,9 @@ add-at-2 : tie.Need-add-at-2 Inv-loop μ-loop
 add-at-2 c = let after-form-of : tie.After-form-of Inv-loop μ-loop = search needs in omega (arith, ends after-form-of)
 
 add-count : tie.Need-add-count Inv-loop μ-loop
-add-count c = let b : tie.After-form-of Inv-loop μ-loop = search needs in let l : tie.At-loop Inv-loop μ-loop = search needs in omega (arith, l .loop .inv .0 .few, ends b)
+add-count c =
+    let b : tie.After-form-of Inv-loop μ-loop = search needs in
+    let l : tie.At-loop Inv-loop μ-loop = search needs in omega (arith, l .loop .inv .0 .few, ends b)
 
 loop-less : tie.Need-loop-less Inv-loop μ-loop
 loop-less c = let in-loop : tie.In-loop Inv-loop μ-loop = search needs in omega (arith, in-loop .loop-test .taken)

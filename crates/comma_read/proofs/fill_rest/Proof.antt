@@ -131,7 +131,8 @@ returns : tie.Need-returns Inv-loop μ-loop
 returns c =
     let in-loop : tie.In-loop Inv-loop μ-loop = search needs in
     let after-degrees-at : tie.After-degrees-at Inv-loop μ-loop = search needs in
-    let w : tie.After-width-at Inv-loop μ-loop = search needs in let l : tie.At-loop Inv-loop μ-loop = search needs in absurd (roll-good _ (l .loop .at)
+    let w : tie.After-width-at Inv-loop μ-loop = search needs in
+    let l : tie.At-loop Inv-loop μ-loop = search needs in absurd (roll-good _ (l .loop .at)
     (l .loop .time) (w .width-at .result) (good in-loop) (wide w) (sym (after-degrees-at .degrees-at .ensures)
     ∙ c .enum-told .given .1))
 
@@ -180,12 +181,14 @@ add-time-2 c =
 add-at-2 : tie.Need-add-at-2 Inv-loop μ-loop
 add-at-2 c =
     let at-loop : tie.At-loop Inv-loop μ-loop = search needs in
-    let b : tie.After-size-at Inv-loop μ-loop = search needs in omega (arith, filled-place (at-loop .loop .inv .0) (plainly b) .1)
+    let b : tie.After-size-at Inv-loop μ-loop = search needs in
+    omega (arith, filled-place (at-loop .loop .inv .0) (plainly b) .1)
 
 add-at-3 : tie.Need-add-at-3 Inv-loop μ-loop
 add-at-3 c =
     let at-loop : tie.At-loop Inv-loop μ-loop = search needs in
-    let b : tie.After-size-at Inv-loop μ-loop = search needs in omega (arith, filled-place (at-loop .loop .inv .0) (plainly b) .1)
+    let b : tie.After-size-at Inv-loop μ-loop = search needs in
+    omega (arith, filled-place (at-loop .loop .inv .0) (plainly b) .1)
 
 loop-less-2 : tie.Need-loop-less-2 Inv-loop μ-loop
 loop-less-2 c =
@@ -197,7 +200,8 @@ loop-less-2 c =
 loop-again-2 : tie.Need-loop-again-2 Inv-loop μ-loop
 loop-again-2 c =
     let after-size-at : tie.After-size-at Inv-loop μ-loop = search needs in
-    let b : tie.After-sample2 Inv-loop μ-loop = search needs in let d : tie.After-width-at Inv-loop μ-loop = search needs in
+    let b : tie.After-sample2 Inv-loop μ-loop = search needs in
+    let d : tie.After-width-at Inv-loop μ-loop = search needs in
     let v = b in
     let l : tie.At-loop Inv-loop μ-loop = search needs in
     let s : tie.Start Inv-loop μ-loop = search needs in

@@ -49,22 +49,26 @@ module _ (s : List ℕ) (c : ℕ) (any : AnyRoll s c) where
 returns : tie.Need-returns
 returns c =
     let then1 : tie.Then1 = search needs in
-    let s : tie.Start = search needs in minus-short (now (s .args .s)) (s .args .c) (s .pre) (then1 .if1 .taken) (c .if2 .taken)
+    let s : tie.Start = search needs in
+    minus-short (now (s .args .s)) (s .args .c) (s .pre) (then1 .if1 .taken) (c .if2 .taken)
 
 returns-2 : tie.Need-returns-2
 returns-2 c =
     let then1 : tie.Then1 = search needs in
-    let s : tie.Start = search needs in minus-long (now (s .args .s)) (s .args .c) (s .pre) (then1 .if1 .taken) (c .if2 .left)
+    let s : tie.Start = search needs in
+    minus-long (now (s .args .s)) (s .args .c) (s .pre) (then1 .if1 .taken) (c .if2 .left)
 
 returns-3 : tie.Need-returns-3
 returns-3 c =
     let else1 : tie.Else1 = search needs in
-    let s : tie.Start = search needs in plus-short (now (s .args .s)) (s .args .c) (s .pre) (else1 .if1 .left) (c .if3 .taken)
+    let s : tie.Start = search needs in
+    plus-short (now (s .args .s)) (s .args .c) (s .pre) (else1 .if1 .left) (c .if3 .taken)
 
 returns-4 : tie.Need-returns-4
 returns-4 c =
     let else1 : tie.Else1 = search needs in
-    let s : tie.Start = search needs in plus-long (now (s .args .s)) (s .args .c) (s .pre) (else1 .if1 .left) (c .if3 .left)
+    let s : tie.Start = search needs in
+    plus-long (now (s .args .s)) (s .args .c) (s .pre) (else1 .if1 .left) (c .if3 .left)
 
 pub form-of-spec : {M : Type 1} → statement M
 form-of-spec =

@@ -47,7 +47,8 @@ add-passed : tie.Need-add-passed Inv-loop μ-loop
 add-passed c =
     let start : tie.Start Inv-loop μ-loop = search needs in
     let b : tie.After-plain-lines Inv-loop μ-loop = search needs in
-    let l : tie.At-loop Inv-loop μ-loop = search needs in let g = of-front (run-after-run (l .loop .inv .0) (b .plain-lines .ensures)) (start .pre) in omega (arith, g .few, g .within)
+    let l : tie.At-loop Inv-loop μ-loop = search needs in
+    let g = of-front (run-after-run (l .loop .inv .0) (b .plain-lines .ensures)) (start .pre) in omega (arith, g .few, g .within)
 
 loop-less : tie.Need-loop-less Inv-loop μ-loop
 loop-less c =

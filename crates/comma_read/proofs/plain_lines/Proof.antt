@@ -11,7 +11,9 @@ returns : tie.Need-returns
 returns c = rw (c .no-lines .ensures .0, c .no-lines .ensures .1) none
 
 plain-run-requires : tie.Need-plain-run-requires
-plain-run-requires c κs = let s : tie.Start = search needs in let r = c .before .looks-plain .ensures (said-yes refl (c .if1 .left)) in (r .0, s .pre .0, r .1, s .pre .1)
+plain-run-requires c κs =
+    let s : tie.Start = search needs in
+    let r = c .before .looks-plain .ensures (said-yes refl (c .if1 .left)) in (r .0, s .pre .0, r .1, s .pre .1)
 
 pub plain-lines-spec : {M : Type 1} → statement M
 plain-lines-spec = tie.close (tie.spec (λ c κs. search needs) (λ c κs. search needs) returns plain-run-requires (λ c. search needs))

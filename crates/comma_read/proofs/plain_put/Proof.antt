@@ -136,7 +136,9 @@ add-store : tie.Need-add-store Inv-loop μ-loop
 add-store c = omega (arith, place-left (c .before .before))
 
 store-requires : tie.Need-store-requires Inv-loop μ-loop
-store-requires c κs = let e : tie.Else3 Inv-loop μ-loop = search needs in omega (arith, place-left e, put-length (lines e .loop .inv .1))
+store-requires c κs =
+    let e : tie.Else3 Inv-loop μ-loop = search needs in
+    omega (arith, place-left e, put-length (lines e .loop .inv .1))
 
 add-place : tie.Need-add-place Inv-loop μ-loop
 add-place c = let else3 : tie.Else3 Inv-loop μ-loop = search needs in omega (arith, ends else3)
@@ -145,7 +147,9 @@ add-place-2 : tie.Need-add-place-2 Inv-loop μ-loop
 add-place-2 c = let else3 : tie.Else3 Inv-loop μ-loop = search needs in omega (arith, ends else3)
 
 add-time : tie.Need-add-time Inv-loop μ-loop
-add-time c = let e : tie.Else3 Inv-loop μ-loop = search needs in omega (arith, early-inside (else1 e) .0, start e .pre .3)
+add-time c =
+    let e : tie.Else3 Inv-loop μ-loop = search needs in
+    omega (arith, early-inside (else1 e) .0, start e .pre .3)
 
 add-lines : tie.Need-add-lines Inv-loop μ-loop
 add-lines c = let else3 : tie.Else3 Inv-loop μ-loop = search needs in omega (arith, place-left else3)

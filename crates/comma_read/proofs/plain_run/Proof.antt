@@ -70,7 +70,9 @@ add-by c =
     omega (arith, c .eight-digits .ensures, fits (start .args .step))
 
 loop-holds : tie.Need-loop-holds Inv-loop μ-loop
-loop-holds c = let s : tie.Start Inv-loop μ-loop = search needs in set-out (now (s .args .text)) (s .args .step) (s .args .at)
+loop-holds c =
+    let s : tie.Start Inv-loop μ-loop = search needs in
+    set-out (now (s .args .text)) (s .args .step) (s .args .at)
     (s .args .due) (s .args .width) (c .eight-digits2 .result) (c .eight-digits2 .ensures) (s .pre .1)
     (omega (arith, s .pre .0))
 

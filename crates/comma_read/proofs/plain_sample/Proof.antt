@@ -46,7 +46,8 @@ signed-size-requires c κs = c .plain-size .ensures .1
 returns : tie.Need-returns
 returns c =
     let then1 : tie.Then1 = search needs in
-    let f : SFits w32 (c .signed-size .result) = search needs in toZ-ofZ f ∙ c .signed-size .ensures ∙ rw (then1 .if1 .taken, c .before .plain-size .ensures .0, add-zero)
+    let f : SFits w32 (c .signed-size .result) = search needs in
+    toZ-ofZ f ∙ c .signed-size .ensures ∙ rw (then1 .if1 .taken, c .before .plain-size .ensures .0, add-zero)
 
 plain-size-requires-2 : tie.Need-plain-size-requires-2
 plain-size-requires-2 c κs =
@@ -59,7 +60,8 @@ signed-size-requires-2 c κs = c .plain-size2 .ensures .1
 returns-2 : tie.Need-returns-2
 returns-2 c =
     let then2 : tie.Then2 = search needs in
-    let f : SFits w32 (c .signed-size2 .result) = search needs in toZ-ofZ f ∙ c .signed-size2 .ensures ∙ rw (then2 .if2 .taken, c .before .plain-size2 .ensures .0, add-zero)
+    let f : SFits w32 (c .signed-size2 .result) = search needs in
+    toZ-ofZ f ∙ c .signed-size2 .ensures ∙ rw (then2 .if2 .taken, c .before .plain-size2 .ensures .0, add-zero)
 
 plain-size-requires-3 : tie.Need-plain-size-requires-3
 plain-size-requires-3 c κs =
@@ -86,7 +88,8 @@ signed-size-requires-4 c κs = c .plain-size4 .ensures .1
 returns-4 : tie.Need-returns-4
 returns-4 c =
     let else3 : tie.Else3 = search needs in
-    let f : SFits w32 (c .signed-size4 .result) = search needs in toZ-ofZ f ∙ c .signed-size4 .ensures ∙ rw (last else3, c .before .plain-size4 .ensures .0, add-assoc _ 1 1)
+    let f : SFits w32 (c .signed-size4 .result) = search needs in
+    toZ-ofZ f ∙ c .signed-size4 .ensures ∙ rw (last else3, c .before .plain-size4 .ensures .0, add-assoc _ 1 1)
 
 pub plain-sample-spec : {M : Type 1} → statement M
 plain-sample-spec =

@@ -26,7 +26,9 @@ module _ (c : tie.Else1) where
   tens = digit-range _ (long .0 .tens)
 
 four-value-requires : tie.Need-four-value-requires
-four-value-requires c κs = let b : tie.Then1 = search needs in let s : tie.Start = search needs in short-of (now (s .args .s)) (s .args .at) (s .pre) (b .if1 .taken) .0 .digits
+four-value-requires c κs =
+    let b : tie.Then1 = search needs in
+    let s : tie.Start = search needs in short-of (now (s .args .s)) (s .args .at) (s .pre) (b .if1 .taken) .0 .digits
 
 returns : tie.Need-returns
 returns c = let b : tie.Then1 = search needs in let s : tie.Start = search needs in (

@@ -9,7 +9,9 @@ use Rattle.comma_read.proofs.plain_taken.Statement.{statement}
 use Rattle.comma_read.proofs.plain_taken.Tie as tie
 
 returns : tie.Need-returns
-returns c = let s : tie.Start = search needs in (rw (c .no-lines .ensures .0, c .no-lines .ensures .1) as-it-stood, omega (arith, c .no-lines .ensures .1, s .pre .2))
+returns c =
+    let s : tie.Start = search needs in
+    (rw (c .no-lines .ensures .0, c .no-lines .ensures .1) as-it-stood, omega (arith, c .no-lines .ensures .1, s .pre .2))
 
 plain-put-requires : tie.Need-plain-put-requires
 plain-put-requires c κs =

@@ -49,14 +49,20 @@ module _ (c : tie.After-survey) where
   Places = length (now (start .args .samples))
 
 right-found : (c : tie.After-count) → let s = c .before .before in FoundRight (start s .args .step) (Found s) (c .count .given .0 .0) (c .count .given .0 .1 .0)
-right-found c = let s : tie.After-survey = search needs in found-right _ (Found s) _ _ (sym (s .survey .ensures) ∙ c .count .given .1)
+right-found c =
+    let s : tie.After-survey = search needs in
+    found-right _ (Found s) _ _ (sym (s .survey .ensures) ∙ c .count .given .1)
 
 wrong-found : (c : tie.After-lines) → let s = c .before .before in FoundWrong (start s .args .step) (Found s) (c .lines .given .0 .0)
-wrong-found c = let s : tie.After-survey = search needs in found-wrong _ (Found s) _ (sym (s .survey .ensures) ∙ c .lines .given .1)
+wrong-found c =
+    let s : tie.After-survey = search needs in
+    found-wrong _ (Found s) _ (sym (s .survey .ensures) ∙ c .lines .given .1)
 
 -- the front has no more lines than the text
 fewer : (c : tie.After-count) → let s = c .before .before in front s .plain-front .result .lines ≤ c .count .given .0 .0
-fewer c = let s : tie.After-survey = search needs in omega (arith, of-front (front s .plain-front .ensures) (small (front s .before)) .number, right-found c .number)
+fewer c =
+    let s : tie.After-survey = search needs in
+    omega (arith, of-front (front s .plain-front .ensures) (small (front s .before)) .number, right-found c .number)
 
 all-good : (c : tie.After-count) → c .count .given .0 .0 ≤ c .count .given .0 .1 .0 → let s = c .before .before in AllGood (start s .args .step) (Found s)
 all-good c all = let r = right-found c in record { right = r .all ∙ sym (r .number); in-range = omega (arith, r .bad, r .number, r .low, all) }

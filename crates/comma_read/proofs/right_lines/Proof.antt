@@ -164,7 +164,8 @@ same-length c = let w = c .before .loop .inv .0 in going-length (w .going) (w .r
 
 returns : tie.Need-returns Inv-loop μ-loop
 returns c =
-    let l = c .before in let s : tie.Start Inv-loop μ-loop = search needs in let a = s .args in let w = l .loop .inv .0 in
+    let l = c .before in let s : tie.Start Inv-loop μ-loop = search needs in
+    let a = s .args in let w = l .loop .inv .0 in
     way-full (a .step) (a .before) (now (a .text)) (now (a .samples)) (s .pre .0) w (omega (arith, c .loop-test .left, going-length (w .going) (w .room)))
 
 same-length-2 : tie.Need-same-length-2 Inv-loop μ-loop

@@ -97,7 +97,8 @@ add-due c =
 returns : tie.Need-returns Inv-loop μ-loop
 returns c =
     let after-plain-lines : tie.After-plain-lines Inv-loop μ-loop = search needs in
-    let b : tie.After-carried Inv-loop μ-loop = search needs in rw (b .carried .ensures) (ended (gone after-plain-lines) (c .if1 .taken))
+    let b : tie.After-carried Inv-loop μ-loop = search needs in
+    rw (b .carried .ensures) (ended (gone after-plain-lines) (c .if1 .taken))
 
 returns-2 : tie.Need-returns-2 Inv-loop μ-loop
 returns-2 c =

@@ -9,7 +9,9 @@ use Rattle.comma_read.proofs.width_in.Statement.{statement}
 use Rattle.comma_read.proofs.width_in.Tie as tie
 
 returns : tie.Need-returns
-returns c = let s : tie.Start = search needs in let a = s .args in let p = s .pre .1 in (p, λ r. as-wide (a .due) (drop (a .at) (now (a .text))) (a .width) (p .few) (rw getD-drop (c .if1 .taken)) r)
+returns c =
+    let s : tie.Start = search needs in
+    let a = s .args in let p = s .pre .1 in (p, λ r. as-wide (a .due) (drop (a .at) (now (a .text))) (a .width) (p .few) (rw getD-drop (c .if1 .taken)) r)
 
 pub width-in-spec : {M : Type 1} → statement M
 width-in-spec =

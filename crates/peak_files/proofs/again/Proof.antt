@@ -7,7 +7,9 @@ use Rattle.peak_files.proofs.again.Statement.{statement}
 use Rattle.peak_files.proofs.again.Tie as tie
 
 returns : tie.Need-returns
-returns c = let s : tie.Start = search needs in c .begins .ensures ∙ ap (begins (s .args .p .follow .step) (s .args .p .ramp) (s .args .p .file)) (c .before .begun-by .ensures)
+returns c =
+    let s : tie.Start = search needs in
+    c .begins .ensures ∙ ap (begins (s .args .p .follow .step) (s .args .p .ramp) (s .args .p .file)) (c .before .begun-by .ensures)
 
 pub again-spec : {M : Type 1} → statement M
 again-spec = tie.close (tie.spec (λ c κs. search needs) (λ c κs. search needs) returns)

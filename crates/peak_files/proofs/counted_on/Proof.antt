@@ -13,7 +13,9 @@ returns c =
     ap Taken (c .count .ensures) ∙ sym (ap (λ a. countedOn a (s .args .ramp) (s .args .lines) (now (s .args .samples))) (after-counted .counted .given .1))
 
 returns-2 : tie.Need-returns-2
-returns-2 c = let s : tie.Start = search needs in sym (ap (λ a. countedOn a (s .args .ramp) (s .args .lines) (now (s .args .samples))) (c .before .counted2 .given .1))
+returns-2 c =
+    let s : tie.Start = search needs in
+    sym (ap (λ a. countedOn a (s .args .ramp) (s .args .lines) (now (s .args .samples))) (c .before .counted2 .given .1))
 
 pub counted-on-spec : {M : Type 1} → statement M
 counted-on-spec = tie.close (tie.spec (λ c. search needs) (λ c κs. search needs) (λ c. search needs) returns returns-2)

@@ -28,7 +28,9 @@ same-is c =
     c .both .ensures ∙ rw (after-alike-by .alike-by .ensures)
 
 returns : tie.Need-returns
-returns c = let s : tie.Start = search needs in without (finishing (s .args .a) (s .args .b)) (now (s .args .out)) (c .if1 .taken)
+returns c =
+    let s : tie.Start = search needs in
+    without (finishing (s .args .a) (s .args .b)) (now (s .args .out)) (c .if1 .taken)
 
 returns-2 : tie.Need-returns-2
 returns-2 c =

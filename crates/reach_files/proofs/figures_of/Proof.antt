@@ -11,13 +11,19 @@ use Rattle.reach_files.proofs.figures_of.Statement.{statement}
 use Rattle.reach_files.proofs.figures_of.Tie as tie
 
 sub-last : tie.Need-sub-last
-sub-last c = let s : tie.Start = search needs in omega (arith, inside (length (now (s .args .ys))) (s .args .j .tail) (s .pre) .1)
+sub-last c =
+    let s : tie.Start = search needs in
+    omega (arith, inside (length (now (s .args .ys))) (s .args .j .tail) (s .pre) .1)
 
 mul-wide : tie.Need-mul-wide
-mul-wide c = let s : tie.Start = search needs in let (long, two, most) = inside (length (now (s .args .ys))) (s .args .j .tail) (s .pre) in omega arith
+mul-wide c =
+    let s : tie.Start = search needs in
+    let (long, two, most) = inside (length (now (s .args .ys))) (s .args .j .tail) (s .pre) in omega arith
 
 shared-slice-read-wide : tie.Need-shared-slice-read-wide
-shared-slice-read-wide c = let s : tie.Start = search needs in let (long, two, most) = inside (length (now (s .args .ys))) (s .args .j .tail) (s .pre) in omega arith
+shared-slice-read-wide c =
+    let s : tie.Start = search needs in
+    let (long, two, most) = inside (length (now (s .args .ys))) (s .args .j .tail) (s .pre) in omega arith
 
 returns : tie.Need-returns
 returns c =

@@ -26,7 +26,9 @@ returns-2 c =
     rw (said-yes (b .before .sound .ensures) (b .if1 .left), lt-ltb _ _ (c .if2 .taken))
 
 exposure-of-requires : tie.Need-exposure-of-requires
-exposure-of-requires c κs = let b : tie.Else1 = search needs in (said-yes (b .before .sound .ensures) (b .if1 .left), c .if2 .left)
+exposure-of-requires c κs =
+    let b : tie.Else1 = search needs in
+    (said-yes (b .before .sound .ensures) (b .if1 .left), c .if2 .left)
 
 returns-3 : tie.Need-returns-3
 unfolding ending

@@ -15,7 +15,9 @@ use Rattle.record_feed.proofs.advance.Statement.{statement}
 use Rattle.record_feed.proofs.advance.Tie as tie
 
 moved-requires : tie.Need-moved-requires
-moved-requires c κs = let a : tie.Start = search needs in omega (arith, a .pre .0 .room, small (kept-from (a .args .r) (a .pre .0 .state)))
+moved-requires c κs =
+    let a : tie.Start = search needs in
+    omega (arith, a .pre .0 .room, small (kept-from (a .args .r) (a .pre .0 .state)))
 
 returns-2 : tie.Need-returns-2
 returns-2 c =

@@ -17,7 +17,9 @@ far-requires c κs =
     (c .before .pre .3, e .within, e .timed)
 
 add-t6 : tie.Need-add-t6
-add-t6 c = let b : tie.Start = search needs in let k = kept-from (b .args .r) (b .pre .0) in omega (arith, k .length, small k)
+add-t6 c =
+    let b : tie.Start = search needs in
+    let k = kept-from (b .args .r) (b .pre .0) in omega (arith, k .length, small k)
 
 add-t7 : tie.Need-add-t7
 add-t7 c =

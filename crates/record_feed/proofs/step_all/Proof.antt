@@ -22,7 +22,8 @@ run-requires c κs = let start : tie.Start = search needs in (start .pre .0, ome
 moved-requires : tie.Need-moved-requires
 moved-requires c κs =
     let after-leading : tie.After-leading = search needs in
-    let a : tie.Start = search needs in omega (arith, a .pre .0 .room, small (kept-from (a .args .r) (a .pre .0 .state)), after-leading .leading .ensures)
+    let a : tie.Start = search needs in
+    omega (arith, a .pre .0 .room, small (kept-from (a .args .r) (a .pre .0 .state)), after-leading .leading .ensures)
 
 returns-2 : tie.Need-returns-2
 returns-2 c =

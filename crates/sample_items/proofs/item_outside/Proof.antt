@@ -8,7 +8,8 @@ returns : tie.Need-returns
 unfolding itemOutside
 returns c =
     let after-pick3 : tie.After-pick3 = search needs in let after-between : tie.After-between = search needs in
-    let d : tie.After-pick4 = search needs in let b : tie.After-between3 = search needs in let e : tie.After-between2 = search needs in
+    let d : tie.After-pick4 = search needs in
+    let b : tie.After-between3 = search needs in let e : tie.After-between2 = search needs in
     rw (
       c .pick5 .ensures,
       c .before .between5 .ensures,

@@ -27,7 +27,9 @@ loop-holds : tie.Need-loop-holds Inv-loop μ-loop
 loop-holds c = so-start _
 
 add-pick : tie.Need-add-pick Inv-loop μ-loop
-add-pick c = let l : tie.At-loop Inv-loop μ-loop = search needs in omega (arith, l .loop .inv .few, l .loop .inv .within)
+add-pick c =
+    let l : tie.At-loop Inv-loop μ-loop = search needs in
+    omega (arith, l .loop .inv .few, l .loop .inv .within)
 
 loop-less : tie.Need-loop-less Inv-loop μ-loop
 loop-less c = omega arith

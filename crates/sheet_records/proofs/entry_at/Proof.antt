@@ -90,7 +90,8 @@ returns : tie.Need-returns
 unfolding EntryAt
 returns c =
     let after-leading-at : tie.After-leading-at = search needs in
-    let s : tie.Start = search needs in no-number (now (s .args .text)) (s .args .at) (s .args .due) (sym (after-leading-at .leading-at .ensures) ∙ c .enum-told .given .1)
+    let s : tie.Start = search needs in
+    no-number (now (s .args .text)) (s .args .at) (s .args .due) (sym (after-leading-at .leading-at .ensures) ∙ c .enum-told .given .1)
 
 returns-2 : tie.Need-returns-2
 unfolding EntryAt
@@ -98,7 +99,9 @@ returns-2 c = let k = c .before in other-number (Text k) (begin k .args .at) (be
 
 returns-3 : tie.Need-returns-3
 unfolding EntryAt
-returns-3 c = let k : tie.After-known-told = search needs in no-tab (Text k) (begin k .args .at) (begin k .args .due) (N k) (End k) (number k) (said-no (c .before .stands .ensures) (c .if2 .taken))
+returns-3 c =
+    let k : tie.After-known-told = search needs in
+    no-tab (Text k) (begin k .args .at) (begin k .args .due) (N k) (End k) (number k) (said-no (c .before .stands .ensures) (c .if2 .taken))
 
 add-stands : tie.Need-add-stands
 add-stands c = omega (arith, inside c)
@@ -142,7 +145,9 @@ returns-7 c =
     no-feed (Text k) (begin k .args .at) (begin k .args .due) (N k) (End k) (number k) (Feed t) (exposure t) (said-no (c .before .stands5 .ensures) (c .if5 .taken))
 
 add-t11 : tie.Need-add-t11
-add-t11 c = let t : tie.After-known-told2 = search needs in let k = known (tabbed (flagged t)) in omega (arith, exposure t .within)
+add-t11 c =
+    let t : tie.After-known-told2 = search needs in
+    let k = known (tabbed (flagged t)) in omega (arith, exposure t .within)
 
 returns-8 : tie.Need-returns-8
 unfolding EntryAt

@@ -52,7 +52,9 @@ returns c = let d = c .before in no-digits (Text d) (At d) (d .digits-end .resul
 
 returns-2 : tie.Need-returns-2
 unfolding ExposureAt
-returns-2 c = let d : tie.After-digits-end = search needs in zero-first (Text d) (At d) (sym (c .before .stands .ensures) ∙ c .if2 .taken)
+returns-2 c =
+    let d : tie.After-digits-end = search needs in
+    zero-first (Text d) (At d) (sym (c .before .stands .ensures) ∙ c .if2 .taken)
 
 sub-if3 : tie.Need-sub-if3
 sub-if3 c = let d : tie.After-digits-end = search needs in omega (arith, d .digits-end .ensures)

@@ -46,17 +46,24 @@ returns-2 : tie.Need-returns-2
 unfolding HeadOf
 returns-2 c =
     let after-leading-at : tie.After-leading-at = search needs in
-    let w : tie.After-begins = search needs in no-standard (Text w) (sym (after-leading-at .leading-at .ensures) ∙ c .enum-told .given .1)
+    let w : tie.After-begins = search needs in
+    no-standard (Text w) (sym (after-leading-at .leading-at .ensures) ∙ c .enum-told .given .1)
 
 returns-3 : tie.Need-returns-3
 unfolding HeadOf
-returns-3 c = let k : tie.After-known-told = search needs in no-end (Text (word k)) (Q k) (Feed k) (number k) (said-no (c .before .stands .ensures) (c .if2 .taken))
+returns-3 c =
+    let k : tie.After-known-told = search needs in
+    no-end (Text (word k)) (Q k) (Feed k) (number k) (said-no (c .before .stands .ensures) (c .if2 .taken))
 
 add-t10 : tie.Need-add-t10
-add-t10 c = let k : tie.After-known-told = search needs in omega (arith, leads-number (Text (word k)) 9 (Q k) (Feed k) (number k) .within)
+add-t10 c =
+    let k : tie.After-known-told = search needs in
+    omega (arith, leads-number (Text (word k)) 9 (Q k) (Feed k) (number k) .within)
 
 returns-4 : tie.Need-returns-4
-returns-4 c = let k : tie.After-known-told = search needs in head-here (Text (word k)) (Q k) (Feed k) (number k) (begun k) (said-yes (c .before .stands .ensures) (c .if2 .left))
+returns-4 c =
+    let k : tie.After-known-told = search needs in
+    head-here (Text (word k)) (Q k) (Feed k) (number k) (begun k) (said-yes (c .before .stands .ensures) (c .if2 .left))
 
 pub line-one-spec : {M : Type 1} → statement M
 line-one-spec =

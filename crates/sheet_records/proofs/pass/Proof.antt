@@ -78,10 +78,14 @@ returns c =
 
 returns-2 : tie.Need-returns-2 Inv-loop μ-loop
 unfolding Passes
-returns-2 c = let k : tie.After-known-told Inv-loop μ-loop = search needs in bad-standard (Text k) (Q k) (Next k) (stands k) (said-no (c .before .both .ensures) (c .if1 .taken))
+returns-2 c =
+    let k : tie.After-known-told Inv-loop μ-loop = search needs in
+    bad-standard (Text k) (Q k) (Next k) (stands k) (said-no (c .before .both .ensures) (c .if1 .taken))
 
 loop-holds : tie.Need-loop-holds Inv-loop μ-loop
-loop-holds c = let k : tie.After-known-told Inv-loop μ-loop = search needs in start (Text k) (Q k) (Next k) (stands k) (said-yes (c .before .both .ensures) (c .if1 .left))
+loop-holds c =
+    let k : tie.After-known-told Inv-loop μ-loop = search needs in
+    start (Text k) (Q k) (Next k) (stands k) (said-yes (c .before .both .ensures) (c .if1 .left))
 
 add-entry-at : tie.Need-add-entry-at Inv-loop μ-loop
 add-entry-at c = omega (arith, few (c .before .loop .inv))
@@ -102,7 +106,9 @@ returns-4 c =
     not-taken (loop k .loop .inv) (Failed k) (After k) (entry k) (said-no (c .before .takes .ensures) (c .if2 .taken))
 
 add-pick : tie.Need-add-pick Inv-loop μ-loop
-add-pick c = let k : tie.After-known-told2 Inv-loop μ-loop = search needs in omega (arith, few-failures (loop k .loop .inv))
+add-pick c =
+    let k : tie.After-known-told2 Inv-loop μ-loop = search needs in
+    omega (arith, few-failures (loop k .loop .inv))
 
 add-count : tie.Need-add-count Inv-loop μ-loop
 add-count c = let k : tie.After-known-told2 Inv-loop μ-loop = search needs in omega (arith, few (loop k .loop .inv))

@@ -19,7 +19,9 @@ module _ (c : tie.After-put-head) where
   left = left-next (headText (start .args .q)) _ (left-all _ 0 (sheetText (start .args .q) (now (start .args .records))) (omega (arith, start .pre .1))) (c .put-head .ensures)
 
 put-head-requires : tie.Need-put-head-requires
-put-head-requires c κs = let s : tie.Start = search needs in omega (arith, s .pre .1, sheet-bytes (s .args .q) (s .args .records .now))
+put-head-requires c κs =
+    let s : tie.Start = search needs in
+    omega (arith, s .pre .1, sheet-bytes (s .args .q) (s .args .records .now))
 
 put-lines-requires : tie.Need-put-lines-requires
 put-lines-requires c κs = let h : tie.After-put-head = search needs in (start h .pre .0, left-fits (left h))

@@ -23,10 +23,14 @@ loop-holds : tie.Need-loop-holds Inv-loop μ-loop
 loop-holds c = (omega arith, omega arith, reached-start _ _)
 
 returns : tie.Need-returns Inv-loop μ-loop
-returns c = let b : tie.At-loop Inv-loop μ-loop = search needs in sym (reached-found _ _ (b .loop .i) (omega arith) (omega arith) (eq-eqb _ _ (c .if1 .taken))) ∙ b .loop .inv .2
+returns c =
+    let b : tie.At-loop Inv-loop μ-loop = search needs in
+    sym (reached-found _ _ (b .loop .i) (omega arith) (omega arith) (eq-eqb _ _ (c .if1 .taken))) ∙ b .loop .inv .2
 
 loop-again : tie.Need-loop-again Inv-loop μ-loop
-loop-again c = let b : tie.At-loop Inv-loop μ-loop = search needs in (omega arith, omega arith, sym (reached-on _ _ (b .loop .i) (omega arith) (omega arith) (ne-eqb _ _ (c .if1 .left))) ∙ b .loop .inv .2)
+loop-again c =
+    let b : tie.At-loop Inv-loop μ-loop = search needs in
+    (omega arith, omega arith, sym (reached-on _ _ (b .loop .i) (omega arith) (omega arith) (ne-eqb _ _ (c .if1 .left))) ∙ b .loop .inv .2)
 
 returns-2 : tie.Need-returns-2 Inv-loop μ-loop
 returns-2 c = sym (reached-end _ _ _ (omega arith)) ∙ c .before .loop .inv .2

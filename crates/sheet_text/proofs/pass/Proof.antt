@@ -53,7 +53,8 @@ took : (c : tie.After-known-told Inv-loop μ-loop) → let l = loop-of (find c) 
     Took (start l .args .more) (now (start l .args .text)) (l .loop .at) (l .loop .sheet) (c .before .t .given .0 .0) (c .before .t .given .0 .1 .0)
 took c =
     let in-loop : tie.In-loop Inv-loop μ-loop = search needs in
-    let b : tie.After-find Inv-loop μ-loop = search needs in found-taken _ _ _ _ (inside in-loop) (loop-of b .loop .inv .along .sound) (taken c)
+    let b : tie.After-find Inv-loop μ-loop = search needs in
+    found-taken _ _ _ _ (inside in-loop) (loop-of b .loop .inv .along .sound) (taken c)
 
 loop-holds : tie.Need-loop-holds Inv-loop μ-loop
 loop-holds c =

@@ -41,23 +41,23 @@ static inline int number(char **p, char end, unsigned long long *v) {
     return 1;
 }
 
-static inline int line(char *text, size_t i, size_t *failures, int32_t *x, char **behind) {
+static inline int line(char *text, size_t i, size_t *failures, int32_t *x, char **after) {
     unsigned long long k, f, t;
     char *p = text;
     if (!number(&p, '\t', &k) || !number(&p, '\t', &f) || !number(&p, '\n', &t) || k != i + 1 || f > 1) return 0;
     if (t == 0 || t > LONGEST || i == RECORDS || *failures == ROWS) return 0;
     *failures += f;
     *x = f ? -(int32_t)t : (int32_t)t;
-    *behind = p;
+    *after = p;
     return 1;
 }
 
-static int head(char *text, uint64_t *q, char **behind) {
+static int head(char *text, uint64_t *q, char **after) {
     unsigned long long v;
     char *p = text + 9;
     if (strncmp(text, "standard\t", 9) || !number(&p, '\n', &v) || v < 1 || v > 100000000000) return 0;
     *q = v;
-    *behind = p;
+    *after = p;
     return 1;
 }
 

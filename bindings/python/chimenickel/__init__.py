@@ -342,7 +342,7 @@ def _numpy() -> Any:
 
 def _of_numpy(name: str, values: Any) -> Any:
     """numpy's array of what says that it can be one, in one dimension; None for whatever else is gone through."""
-    if hasattr(values, "filled"):  # numpy's, whose memory has numbers behind the mask too
+    if hasattr(values, "filled"):  # numpy's, whose memory has numbers under the mask too
         raise _other(name, "an array with a mask given")
     numpy = _numpy() if hasattr(values, "__array__") else None
     if numpy is None:

@@ -41,9 +41,9 @@ module _ (f : Follow) (text : List ℕ) (places : ℕ) where
   some-parts = part places (f .step) (f .lines * f .step) text
 
   -- those after them
-  pub behind-them : rightLines f text ≡ Some ++ rightLines (afterLines f Some) (drop (bytesOf Some) text)
+  pub after-those : rightLines f text ≡ Some ++ rightLines (afterLines f Some) (drop (bytesOf Some) text)
   unfolding rightLines afterLines
-  behind-them =
+  after-those =
       let due : f .lines * f .step + length Some * f .step ≡ (f .lines + length Some) * f .step = omega arith in
       some-parts .rest-is ∙ rw due
 
@@ -130,7 +130,7 @@ module _ {f : Follow} {a : RecordAnswer} {text : List ℕ} {g : Follow} {b : Rec
   Vs = rightLines Next (drop (bytesOf Us) (drop at text))
 
   rest-is : w .rest ≡ Us ++ Vs
-  rest-is = w .is ∙ behind-them g (drop at text) places
+  rest-is = w .is ∙ after-those g (drop at text) places
 
   stand-is : afterLines Next Vs ≡ afterLines g (w .rest)
   stand-is = after-join g Us Vs ∙ ap (afterLines g) (sym rest-is)

@@ -13,7 +13,7 @@ use Rattle.comma_line.specs.Text.{samplesOf}
 use Rattle.comma_stream.specs.declared.Follow.{Follow}
 use Rattle.comma_stream.specs.Follow.{bytesOf, rightLines, afterLines, held}
 use Rattle.comma_stream.proofs.Pieces.{after-join}
-use Rattle.comma_count.proofs.Way.{behind-them, some-parts}
+use Rattle.comma_count.proofs.Way.{after-those, some-parts}
 use Rattle.comma_pair.specs.Taking.{heldOf}
 
 -- ---- fronts of a list
@@ -52,7 +52,7 @@ module _ (f : Follow) (x : List ℕ) where
     some = some-parts f x k .some
 
     pub after-them : k ≤ length Us → rightLines (afterLines f (take k Us)) (drop (bytesOf (take k Us)) x) ≡ drop k Us
-    after-them h = sym (ap (drop k) (behind-them f x k) ∙ drop-at (take k Us) _ k (length-take-le k Us h))
+    after-them h = sym (ap (drop k) (after-those f x k) ∙ drop-at (take k Us) _ k (length-take-le k Us h))
 
     module _ (n : ℕ) where
       pub lines-on : afterLines (afterLines f (take k Us)) (take n (drop k Us)) ≡ afterLines f (take (k + n) Us)

@@ -145,7 +145,7 @@ letters : letterFor 29289438 (three 50000000 29289438 170706726) ∷ letterFor 2
     ≡ Accept ∷ Continue ∷ Continue ∷ Reject ∷ Continue ∷ []
 letters = refl
 
--- the whole answers behind them
+-- the whole answers they come from
 -- past its tests the answer is that of the times
 abbrev Taken : List ℕ → ℕ → ℕ → ℕ → ℕ → ℕ → Type 0
 Taken ys k c D P q = extrapolated ys k c D P q ≡ Found (times ys k c D P) (letterFor q (times ys k c D P))

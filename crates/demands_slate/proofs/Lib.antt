@@ -1,1 +1,2 @@
+pub mod Slate
 pub mod Shown

@@ -8,7 +8,7 @@ use Rattle.sample_channels.specs.Channels.{moments}
 use Rattle.crossing_places.specs.Reading.{passing}
 use Rattle.campaign_state.specs.Answers.{entering}
 use Rattle.campaign_state.specs.State.{censored, sound}
-use Rattle.demands_slate.specs.Slate.{same, right, allRight, slate}
+use Rattle.demands_slate.proofs.Slate.{same, right, allRight, slate}
 
 pub shown : allRight slate ≡ true
 unfolding same right allRight slate moments passing walk later attach groups firsts u l upperRows lowerRows censored entering sound

@@ -1,1 +1,1 @@
-// Document 01's marked cases, shown of the definitions: a table in specs/, its test in proofs/, no code.
+// Document 01's marked cases, shown of the definitions: a table and its test, both in proofs/, since they are statements and not law; no code.

@@ -409,7 +409,7 @@ pub struct Sources {
     pub acceleration: i32,
 }
 
-// Reads the file that has to be read. Only that one is waited for, so that one hand may write both.
+// Reads the file that has to be read. Only that one is waited for, so that one process may write both.
 fn read_on(
     next: Next,
     from: Sources,

@@ -1,6 +1,6 @@
 // The clerk's program: a job sheet from standard input, and for each record of it a line to standard output, at the
 // first refusal the refused line. It reads what there is, works through the lines that are complete, writes what they
-// give, and only then reads again, so that a line typed by hand is answered at once. What the lines give is
+// give, and only then reads again, so that a line that is typed is answered at once. What the lines give is
 // `sheet_text::run`'s promise; here bytes are only carried to it and from it. A program of the kit has no exit
 // status, so how it ended goes as a digit to a descriptor of its own, where bin/program waits for it.
 ghost use Prim.Native.Nat.{_≤_, _<_};

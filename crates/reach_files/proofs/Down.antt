@@ -82,7 +82,7 @@ unfolding downwards
 down-length [] = refl
 down-length (x ∷ xs) = placed-length x (downwards xs) ∙ ap suc (down-length xs)
 
--- the first n of a list sorted, with the rest behind them
+-- the first n of a list sorted, with the rest after them
 module _ (n : ℕ) (list S : List ℕ) (h : n ≤ length list) (s : Sorted (take n list) S) where
   pub sorted-front : S ≡ downwards (take n list)
   sorted-front = sorted-is (take n list) S s

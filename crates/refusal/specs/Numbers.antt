@@ -7,81 +7,50 @@ use Rattle.refusal.specs.declared.Refusal.the-variants.{Room, BrokenStat
 use Rattle.refusal.specs.declared.Refusal.the-variants.{NoBureau, BureauFull, NotItsOwn, Tail, Peak, Situations}
 use Rattle.refusal.specs.declared.Refusal.the-variants.{Situation, Acceleration, TimedSamples, LowLevel, NoSpread}
 
--- the column "No."
+-- what a refusal says
+pub record Numbers : Type 0 where
+  -- the column "No."
+  pub number : ℕ
+  -- the column "Returns with it": item number, place, number needed, line number, peak; 0 stands for nothing
+  pub value : ℕ
+  -- the channel of a sample outside its range: 1 for the roll, or the only one, 2 for the acceleration; 0 for any other
+  -- refusal
+  pub channel : ℕ
+
+abbrev pub carrying : ℕ → ℕ → Numbers
+carrying n v = record { number = n; value = v; channel = 0 }
+
+-- the table, row by row
+abbrev pub numbersOf : Refusal → Numbers
+numbersOf (Item i) = carrying 1 i
+numbersOf (Sample p) = record { number = 2; value = p; channel = 1 }
+numbersOf TooLong = carrying 3 0
+numbersOf TooShort = carrying 4 0
+numbersOf CampaignFull = carrying 5 0
+numbersOf RowsUsedUp = carrying 6 0
+numbersOf (Room k) = carrying 7 k
+numbersOf BrokenState = carrying 8 0
+numbersOf (Line l) = carrying 9 l
+numbersOf (CommaLine l) = carrying 10 l
+numbersOf SumFull = carrying 11 0
+numbersOf Unequal = carrying 12 0
+numbersOf NoBureau = carrying 13 0
+numbersOf BureauFull = carrying 14 0
+numbersOf NotItsOwn = carrying 15 0
+numbersOf Tail = carrying 16 0
+numbersOf (Peak p) = carrying 17 p
+numbersOf Situations = carrying 18 0
+numbersOf (Situation k) = carrying 8 k
+numbersOf (Acceleration p) = record { number = 2; value = p; channel = 2 }
+numbersOf TimedSamples = carrying 19 0
+numbersOf (LowLevel y) = carrying 20 y
+numbersOf NoSpread = carrying 21 0
+
 abbrev pub numberOf : Refusal → ℕ
-numberOf (Item i) = 1
-numberOf (Sample p) = 2
-numberOf TooLong = 3
-numberOf TooShort = 4
-numberOf CampaignFull = 5
-numberOf RowsUsedUp = 6
-numberOf (Room k) = 7
-numberOf BrokenState = 8
-numberOf (Line l) = 9
-numberOf (CommaLine l) = 10
-numberOf SumFull = 11
-numberOf Unequal = 12
-numberOf NoBureau = 13
-numberOf BureauFull = 14
-numberOf NotItsOwn = 15
-numberOf Tail = 16
-numberOf (Peak p) = 17
-numberOf Situations = 18
-numberOf (Situation k) = 8
-numberOf (Acceleration p) = 2
-numberOf TimedSamples = 19
-numberOf (LowLevel y) = 20
-numberOf NoSpread = 21
+numberOf r = numbersOf r .number
 
--- the column "Returns with it": item number, place, number needed, line number, peak; 0 stands for nothing
 abbrev pub valueOf : Refusal → ℕ
-valueOf (Item i) = i
-valueOf (Sample p) = p
-valueOf TooLong = 0
-valueOf TooShort = 0
-valueOf CampaignFull = 0
-valueOf RowsUsedUp = 0
-valueOf (Room k) = k
-valueOf BrokenState = 0
-valueOf (Line l) = l
-valueOf (CommaLine l) = l
-valueOf SumFull = 0
-valueOf Unequal = 0
-valueOf NoBureau = 0
-valueOf BureauFull = 0
-valueOf NotItsOwn = 0
-valueOf Tail = 0
-valueOf (Peak p) = p
-valueOf Situations = 0
-valueOf (Situation k) = k
-valueOf (Acceleration p) = p
-valueOf TimedSamples = 0
-valueOf (LowLevel y) = y
-valueOf NoSpread = 0
+valueOf r = numbersOf r .value
 
--- the channel that document 02, [8], names with 2: 1 for the roll, or the only one, 2 for the acceleration; 0 stands
--- for nothing
 abbrev pub channelOf : Refusal → ℕ
-channelOf (Item i) = 0
-channelOf (Sample p) = 1
-channelOf TooLong = 0
-channelOf TooShort = 0
-channelOf CampaignFull = 0
-channelOf RowsUsedUp = 0
-channelOf (Room k) = 0
-channelOf BrokenState = 0
-channelOf (Line l) = 0
-channelOf (CommaLine l) = 0
-channelOf SumFull = 0
-channelOf Unequal = 0
-channelOf NoBureau = 0
-channelOf BureauFull = 0
-channelOf NotItsOwn = 0
-channelOf Tail = 0
-channelOf (Peak p) = 0
-channelOf Situations = 0
-channelOf (Situation k) = 0
-channelOf (Acceleration p) = 2
-channelOf TimedSamples = 0
-channelOf (LowLevel y) = 0
-channelOf NoSpread = 0
+channelOf r = numbersOf r .channel

@@ -232,31 +232,36 @@ typedef struct {
 
 static int blank(char c) { return c == ' ' || c == '\t'; }
 
+/* Where the field that starts at `at` ends. What stands in quotes ends nothing; a quote in there is written twice. */
+static const char *field_end(const char *at, const char *end) {
+    const char *quote = at, *closing;
+    while (quote < end && blank(*quote) && *quote != asked.delimiter)
+        quote++;
+    for (; quote < end && *quote == '"'; at = quote = closing + 1)
+        if ((closing = memchr(quote + 1, '"', (size_t)(end - quote - 1))) == NULL)
+            break;
+    if (asked.delimiter == ' ') {
+        while (at < end && !blank(*at))
+            at++;
+        return at;
+    }
+    at = memchr(at, asked.delimiter, (size_t)(end - at));
+    return at ? at : end;
+}
+
 /* Field number `wanted`, 1 for the first, without blanks and quotes round it; 0 if the line has fewer. */
 static int field(const char *at, const char *end, int wanted, Field *found) {
-    if (asked.delimiter == ' ') {
-        for (int number = 1;; number++) {
-            while (at < end && blank(*at))
-                at++;
-            if (at == end)
-                return 0;
-            const char *start = at;
-            while (at < end && !blank(*at))
-                at++;
-            if (number == wanted) {
-                *found = (Field){start, at};
-                break;
-            }
-        }
-    } else {
-        for (int number = 1; number < wanted; number++) {
-            at = memchr(at, asked.delimiter, (size_t)(end - at));
-            if (at == NULL)
-                return 0;
+    for (int number = 1;; number++) {
+        while (asked.delimiter == ' ' && at < end && blank(*at))
             at++;
-        }
-        const char *stop_ = memchr(at, asked.delimiter, (size_t)(end - at));
-        *found = (Field){at, stop_ ? stop_ : end};
+        if (asked.delimiter == ' ' && at == end)
+            return 0;
+        *found = (Field){at, field_end(at, end)};
+        if (number == wanted)
+            break;
+        if (found->end == end)
+            return 0;
+        at = found->end + 1;
     }
     while (found->at < found->end && blank(*found->at))
         found->at++;

@@ -196,6 +196,13 @@ static void flush(Output *out) {
     out->used = 0;
 }
 
+/* What a write did not tell, as over a network, closing does. */
+static void finish(Output *out) {
+    flush(out);
+    if (close(out->file))
+        fault("what is made of it cannot be written (%s)", strerror(errno));
+}
+
 static void put(Output *out, uint64_t ms, int64_t sample) {
     char digits[24];
     int n = 0;
@@ -416,7 +423,7 @@ static void convert(const char *path) {
         fault("there are no samples");
     for (int i = 0; i < CHANNELS; i++)
         if (columns[1 + i].number)
-            flush(&output[i]);
+            finish(&output[i]);
 }
 
 /* ---- all files */
@@ -427,6 +434,17 @@ static char *made(const char *a, const char *b, const char *c) {
         stop("%s%s", "there is no memory", "");
     snprintf(text, n, "%s%s%s", a, b, c);
     return text;
+}
+
+/* A file without a name, under TMPDIR (or /tmp) as for the other commands. */
+static int nameless(void) {
+    const char *folder = getenv("TMPDIR");
+    char *name = made(folder && *folder ? folder : "/tmp", "/chimenickel-convert.XXXXXX", "");
+    int file = mkostemp(name, O_CLOEXEC);
+    if (file < 0)
+        stop("%s cannot be made (%s)", name, strerror(errno));
+    unlink(name);
+    return file;
 }
 
 /* FOLDER/NAME.csv and the like; NAME is the file's without its folder, .gz and its last ending. */
@@ -476,13 +494,12 @@ static int copied(int from, int to) {
     return n == 0;
 }
 
-/* what is to go if this is ended from outside */
+/* what is to go where nothing comes of it: processes that read, and files that were written aside */
 static char *(*aside_names)[CHANNELS];
 static pid_t *children;
 static int files;
 
-static void ended(int signal_) {
-    (void)signal_;
+static void clear_away(void) {
     for (int i = 0; i < files; i++)
         if (children[i] > 0)
             kill(children[i], SIGKILL);
@@ -490,7 +507,50 @@ static void ended(int signal_) {
         for (int k = 0; k < CHANNELS; k++)
             if (aside_names[i][k])
                 unlink(aside_names[i][k]);
+}
+
+static void ended(int signal_) {
+    (void)signal_;
+    clear_away();
     _exit(2);
+}
+
+/* What is to be done when this is ended from outside; what nohup and the like have ignored stays ignored. */
+static void on_end(void (*handler)(int)) {
+    static const int ENDS[] = {SIGINT, SIGTERM, SIGHUP};
+    for (int i = 0; i < 3; i++) {
+        struct sigaction now;
+        if (sigaction(ENDS[i], NULL, &now) == 0 && now.sa_handler != SIG_IGN)
+            signal(ENDS[i], handler);
+    }
+}
+
+/* Ends where a file cannot have its place: another has it, a folder does, or what stands there is to be read. */
+static void look_at_places(char **paths, int count, char *(*places)[CHANNELS]) {
+    struct stat there, *read_ = calloc((size_t)count, sizeof *read_);
+    if (read_ == NULL)
+        stop("%s%s", "there is no memory", "");
+    for (int i = 0; i < count; i++)
+        if (stat(paths[i], &read_[i]))
+            read_[i].st_nlink = 0;
+    for (int i = 0; i < count; i++)
+        for (int k = 0; k < CHANNELS; k++) {
+            if (!is_asked(k))
+                continue;
+            /* one file's acceleration may meet another's roll */
+            for (int j = 0; j < i; j++)
+                for (int other = 0; other < CHANNELS; other++)
+                    if (places[j][other] && strcmp(places[i][k], places[j][other]) == 0)
+                        stop("%s and another file would both be written to %s", paths[i], places[i][k]);
+            if (stat(places[i][k], &there))
+                continue;
+            if (S_ISDIR(there.st_mode))
+                stop("%s is a directory%s", places[i][k], "");
+            for (int j = 0; j < count; j++)
+                if (read_[j].st_nlink && there.st_ino == read_[j].st_ino && there.st_dev == read_[j].st_dev)
+                    stop("%s would be written over, and is to be read", paths[j], "");
+        }
+    free(read_);
 }
 
 static int all(char **paths, int count) {
@@ -499,79 +559,89 @@ static int all(char **paths, int count) {
     size_t room = sizeof(Outcome) * (size_t)count;
     Outcome *outcomes = mmap(NULL, room, PROT_READ | PROT_WRITE, MAP_SHARED | MAP_ANONYMOUS, -1, 0);
     char *(*places)[CHANNELS] = calloc((size_t)count, sizeof *places);
+    mode_t mask = umask(0);
+    umask(mask);
     aside_names = calloc((size_t)count, sizeof *aside_names);
     children = calloc((size_t)count, sizeof *children);
     if (outcomes == MAP_FAILED || places == NULL || aside_names == NULL || children == NULL)
         stop("%s%s", "there is no memory", "");
     for (int i = 0; i < count && asked.to; i++)
-        for (int k = 0; k < CHANNELS; k++) {
-            struct stat one, other;
-            if (!is_asked(k))
-                continue;
-            places[i][k] = place(paths[i], k);
-            aside_names[i][k] = made(places[i][k], ".new", "");
-            for (int j = 0; j < i; j++)
-                if (strcmp(places[i][k], places[j][k]) == 0)
-                    stop("%s and another file would both be written to %s", paths[i], places[i][k]);
-            for (int j = 0; j < count; j++)
-                if (stat(places[i][k], &one) == 0 && stat(paths[j], &other) == 0 && one.st_ino == other.st_ino &&
-                    one.st_dev == other.st_dev)
-                    stop("%s would be written over, and is to be read", paths[j], "");
-        }
+        for (int k = 0; k < CHANNELS; k++)
+            if (is_asked(k))
+                places[i][k] = place(paths[i], k);
+    if (asked.to)
+        look_at_places(paths, count, places);
+    else
+        aside = nameless();
     files = count;
-    signal(SIGINT, ended);
-    signal(SIGTERM, ended);
-    signal(SIGHUP, ended);
-    if (asked.to == NULL) {
-        FILE *file = tmpfile();
-        if (file == NULL)
-            stop("%s (%s)", "no file can be made in the folder for files that are soon gone", strerror(errno));
-        aside = fileno(file);
-    }
+    on_end(ended);
     while (next < count || running) {
         if (next < count && running < (cores > 0 ? cores : 1)) {
+            int why[CHANNELS] = {0};
+            for (int k = 0; k < CHANNELS; k++) {
+                output[k].file = aside;
+                if (places[next][k] == NULL)
+                    continue;
+                /* by a name that nobody has: somebody else may write to the same place */
+                char *name = made(places[next][k], ".XXXXXX", "");
+                output[k].file = mkostemp(name, O_CLOEXEC);
+                why[k] = errno;
+                if (output[k].file < 0)
+                    continue;
+                aside_names[next][k] = name;
+                fchmod(output[k].file, 0666 & ~mask); /* a file system without modes goes without */
+            }
             pid_t child = fork();
-            if (child < 0)
-                stop("%s (%s)", "a process cannot be started", strerror(errno));
+            if (child < 0) {
+                const char *said = strerror(errno);
+                clear_away();
+                stop("%s (%s)", "a process cannot be started", said);
+            }
             if (child == 0) {
-                signal(SIGINT, SIG_DFL);
-                signal(SIGTERM, SIG_DFL);
-                signal(SIGHUP, SIG_DFL);
+                on_end(SIG_DFL);
                 outcome = &outcomes[next];
                 reading = paths[next] ? paths[next] : "standard input";
-                for (int k = 0; k < CHANNELS; k++) {
-                    const char *new = aside_names[next][k];
-                    output[k].file = new ? open(new, O_WRONLY | O_CREAT | O_TRUNC | O_CLOEXEC, 0666) : aside;
+                for (int k = 0; k < CHANNELS; k++)
                     if (output[k].file < 0 && is_asked(k))
-                        fault("%s cannot be written (%s)", new, strerror(errno));
-                }
+                        fault("%s cannot be written (%s)", places[next][k], strerror(why[k]));
                 convert(paths[next]);
                 outcome->done = 1;
                 _exit(0);
             }
+            for (int k = 0; k < CHANNELS; k++)
+                if (output[k].file != aside)
+                    close(output[k].file);
             children[next++] = child;
             running++;
             continue;
         }
-        if (wait(NULL) > 0)
-            running--;
+        pid_t gone = wait(NULL);
+        for (int i = 0; gone > 0 && i < next; i++)
+            if (children[i] == gone)
+                children[i] = 0, running--;
     }
     for (int i = 0; i < count; i++)
         if (!outcomes[i].done) {
             fprintf(stderr, "convert: %s\n", outcomes[i].fault[0] ? outcomes[i].fault : "it was ended from outside");
             failed = 1;
         }
+    if (failed) {
+        clear_away();
+        return 2;
+    }
+    if (asked.to)
+        on_end(SIG_IGN); /* all take their places, or none */
     for (int i = 0; i < count && asked.to; i++)
         for (int k = 0; k < CHANNELS; k++) {
             if (!is_asked(k))
                 continue;
-            if (failed)
-                unlink(aside_names[i][k]);
-            else if (rename(aside_names[i][k], places[i][k]))
-                stop("%s cannot be written (%s)", places[i][k], strerror(errno));
+            if (rename(aside_names[i][k], places[i][k])) {
+                const char *said = strerror(errno);
+                clear_away();
+                stop("%s cannot be written (%s)", places[i][k], said);
+            }
+            aside_names[i][k] = NULL;
         }
-    if (failed)
-        return 2;
     if (asked.to == NULL && !copied(aside, 1))
         stop("%s: %s", "standard output", strerror(errno));
     for (int i = 0; i < count; i++)
@@ -624,6 +694,7 @@ int main(int count, char **words) {
     char *none[] = {NULL};
     int at = 1;
     struct stat folder;
+    signal(SIGCHLD, SIG_DFL); /* where it is ignored from outside nobody can wait for a process */
     for (; at < count && strncmp(words[at], "--", 2) == 0; at++) {
         const char *name = words[at] + 2, *value = at + 1 < count ? words[at + 1] : NULL;
         if (strcmp(name, "seconds") == 0)

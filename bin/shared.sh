@@ -1,6 +1,7 @@
 # What the commands of bin/ have in common; each reads this file first, with its own place in `self`, which is known
 # also where it was called through a link. Needs bash.
 set -u
+set +o posix # that POSIXLY_CORRECT asks for, and which has no function `times`
 unset CDPATH # or `cd` would look elsewhere, and say where it went
 here=${self%/*}
 root=${here%/*}

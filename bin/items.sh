@@ -95,7 +95,8 @@ takes_items() {
 
 # ramp_in_steps: a ramp that was given as a time in steps, once the step is known.
 ramp_in_steps() {
-    [ -n "$ramp_unit" ] && [ "${item[step]:-0}" -gt 0 ] || return 0
+    # a step of more digits is refused, and the ramp with it
+    [ -n "$ramp_unit" ] && [[ ${item[step]-} =~ ^[1-9][0-9]{0,11}$ ]] || return 0
     [ $((item[ramp] % item[step])) -eq 0 ] || stop "--ramp $ramp_word is no whole number of steps of ${item[step]} ms"
     item[ramp]=$((item[ramp] / item[step])) ramp_unit=
 }
@@ -152,7 +153,7 @@ reads_items() {
     [ -f "$1" ] || stop "$1 is no plain file"
     [ -r "$1" ] || stop "$1: may not be read"
     # more than six lines of items can have is not looked at
-    mapfile -t lines < <(head -c 1000 -- "$1" | tr '\0' ' ')
+    mapfile -t lines < <(head -c 1000 <"$1" | tr '\0' ' ')
     for line in ${lines[@]+"${lines[@]}"}; do
         number=$((number + 1)) name=${line%%"$tab"*}
         case " ${kept_names[*]} " in
@@ -194,12 +195,14 @@ may_keep_items() {
 # keeps_items FILE: writes the items to the file, whole or not at all: beside it first, then under its name where nobody
 # else has it by now. Where somebody has, it is held to that.
 keeps_items() (
+    text=
+    for name in "${kept_names[@]}"; do
+        [ -z "${item[$name]-}" ] || text+=$name$tab${item[$name]}$lf
+    done
     draft=$(mktemp -- "$1.XXXXXX") || exit 2
     trap 'rm -f -- "$draft"' EXIT
     trap 'exit 2' INT TERM HUP
-    for name in "${kept_names[@]}"; do
-        [ -z "${item[$name]-}" ] || printf '%s\t%s\n' "$name" "${item[$name]}" || exit
-    done >"$draft" || stop "$1: cannot be written, and the items are not kept"
+    { printf %s "$text" >"$draft"; } 2>/dev/null || stop "$1: cannot be written, and the items are not kept"
     chmod -- "$(printf %o $((0666 & ~$(umask))))" "$draft"
     ln -- "$draft" "$1" 2>/dev/null && exit
     [ -e "$1" ] || mv -n -- "$draft" "$1" 2>/dev/null || stop "$1: cannot be written, and the items are not kept"

@@ -195,8 +195,8 @@ explain() {
 comma_fault() {
     local LC_ALL=C line rest time degrees due=$((($2 - 1) * $3)) column=1 ended=1
     [ -f "$1" ] || return 0
-    # more than a line may have is not looked at
-    { IFS= read -r line || ended=; } < <({ tail -n "+$2" -- "$1" | head -c 200 | tr -d '\0'; } 2>/dev/null)
+    # more than a line may have is not looked at; a zero byte, which the shell has not, is as strange as another
+    { IFS= read -r line || ended=; } < <({ tail -n "+$2" <"$1" | head -c 200 | tr '\0' '\1'; } 2>/dev/null)
     [ -n "$ended$line" ] || return 0
     rest=$line
     time=${rest%%[!0-9]*}

@@ -104,16 +104,19 @@ opens() {
 # files_from LIST: the names of the list go to `names`, one a line, from the file of this name, or from standard input
 # for a minus. A list has no bound: the names do not stand among the words of a command.
 files_from() {
+    local list=$1
     if [ "$1" = - ]; then
-        [ -e /dev/fd/0 ] || stop "standard input is closed"
-        mapfile -t names || stop "standard input: cannot be read"
+        list="standard input"
+        [ -e /dev/fd/0 ] || stop "$list is closed"
+        opened=0
     else
         are_there "$1"
         opens "$1"
-        mapfile -t names <&"$opened" || stop "$1: cannot be read"
-        exec {opened}<&-
     fi
-    [ "${#names[@]}" -gt 0 ] || stop "${1/#-/standard input} names no file"
+    # mapfile alone would take an error for the list's end
+    mapfile -t names < <(cat <&"$opened") && wait "$!" || stop "$list: cannot be read"
+    [ "$opened" = 0 ] || exec {opened}<&-
+    [ "${#names[@]}" -gt 0 ] || stop "$list names no file"
 }
 
 # takes_names: asks of all `names` whether they can be read, each by itself. A program opens files by their names; one

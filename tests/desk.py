@@ -1,10 +1,11 @@
-"""How a clerk's program is tried: its standard input handed over in pieces, each by one read, and its standard error on
-a terminal."""
+"""How a clerk's program is tried: its standard input handed over in pieces, each by one read, one that breaks off, and
+its standard error on a terminal."""
 import os
 import re
 import socket
 import subprocess
 import threading
+import tty
 
 
 def in_pieces(words, pieces, beside=None):
@@ -37,6 +38,15 @@ def in_pieces(words, pieces, beside=None):
     for thread in threads:
         thread.join()
     return process.returncode, out, err
+
+
+def broken_off(text):
+    """A file that has the text, and then an error where its end would be: the other side of a terminal that is gone."""
+    ours, theirs = os.openpty()
+    tty.setraw(theirs)
+    os.write(theirs, text)
+    os.close(theirs)
+    return open(ours, "rb")
 
 
 def in_words(wrote, fault):

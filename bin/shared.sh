@@ -134,7 +134,8 @@ hands_names() {
     handed=()
     for file; do
         descriptor_of "$file"
-        if [ -n "$descriptor" ]; then
+        # a link may lead to standard input, too, which is another in the program
+        if [ -n "$descriptor" ] || { [ -L "$file" ] && [ "$file" -ef /dev/fd/0 ]; }; then
             opens "$file"
             file=/dev/fd/$opened
         fi

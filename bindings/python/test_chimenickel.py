@@ -266,8 +266,11 @@ class Records(unittest.TestCase):
 
     def test_degrees(self):
         self.assertEqual(list(from_degrees([0, -41.5, 0.0005, 0.0015])), [0, -41_500, 0, 2])
-        for strange in (float("nan"), float("inf"), 1e9):
+        for strange in (float("nan"), float("inf"), 1e9, *map(decimal.Decimal, ("sNaN", "NaN", "-Infinity", "1E+999999"))):
             self.assertRaises(OverflowError, from_degrees, [strange])
+        with decimal.localcontext() as context:
+            context.prec = 3
+            self.assertEqual(list(from_degrees(map(decimal.Decimal, ("41.567", "-0.0005", "0.0015")))), [41_567, 0, 2])
 
     @unittest.skipUnless(numpy, "numpy is not there")
     def test_degrees_of_numpy(self):
@@ -308,6 +311,10 @@ class Records(unittest.TestCase):
         # counted twice or not at all, with another largest set: a campaign does not look at it
         whole.enter_result(ended._replace(crossings=9, counted=2, first=None, exposure=1_000, largest_set=0))
         self.assertEqual((whole.records, whole.failures, whole.exposure), (2, 1, ended.exposure + 1_000))
+        # the library's 0 for no place is no failure either
+        none = ended._replace(first=0)
+        whole.enter_result(none)
+        self.assertEqual((whole.failures, none.failed), (1, False))
         before = whole.numbers
         self.refused(8, 0, whole.enter_result, ended._replace(exposure=0))
         self.refused(8, 0, whole.enter_result, ended._replace(exposure=10_000_001))

@@ -27,6 +27,7 @@ import collections.abc
 import ctypes
 import decimal
 import enum
+import fractions
 import math
 import mmap
 import numbers
@@ -636,7 +637,7 @@ class Result(NamedTuple):
     @property
     def failed(self) -> bool:
         """Whether there is a first failure: with the exposure all that a campaign takes of a result."""
-        return self.first is not None
+        return bool(self.first)
 
 
 class Record(_State):
@@ -1131,7 +1132,9 @@ def read_records(text: Text) -> Tuple[int, List[int]]:
 
 
 def _thousandths(x: Any) -> int:
-    # a number of numpy's would be multiplied in its own width
+    # a number of numpy's would be multiplied in its own width, and a Decimal to as many digits as its context has
+    if isinstance(x, decimal.Decimal):
+        x = fractions.Fraction(x)
     thousandths: int = round((x.item() if hasattr(x, "dtype") else x) * 1000)
     return thousandths
 

@@ -112,7 +112,7 @@ def _named(paths: Iterable[Files], items: Mapping[str, int]) -> List[Tuple[str, 
     wanted = 1 + ("acceleration_level" in items)
     records = []
     for number, files in enumerate(paths, 1):
-        names = tuple(os.fspath(path) for path in (files if isinstance(files, (tuple, list)) else (files,)))
+        names = tuple(os.fsdecode(path) for path in (files if isinstance(files, (tuple, list)) else (files,)))
         if len(names) != wanted:
             said = "one file" if wanted == 1 else "two files, the roll's and the acceleration's"
             raise TypeError(f"record {number} has {said}: {names} given")
@@ -139,10 +139,10 @@ def _outcomes(batches: List[Batch], executor: Optional[concurrent.futures.Execut
     try:
         for batch, future in zip(batches, futures):
             try:
-                yield from future.result() if future else _batch(batch)
+                outcomes = future.result() if future else None
             except Exception as error:
-                failed = error
-                yield from _batch(batch)
+                failed, outcomes = error, None
+            yield from _batch(batch) if outcomes is None else outcomes
     finally:
         for future in futures:
             if future:

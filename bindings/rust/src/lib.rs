@@ -455,7 +455,7 @@ pub struct Ended {
 impl Ended {
     /// Whether there is a first failure: with the exposure all that a campaign takes of a result.
     pub fn failed(&self) -> bool {
-        self.first.is_some()
+        self.first.unwrap_or(0) != 0
     }
 }
 
@@ -1084,6 +1084,10 @@ mod tests {
         // counted twice or not at all, with another largest set: a campaign does not look at it
         whole.enter_result(&Ended { crossings: 9, counted: 2, first: None, exposure: 1_000, largest_set: 0 }).unwrap();
         assert_eq!((whole.records(), whole.failures(), whole.exposure()), (2, 1, ended.exposure + 1_000));
+        // the library's 0 for no place is no failure either
+        let none = Ended { first: Some(0), ..ended };
+        whole.enter_result(&none).unwrap();
+        assert_eq!((whole.failures(), none.failed()), (1, false));
         let before = whole.clone();
         assert_eq!(whole.enter_result(&Ended { exposure: 0, ..ended }), Err(Refusal::BrokenState));
         assert_eq!(whole.enter_result(&Ended { exposure: 10_000_001, ..ended }), Err(Refusal::BrokenState));

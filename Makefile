@@ -21,8 +21,10 @@ STAGE = target/stage
 DEB = target
 
 all:
-	@case $(call quoted,$(PREFIX)$(LIBDIR)$(PYTHONDIR)) in [!/]* | *[!A-Za-z0-9./_+-]*) \
-	    echo 'make: PREFIX starts with / and has letters, digits, . / _ + -' >&2; exit 2;; esac
+	@for folder in $(call quoted,$(PREFIX)) $(call quoted,$(LIBDIR)) $(call quoted,$(PYTHONDIR)); do \
+	    case $$folder in '' | [!/]* | *[!A-Za-z0-9./_+-]*) \
+	        echo 'make: PREFIX, LIBDIR and PYTHONDIR start with / and have letters, digits, . / _ + -' >&2; exit 2;; \
+	    esac; done
 	@packaging/stage $(STAGE) $(PREFIX) $(LIBDIR) $(PYTHONDIR)
 	@echo 'built in $(STAGE)'
 
@@ -33,6 +35,9 @@ install: all
 uninstall: all
 	@find $(STAGE) ! -type d -printf '/%P\n' | while IFS= read -r file; do \
 	    rm -f $(call quoted,$(DESTDIR))"$$file" || exit 2; done
+	@rm -rf $(call quoted,$(DESTDIR)$(PYTHONDIR)/chimenickel/__pycache__)
+	@rmdir $(call quoted,$(DESTDIR)$(PYTHONDIR)/chimenickel) $(call quoted,$(DESTDIR)$(PREFIX)/libexec/chimenickel) \
+	    2>/dev/null || :
 	@echo removed from $(call quoted,$(DESTDIR)$(PREFIX))
 
 check:

@@ -525,14 +525,23 @@ static void on_end(void (*handler)(int)) {
     }
 }
 
-/* Ends where a file cannot have its place: another has it, a folder does, or what stands there is to be read. */
+static int is_one(const struct stat *a, const struct stat *b) {
+    return a->st_ino == b->st_ino && a->st_dev == b->st_dev;
+}
+
+/* Ends where two names stand for one pipe, of which neither would get the whole; and where a file cannot have its
+ * place: another has it, a folder does, or what stands there is to be read. */
 static void look_at_places(char **paths, int count, char *(*places)[CHANNELS]) {
     struct stat there, *read_ = calloc((size_t)count, sizeof *read_);
     if (read_ == NULL)
         stop("%s%s", "there is no memory", "");
-    for (int i = 0; i < count; i++)
+    for (int i = 0; i < count; i++) {
         if (stat(paths[i], &read_[i]))
             read_[i].st_nlink = 0;
+        for (int j = 0; j < i && read_[i].st_nlink && !S_ISREG(read_[i].st_mode); j++)
+            if (is_one(&read_[i], &read_[j]))
+                stop("%s and %s are one input, which can be read only once", paths[j], paths[i]);
+    }
     for (int i = 0; i < count; i++)
         for (int k = 0; k < CHANNELS; k++) {
             if (!is_asked(k))
@@ -547,7 +556,7 @@ static void look_at_places(char **paths, int count, char *(*places)[CHANNELS]) {
             if (S_ISDIR(there.st_mode))
                 stop("%s is a directory%s", places[i][k], "");
             for (int j = 0; j < count; j++)
-                if (read_[j].st_nlink && there.st_ino == read_[j].st_ino && there.st_dev == read_[j].st_dev)
+                if (read_[j].st_nlink && is_one(&there, &read_[j]))
                     stop("%s would be written over, and is to be read", paths[j], "");
         }
     free(read_);

@@ -101,6 +101,12 @@ opens() {
     { command exec {opened}<"$1"; } 2>/dev/null || stop "$1: cannot be opened"
 }
 
+# The shell takes a list that breaks off for one that ends. What reads it says so, on a pipe of its own and before it
+# ends, so that it is known to who has seen the end: may_break_off, then all_of for the reading, then broke_off.
+may_break_off() { exec {broken}<> <(:); }
+all_of() { cat 2>/dev/null || printf x >&"$broken"; }
+broke_off() { read -r -t 0 -u "$broken"; }
+
 # files_from LIST: the names of the list go to `names`, one a line, from the file of this name, or from standard input
 # for a minus. A list has no bound: the names do not stand among the words of a command.
 files_from() {
@@ -113,8 +119,9 @@ files_from() {
         are_there "$1"
         opens "$1"
     fi
-    # mapfile alone would take an error for the list's end
-    mapfile -t names < <(cat <&"$opened") && wait "$!" || stop "$list: cannot be read"
+    may_break_off
+    mapfile -t names < <(all_of <&"$opened")
+    ! broke_off || stop "$list: cannot be read"
     [ "$opened" = 0 ] || exec {opened}<&-
     [ "${#names[@]}" -gt 0 ] || stop "$list names no file"
 }

@@ -65,7 +65,7 @@ if TYPE_CHECKING:
 else:
     _Memory = _Words = Any
 
-__version__ = "3.1.0"
+__version__ = "3.1.1"
 
 __all__ = [
     "Bench",

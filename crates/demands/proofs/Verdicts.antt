@@ -5,6 +5,8 @@ use mathlib.Core.Bool.{Bool, false, true}
 use mathlib.Core.List.{List, [], _∷_, map}
 use Prim.Native.Nat.{ℕ, _*_}
 use lib.Ieee.{Float, binary64, div, ofBits, ofInt}
+use Rattle.poisson.specs.Fractions.{Fraction, over}
+use Rattle.poisson.specs.Rows.{millionthLess, millionthMore}
 use Rattle.poisson.specs.Tables.{l, lowerRows, u, upperRows}
 use Rattle.record_end.specs.declared.Outcome.{Outcome}
 use Rattle.campaign_state.specs.declared.CampaignAnswer.the-variants.{Taken}
@@ -77,8 +79,8 @@ pub accept-above-row : weighs 3 2 (7224688 ∷ 7224689 ∷ []) ≡ 67 ∷ 65 ∷
 unfolding censored l lowerRows u upperRows
 accept-above-row = refl
 
--- l(0) = 0: without a failure nothing is rejected
-pub none-rejected : weighs 3 0 (3 ∷ []) ≡ 67 ∷ []
+-- l(0) = 0: without a failure nothing is rejected, not even at the longest standard
+pub none-rejected : letterOf letterE (verdictOf (at 100000000000 3 0 false 3)) ≡ 67
 unfolding censored l lowerRows u upperRows
 none-rejected = refl
 
@@ -87,21 +89,26 @@ pub no-record : judging (empty 9) ≡ Given NoRecord
 unfolding judging sound
 no-record = refl
 
--- ---- the rates: 1 failure in 2,733,980 ms, the last record without one, so N* = 2
+-- ---- what demand 3 leaves to spare, of 3/2 expected failures: one millionth less, or more, 0 where that falls below
+pub spared : millionthLess (over 3 2) ∷ millionthLess (over 0 2) ∷ millionthMore (over 3 2) ∷ []
+    ≡ over 2999998 2000000 ∷ over 0 2000000 ∷ over 3000002 2000000 ∷ []
+spared = refl
+
+-- ---- the rates: 7 records with 2 failures in 2,733,980 ms, the last without one, so N* = 3
 abbrev seen : Campaign
-seen = at 7200000 2 1 false 2733980
+seen = at 7200000 7 2 false 2733980
 
 -- N·1,000 / T
-pub estimate-of : ratesOf seen .estimate ≡ quotient 1000 2733980
+pub estimate-of : ratesOf seen .estimate ≡ quotient 2000 2733980
 estimate-of = refl
 
 -- l(N) / (T·1,000)
-pub lower-of : ratesOf seen .lower ≡ quotient 25317 2733980000
+pub lower-of : ratesOf seen .lower ≡ quotient 242209 2733980000
 unfolding l lowerRows
 lower-of = refl
 
 -- u(N*) / (T·1,000)
-pub upper-of : ratesOf seen .upper ≡ quotient 5571644 2733980000
+pub upper-of : ratesOf seen .upper ≡ quotient 7224688 2733980000
 unfolding censored u upperRows
 upper-of = refl
 
@@ -109,6 +116,11 @@ upper-of = refl
 pub halved : quotient 1 2 ≡ ofBits binary64 4602678819172646912
 unfolding ofBits div ofInt
 halved = refl
+
+-- rounded once: 3 over 10 is the f64 nearest to 0.3, and 3 times the f64 of 1 over 10 is the next one
+pub rounded-once : quotient 3 10 ≡ ofBits binary64 4599075939470750515
+unfolding ofBits div ofInt
+rounded-once = refl
 
 -- with a record they are given with a yes, and without one with a no and as 0
 pub rates-without : rating (empty 9) ≡ rated.Given false

@@ -2,6 +2,7 @@
 -- sheet as they are written, byte for byte, each refusal with its number and value, and the columns. Each declaration
 -- has the name of its sentence. Assumes nothing.
 use mathlib.Core.Path.{_≡_, refl}
+use mathlib.Core.Bool.{false, true}
 use mathlib.Core.List.{List, [], _∷_, _++_, map}
 use Prim.Native.Nat.{ℕ}
 use lib.IntN.{ℤ, pos, negsuc}
@@ -107,6 +108,23 @@ comma-reader-refuses :
 unfolding readingLines firstWrong firstBad linesOf comma.isCommaLine comma.right
     leading isNumber allDigits decimal.valueOf isSize size sizeLength filled
 comma-reader-refuses = refl
+
+-- of two wrong lines the first is named: 0,1 and 501,2 and x
+comma-first-wrong : ofReading (readingComma 500
+    (48 ∷ 44 ∷ 49 ∷ 10 ∷ 53 ∷ 48 ∷ 49 ∷ 44 ∷ 50 ∷ 10 ∷ 120 ∷ 10 ∷ []) 3)
+    ≡ 10 ∷ 2 ∷ []
+unfolding readingLines firstWrong linesOf comma.isCommaLine comma.right leading isNumber allDigits decimal.valueOf
+    isSize size sizeLength filled
+comma-first-wrong = refl
+
+-- numbers as on the sheet: a time of 12 digits and none of 13, and whole degrees of 12 digits, which are out of range
+comma-longest-numbers :
+    (comma.right 999999999999 (replicate 12 57 ++ (44 ∷ 49 ∷ 10 ∷ [])) ≡ true)
+    × (comma.right 1000000000000 (49 ∷ (replicate 12 48 ++ (44 ∷ 49 ∷ 10 ∷ []))) ≡ false)
+    × (ofReading (readingComma 500 (48 ∷ 44 ∷ (replicate 12 57 ++ (10 ∷ []))) 1) ≡ 2 ∷ 0 ∷ [])
+unfolding readingLines firstWrong firstBad linesOf comma.isCommaLine comma.right leading isNumber allDigits
+    decimal.valueOf isSize size sizeLength filled
+comma-longest-numbers = (refl, refl, refl)
 
 -- ---- [2] the job sheet, written
 -- a record without failure, then a failed one, which has the minus

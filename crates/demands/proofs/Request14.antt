@@ -8,7 +8,8 @@
 use mathlib.Core.Path.{_≡_, ap, refl, sym, _∙_}
 use mathlib.Core.Bool.{Bool, true, false, cond, not}
 use mathlib.Core.List.{List, [], _∷_}
-use Prim.Native.Nat.{ℕ, zero, suc, _+_, _-_, _*_, _≤_, _<_}
+use mathlib.Core.Logic.{_⊎_}
+use Prim.Native.Nat.{ℕ, zero, suc, _+_, _-_, _*_, _^_, _≤_, _<_}
 use native.Mathlib.Nat.{le-refl, le-trans, mul-le-mul, mul-le-mul-left, mul-le-mul-right}
 use native.Mathlib.Omega.{arith}
 use borrow.Author.Tests.{le-leb, leb-true}
@@ -19,6 +20,8 @@ use Rattle.refusal.specs.declared.Refusal.{Refusal}
 use Rattle.refusal.specs.declared.Refusal.the-variants.{Item, LowLevel, NoSpread, Peak, Tail, TimedSamples}
 use Rattle.sample_items.specs.Limits.{levelInRange, stepInRange}
 use Rattle.campaign_state.specs.State as campaign
+use Rattle.poisson.specs.Fractions.{Less, over}
+use Rattle.poisson.specs.Series as series
 use Rattle.logarithm.specs.Ours.{ourFigure}
 use Rattle.logarithm.proofs.Whole.{none-within}
 use Rattle.exponential.specs.Exponential.{past}
@@ -29,7 +32,8 @@ use Rattle.peak_tail.specs.Hill.{figures, hillSum, kth}
 use Rattle.peak_reach.specs.Answers.{CountedTimes, ExtrapolatesTo, extrapolated, firstOut, itemOutside, letterFor}
 use Rattle.peak_reach.specs.Answers.{noSpread, reached, samplesOutside, standardInRange, times}
 use Rattle.peak_reach.specs.Figures.{countWidth, exponentDown, fullSum, longestStandard, shapeWidth}
-use Rattle.peak_reach.specs.Reach.{Accepted, AcceptedWell, AtMostEstimate, HalfWidths, Rejected, RejectedWell}
+use Rattle.peak_reach.specs.Reach.{Accepted, AcceptedWell, AtMostEstimate, HalfWidths, PowersAtMost, Rejected}
+use Rattle.peak_reach.specs.Reach.{RejectedWell, product}
 use Rattle.peak_reach.specs.declared.Extrapolated.{Extrapolated}
 use Rattle.peak_reach.specs.declared.Extrapolated.the-variants.{Found, Refused}
 use Rattle.peak_reach.specs.declared.Letter.{Letter}
@@ -73,6 +77,26 @@ AcceptedWellAt ys k c D P q = AcceptedWell ys k c P D (countWidth k P) (shapeWid
 abbrev pub RejectedWellAt : List ℕ → ℕ → ℕ → ℕ → ℕ → ℕ → Type 0
 RejectedWellAt ys k c D P q = RejectedWell ys k c P D (countWidth k P) (shapeWidth k) q
 
+-- the spare, in its numbers: each peak before the k-th and the level 2 units of 1/65,536 worse, or the level at the
+-- k-th peak, and the standard one millionth worse
+abbrev pub SpareAccepted : Type 0
+SpareAccepted =
+    (ys : List ℕ) (k c D P h w q p c′ X Z K : ℕ)
+    → 2 ^ (2 * (k - 1)) * product ys k ^ 65536 ≤ p ^ 65536
+    → (2 ^ 2 * c′ ^ 65536 ≤ c ^ 65536) ⊎ (c′ ≡ kth ys k)
+    → 1 ≤ Z → PowersAtMost p (kth ys k ^ k) (X * (1000000 + w)) c′ (kth ys k) (Z * (1000000 * k))
+    → Less (over (q * 1000001 * (1000 * k + h)) (1000000 * (1000 * (P * D)))) (series.S K (over X Z))
+    → AcceptedWell ys k c P D h w q
+
+abbrev pub SpareRejected : Type 0
+SpareRejected =
+    (ys : List ℕ) (k c D P h w q p c′ X Z : ℕ)
+    → 2 ^ (2 * (k - 1)) * p ^ 65536 ≤ product ys k ^ 65536
+    → (2 ^ 2 * c ^ 65536 ≤ c′ ^ 65536) ⊎ ((c ≡ kth ys k) × (c′ ≡ kth ys k))
+    → 1 ≤ Z → w < 1000000 → PowersAtMost c′ (kth ys k) (Z * (1000000 * k)) p (kth ys k ^ k) (X * (1000000 - w))
+    → ((K : ℕ) → Less (series.S K (over X Z)) (over (1000000 * (q * (1000 * k - h))) (1000001 * (1000 * (P * D)))))
+    → RejectedWell ys k c P D h w q
+
 -- the second times are no shorter than the first, where 0 stands for a standard that is never rejected
 pub record NoShorter (t s : Times) : Type 0 where
   pub estimate : t .estimate ≤ s .estimate
@@ -104,6 +128,9 @@ pub record Request14 : Type 0 where
       → RejectedWellAt ys k c D P q → l ≡ Reject
   pub never-both : (ys : List ℕ) (k c D P q : ℕ) (t : Times) (l : Letter) → extrapolated ys k c D P q ≡ Found t l
       → (p : ℕ) → AcceptedAt ys k c D P p → RejectedAt ys k c D P p → ⊥
+  -- what is to spare is that and no more
+  pub spare-accepted : SpareAccepted
+  pub spare-rejected : SpareRejected
   -- E is at most the estimate, and at least what is left of it with the spare
   pub estimate : (ys : List ℕ) (k c D P q : ℕ) (t : Times) (l : Letter) → extrapolated ys k c D P q ≡ Found t l
       → AtMostEstimate ys k c P D (t .estimate)
@@ -164,6 +191,36 @@ order ys k c D P q =
     ∷ [])))))
     (Found (times ys k c D P) (letterFor q (times ys k c D P))) (stepInRange D) (levelInRange c) (standardInRange q)
     (itemOutside D c q) refl)
+
+spare-accepted : SpareAccepted
+spare-accepted ys k c D P h w q p c′ X Z K higher lower unit exponent longer =
+    record {
+      p = p;
+      higher = higher;
+      c′ = c′;
+      lower = lower;
+      X = X;
+      Z = Z;
+      K = K;
+      unit = unit;
+      exponent = exponent;
+      longer = longer;
+    }
+
+spare-rejected : SpareRejected
+spare-rejected ys k c D P h w q p c′ X Z lower higher unit some exponent shorter =
+    record {
+      p = p;
+      lower = lower;
+      c′ = c′;
+      higher = higher;
+      X = X;
+      Z = Z;
+      unit = unit;
+      some-shape = some;
+      exponent = exponent;
+      shorter = shorter;
+    }
 
 widths : (k P : ℕ) → 1 ≤ k → HalfWidths k P (countWidth k P) (shapeWidth k)
 widths k P some = record { count = half-width 2236 k P; shape = least-root (2236000 * 2236000) k some }
@@ -352,6 +409,8 @@ request-14 =
       rejected-only-if = λ ys k c D P q t e. rejects ys k c D P q t Reject e refl;
       rejected-whenever = rejects-well;
       never-both = never-both;
+      spare-accepted = spare-accepted;
+      spare-rejected = spare-rejected;
       estimate = λ ys k c D P q t l e. answered-right ys k c D P q t l (a ys k c D P q t l e) .estimate;
       estimate-near = λ ys k c D P q t l e. answered-right ys k c D P q t l (a ys k c D P q t l e) .estimate-near;
       in-order = λ ys k c D P q t l e. let r = answered-right ys k c D P q t l (a ys k c D P q t l e) in (r .first, r .last);

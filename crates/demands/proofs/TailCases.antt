@@ -53,6 +53,11 @@ at-the-mean : map at (handed 500 0 0 (pos 9 ∷ negsuc 0 ∷ pos 2 ∷ negsuc 0 
 unfolding peaks points started attach groups those larger largest tops sum
 at-the-mean = refl
 
+-- and one more is: of 1 2 1 3, four with the sum 7, the 2 is high, and the 3 has no peak after it
+past-the-mean : map at (handed 500 0 0 (pos 9 ∷ negsuc 0 ∷ pos 2 ∷ negsuc 0 ∷ pos 3 ∷ negsuc 8 ∷ [])) ≡ (2, 1000) ∷ []
+unfolding peaks points started attach groups those larger largest tops sum
+past-the-mean = refl
+
 -- zeros at the start are no run, so the first run that is dropped is 2; a zero later does not part a run; times count
 -- from the ramp's end on
 zeros-in-runs :

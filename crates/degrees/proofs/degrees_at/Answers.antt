@@ -1,6 +1,5 @@
 -- `degrees::degrees_at` meets its contract: the degrees are read after their sign. Assumes nothing.
 use mathlib.Core.Path.{◌∙◌}
-use borrow.Author.Rules.{rules}
 use Rattle.degrees.proofs.Signs.{after_sign}
 use Rattle.degrees.proofs.degrees_at.Goals as goal
 

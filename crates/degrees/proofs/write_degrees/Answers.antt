@@ -6,9 +6,7 @@ use Prim.Native.Nat.{ℕ, ◌+◌, ◌/◌, ◌≤◌}
 use native.Mathlib.Omega.{arith}
 use lib.ListN.{length}
 use mir.Facts.{to_z-of_z}
-use borrow.Author.Rules.{rules}
 use borrow.Author.Tests.{leb-true, leb-false}
-use Rattle.truth.proofs.Laws.{said_no, said_yes}
 use Rattle.text.proofs.Laws.{wrote_short}
 use Rattle.text.proofs.Parts.{Left, left_all, left_next, left_last}
 use Rattle.decimal.specs.Decimal.{digits_of}
@@ -18,43 +16,46 @@ use Rattle.degrees.proofs.write_degrees.Goals.{After-degrees_length, After-has_r
 use mathlib.Core.Path.{sym}
 use mathlib.Core.Path.{◌∙◌}
 
-needed : (c : After-has_room) → c.degrees_length.result ≡ length (degrees_text c.args.x)
-needed c =
-    rw (to_z-of_z c.fits.x) at c.degrees_length.ensures.value
-
-room : (c : Else-not-has_room) → let a = c.args in a.at + length (degrees_text a.x) ≤ length a.out.now
+room : (c : After-put_sign-whole) → let a = c.args in a.at + length (degrees_text a.x) ≤ length a.out.now
 room c =
     let a = c.args in
-    let n = c.degrees_length.result in
-    rw (← needed c.before.before.before) (leb-true (a.at + n) (length a.out.now) (said_yes c.has_room.ensures c.if-not-has_room.false))
+    let needed = rw (to_z-of_z c.ranges.x) at c.degrees_length.ensures.value in
+    rw (← needed) (leb-true (a.at + c.degrees_length.result) (length a.out.now) (sym c.has_room.ensures ∙ c.if-not-has_room.false))
 
 -- the text in its parts, by the size that was answered
-abbrev Tail : After-magnitude-size → List ℕ
+abbrev Tail : After-put_sign-whole → List ℕ
 Tail c = point ∷ three_digits c.magnitude-size.result
 
-abbrev Whole : After-magnitude-size → List ℕ
+abbrev Whole : After-put_sign-whole → List ℕ
 Whole c = digits_of (c.magnitude-size.result / 1000)
 
-parts : (c : After-magnitude-size) → let a = c.args in degrees_text a.x ≡ sign a.x ++ (Whole c ++ Tail c)
+parts : (c : After-put_sign-whole) → let a = c.args in degrees_text a.x ≡ sign a.x ++ (Whole c ++ Tail c)
 unfolding degrees_text
-parts c = rw (rw (to_z-of_z c.fits.x) at c.magnitude-size.ensures)
+parts c = rw (rw (to_z-of_z c.ranges.x) at c.magnitude-size.ensures)
 
 -- of the text at this place, so much is left
-abbrev Stands : After-magnitude-size → List ℕ → List ℕ → ℕ → Type 0
+abbrev Stands : After-put_sign-whole → List ℕ → List ℕ → ℕ → Type 0
 Stands c rest out at = let a = c.args in Left a.out.now a.at (sign a.x ++ (Whole c ++ Tail c)) rest out at
 
-left1 : (c : After-put_sign-whole) → Stands c.before.before.before (Whole c.before.before.before ++ Tail c.before.before.before) c.put_sign-whole.new.out c.put_sign-whole.result
+left1 : (c : After-put_sign-whole) → Stands c (Whole c ++ Tail c) c.put_sign-whole.new.out c.put_sign-whole.result
 left1 c =
     let a = c.args in
-    left_next (sign a.x) _ (left_all a.out.now a.at _ (rw (← parts c.before.before.before.before) (room c.before.before.before.before.before))) (rw (to_z-of_z c.fits.x) at (c.put_sign-whole.ensures.value, c.put_sign-whole.ensures.out_after))
+    let signed = c.put_sign-whole.ensures in
+    left_next (sign a.x) _ (left_all a.out.now a.at _ (rw (← parts c) (room c))) (rw (to_z-of_z c.ranges.x) at signed.value, rw (to_z-of_z c.ranges.x) at signed.out_after)
 
 pub returns-then-not-has_room : goal.returns-then-not-has_room
 returns-then-not-has_room c =
     let a = c.args in
-    let short = leb-false _ (length a.out.now) ((sym c.has_room.ensures ∙ c.if-not-has_room.true)) in
-    let whole = wrote_short a.out.now a.at (degrees_text a.x) (omega (arith, needed (goal.at.returns-then-not-has_room c).After-has_room)) in record { value = whole.0; out_after = whole.1 }
+    let needed = rw (to_z-of_z c.ranges.x) at c.degrees_length.ensures.value in
+    let short = leb-false _ (length a.out.now) (sym c.has_room.ensures ∙ c.if-not-has_room.true) in
+    let whole = wrote_short a.out.now a.at (degrees_text a.x) (omega (arith, needed)) in
+    record { value = whole.0; out_after = whole.1 }
 
 pub returns : goal.returns
 returns c =
-    let after-magnitude = (goal.at.returns c).After-magnitude-size in let p = (goal.at.returns c).After-put_sign-whole in 
-    rw (parts after-magnitude) (left_last (left_next (Whole after-magnitude) (Tail after-magnitude) (left1 p) (c.write_number-point.ensures.value, c.write_number-point.ensures.out_after)) (c.put_decimals.ensures.value, c.put_decimals.ensures.out_after))
+    let p = (goal.at.returns c).After-put_sign-whole in
+    let number = c.write_number-point.ensures in
+    let decimals = c.put_decimals.ensures in
+    let left2 = left_next (Whole p) (Tail p) (left1 p) (number.value, number.out_after) in
+    let whole = left_last left2 (decimals.value, decimals.out_after) in
+    rw (parts p) (record { value = whole.0; out_after = whole.1 })

@@ -7,12 +7,11 @@ use Rattle.record_whole.proofs.fault.Goals as goal
 
 pub returns-in-Bad : goal.returns-in-Bad
 returns-in-Bad c =
-    let d = c.before.before.before in
-    let b = looked_bad _ _ _ (sym d.look_over-look.ensures ∙ c.look.given.1) in
-    rw b.0 (ap Refused (sym b.1 ∙ equally_long _ _ d.requires b.0))
+    let b = looked_bad _ _ _ (sym c.look_over-look.ensures ∙ c.in-Bad.is) in
+    rw b.0 (ap Refused (sym b.1 ∙ equally_long _ _ c.requires b.0))
 
 pub returns-then-long : goal.returns-then-long
-returns-then-long c = rw (looked_good _ _ (sym c.look_over-look.ensures ∙ c.enum_told.given.1), c.if-long.true)
+returns-then-long c = rw (looked_good _ _ (sym c.look_over-look.ensures ∙ c.in_default.is), c.if-long.true)
 
 pub returns-else-long : goal.returns-else-long
-returns-else-long c = rw (looked_good _ _ (sym c.look_over-look.ensures ∙ c.enum_told.given.1), c.if-long.false)
+returns-else-long c = rw (looked_good _ _ (sym c.look_over-look.ensures ∙ c.in_default.is), c.if-long.false)

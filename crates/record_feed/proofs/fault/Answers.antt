@@ -7,9 +7,9 @@ use Rattle.record_feed.proofs.fault.Goals as goal
 
 pub returns-in-Bad : goal.returns-in-Bad
 returns-in-Bad c =
-    let b = looked_bad _ _ _ (sym c.look_over-look.ensures ∙ c.look.given.1) in
+    let b = looked_bad _ _ _ (sym c.look_over-look.ensures ∙ c.in-Bad.is) in
     rw b.0 (ap Refused (sym b.1 ∙ equally_long _ _ c.requires b.0))
 
 pub returns : goal.returns
 returns c =
-    rw (looked_good _ _ (sym c.look_over-look.ensures ∙ c.enum_told.given.1))
+    rw (looked_good _ _ (sym c.look_over-look.ensures ∙ c.in_default.is))

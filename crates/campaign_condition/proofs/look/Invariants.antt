@@ -1,0 +1,19 @@
+-- `campaign_condition::look` meets its contract: the invariant is `Along`, that what was seen and what is left add up
+-- to what there is. What is left falls. Assumes nothing.
+use Prim.Native.Nat.{◌-◌, ◌≤◌}
+use mathlib.Core.Path.{ap, ◌∙◌}
+use mathlib.Core.Bool.{◌&&◌, ◌||◌}
+use native.Mathlib.Omega.{arith}
+use lib.ListN.{drop, length, take}
+use borrow.Author.Rules.{rules}
+use Rattle.campaign_state.specs.State.{empty}
+use Rattle.campaign_condition.specs.declared.Told.{Told}
+use Rattle.campaign_condition.proofs.Front.{front_end, front_next}
+use Rattle.campaign_condition.proofs.Looking.{Along, ended, on, start}
+use Rattle.campaign_condition.proofs.look.Given as goal
+
+abbrev pub invariant-loop-i : goal.invariant-loop-i
+invariant-loop-i l = (l.i ≤ l.number) × Along (take l.number l.campaigns) (drop l.i (take l.number l.campaigns)) l.i l.broken l.one l.all
+
+abbrev pub decreases-loop-i : goal.decreases-loop-i
+decreases-loop-i l = l.number - l.i

@@ -137,9 +137,29 @@ files_from() {
     [ "${#names[@]}" -gt 0 ] || stop "$list names no file"
 }
 
+# is_text NAME: whether it is UTF-8. A program opens no file by another name.
+ascii=$'\x01-\x7f' next=$'[\x80-\xbf]'
+utf8="^([$ascii]|["$'\xc2-\xdf'"]$next|"$'\xe0[\xa0-\xbf]'"$next|["$'\xe1-\xec\xee\xef'"]$next$next"
+utf8+="|"$'\xed[\x80-\x9f]'"$next|"$'\xf0[\x90-\xbf]'"$next$next|["$'\xf1-\xf3'"]$next$next$next"
+utf8+="|"$'\xf4[\x80-\x8f]'"$next$next)*\$"
+is_text() {
+    local LC_ALL=C
+    case $1 in
+    *[!$ascii]*) [[ $1 =~ $utf8 ]] ;;
+    esac
+}
+
+# places_spool: where a program may make a temporary file goes to `spool`. A folder whose name is no UTF-8 goes by a
+# descriptor.
+places_spool() {
+    spool=${TMPDIR:-/tmp}
+    is_text "$spool" || ! { command exec {opened}<"$spool"; } 2>/dev/null || spool=/dev/fd/$opened
+    spool=$spool/chimenickel-$me.XXXXXX
+}
+
 # takes_names: asks of all `names` whether they can be read, each by itself. A program opens files by their names; one
 # that stands for a descriptor is opened here, before a descriptor is taken for something else, and goes by another
-# name. The names to hand over go to `handed`.
+# name, and so does one whose own is no UTF-8. The names to hand over go to `handed`.
 takes_names() {
     are_there "${names[@]}"
     are_apart "${names[@]}"
@@ -153,7 +173,7 @@ hands_names() {
     for file; do
         descriptor_of "$file"
         # a link may lead to standard input, too, which is another in the program
-        if [ -n "$descriptor" ] || { [ -L "$file" ] && [ "$file" -ef /dev/fd/0 ]; }; then
+        if [ -n "$descriptor" ] || { [ -L "$file" ] && [ "$file" -ef /dev/fd/0 ]; } || ! is_text "$file"; then
             opens "$file"
             file=/dev/fd/$opened
         fi

@@ -1,6 +1,6 @@
 // The C interface: include/chimenickel.h declares these functions, and bin/build-lib joins them into the library. Each
-// hands its call on to the function of the same name in a crate of capi_*, by the same clauses: a crate is a library for
-// other crates or for C, and those are libraries for other crates.
+// hands its call on to the function of the same name in a crate of capi_*, by the same clauses. A crate is a library
+// either for other crates or for C, and those are for other crates.
 #![tactic(auto)]
 
 mod binomial;
@@ -13,6 +13,5 @@ mod peaks;
 mod reach;
 mod record;
 mod sheet;
-mod sheet_records;
 mod tail;
 mod verdict;

@@ -71,16 +71,14 @@ fn keep_sum(a: binomial_sum::SumAnswer, state: &mut [u64], carried: &mut u64) ->
 }
 
 // The sum of no records in `state`; or refusal 8 for an array of another length, 1 with item 1.
-#[unsafe(no_mangle)]
-pub extern "C" fn chim_sum_open(step: u64, state: &mut [u64], carried: &mut u64) -> u64
+pub fn chim_sum_open(step: u64, state: &mut [u64], carried: &mut u64) -> u64
     ensures { told result carried.new state.new ≡ sum_opened step state.old }
 {
     keep_sum(binomial_sum::open(step), state, carried)
 }
 
 // The sum in `state` with a record added; or refusal 8, 4, 1 with item 1 for a record of another step, 11.
-#[unsafe(no_mangle)]
-pub extern "C" fn chim_sum_add(state: &mut [u64], added: &[u64], carried: &mut u64) -> u64
+pub fn chim_sum_add(state: &mut [u64], added: &[u64], carried: &mut u64) -> u64
     ensures { told result carried.new state.new
         ≡ sum_added state.old added.now }
 {
@@ -91,8 +89,7 @@ pub extern "C" fn chim_sum_add(state: &mut [u64], added: &[u64], carried: &mut u
 
 // The bounds in thousandths of a failure and P.D in `bounds`, and 1 in `carried`; 0 and bounds of 0 while there is no
 // record; or refusal 8.
-#[unsafe(no_mangle)]
-pub extern "C" fn chim_sum_bounds(state: &[u64], bounds: &mut [u64], carried: &mut u64) -> u64
+pub fn chim_sum_bounds(state: &[u64], bounds: &mut [u64], carried: &mut u64) -> u64
     ensures { told result carried.new bounds.new
         ≡ sum_bounded state.now bounds.old }
 {
@@ -111,8 +108,7 @@ pub extern "C" fn chim_sum_bounds(state: &[u64], bounds: &mut [u64], carried: &m
 }
 
 // The three rates, and 1 in `carried`; 0 and rates of 0 while there is no record; or refusal 8.
-#[unsafe(no_mangle)]
-pub extern "C" fn chim_sum_rates(
+pub fn chim_sum_rates(
     state: &[u64],
     estimate: &mut f64,
     lower: &mut f64,

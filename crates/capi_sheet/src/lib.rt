@@ -44,8 +44,7 @@ fn column_of(end: Reading) -> u64
 
 // The campaign of a whole job sheet in `state`; or refusal 8 for an array of another length, else the sheet's first
 // refusal, with its line in `line` and its column, or 0, in `column`.
-#[unsafe(no_mangle)]
-pub extern "C" fn chim_sheet_read(
+pub fn chim_sheet_read(
     text: &[u8],
     state: &mut [u64],
     line: &mut u64,

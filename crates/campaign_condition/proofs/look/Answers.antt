@@ -13,8 +13,8 @@ use Rattle.campaign_condition.proofs.look.Goals as goal
 pub loop-i-preserved : goal.loop-i-preserved
 loop-i-preserved c =
     let a = c.args in
-    let room : a.number ≤ length a.t1 = search rules in
-    let next = on _ _ (front_next a.t1 a.number room c.loop-i.i (empty 0) c.loop-i-test.true) c.loop-i.invariant.1 in
+    let room : a.number ≤ length a.campaigns = search rules in
+    let next = on _ _ (front_next a.campaigns a.number room c.loop-i.i (empty 0) c.loop-i-test.true) c.loop-i.invariant.1 in
     let says = c.said-v.ensures in
     let one = c.either-one.ensures ∙ ap (λ (v : Told). c.loop-i.one || v.rejected) says in
     let all = c.both-all.ensures ∙ ap (λ (v : Told). c.loop-i.all && v.accepted) says in
@@ -24,5 +24,5 @@ pub returns : goal.returns
 returns c =
     let l = c.before in
     let a = l.args in
-    let room : a.number ≤ length a.t1 = search rules in
-    ended (front_end a.t1 a.number room l.loop-i.i c.loop-i-test.false) l.loop-i.invariant.1
+    let room : a.number ≤ length a.campaigns = search rules in
+    ended (front_end a.campaigns a.number room l.loop-i.i c.loop-i-test.false) l.loop-i.invariant.1

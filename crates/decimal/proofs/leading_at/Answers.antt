@@ -14,7 +14,7 @@ use Rattle.decimal.specs.declared.Lead.TheVariants.{Number, Nothing}
 use Rattle.decimal.proofs.Reading.{run, run_within}
 use Rattle.decimal.proofs.Leading.{leads_bad, leads_read}
 use Rattle.decimal.proofs.leading_at.Goals as goal
-use Rattle.decimal.proofs.leading_at.Goals.{After-run_at-run, Else-digit_at, Start}
+use Rattle.decimal.proofs.leading_at.Goals.{Else-digit_at}
 
 pub returns-then-digit_at : goal.returns-then-digit_at
 returns-then-digit_at c =

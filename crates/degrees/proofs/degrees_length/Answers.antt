@@ -10,7 +10,7 @@ use Rattle.decimal.specs.Decimal.{digits_of}
 use Rattle.decimal.proofs.Text.{digits_below}
 use Rattle.degrees.proofs.Signs.{sign_below, sign_other, text_length, abs_small}
 use Rattle.degrees.proofs.degrees_length.Goals as goal
-use Rattle.degrees.proofs.degrees_length.Goals.{After-digits-whole, Start}
+use Rattle.degrees.proofs.degrees_length.Goals.{After-digits-whole}
 
 size : (c : After-digits-whole) → c.magnitude.result ≡ nat_abs c.args.x
 size c = rw (to_z-of_z c.ranges.x) at c.magnitude.ensures

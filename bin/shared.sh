@@ -137,9 +137,29 @@ files_from() {
     [ "${#names[@]}" -gt 0 ] || stop "$list names no file"
 }
 
+# is_text NAME: whether it is UTF-8. A program opens no file by another name.
+ascii=$'\x01-\x7f' next=$'[\x80-\xbf]'
+utf8="^([$ascii]|["$'\xc2-\xdf'"]$next|"$'\xe0[\xa0-\xbf]'"$next|["$'\xe1-\xec\xee\xef'"]$next$next"
+utf8+="|"$'\xed[\x80-\x9f]'"$next|"$'\xf0[\x90-\xbf]'"$next$next|["$'\xf1-\xf3'"]$next$next$next"
+utf8+="|"$'\xf4[\x80-\x8f]'"$next$next)*\$"
+is_text() {
+    local LC_ALL=C
+    case $1 in
+    *[!$ascii]*) [[ $1 =~ $utf8 ]] ;;
+    esac
+}
+
+# places_spool: where a program may make a temporary file goes to `spool`. A folder whose name is no UTF-8 goes by a
+# descriptor.
+places_spool() {
+    spool=${TMPDIR:-/tmp}
+    is_text "$spool" || ! { command exec {opened}<"$spool"; } 2>/dev/null || spool=/dev/fd/$opened
+    spool=$spool/chimenickel-$me.XXXXXX
+}
+
 # takes_names: asks of all `names` whether they can be read, each by itself. A program opens files by their names; one
 # that stands for a descriptor is opened here, before a descriptor is taken for something else, and goes by another
-# name. The names to hand over go to `handed`.
+# name, and so does one whose own is no UTF-8. The names to hand over go to `handed`.
 takes_names() {
     are_there "${names[@]}"
     are_apart "${names[@]}"
@@ -153,7 +173,7 @@ hands_names() {
     for file; do
         descriptor_of "$file"
         # a link may lead to standard input, too, which is another in the program
-        if [ -n "$descriptor" ] || { [ -L "$file" ] && [ "$file" -ef /dev/fd/0 ]; }; then
+        if [ -n "$descriptor" ] || { [ -L "$file" ] && [ "$file" -ef /dev/fd/0 ]; } || ! is_text "$file"; then
             opens "$file"
             file=/dev/fd/$opened
         fi
@@ -355,8 +375,9 @@ finds() {
 # output, once it is proved and built. A program of the kit has no exit status. It says how it ended by a digit on
 # descriptor 3, which goes to `status`: 0 done, 1 refused, 2 something could not be read or written. Before a 1 stand
 # what the refusal carries or nothing, for `carried`, and the refused line, for `refused`. What it writes goes straight
-# to standard output, so nothing on the way holds it back. Descriptor 4 is handed on as it is, for a second file or for
-# a list of names, each ended by a 0 byte.
+# to standard output, so nothing on the way holds it back. Descriptor 4 is handed on for a second file or for a list of
+# names, each ended by a 0 byte. A program opens it once more by its name: what it could not open so, or would wait for,
+# comes through a pipe.
 run() {
     local program out end IFS
     finds "$1" "$2"
@@ -366,6 +387,9 @@ run() {
     # and a descriptor that is closed would be taken by the pipe from the program itself
     [ -e /dev/fd/0 ] || stop "standard input is closed"
     { command exec {out}>&1; } 2>/dev/null || stop "standard output is closed"
+    if [ -S /dev/fd/4 ] || { [ -p /dev/fd/4 ] && [ ! -w /dev/fd/4 ]; } || { [ -e /dev/fd/4 ] && [ ! -r /dev/fd/4 ]; }; then
+        exec 4< <(cat <&4)
+    fi
     end=$("$program" "$@" 3>&1 >&"$out" {out}>&-)
     exec {out}>&-
     status=${end##*"$lf"}

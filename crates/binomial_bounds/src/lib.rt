@@ -13,7 +13,7 @@ use campaign_verdict::{Rated, Rates};
 use refusal::Refusal;
 
 // Thousandths of a failure in `time` ms.
-#[derive(Drop)]
+#[derive(Clone, Copy)]
 pub struct Bounds {
     pub estimate: u64,
     pub lower: u64,
@@ -22,7 +22,7 @@ pub struct Bounds {
 }
 
 // Whether there is a record, and the bounds; without one they are 0.
-#[derive(Drop)]
+#[derive(Clone, Copy)]
 pub enum Bounded {
     Given(bool, Bounds),
     Refused(Refusal),

@@ -24,7 +24,7 @@ const TAB: u8 = 9;
 const LF: u8 = 10;
 
 // The sum so far; or the number of the file at fault, its line or 0, and the refusal.
-#[derive(Drop)]
+#[derive(Clone, Copy)]
 pub enum Added {
     Sum(Sum),
     Refused(u64, u64, Refusal),

@@ -16,14 +16,14 @@ pub const MOST_FAILURES: u64 = 10_000;
 pub const MOST_SAMPLES: u64 = 100_000_000;
 
 // The step D of all its records in ms; N, their counted groups, and P, their timed samples.
-#[derive(Drop)]
+#[derive(Clone, Copy)]
 pub struct Sum {
     pub step: u64,
     pub failures: u64,
     pub samples: u64,
 }
 
-#[derive(Drop)]
+#[derive(Clone, Copy)]
 pub enum SumAnswer {
     Taken(Sum),
     Refused(Refusal),

@@ -101,7 +101,7 @@ pub fn work(b: u64, c: Campaign, w: Work) -> Worked
 }
 
 // The place to work on, past the table if there is none, and the answer unless the work says otherwise.
-#[derive(Drop)]
+#[derive(Clone, Copy)]
 pub struct Choice {
     pub at: usize,
     pub answer: TableAnswer,

@@ -118,7 +118,7 @@ pub fn enter(t: &mut [Place], bureau: u64, place: u64, o: Outcome) -> TableAnswe
 }
 
 // A table by value, and an answer.
-#[derive(Drop)]
+#[derive(Clone, Copy)]
 pub struct Served {
     pub places: [Place; 32],
     pub answer: TableAnswer,

@@ -12,7 +12,7 @@ use campaign_state::Campaign;
 
 // What was found so far: whether every place is as it should be, the lowest free place if one was found, and how many
 // places each bureau has, up to 17.
-#[derive(Drop)]
+#[derive(Clone, Copy)]
 pub struct Seen {
     pub whole: bool,
     pub found: bool,

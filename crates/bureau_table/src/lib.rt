@@ -8,7 +8,7 @@ use record_end::Outcome;
 use refusal::Refusal;
 
 // Bureau 1 or 2 and its campaign; or 0 and all zeros.
-#[derive(Drop)]
+#[derive(Clone, Copy)]
 pub struct Place {
     pub owner: u64,
     pub campaign: Campaign,
@@ -16,7 +16,7 @@ pub struct Place {
 
 // What the owner of a place may ask for: enter what a campaign takes of a record's result, the verdict, the rates,
 // give the place back.
-#[derive(Drop)]
+#[derive(Clone, Copy)]
 pub enum Work {
     Enter(Outcome),
     Judge,
@@ -25,20 +25,20 @@ pub enum Work {
 }
 
 // A job at the standard q; or work on the job in a place.
-#[derive(Drop)]
+#[derive(Clone, Copy)]
 pub enum Ask {
     Take(u64),
     On(u64, Work),
 }
 
 // A bureau, and what it asks.
-#[derive(Drop)]
+#[derive(Clone, Copy)]
 pub struct Call {
     pub bureau: u64,
     pub ask: Ask,
 }
 
-#[derive(Drop)]
+#[derive(Clone, Copy)]
 pub enum TableAnswer {
     Placed(u64),
     Entered,
@@ -49,7 +49,7 @@ pub enum TableAnswer {
 }
 
 // What work on a campaign answers, and what stands in its place then.
-#[derive(Drop)]
+#[derive(Clone, Copy)]
 pub struct Worked {
     pub answer: TableAnswer,
     pub place: Place,

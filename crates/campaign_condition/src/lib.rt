@@ -14,21 +14,21 @@ use refusal::Refusal;
 // The most design situations of a loading condition.
 pub const MOST_SITUATIONS: usize = 64;
 
-#[derive(Drop)]
+#[derive(Clone, Copy)]
 pub enum Standing {
     Accepted,
     Rejected,
     Open,
 }
 
-#[derive(Drop)]
+#[derive(Clone, Copy)]
 pub enum ConditionAnswer {
     Given(Standing),
     Refused(Refusal),
 }
 
 // Whether a campaign is rejected, and whether it is accepted.
-#[derive(Drop)]
+#[derive(Clone, Copy)]
 struct Told {
     rejected: bool,
     accepted: bool,
@@ -36,7 +36,7 @@ struct Told {
 
 // What is seen of the campaigns, one after the other: the lowest broken one, counted from 1, or 0; whether one is
 // rejected; whether all are accepted.
-#[derive(Drop)]
+#[derive(Clone, Copy)]
 struct Seen {
     broken: u64,
     rejected: bool,

@@ -24,7 +24,7 @@ const LF: u8 = 10;
 const BLOCK: u64 = 5;
 
 // The sums over all situations: M, N, T and blocks.
-#[derive(Drop)]
+#[derive(Clone, Copy)]
 struct Total {
     records: u64,
     failures: u64,

@@ -20,7 +20,7 @@ pub const MOST_RECORDS: u64 = 100_000;
 pub const ROWS: u64 = 64;
 
 // One failure in `standard` ms is asked for; M records, N failures, T ms of exposure; whether the last record failed.
-#[derive(Drop)]
+#[derive(Clone, Copy)]
 pub struct Campaign {
     pub standard: u64,
     pub records: u64,
@@ -29,7 +29,7 @@ pub struct Campaign {
     pub failed: bool,
 }
 
-#[derive(Drop)]
+#[derive(Clone, Copy)]
 pub enum CampaignAnswer {
     Taken(Campaign),
     Refused(Refusal),

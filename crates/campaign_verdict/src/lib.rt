@@ -13,7 +13,7 @@ use campaign_state::Campaign;
 use refusal::Refusal;
 
 // Accept carries the upper rate, reject the lower, continue the lower and then the upper.
-#[derive(Drop)]
+#[derive(Clone, Copy)]
 pub enum Verdict {
     Accept(f64),
     Reject(f64),
@@ -21,14 +21,14 @@ pub enum Verdict {
     NoRecord,
 }
 
-#[derive(Drop)]
+#[derive(Clone, Copy)]
 pub enum Judged {
     Given(Verdict),
     Refused(Refusal),
 }
 
 // Failures in a second.
-#[derive(Drop)]
+#[derive(Clone, Copy)]
 pub struct Rates {
     pub estimate: f64,
     pub lower: f64,
@@ -36,13 +36,13 @@ pub struct Rates {
 }
 
 // Whether there is a record, and the rates; without one they are 0.
-#[derive(Drop)]
+#[derive(Clone, Copy)]
 pub enum Rated {
     Given(bool, Rates),
     Refused(Refusal),
 }
 
-#[derive(Drop)]
+#[derive(Clone, Copy)]
 pub enum Counted {
     Count(u64),
     Refused(Refusal),

@@ -32,7 +32,7 @@ const LINES: usize = 1024;
 const LATEST: u64 = 1_000_000_000_000;
 
 // Where the counting of a file stands.
-#[derive(Drop)]
+#[derive(Clone, Copy)]
 pub struct Counting {
     // Its lines so far.
     pub follow: Follow,
@@ -43,7 +43,7 @@ pub struct Counting {
 }
 
 // Where it stands after a piece, and how many bytes of the piece are used; the others go before the next piece.
-#[derive(Drop)]
+#[derive(Clone, Copy)]
 pub struct Took {
     pub counting: Counting,
     pub used: usize,
@@ -106,7 +106,7 @@ fn answering(f: Follow, a: RecordAnswer, samples: &[i32]) -> RecordAnswer
 }
 
 // Where the right lines that a text starts with lead, and their bytes.
-#[derive(Drop)]
+#[derive(Clone, Copy)]
 struct Reached {
     follow: Follow,
     answer: RecordAnswer,
@@ -237,7 +237,7 @@ pub fn take(c: Counting, text: &[u8], more: bool) -> Took
 }
 
 // Where a count stands after a turn, and how many bytes of a line begun stand at the start of the buffer.
-#[derive(Drop)]
+#[derive(Clone, Copy)]
 pub struct Turned {
     pub counting: Counting,
     pub kept: usize,
@@ -316,7 +316,7 @@ fn line_for(f: Follow, r: Refusal) -> u64
 }
 
 // What a file came to: its record, or the line at fault, 0 where none is, and the refusal.
-#[derive(Drop)]
+#[derive(Clone, Copy)]
 pub enum End {
     Counted(Record),
     Refused(u64, Refusal),

@@ -18,7 +18,7 @@ pub const COMMA: u8 = 44;
 const LF: u8 = 10;
 
 // What a line says.
-#[derive(Drop)]
+#[derive(Clone, Copy)]
 pub enum Line {
     // Whether a minus stands before the degrees, their thousandths, and the place after the line.
     Says(bool, u64, usize),

@@ -43,7 +43,7 @@ const COMMA_LINE: u64 = 10;
 const LINES: usize = 1024;
 
 // Where the counting of two files stands.
-#[derive(Drop)]
+#[derive(Clone, Copy)]
 pub struct Watching {
     // Their lines so far.
     pub roll: Follow,
@@ -57,7 +57,7 @@ pub struct Watching {
 }
 
 // Which file has to be read before more can be taken.
-#[derive(Drop)]
+#[derive(Clone, Copy)]
 pub enum Next {
     Roll,
     Acceleration,
@@ -65,7 +65,7 @@ pub enum Next {
 }
 
 // Where it stands after pieces of both, and how many bytes of each are used; the others go before the next piece.
-#[derive(Drop)]
+#[derive(Clone, Copy)]
 pub struct Took {
     pub watching: Watching,
     pub roll: usize,
@@ -74,7 +74,7 @@ pub struct Took {
 }
 
 // Where both stand after the right lines that they have side by side, their bytes, and whether the roll has one more.
-#[derive(Drop)]
+#[derive(Clone, Copy)]
 pub struct Abreast {
     pub roll: Follow,
     pub acceleration: Follow,
@@ -85,7 +85,7 @@ pub struct Abreast {
 }
 
 // What two files came to: their record; or a refusal, with the line at fault and its channel where it names them.
-#[derive(Drop)]
+#[derive(Clone, Copy)]
 pub enum PairEnd {
     Counted(Record),
     Refused(Refusal),
@@ -118,7 +118,7 @@ fn onward(a: RecordAnswer, rolls: &[i32], accelerations: &[i32]) -> RecordAnswer
 }
 
 // Lines of one file: where it stands after them, their bytes and their number.
-#[derive(Drop)]
+#[derive(Clone, Copy)]
 struct Lines {
     follow: Follow,
     bytes: usize,
@@ -146,7 +146,7 @@ fn some(f: Follow, text: &[u8], samples: &mut [i32]) -> Lines
 }
 
 // The same of both files, as many lines of each, fed.
-#[derive(Drop)]
+#[derive(Clone, Copy)]
 struct Pairs {
     roll: Follow,
     acceleration: Follow,

@@ -80,7 +80,7 @@ pub fn hand(
 }
 
 // What a file comes to after its first reading: the line at fault or 0 with the refusal, or its peaks.
-#[derive(Drop)]
+#[derive(Clone, Copy)]
 pub enum Judged {
     Refused(u64, Refusal),
     Peaks,

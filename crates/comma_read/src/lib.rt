@@ -41,7 +41,7 @@ const LATEST: u64 = 99_990_000;
 const MOST_LINES: u64 = 1_000_000_000_000;
 
 // What reading a text comes to.
-#[derive(Drop)]
+#[derive(Clone, Copy)]
 pub enum Reading {
     // The number of samples.
     Samples(u64),
@@ -49,7 +49,7 @@ pub enum Reading {
 }
 
 // What taking a text's right lines comes to.
-#[derive(Drop)]
+#[derive(Clone, Copy)]
 pub enum LinesTaken {
     // Their number, their bytes, and the samples before the first out of range.
     Taken(u64, usize, u64),
@@ -57,7 +57,7 @@ pub enum LinesTaken {
 }
 
 // What all lines of a text come to.
-#[derive(Drop)]
+#[derive(Clone, Copy)]
 enum LinesFound {
     // The number of lines before the first wrong one.
     Wrong(u64),
@@ -66,7 +66,7 @@ enum LinesFound {
 }
 
 // Plain lines one after the other: the place after them, and their number.
-#[derive(Drop)]
+#[derive(Clone, Copy)]
 struct Run {
     at: usize,
     lines: u64,

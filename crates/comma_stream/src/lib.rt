@@ -15,7 +15,7 @@ const LF: u8 = 10;
 const LONGEST_LINE: usize = 31;
 
 // Where the reading of a file stands.
-#[derive(Drop)]
+#[derive(Clone, Copy)]
 pub struct Follow {
     // The step by which times grow.
     pub step: u64,
@@ -26,7 +26,7 @@ pub struct Follow {
 }
 
 // What a piece comes to.
-#[derive(Drop)]
+#[derive(Clone, Copy)]
 pub enum Followed {
     // Where the reading stands after its right lines, their bytes, and their number.
     Taken(Follow, usize, usize),
@@ -34,7 +34,7 @@ pub enum Followed {
 }
 
 // What stands after the right lines.
-#[derive(Drop)]
+#[derive(Clone, Copy)]
 pub enum Rest {
     // So many bytes of a line that may have begun; more is to come.
     Waits(usize),

@@ -24,7 +24,7 @@ const MALFORMED: u64 = 9;
 
 // How many campaigns are in their places; or the number of the situation at fault, its sheet's line and column or 0,
 // and the refusal.
-#[derive(Drop)]
+#[derive(Clone, Copy)]
 pub enum Situations {
     Campaigns(u64),
     Refused(u64, u64, u64, Refusal),

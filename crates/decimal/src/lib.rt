@@ -17,7 +17,7 @@ const ZERO: u8 = 48;
 const LONGEST: usize = 12;
 
 // The number that a text starts with, whatever stands after it.
-#[derive(Drop)]
+#[derive(Clone, Copy)]
 pub enum Lead {
     // The number, and the place of the byte after its digits.
     Number(u64, usize),
@@ -79,7 +79,7 @@ fn digit_at(s: &[u8], at: usize) -> bool
 }
 
 // The digits that stand at a place, at most LONGEST of them: what they are worth, and the place after them.
-#[derive(Drop)]
+#[derive(Clone, Copy)]
 pub struct Run {
     pub value: u64,
     pub end: usize,

@@ -14,7 +14,7 @@ const MINUS: u8 = 45;
 const POINT: u8 = 46;
 
 // What degrees in text say.
-#[derive(Drop)]
+#[derive(Clone, Copy)]
 pub enum Degrees {
     // Whether a minus stands before them, their thousandths, and the place after them.
     Says(bool, u64, usize),

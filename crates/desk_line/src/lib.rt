@@ -28,7 +28,7 @@ const LF: u8 = 10;
 const ITEM: u64 = 1;
 
 // How many bytes were written, and how a program ends that wrote them.
-#[derive(Drop)]
+#[derive(Clone, Copy)]
 pub struct Finished {
     pub put: usize,
     pub end: u8,

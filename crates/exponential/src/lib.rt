@@ -21,7 +21,7 @@ const SHIFTS: [u8; 26] = [
 ];
 
 // A figure: mantissa 2 ^ shift / 2 ^ 31.
-#[derive(Drop)]
+#[derive(Clone, Copy)]
 pub struct Power {
     pub mantissa: u64,
     pub shift: u64,

@@ -18,7 +18,7 @@ fn shift(v: u32) -> u32
 }
 
 // A ratio as 2 ^ whole times part / 2 ^ 31, with part cut to a whole number.
-#[derive(Drop)]
+#[derive(Clone, Copy)]
 struct Scaled {
     whole: u64,
     part: u64,

@@ -21,14 +21,14 @@ use refusal::Refusal;
 use sample_channels::Levels;
 use sample_items::Items;
 
-#[derive(Drop)]
+#[derive(Clone, Copy)]
 pub enum PeaksFound {
     Peaks(u64),
     Refused(Refusal),
 }
 
 // How many peaks there are, and their sum.
-#[derive(Drop)]
+#[derive(Clone, Copy)]
 struct Totals {
     number: u32,
     sum: u64,

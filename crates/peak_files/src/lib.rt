@@ -30,7 +30,7 @@ const LINES: usize = 1024;
 pub const ROOM: usize = 49_152;
 
 // Where a reading of a file stands.
-#[derive(Drop)]
+#[derive(Clone, Copy)]
 pub struct Pass {
     // Its lines so far.
     pub follow: Follow,
@@ -48,7 +48,7 @@ pub struct Pass {
 
 // Where it stands after a call, how many bytes of the text are used, and how many were written; the others go before
 // the next piece.
-#[derive(Drop)]
+#[derive(Clone, Copy)]
 pub struct Took {
     pub pass: Pass,
     pub used: usize,
@@ -152,7 +152,7 @@ fn number_of(h: Handed) -> usize
 }
 
 // What is handed out after some samples, and how many bytes were written.
-#[derive(Drop)]
+#[derive(Clone, Copy)]
 struct Gave {
     handing: Handed,
     put: usize,
@@ -189,7 +189,7 @@ fn handed_on(file: u64, a: Handed, ramp: u64, lines: u64, samples: &[i32], out: 
 }
 
 // A reading with the samples of some lines, up to `f`, and how many bytes were written.
-#[derive(Drop)]
+#[derive(Clone, Copy)]
 struct Passed {
     pass: Pass,
     put: usize,

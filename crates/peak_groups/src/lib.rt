@@ -12,7 +12,7 @@ ghost use Rattle.peak_groups.specs.Step.{longer};
 ghost use Rattle.peak_groups.specs.Peaks.{high, alike, close, short};
 
 // A sample or a peak: its magnitude, its time in ms, and whether it is below zero.
-#[derive(Drop)]
+#[derive(Clone, Copy)]
 pub struct Peak {
     pub below: bool,
     pub size: u32,
@@ -20,7 +20,7 @@ pub struct Peak {
 }
 
 // Members taken one after the other: how many groups were opened, the last member, and the largest of the open group.
-#[derive(Drop)]
+#[derive(Clone, Copy)]
 pub struct Group {
     pub opened: u64,
     pub last: Peak,
@@ -35,7 +35,7 @@ pub fn larger(p: Peak, q: Peak) -> Peak
 }
 
 // A run: whether it is below zero, how many samples it has, and the first place in it that has its largest magnitude.
-#[derive(Drop)]
+#[derive(Clone, Copy)]
 pub struct Run {
     pub below: bool,
     pub length: usize,

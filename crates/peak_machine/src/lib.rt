@@ -10,7 +10,7 @@ ghost use Rattle.peak_machine.specs.Step.{met, chains_after, stepped, advanced, 
 use peak_groups::{Group, Peak};
 
 // A pass between two peaks: peaks in stretches, and the peaks kept of those in chains.
-#[derive(Drop)]
+#[derive(Clone, Copy)]
 pub struct Envelope {
     pub stretches: Group,
     pub chains: Group,

@@ -21,21 +21,21 @@ const FAR: u64 = 1_152_921_504_606_846_976;
 
 // Times in ms: at most the estimated mean time between failures; the longest standard found to be accepted; the
 // shortest found to be rejected, 0 for none.
-#[derive(Drop)]
+#[derive(Clone, Copy)]
 pub struct Times {
     pub estimate: u64,
     pub accepted: u64,
     pub rejected: u64,
 }
 
-#[derive(Drop)]
+#[derive(Clone, Copy)]
 pub enum Letter {
     Accept,
     Reject,
     Continue,
 }
 
-#[derive(Drop)]
+#[derive(Clone, Copy)]
 pub enum Extrapolated {
     Found(Times, Letter),
     Refused(Refusal),
@@ -64,7 +64,7 @@ fn cut(r: u64, m: u64, s: u64, less: u64) -> u64
 }
 
 // 2 ^ 20 a / d: the whole part, and what is left of d.
-#[derive(Drop)]
+#[derive(Clone, Copy)]
 struct Divided {
     whole: u64,
     rest: u64,

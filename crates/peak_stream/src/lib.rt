@@ -22,7 +22,7 @@ use refusal::Refusal;
 
 // Runs of one sign: the largest sample of the open one, the step in ms, how many timed samples came, and how many runs
 // were opened.
-#[derive(Drop)]
+#[derive(Clone, Copy)]
 pub struct Reading {
     pub best: Peak,
     pub step: u32,
@@ -31,14 +31,14 @@ pub struct Reading {
 }
 
 // The first pass: the number and the sum of the peaks so far, without the open run's.
-#[derive(Drop)]
+#[derive(Clone, Copy)]
 pub struct Surveying {
     pub reading: Reading,
     pub number: u32,
     pub sum: u64,
 }
 
-#[derive(Drop)]
+#[derive(Clone, Copy)]
 pub enum Surveyed {
     Taken(Surveying),
     Refused(Refusal),
@@ -215,7 +215,7 @@ pub fn take(s: Surveying, samples: &[i32]) -> Surveyed
 
 // The second pass: the runs, the stretches and the chains, and the decorrelation time, the number and the sum by which
 // they are judged.
-#[derive(Drop)]
+#[derive(Clone, Copy)]
 pub struct Handing {
     pub reading: Reading,
     pub envelope: Envelope,
@@ -224,7 +224,7 @@ pub struct Handing {
     pub sum: u64,
 }
 
-#[derive(Drop)]
+#[derive(Clone, Copy)]
 pub enum Handed {
     Taken(Handing, u64),
     Refused(Refusal),
@@ -293,7 +293,7 @@ fn put(g: Group, opened: u64, k: usize, sizes: &mut [u32], times: &mut [u32]) ->
 }
 
 // A piece gone through: the pass after it, and how many peaks it closed.
-#[derive(Drop)]
+#[derive(Clone, Copy)]
 struct Gone {
     state: Handing,
     peaks: usize,
@@ -348,7 +348,7 @@ pub fn hand_over(h: Handing, samples: &[i32], sizes: &mut [u32], times: &mut [u3
 }
 
 // The peak that the end of the samples closes.
-#[derive(Drop)]
+#[derive(Clone, Copy)]
 pub enum Last {
     One(Peak),
     None,

@@ -14,7 +14,7 @@ pub const LONGEST_LIST: u64 = 4_096;
 
 pub const HIGHEST_PEAK: u32 = 1_000_000;
 
-#[derive(Drop)]
+#[derive(Clone, Copy)]
 pub enum Fitted {
     Sum(u64),
     Refused(Refusal),

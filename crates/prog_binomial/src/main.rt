@@ -5,17 +5,17 @@
 #![tactic(auto)]
 
 use binomial_files::Added;
-use prog_desk::NextFile;
+use prog_desk::{Desk, NextFile};
 use sample_channels::Levels;
 use sample_items::Items;
 
 // The most bytes that are read at once, of a file and of the list of names.
 const BYTES: usize = 65_536;
 
-fn said(a: Added) -> u8 {
+fn said(desk: &Desk, a: Added) -> u8 {
     let mut out = [0u8; desk_line::LONGEST_LINE];
     let f = binomial_files::finish(a, &mut out);
-    prog_desk::answer(&out, f)
+    prog_desk::answer(desk, &out, f)
 }
 
 // What a turn comes to: a file was added, and where the bytes of the next name are; or the program ends so.
@@ -26,9 +26,9 @@ enum After {
 }
 
 // There is no name more: the list is over, or could not be read.
-fn no_file(added: Added, f: NextFile) -> u8 {
+fn no_file(desk: &Desk, added: Added, f: NextFile) -> u8 {
     match f {
-        NextFile::Over => said(added),
+        NextFile::Over => said(desk, added),
         NextFile::Counted(_, _, _) => desk_line::FAILED,
         NextFile::Broken => desk_line::FAILED,
     }
@@ -36,6 +36,7 @@ fn no_file(added: Added, f: NextFile) -> u8 {
 
 // The next file of the list, which has this number; the bytes from `at` up to `end` of its names are read already.
 fn turn(
+    desk: &Desk,
     file: u64,
     added: Added,
     items: Items,
@@ -45,13 +46,13 @@ fn turn(
     end: usize,
 ) -> After {
     if binomial_files::is_over(added) {
-        return After::Ended(said(added));
+        return After::Ended(said(desk, added));
     }
-    let f = prog_desk::serve_next(comma_count::open(items), names, at, end, text);
+    let f = prog_desk::serve_next(desk, comma_count::open(items), names, at, end, text);
     let NextFile::Counted(c, next, upto) = f else {
-        return After::Ended(no_file(added, f));
+        return After::Ended(no_file(desk, added, f));
     };
-    prog_desk::show_files(file, prog_desk::watched());
+    prog_desk::show_files(desk, file, prog_desk::watched(desk));
     After::On(binomial_files::add(file, added, c), next, upto)
 }
 
@@ -62,37 +63,35 @@ fn how(a: After) -> u8 {
     }
 }
 
-// File after file, up to the first that is refused. The turns are counted down as in `prog_desk::serve`, and the file's
-// number is up by one with each.
-fn each(items: Items, names: &mut [u8], text: &mut [u8]) -> u8 {
+// File after file, up to the first that is refused. The turns are counted as in `prog_desk::serve`, by the file's number.
+fn each(desk: &Desk, items: Items, names: &mut [u8], text: &mut [u8]) -> u8 {
     let mut added = binomial_files::open(items);
     let mut at = 0;
     let mut end = 0;
-    let mut file: u64 = 1;
-    while file < u64::MAX {
-        let after = turn(file, added, items, names, text, at, end);
+    for file in 1..u64::MAX {
+        let after = turn(desk, file, added, items, names, text, at, end);
         let After::On(a, next, upto) = after else {
             return how(after);
         };
         added = a;
         at = next;
         end = upto;
-        file += 1;
     }
     desk_line::FAILED
 }
 
-fn main() {
+fn main(rt: HostRuntime) {
+    let desk = Desk::with_second(rt);
     let mut names = [0u8; BYTES];
     let mut text = [0u8; BYTES];
     let items = Items {
-        step: prog_desk::item(1),
-        ramp: prog_desk::item(2),
+        step: prog_desk::item(&desk, 1),
+        ramp: prog_desk::item(&desk, 2),
         levels: Levels {
-            roll: prog_desk::item(3),
+            roll: prog_desk::item(&desk, 3),
             acceleration: sample_items::HIGHEST_LEVEL,
         },
-        decorrelation: prog_desk::item(4),
+        decorrelation: prog_desk::item(&desk, 4),
     };
-    prog_desk::end(each(items, &mut names, &mut text));
+    prog_desk::end(&desk, each(&desk, items, &mut names, &mut text));
 }

@@ -12,9 +12,10 @@ ghost use Rattle.prog_condition.specs.Left.{coming_by, kept_by};
 
 use campaign_state::Campaign;
 use condition_sheets::Situations;
-use libc::{STDERR_FILENO, STDIN_FILENO};
+use prog_desk::Desk;
 use sheet_line::Sheet;
 use sheet_text::Reading;
+use std::io::Read;
 
 // What a turn of a sheet's loop comes to.
 #[derive(Drop)]
@@ -49,44 +50,42 @@ fn least(coming: u64, room: usize) -> usize
 }
 
 // The input ended before the sheet did.
-fn ended_early(s: Sheet) -> After
+fn ended_early(desk: &Desk, s: Sheet) -> After
     ensures { (kept_by result ≡ 0) × (coming_by result ≡ 0) }
 {
-    io::write_all(
-        STDERR_FILENO,
+    prog_desk::warn(
+        desk,
         b"standard input: it ends before the last sheet does\n",
     );
     After::Over(Reading::Waiting(s, 0))
 }
 
 // Reads once, after the `kept` bytes of a line begun.
-fn turn(s: Sheet, text: &mut [u8], kept: usize, coming: u64) -> After
+fn turn(desk: &Desk, s: Sheet, text: &mut [u8], kept: usize, coming: u64) -> After
     requires { (kept ≤ length text.old) × (0 < coming) }
     ensures { (kept_by result < longest_sheet_line) × (coming_by result < coming) }
 {
     let end = kept + least(coming, text.len() - kept);
-    let got = libc::read(STDIN_FILENO, &mut text[kept..end]);
-    if got < 0 {
-        os::fail(b"standard input");
-        return After::Over(Reading::Waiting(s, 0));
+    match desk.input().read(&mut text[kept..end]) {
+        Ok(0) => ended_early(desk, s),
+        Ok(more) => work(s, text, kept + more, coming - (more as u64)),
+        Err(e) => {
+            prog_desk::fail(desk, b"standard input", e);
+            After::Over(Reading::Waiting(s, 0))
+        }
     }
-    let more = io::count(got, &text[kept..end]);
-    if more == 0 {
-        return ended_early(s);
-    }
-    work(s, text, kept + more, coming - (more as u64))
 }
 
 // Reads a sheet of `size` bytes; where they cannot be read, the answer is that it waits. Each turn reads some of
 // them, so the loop ends.
-fn one(size: u64, text: &mut [u8]) -> Reading
+fn one(desk: &Desk, size: u64, text: &mut [u8]) -> Reading
     requires { longest_sheet_line ≤ length text.old }
 {
     let mut sheet = Sheet::Fresh;
     let mut kept = 0;
     let mut coming = size;
     while coming > 0 {
-        match turn(sheet, text, kept, coming) {
+        match turn(desk, sheet, text, kept, coming) {
             After::On(t, left, later) => {
                 sheet = t;
                 kept = left;
@@ -111,14 +110,14 @@ fn waits(r: Reading) -> bool {
 
 // The report, or the refused line. `out` has room for the longest: 40 bytes and 28 for each situation, as
 // `campaign_report` shows.
-fn said(a: Situations, campaigns: [Campaign; 64]) -> u8 {
+fn said(desk: &Desk, a: Situations, campaigns: [Campaign; 64]) -> u8 {
     let mut out = [0u8; 1832];
     let f = condition_sheets::finish(a, campaigns, &mut out);
-    prog_desk::answer(&out, f)
+    prog_desk::answer(desk, &out, f)
 }
 
 // Sheet after sheet, up to the first that is refused.
-fn all(number: usize, text: &mut [u8]) -> u8
+fn all(desk: &Desk, number: usize, text: &mut [u8]) -> u8
     requires { longest_sheet_line ≤ length text.old }
 {
     let mut campaigns = [Campaign {
@@ -132,9 +131,9 @@ fn all(number: usize, text: &mut [u8]) -> u8
     let mut i = 0;
     while i < number {
         if condition_sheets::is_over(a) {
-            return said(a, campaigns);
+            return said(desk, a, campaigns);
         }
-        let r = one(prog_desk::item(i + 1), text);
+        let r = one(desk, prog_desk::item(desk, i + 1), text);
         if waits(r) {
             return desk_line::FAILED;
         }
@@ -143,19 +142,20 @@ fn all(number: usize, text: &mut [u8]) -> u8
         a = condition_sheets::add(a, r);
         i += 1;
     }
-    said(a, campaigns)
+    said(desk, a, campaigns)
 }
 
 // The first word is the program's own name.
-fn sheets() -> usize {
-    let words = os::arg_count();
+fn sheets(desk: &Desk) -> usize {
+    let words = prog_desk::count_words(desk);
     if words < 1 {
         return 0;
     }
     words - 1
 }
 
-fn main() {
+fn main(rt: HostRuntime) {
+    let desk = Desk::new(rt);
     let mut text = [0u8; 65536];
-    prog_desk::end(all(sheets(), &mut text));
+    prog_desk::end(&desk, all(&desk, sheets(&desk), &mut text));
 }

@@ -4,40 +4,41 @@
 // other.
 #![tactic(auto)]
 
-use libc::STDIN_FILENO;
-use prog_desk::Served;
+use prog_desk::{Desk, Served};
 use sample_channels::Levels;
 use sample_items::Items;
 
 // The most bytes that are read at once.
 const BYTES: usize = 65_536;
 
-fn count(items: Items) -> u8 {
+fn count(desk: &Desk, items: Items) -> u8 {
     let mut text = [0u8; BYTES];
     let start = comma_count::open(items);
     let Served::Counted(c) = prog_desk::serve(
-        STDIN_FILENO,
+        desk,
+        &mut desk.input(),
         b"standard input",
         start,
         &mut text,
-        prog_desk::watched(),
+        prog_desk::watched(desk),
     ) else {
         return desk_line::FAILED;
     };
     let mut out = [0u8; desk_line::LONGEST_LINE];
     let f = comma_count::finish(c, &mut out);
-    prog_desk::answer(&out, f)
+    prog_desk::answer(desk, &out, f)
 }
 
-fn main() {
+fn main(rt: HostRuntime) {
+    let desk = Desk::new(rt);
     let items = Items {
-        step: prog_desk::item(1),
-        ramp: prog_desk::item(2),
+        step: prog_desk::item(&desk, 1),
+        ramp: prog_desk::item(&desk, 2),
         levels: Levels {
-            roll: prog_desk::item(3),
+            roll: prog_desk::item(&desk, 3),
             acceleration: sample_items::HIGHEST_LEVEL,
         },
-        decorrelation: prog_desk::item(4),
+        decorrelation: prog_desk::item(&desk, 4),
     };
-    prog_desk::end(count(items));
+    prog_desk::end(&desk, count(&desk, items));
 }

@@ -3,61 +3,182 @@
 // here bytes are only carried, and what is in them is the promise of the libraries beneath.
 #![tactic(auto)]
 
-ghost use Rattle.std.specs.Prelude.{◌≤◌};
+mod given;
+mod spool;
+
+ghost use Rattle.std.specs.Prelude.{◌≤◌, length};
 
 use comma_count::Counting;
 use comma_pair::{Next, Watching};
 use desk_line::Finished;
-use libc::{STDERR_FILENO, STDOUT_FILENO};
+pub use given::{Again, Given, input_again};
+pub use spool::temporary;
+use std::env::FillError;
+use std::fmt::InlineText;
+use std::fs::File;
+use std::io::{self, ErrorKind, IsTerminal, Read, Stdin, Write};
+use std::rt::Env;
 
 // Where a program says how it ended; bin/program waits for it there.
-const END_FILENO: i32 = 3;
+const END: &str = "/dev/fd/3";
+
+// Where the names of files come from, one after the other, each ended by a 0 byte, which no name has; or a second file.
+const SECOND: &str = "/dev/fd/4";
+
+// Where Linux tells how far it is read.
+const SECOND_PLACE: &str = "/proc/self/fdinfo/4";
+
+// What a program is given: the runtime, the descriptor where it says how it ended, and the other one that it reads from.
+// Both are opened before anything else is, since a file would take the number of one that is not there.
+#[derive(Drop)]
+pub struct Desk {
+    rt: HostRuntime,
+    end: Given,
+    second: Given,
+}
+
+impl Desk {
+    // That of a program that reads nothing but standard input.
+    pub fn new(rt: HostRuntime) -> Desk {
+        let end = Given::to_write(&rt, END);
+        Desk {
+            rt,
+            end,
+            second: Given::nothing(),
+        }
+    }
+
+    // That of a program that reads a second descriptor.
+    pub fn with_second(rt: HostRuntime) -> Desk {
+        let second = Given::to_read(&rt, SECOND, SECOND_PLACE);
+        let end = Given::to_write(&rt, END);
+        Desk { rt, end, second }
+    }
+
+    pub fn input(&self) -> Stdin {
+        self.rt.stdin()
+    }
+
+    pub fn second(&self) -> &Given {
+        &self.second
+    }
+}
+
+// An error in words, without the system's number that may stand after them.
+fn reason(said: &str) -> &str {
+    match said.rsplit_once(" (os error ") {
+        Some((words, _)) => words,
+        None => said,
+    }
+}
+
+// Writes a line to standard error: what failed, as the caller names it, a colon and the reason as the system has it.
+// Where that cannot be written either, nobody is left to be told.
+pub fn fail(desk: &Desk, what: &[u8], error: io::Error) {
+    let said = InlineText::<256>::of(error);
+    warn(desk, what);
+    warn(desk, b": ");
+    warn(desk, reason(said.as_str()).as_bytes());
+    warn(desk, b"\n");
+}
+
+// Writes to standard error.
+pub fn warn(desk: &Desk, words: &[u8]) {
+    let _ = desk.rt.stderr().write_all(words);
+}
+
+// What the file is called that holds what cannot be read twice.
+const TEMPORARY: &[u8] = b"the temporary file";
 
 // How many lines lie between two signs of progress.
 const LINES_BETWEEN: u64 = 1_000_000;
 
-// Writes the first `n` bytes of `out`; answers whether it could.
-pub fn write_to(to: i32, out: &[u8], n: usize) -> bool {
+// Writes the first `n` bytes of `out` to standard output; answers whether it could, and says it where it could not.
+pub fn write_out(desk: &Desk, out: &[u8], n: usize) -> bool {
     if out.len() < n {
         return false;
     }
-    io::write_all(to, &out[..n])
+    match desk.rt.stdout().write_all(&out[..n]) {
+        Ok(()) => true,
+        Err(e) => {
+            fail(desk, b"standard output", e);
+            false
+        }
+    }
+}
+
+// Writes to whoever waits for how the program ends. It need not be anybody.
+fn tell(desk: &Desk, words: &[u8]) {
+    let _ = desk.end.write_all(words);
+}
+
+// Tells it the first `n` bytes of `out`.
+pub fn tell_line(desk: &Desk, out: &[u8], n: usize) {
+    if n <= out.len() {
+        tell(desk, &out[..n]);
+    }
 }
 
 // Writes a line to standard output, and answers how the program ends. Whoever waits for that learns a refused line too,
 // so that a command can say it in words.
-pub fn answer(out: &[u8], f: Finished) -> u8 {
+pub fn answer(desk: &Desk, out: &[u8], f: Finished) -> u8 {
     if f.end == desk_line::REFUSED {
-        io::write_all(END_FILENO, b"\n");
-        write_to(END_FILENO, out, f.put);
+        tell(desk, b"\n");
+        tell_line(desk, out, f.put);
     }
-    if !write_to(STDOUT_FILENO, out, f.put) {
-        os::fail(b"standard output");
+    if !write_out(desk, out, f.put) {
         return desk_line::FAILED;
     }
     f.end
 }
 
 // Says how the program ended.
-pub fn end(how: u8) {
-    let digit = [how; 1];
-    io::write_all(END_FILENO, &digit);
+pub fn end(desk: &Desk, how: u8) {
+    tell(desk, &[how; 1]);
+}
+
+// Puts an argument into `buffer` and answers its length; 0 where there is none, or none that fits.
+pub fn word(desk: &Desk, i: usize, buffer: &mut [u8]) -> usize
+    ensures { result ≤ length buffer.new }
+{
+    match desk.rt.arg(i, buffer) {
+        Ok(n) => n,
+        Err(_) => 0,
+    }
+}
+
+// How many arguments there are, the program's own name among them.
+pub fn count_words(desk: &Desk) -> usize {
+    let mut buffer = [0u8; 1];
+    for i in 0..usize::MAX {
+        if let Err(FillError::NotPresent) = desk.rt.arg(i, &mut buffer) {
+            return i;
+        }
+    }
+    usize::MAX
 }
 
 // The number of an argument; where it is none of at most 12 digits, a number that is in no item's range.
-pub fn item(i: usize) -> u64 {
+pub fn item(desk: &Desk, i: usize) -> u64 {
     let mut buffer = [0u8; 32];
-    let n = os::arg(i, &mut buffer);
+    let n = word(desk, i, &mut buffer);
     decimal::number_or(&buffer[..n], u64::MAX)
 }
 
 // Whether somebody is watching.
-pub fn watched() -> bool {
-    libc::isatty(STDERR_FILENO) == 1
+pub fn watched(desk: &Desk) -> bool {
+    desk.rt.stderr().is_terminal()
+}
+
+// Writes the first `n` bytes of `out` to standard error.
+pub fn warn_line(desk: &Desk, out: &[u8], n: usize) {
+    if n <= out.len() {
+        warn(desk, &out[..n]);
+    }
 }
 
 // Progress for a terminal, once in a million lines: their number.
-pub fn show_progress(before: u64, lines: u64, shown: bool) {
+pub fn show_progress(desk: &Desk, before: u64, lines: u64, shown: bool) {
     if !shown {
         return;
     }
@@ -67,7 +188,7 @@ pub fn show_progress(before: u64, lines: u64, shown: bool) {
     let mut out = [0u8; 64];
     let after_lines = decimal::write_field(lines, b' ', &mut out, 0);
     let n = text::write_bytes(b"lines\r", &mut out, after_lines);
-    write_to(STDERR_FILENO, &out, n);
+    warn_line(desk, &out, n);
 }
 
 // What reading once comes to: where the bytes end, or that nothing can be read.
@@ -77,17 +198,18 @@ pub enum Got {
     Broken,
 }
 
-// Reads once from the descriptor `from`, which is called `name`, after the first `kept` bytes of `text`.
-pub fn fill(from: i32, name: &[u8], text: &mut [u8], kept: usize) -> Got {
+// Reads once from `from`, which is called `name`, after the first `kept` bytes of `text`.
+pub fn fill<R: Read>(desk: &Desk, from: &mut R, name: &[u8], text: &mut [u8], kept: usize) -> Got {
     if text.len() < kept {
         return Got::Broken;
     }
-    let got = libc::read(from, &mut text[kept..]);
-    if got < 0 {
-        os::fail(name);
-        return Got::Broken;
+    match from.read(&mut text[kept..]) {
+        Ok(n) => Got::Upto(kept + n),
+        Err(e) => {
+            fail(desk, name, e);
+            Got::Broken
+        }
     }
-    Got::Upto(kept + io::count(got, &text[kept..]))
 }
 
 // What a file came to: its count, or that it could not be read.
@@ -97,18 +219,23 @@ pub enum Served {
     Broken,
 }
 
-// Counts a file on the descriptor `from` through the buffer `text`, to its end or until nothing changes the answer any
-// more. A proved loop has to end, and nothing says that the input does; so it counts its turns down, from a number that
-// no run uses up.
-pub fn serve(from: i32, name: &[u8], start: Counting, text: &mut [u8], shown: bool) -> Served {
+// Counts the file `from` through the buffer `text`, to its end or until nothing changes the answer any more. A proved
+// loop has to end, and nothing says that the input does; so its turns are counted, up to a number that no run uses up.
+pub fn serve<R: Read>(
+    desk: &Desk,
+    from: &mut R,
+    name: &[u8],
+    start: Counting,
+    text: &mut [u8],
+    shown: bool,
+) -> Served {
     let mut count = start;
     let mut kept = 0;
-    let mut turns = u64::MAX;
-    while turns > 0 {
+    for _ in 0..u64::MAX {
         if count.over {
             return Served::Counted(count);
         }
-        let Got::Upto(end) = fill(from, name, text, kept) else {
+        let Got::Upto(end) = fill(desk, from, name, text, kept) else {
             return Served::Broken;
         };
         let t = comma_count::turn(count, text, end, kept < end);
@@ -116,16 +243,12 @@ pub fn serve(from: i32, name: &[u8], start: Counting, text: &mut [u8], shown: bo
         if end <= kept {
             return Served::Counted(c);
         }
-        show_progress(count.follow.lines, c.follow.lines, shown);
+        show_progress(desk, count.follow.lines, c.follow.lines, shown);
         count = c;
         kept = t.kept;
-        turns -= 1;
     }
     Served::Broken
 }
-
-// Where the names of files come from, one after the other, each ended by a 0 byte, which no name has.
-const NAMES_FILENO: i32 = 4;
 
 const NAME_END: u8 = 0;
 
@@ -133,7 +256,7 @@ const NAME_END: u8 = 0;
 const FILES_BETWEEN: u64 = 100;
 
 // Progress for a terminal, once in a hundred files: their number.
-pub fn show_files(files: u64, shown: bool) {
+pub fn show_files(desk: &Desk, files: u64, shown: bool) {
     if !shown {
         return;
     }
@@ -143,31 +266,42 @@ pub fn show_files(files: u64, shown: bool) {
     let mut out = [0u8; 64];
     let after_files = decimal::write_field(files, b' ', &mut out, 0);
     let n = text::write_bytes(b"files\r", &mut out, after_files);
-    write_to(STDERR_FILENO, &out, n);
+    warn_line(desk, &out, n);
 }
 
-// Opens the file of this name; below 0 it could not be. An empty name stands for a file that the script could not find,
-// and says so itself.
-fn open_named(name: &[u8]) -> i32 {
+// Opens the file of this name. std takes a path as text alone, so a name that is no UTF-8 is not found.
+pub fn open_file(desk: &Desk, name: &[u8]) -> io::Result<File> {
+    match std::str::from_utf8(name) {
+        Ok(path) => File::open(&desk.rt, path),
+        Err(_) => Err(no_text()),
+    }
+}
+
+pub(crate) fn no_text() -> io::Error {
+    io::Error::new(ErrorKind::InvalidFilename, "the name is no UTF-8")
+}
+
+// Opens the file of this name, and says why where it cannot. An empty name stands for a file that the script could not
+// find, and says so itself.
+fn open_named(desk: &Desk, name: &[u8]) -> Option<File> {
     if name.len() == 0 {
-        return -1;
+        return None;
     }
-    let from = os::open_read(name);
-    if from < 0 {
-        os::fail(name);
+    match open_file(desk, name) {
+        Ok(file) => Some(file),
+        Err(e) => {
+            fail(desk, name, e);
+            None
+        }
     }
-    from
 }
 
 // Counts the file of this name.
-fn serve_named(name: &[u8], start: Counting, text: &mut [u8], shown: bool) -> Served {
-    let from = open_named(name);
-    if from < 0 {
+fn serve_named(desk: &Desk, name: &[u8], start: Counting, text: &mut [u8], shown: bool) -> Served {
+    let Some(mut from) = open_named(desk, name) else {
         return Served::Broken;
-    }
-    let s = serve(from, name, start, text, shown);
-    libc::close(from);
-    s
+    };
+    serve(desk, &mut from, name, start, text, shown)
 }
 
 // What stands next in the list of names.
@@ -181,26 +315,23 @@ pub enum Name {
 
 // The place of the first 0 from `at` on, or `end`.
 fn name_end(names: &[u8], at: usize, end: usize) -> usize {
-    let mut i = at;
-    while i < end {
+    for i in at..end {
         if i >= names.len() {
             return end;
         }
         if names[i] == NAME_END {
             return i;
         }
-        i += 1;
     }
     end
 }
 
 // The next name in the buffer `names`, of which the bytes from `at` up to `end` are read and not used yet; where none
 // has its 0 among them, they go to the front and more is read.
-pub fn next_name(names: &mut [u8], at: usize, end: usize) -> Name {
+pub fn next_name(desk: &Desk, names: &mut [u8], at: usize, end: usize) -> Name {
     let mut first = at;
     let mut upto = end;
-    let mut turns = u64::MAX;
-    while turns > 0 {
+    for _ in 0..u64::MAX {
         if upto < first {
             return Name::Broken;
         }
@@ -210,22 +341,22 @@ pub fn next_name(names: &mut [u8], at: usize, end: usize) -> Name {
         }
         let kept = upto - first;
         text::keep(names, first, kept);
-        let Got::Upto(filled) = fill(NAMES_FILENO, b"the list of files", names, kept) else {
+        let Got::Upto(filled) = fill(desk, &mut desk.second(), b"the list of files", names, kept)
+        else {
             return Name::Broken;
         };
         if filled <= kept {
             if kept == 0 {
                 return Name::Over;
             }
-            io::write_all(
-                STDERR_FILENO,
+            warn(
+                desk,
                 b"the list of files: a name of more than 4,095 bytes\n",
             );
             return Name::Broken;
         }
         first = 0;
         upto = filled;
-        turns -= 1;
     }
     Name::Broken
 }
@@ -250,13 +381,14 @@ fn no_file(n: Name) -> NextFile {
 // Counts the file that stands next in the list, of whose names the bytes from `at` up to `end` are read and not used
 // yet.
 pub fn serve_next(
+    desk: &Desk,
     start: Counting,
     names: &mut [u8],
     at: usize,
     end: usize,
     text: &mut [u8],
 ) -> NextFile {
-    let name = next_name(names, at, end);
+    let name = next_name(desk, names, at, end);
     let Name::At(first, stop, upto) = name else {
         return no_file(name);
     };
@@ -266,16 +398,17 @@ pub fn serve_next(
     if stop < first {
         return NextFile::Broken;
     }
-    let Served::Counted(c) = serve_named(&names[first..stop], start, text, watched()) else {
+    let Served::Counted(c) = serve_named(desk, &names[first..stop], start, text, watched(desk))
+    else {
         return NextFile::Broken;
     };
-    NextFile::Counted(c, std::num::wrapping_add_usize(stop, 1), upto)
+    NextFile::Counted(c, stop.wrapping_add(1), upto)
 }
 
-// The next file of the list, opened: its descriptor, and where the bytes of the names after its own start and end.
+// The next file of the list, open, and where the bytes of the names after its own start and end.
 #[derive(Drop)]
 enum Opened {
-    File(i32, usize, usize),
+    File(File, usize, usize),
     Over,
     Broken,
 }
@@ -289,8 +422,8 @@ fn unopened(n: Name) -> Opened {
 }
 
 // Opens the file that stands next in the list.
-fn open_next(names: &mut [u8], at: usize, end: usize) -> Opened {
-    let name = next_name(names, at, end);
+fn open_next(desk: &Desk, names: &mut [u8], at: usize, end: usize) -> Opened {
+    let name = next_name(desk, names, at, end);
     let Name::At(first, stop, upto) = name else {
         return unopened(name);
     };
@@ -300,29 +433,26 @@ fn open_next(names: &mut [u8], at: usize, end: usize) -> Opened {
     if stop < first {
         return Opened::Broken;
     }
-    let from = open_named(&names[first..stop]);
-    if from < 0 {
+    let Some(from) = open_named(desk, &names[first..stop]) else {
         return Opened::Broken;
-    }
-    Opened::File(from, std::num::wrapping_add_usize(stop, 1), upto)
+    };
+    Opened::File(from, stop.wrapping_add(1), upto)
 }
 
-// Reads from the descriptor `from`, which is called `name`, to its end, or until `text` is full.
-pub fn read_whole(from: i32, name: &[u8], text: &mut [u8]) -> Got {
+// Reads from `from`, which is called `name`, to its end, or until `text` is full.
+pub fn read_whole<R: Read>(desk: &Desk, from: &mut R, name: &[u8], text: &mut [u8]) -> Got {
     let mut kept = 0;
-    let mut turns = u64::MAX;
-    while turns > 0 {
+    for _ in 0..u64::MAX {
         if text.len() <= kept {
             return Got::Upto(kept);
         }
-        let Got::Upto(end) = fill(from, name, text, kept) else {
+        let Got::Upto(end) = fill(desk, from, name, text, kept) else {
             return Got::Broken;
         };
         if end <= kept {
             return Got::Upto(kept);
         }
         kept = end;
-        turns -= 1;
     }
     Got::Broken
 }
@@ -331,7 +461,7 @@ pub fn read_whole(from: i32, name: &[u8], text: &mut [u8]) -> Got {
 
 // Where a file stands in its buffer: the bytes from `at` up to `end` are read and not used yet, and whether more
 // follows.
-#[derive(Drop)]
+#[derive(Clone, Copy)]
 pub struct Part {
     at: usize,
     end: usize,
@@ -346,7 +476,7 @@ fn least(a: usize, b: usize) -> usize
 
 fn moved(p: Part, used: usize) -> Part {
     Part {
-        at: std::num::wrapping_add_u64(p.at as u64, used as u64) as usize,
+        at: p.at.wrapping_add(used),
         end: p.end,
         more: p.more,
     }
@@ -375,12 +505,12 @@ enum Refilled {
 }
 
 // Reads once, after the bytes that are not used yet, which go to the front.
-fn refill(from: i32, name: &[u8], text: &mut [u8], p: Part) -> Refilled {
+fn refill<R: Read>(desk: &Desk, from: &mut R, name: &[u8], text: &mut [u8], p: Part) -> Refilled {
     let end = least(p.end, text.len());
     let at = least(p.at, end);
     let kept = end - at;
     text::keep(text, at, kept);
-    let Got::Upto(filled) = fill(from, name, text, kept) else {
+    let Got::Upto(filled) = fill(desk, from, name, text, kept) else {
         return Refilled::Broken;
     };
     Refilled::More(Part {
@@ -412,27 +542,34 @@ fn with_acceleration(p: Part, f: Refilled) -> Onward {
     }
 }
 
-// The descriptors of the two files.
+// The two files.
 #[derive(Drop)]
-pub struct Sources {
-    pub roll: i32,
-    pub acceleration: i32,
+pub struct Sources<R, Q> {
+    pub roll: R,
+    pub acceleration: Q,
 }
 
 // Reads the file that has to be read. Only that one is waited for, so that one process may write both.
-fn read_on(
+fn read_on<R: Read, Q: Read>(
+    desk: &Desk,
     next: Next,
-    from: Sources,
+    from: &mut Sources<R, Q>,
     roll: &mut [u8],
     p: Part,
     acceleration: &mut [u8],
     q: Part,
 ) -> Onward {
     match next {
-        Next::Roll => with_roll(refill(from.roll, b"the roll", roll, p), q),
+        Next::Roll => with_roll(refill(desk, &mut from.roll, b"the roll", roll, p), q),
         Next::Acceleration => with_acceleration(
             p,
-            refill(from.acceleration, b"the acceleration", acceleration, q),
+            refill(
+                desk,
+                &mut from.acceleration,
+                b"the acceleration",
+                acceleration,
+                q,
+            ),
         ),
         Next::Neither => Onward::Over,
     }
@@ -464,10 +601,11 @@ fn served_pair(after: Onward, w: Watching) -> ServedPair {
 }
 
 // Counts two files of a record through a buffer for each, to their ends or until nothing changes the answer any more.
-// The turns are counted down as in `serve`.
-pub fn serve_pair(
+// The turns are counted as in `serve`.
+pub fn serve_pair<R: Read, Q: Read>(
+    desk: &Desk,
     start: Watching,
-    from: Sources,
+    from: &mut Sources<R, Q>,
     roll: &mut [u8],
     acceleration: &mut [u8],
     shown: bool,
@@ -479,17 +617,17 @@ pub fn serve_pair(
         more: true,
     };
     let mut q = p;
-    let mut turns = u64::MAX;
-    while turns > 0 {
+    for _ in 0..u64::MAX {
         let t = take_both(watch, &roll[..], p, &acceleration[..], q);
         let w = t.watching;
-        show_progress(longer(watch), longer(w), shown);
+        show_progress(desk, longer(watch), longer(w), shown);
         watch = w;
         if w.over {
             return ServedPair::Counted(watch);
         }
         let next = t.next;
         let after = read_on(
+            desk,
             next,
             from,
             roll,
@@ -502,23 +640,8 @@ pub fn serve_pair(
         };
         p = left;
         q = right;
-        turns -= 1;
     }
     ServedPair::Broken
-}
-
-// Counts two open files, and closes them.
-fn serve_both(
-    start: Watching,
-    from: Sources,
-    roll: &mut [u8],
-    acceleration: &mut [u8],
-    shown: bool,
-) -> ServedPair {
-    let s = serve_pair(start, from, roll, acceleration, shown);
-    libc::close(from.roll);
-    libc::close(from.acceleration);
-    s
 }
 
 // What the next two files of the list came to: their count, and where the bytes of the names after theirs start and
@@ -540,19 +663,21 @@ fn no_pair(o: Opened) -> NextPair {
 
 // The acceleration's file is the next of the list, and the roll's is open.
 fn serve_beside(
+    desk: &Desk,
     start: Watching,
-    roll: i32,
+    roll: File,
     names: &mut [u8],
     at: usize,
     end: usize,
     text: &mut [u8],
     other: &mut [u8],
 ) -> NextPair {
-    let Opened::File(acceleration, next, upto) = open_next(names, at, end) else {
+    let Opened::File(acceleration, next, upto) = open_next(desk, names, at, end) else {
         return NextPair::Broken;
     };
-    let from = Sources { roll, acceleration };
-    let ServedPair::Counted(w) = serve_both(start, from, text, other, watched()) else {
+    let mut from = Sources { roll, acceleration };
+    let shown = watched(desk);
+    let ServedPair::Counted(w) = serve_pair(desk, start, &mut from, text, other, shown) else {
         return NextPair::Broken;
     };
     NextPair::Counted(w, next, upto)
@@ -561,6 +686,7 @@ fn serve_beside(
 // Counts the two files of a record that stand next in the list, the roll's and then the acceleration's. The first is
 // opened before the second is looked for, since the bytes of its name may go then.
 pub fn serve_next_pair(
+    desk: &Desk,
     start: Watching,
     names: &mut [u8],
     at: usize,
@@ -568,17 +694,17 @@ pub fn serve_next_pair(
     text: &mut [u8],
     other: &mut [u8],
 ) -> NextPair {
-    let o = open_next(names, at, end);
+    let o = open_next(desk, names, at, end);
     let Opened::File(roll, next, upto) = o else {
         return no_pair(o);
     };
-    serve_beside(start, roll, names, next, upto, text, other)
+    serve_beside(desk, start, roll, names, next, upto, text, other)
 }
 
 // ---- a file whose bytes may be copied on the way through
 
 // What is read of a file and not used yet, in its buffer: the bytes from `at` up to `end`, and whether more follows.
-#[derive(Drop)]
+#[derive(Clone, Copy)]
 pub struct Unused {
     pub at: usize,
     pub end: usize,
@@ -592,30 +718,39 @@ pub enum Continued {
     Broken,
 }
 
-// Writes the bytes from `start` up to `end` to the descriptor `copy`; below 0 it is none.
-fn copy_to(copy: i32, text: &[u8], start: usize, end: usize) -> bool {
-    if copy < 0 {
+// Writes the bytes from `start` up to `end` to `copy`, where there is one; answers whether it could.
+pub fn copy_to(desk: &Desk, copy: Option<&File>, text: &[u8], start: usize, end: usize) -> bool {
+    let Some(mut file) = copy else {
         return true;
-    }
+    };
     let upto = least(end, text.len());
     let from = least(start, upto);
-    if write_to(copy, &text[from..], upto - from) {
-        return true;
+    match file.write_all(&text[from..upto]) {
+        Ok(()) => true,
+        Err(e) => {
+            fail(desk, TEMPORARY, e);
+            false
+        }
     }
-    os::fail(b"the temporary file");
-    false
 }
 
 // Reads once, after the bytes that are not used yet, which go to the front; what is read goes to `copy` too.
-pub fn read_after(from: i32, name: &[u8], copy: i32, text: &mut [u8], u: Unused) -> Continued {
+pub fn read_after<R: Read>(
+    desk: &Desk,
+    from: &mut R,
+    name: &[u8],
+    copy: Option<&File>,
+    text: &mut [u8],
+    u: Unused,
+) -> Continued {
     let end = least(u.end, text.len());
     let at = least(u.at, end);
     let kept = end - at;
     text::keep(text, at, kept);
-    let Got::Upto(filled) = fill(from, name, text, kept) else {
+    let Got::Upto(filled) = fill(desk, from, name, text, kept) else {
         return Continued::Broken;
     };
-    if !copy_to(copy, &text[..], kept, filled) {
+    if !copy_to(desk, copy, &text[..], kept, filled) {
         return Continued::Broken;
     }
     Continued::More(Unused {
@@ -626,6 +761,6 @@ pub fn read_after(from: i32, name: &[u8], copy: i32, text: &mut [u8], u: Unused)
 }
 
 // Progress for a terminal, as `serve` shows it.
-pub fn show_lines(before: u64, lines: u64, shown: bool) {
-    show_progress(before, lines, shown);
+pub fn show_lines(desk: &Desk, before: u64, lines: u64, shown: bool) {
+    show_progress(desk, before, lines, shown);
 }

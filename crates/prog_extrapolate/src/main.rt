@@ -13,24 +13,23 @@ ghost use Rattle.std.specs.Prelude.{◌≤◌};
 
 use comma_peaks::Judged;
 use comma_stream::{Follow, Followed, Rest};
-use libc::STDERR_FILENO;
 use peak_stream::{Handed, Surveyed, Surveying};
-use prog_desk::{Got, Name};
+use prog_desk::{Desk, Got, Name};
 use reach_files::{Gathering, Job, Kept};
+use std::fs::File;
+use std::io::{Seek, SeekFrom};
 
 // The most bytes that are read at once, of a file and of the list of names; the most lines that are worked on at once.
 const BYTES: usize = 65_536;
 
 const LINES: usize = 1024;
 
-// The most bytes of the name of a temporary file, and the argument that it is.
-const NAME: usize = 4096;
-
+// The argument that says where a temporary file may be made.
 const SPOOL: usize = 7;
 
 // A pass over a file: its lines so far, what they count, what they hand out where it is the second, and whether a line
 // is wrong, so that nothing after it is read.
-#[derive(Drop)]
+#[derive(Clone, Copy)]
 struct Pass {
     follow: Follow,
     counted: Surveying,
@@ -109,15 +108,13 @@ fn some_lines(j: Job, p: Pass, text: &[u8], at: usize, list: &mut [u32]) -> Reac
 // All right lines that a text starts with. A turn that finds none is the last.
 fn lines(j: Job, p: Pass, text: &[u8], list: &mut [u32]) -> Reached {
     let mut at = Reached { pass: p, at: 0 };
-    let mut turns = text.len();
-    while turns > 0 {
+    for _ in 0..text.len() {
         let before = at.at;
         let pass = at.pass;
         at = some_lines(j, pass, text, before, list);
         if at.at == before {
             return at;
         }
-        turns -= 1;
     }
     at
 }
@@ -160,34 +157,21 @@ fn work(j: Job, p: Pass, text: &mut [u8], upto: usize, more: bool, list: &mut [u
     }
 }
 
-// Copies the bytes from `at` up to `end` where there is a copy; answers whether it could.
-fn copied(copy: i32, text: &[u8], at: usize, end: usize) -> bool {
-    if copy < 0 {
-        return true;
-    }
-    let to = least(end, text.len());
-    let from = least(at, to);
-    if io::write_all(copy, &text[from..to]) {
-        return true;
-    }
-    os::fail(b"the temporary file");
-    false
-}
-
 fn turn(
+    desk: &Desk,
     j: Job,
     p: Pass,
-    from: i32,
-    copy: i32,
+    mut from: &File,
+    copy: Option<&File>,
     name: &[u8],
     text: &mut [u8],
     kept: usize,
     list: &mut [u32],
 ) -> After {
-    let Got::Upto(end) = prog_desk::fill(from, name, text, kept) else {
+    let Got::Upto(end) = prog_desk::fill(desk, &mut from, name, text, kept) else {
         return After::Broken;
     };
-    if !copied(copy, text, kept, end) {
+    if !prog_desk::copy_to(desk, copy, &text[..], kept, end) {
         return After::Broken;
     }
     work(j, p, text, end, kept < end, list)
@@ -200,18 +184,25 @@ enum Ran {
     Broken,
 }
 
-// A proved loop has to end, and nothing says that the input does; so it counts its turns down, from a number that no
-// run uses up.
-fn go_over(j: Job, start: Pass, from: i32, copy: i32, name: &[u8], list: &mut [u32]) -> Ran {
+// A proved loop has to end, and nothing says that the input does; so its turns are counted, up to a number that no run
+// uses up.
+fn go_over(
+    desk: &Desk,
+    j: Job,
+    start: Pass,
+    from: &File,
+    copy: Option<&File>,
+    name: &[u8],
+    list: &mut [u32],
+) -> Ran {
     let mut text = [0u8; BYTES];
-    let shown = prog_desk::watched();
+    let shown = prog_desk::watched(desk);
     let mut pass = start;
     let mut kept = 0;
-    let mut turns = u64::MAX;
-    while turns > 0 {
-        match turn(j, pass, from, copy, name, &mut text, kept, list) {
+    for _ in 0..u64::MAX {
+        match turn(desk, j, pass, from, copy, name, &mut text, kept, list) {
             After::On(p, left) => {
-                prog_desk::show_progress(pass.follow.lines, p.follow.lines, shown);
+                prog_desk::show_progress(desk, pass.follow.lines, p.follow.lines, shown);
                 pass = p;
                 kept = left;
             }
@@ -222,7 +213,6 @@ fn go_over(j: Job, start: Pass, from: i32, copy: i32, name: &[u8], list: &mut [u
                 return Ran::Broken;
             }
         }
-        turns -= 1;
     }
     Ran::Broken
 }
@@ -234,11 +224,8 @@ enum Done {
     Broken,
 }
 
-fn changed() -> Done {
-    io::write_all(
-        STDERR_FILENO,
-        b"extrapolate: a file changed while it was read\n",
-    );
+fn changed(desk: &Desk) -> Done {
+    prog_desk::warn(desk, b"extrapolate: a file changed while it was read\n");
     Done::Broken
 }
 
@@ -252,18 +239,19 @@ fn first_line(j: Job) -> Follow {
 
 // The second pass, from the start of what the first went over.
 fn second_pass(
+    desk: &Desk,
     j: Job,
     file: u64,
     a: Gathering,
     peaks: u64,
     first: Pass,
-    from: i32,
-    start: i64,
+    mut from: &File,
+    start: u64,
     name: &[u8],
     list: &mut [u32],
 ) -> Done {
-    if libc::lseek(from, start, libc::SEEK_SET) < 0 {
-        os::fail(name);
+    if let Err(e) = from.seek(SeekFrom::Start(start)) {
+        prog_desk::fail(desk, name, e);
         return Done::Broken;
     }
     let s = first.counted;
@@ -272,6 +260,7 @@ fn second_pass(
     };
     let handed = peak_stream::begin(j.step, j.decorrelation, s.number, s.sum);
     let Ran::Done(p) = go_over(
+        desk,
         j,
         Pass {
             follow: first_line(j),
@@ -281,7 +270,7 @@ fn second_pass(
             wrong: false,
         },
         from,
-        -1,
+        None,
         name,
         list,
     ) else {
@@ -289,42 +278,25 @@ fn second_pass(
     };
     let f = first.follow;
     if !comma_peaks::alike(f, s, p.follow, p.counted) {
-        return changed();
+        return changed(desk);
     }
     if p.wrong {
-        return changed();
+        return changed(desk);
     }
     let n = reach_files::last(p.kept, list);
     Done::Added(reach_files::add(j, file, a, Judged::Peaks, f.lines, n))
 }
 
-// Makes a temporary file that has no name, and answers its descriptor or -1; `name` is room for the one it has at
-// first.
-fn nameless(name: &mut [u8]) -> i32 {
-    let n = os::arg(SPOOL, name);
-    let fd = os::create_temp(&mut name[..n]);
-    if fd < 0 {
-        os::fail(b"the temporary file");
-        return -1;
-    }
-    os::unlink(&name[..n]);
-    fd
-}
-
-fn spool() -> i32 {
-    let mut name = [0u8; NAME];
-    nameless(&mut name)
-}
-
 // A file that the first pass has gone over: refused, or gone over again from where it can be.
 fn judged(
+    desk: &Desk,
     j: Job,
     file: u64,
     a: Gathering,
     peaks: u64,
     p: Pass,
-    from: i32,
-    start: i64,
+    from: &File,
+    start: u64,
     name: &[u8],
     list: &mut [u32],
 ) -> Done {
@@ -338,38 +310,35 @@ fn judged(
             f.lines,
             peaks,
         )),
-        Judged::Peaks => second_pass(j, file, a, peaks, p, from, start, name, list),
+        Judged::Peaks => second_pass(desk, j, file, a, peaks, p, from, start, name, list),
     }
 }
 
 // Both passes over a file that can be read twice from `start` on, or that is copied on the way through the first.
 fn both_passes(
+    desk: &Desk,
     j: Job,
     file: u64,
     a: Gathering,
     peaks: u64,
     first: Pass,
-    from: i32,
+    mut from: &File,
     name: &[u8],
     list: &mut [u32],
 ) -> Done {
-    let start = libc::lseek(from, 0, libc::SEEK_CUR);
-    if start >= 0 {
-        let Ran::Done(p) = go_over(j, first, from, -1, name, list) else {
+    if let Ok(start) = from.seek(SeekFrom::Current(0)) {
+        let Ran::Done(p) = go_over(desk, j, first, from, None, name, list) else {
             return Done::Broken;
         };
-        return judged(j, file, a, peaks, p, from, start, name, list);
+        return judged(desk, j, file, a, peaks, p, from, start, name, list);
     }
-    let copy = spool();
-    if copy < 0 {
-        return Done::Broken;
-    }
-    let Ran::Done(p) = go_over(j, first, from, copy, name, list) else {
+    let Some(copy) = prog_desk::temporary(desk, SPOOL) else {
         return Done::Broken;
     };
-    let done = judged(j, file, a, peaks, p, copy, 0, name, list);
-    libc::close(copy);
-    done
+    let Ran::Done(p) = go_over(desk, j, first, from, Some(&copy), name, list) else {
+        return Done::Broken;
+    };
+    judged(desk, j, file, a, peaks, p, &copy, 0, name, list)
 }
 
 fn peaks_in(a: Gathering) -> u64 {
@@ -380,7 +349,15 @@ fn peaks_in(a: Gathering) -> u64 {
 }
 
 // One file that is open on `from`.
-fn one(j: Job, file: u64, a: Gathering, from: i32, name: &[u8], list: &mut [u32]) -> Done {
+fn one(
+    desk: &Desk,
+    j: Job,
+    file: u64,
+    a: Gathering,
+    from: &File,
+    name: &[u8],
+    list: &mut [u32],
+) -> Done {
     let Surveyed::Taken(counted) = peak_stream::survey(j.step) else {
         return Done::Broken;
     };
@@ -393,31 +370,30 @@ fn one(j: Job, file: u64, a: Gathering, from: i32, name: &[u8], list: &mut [u32]
         second: false,
         wrong: false,
     };
-    both_passes(j, file, a, peaks, first, from, name, list)
+    both_passes(desk, j, file, a, peaks, first, from, name, list)
 }
 
 // One file by its name.
-fn named(j: Job, file: u64, a: Gathering, name: &[u8], list: &mut [u32]) -> Done {
-    let fd = os::open_read(name);
-    if fd < 0 {
-        os::fail(name);
-        return Done::Broken;
+fn named(desk: &Desk, j: Job, file: u64, a: Gathering, name: &[u8], list: &mut [u32]) -> Done {
+    match prog_desk::open_file(desk, name) {
+        Ok(from) => one(desk, j, file, a, &from, name, list),
+        Err(e) => {
+            prog_desk::fail(desk, name, e);
+            Done::Broken
+        }
     }
-    let done = one(j, file, a, fd, name, list);
-    libc::close(fd);
-    done
 }
 
-fn said(j: Job, a: Gathering, list: &mut [u32]) -> u8 {
+fn said(desk: &Desk, j: Job, a: Gathering, list: &mut [u32]) -> u8 {
     let mut out = [0u8; desk_line::LONGEST_LINE];
     let f = reach_files::finish(j, a, list, &mut out);
-    prog_desk::answer(&out, f)
+    prog_desk::answer(desk, &out, f)
 }
 
 // There is no name more: the list is over, or could not be read.
-fn listed(j: Job, a: Gathering, n: Name, list: &mut [u32]) -> u8 {
+fn listed(desk: &Desk, j: Job, a: Gathering, n: Name, list: &mut [u32]) -> u8 {
     match n {
-        Name::Over => said(j, a, list),
+        Name::Over => said(desk, j, a, list),
         Name::At(_, _, _) => desk_line::FAILED,
         Name::Broken => desk_line::FAILED,
     }
@@ -432,6 +408,7 @@ enum Next {
 
 // The next file of the list, which has this number; the bytes from `at` up to `end` of its names are read already.
 fn next_file(
+    desk: &Desk,
     j: Job,
     file: u64,
     a: Gathering,
@@ -441,11 +418,11 @@ fn next_file(
     list: &mut [u32],
 ) -> Next {
     if reach_files::is_over(a) {
-        return Next::Ended(said(j, a, list));
+        return Next::Ended(said(desk, j, a, list));
     }
-    let name = prog_desk::next_name(names, at, end);
+    let name = prog_desk::next_name(desk, names, at, end);
     let Name::At(first, stop, upto) = name else {
-        return Next::Ended(listed(j, a, name, list));
+        return Next::Ended(listed(desk, j, a, name, list));
     };
     if names.len() < stop {
         return Next::Ended(desk_line::FAILED);
@@ -453,11 +430,11 @@ fn next_file(
     if stop < first {
         return Next::Ended(desk_line::FAILED);
     }
-    let Done::Added(b) = named(j, file, a, &names[first..stop], list) else {
+    let Done::Added(b) = named(desk, j, file, a, &names[first..stop], list) else {
         return Next::Ended(desk_line::FAILED);
     };
-    prog_desk::show_files(file, prog_desk::watched());
-    let after = std::num::wrapping_add_usize(stop, 1);
+    prog_desk::show_files(desk, file, prog_desk::watched(desk));
+    let after = stop.wrapping_add(1);
     Next::On(b, after, upto)
 }
 
@@ -468,36 +445,35 @@ fn how(n: Next) -> u8 {
     }
 }
 
-// File after file, up to the first that is refused. The turns are counted as in `prog_desk::serve`: the file's number
-// is up by one with each.
-fn each(j: Job, names: &mut [u8], list: &mut [u32]) -> u8 {
+// File after file, up to the first that is refused. The turns are counted as in `prog_desk::serve`, by the file's
+// number.
+fn each(desk: &Desk, j: Job, names: &mut [u8], list: &mut [u32]) -> u8 {
     let mut gathering = reach_files::open(j);
     let mut at = 0;
     let mut end = 0;
-    let mut file: u64 = 1;
-    while file < u64::MAX {
-        let after = next_file(j, file, gathering, names, at, end, list);
+    for file in 1..u64::MAX {
+        let after = next_file(desk, j, file, gathering, names, at, end, list);
         let Next::On(a, to, upto) = after else {
             return how(after);
         };
         gathering = a;
         at = to;
         end = upto;
-        file += 1;
     }
     desk_line::FAILED
 }
 
-fn main() {
+fn main(rt: HostRuntime) {
+    let desk = Desk::with_second(rt);
     let mut names = [0u8; BYTES];
     let mut list = [0u32; peak_tail::LONGEST_LIST as usize];
     let j = Job {
-        step: prog_desk::item(1),
-        ramp: prog_desk::item(2),
-        level: prog_desk::item(3),
-        decorrelation: prog_desk::item(4),
-        tail: prog_desk::item(5),
-        standard: prog_desk::item(6),
+        step: prog_desk::item(&desk, 1),
+        ramp: prog_desk::item(&desk, 2),
+        level: prog_desk::item(&desk, 3),
+        decorrelation: prog_desk::item(&desk, 4),
+        tail: prog_desk::item(&desk, 5),
+        standard: prog_desk::item(&desk, 6),
     };
-    prog_desk::end(each(j, &mut names, &mut list));
+    prog_desk::end(&desk, each(&desk, j, &mut names, &mut list));
 }

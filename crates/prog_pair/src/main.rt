@@ -4,47 +4,46 @@
 // bytes are only carried.
 #![tactic(auto)]
 
-use libc::STDIN_FILENO;
-use prog_desk::{ServedPair, Sources};
+use prog_desk::{Desk, ServedPair, Sources};
 use sample_channels::Levels;
 use sample_items::Items;
-
-const ACCELERATION_FILENO: i32 = 4;
 
 // The most bytes that are read at once.
 const BYTES: usize = 65_536;
 
-fn count(items: Items) -> u8 {
+fn count(desk: &Desk, items: Items) -> u8 {
     let mut roll = [0u8; BYTES];
     let mut acceleration = [0u8; BYTES];
     let start = comma_pair::open(items);
-    let from = Sources {
-        roll: STDIN_FILENO,
-        acceleration: ACCELERATION_FILENO,
+    let mut from = Sources {
+        roll: desk.input(),
+        acceleration: desk.second(),
     };
     let ServedPair::Counted(w) = prog_desk::serve_pair(
+        desk,
         start,
-        from,
+        &mut from,
         &mut roll,
         &mut acceleration,
-        prog_desk::watched(),
+        prog_desk::watched(desk),
     ) else {
         return desk_line::FAILED;
     };
     let mut out = [0u8; desk_line::LONGEST_LINE];
     let f = comma_pair::finish(w, &mut out);
-    prog_desk::answer(&out, f)
+    prog_desk::answer(desk, &out, f)
 }
 
-fn main() {
+fn main(rt: HostRuntime) {
+    let desk = Desk::with_second(rt);
     let items = Items {
-        step: prog_desk::item(1),
-        ramp: prog_desk::item(2),
+        step: prog_desk::item(&desk, 1),
+        ramp: prog_desk::item(&desk, 2),
         levels: Levels {
-            roll: prog_desk::item(3),
-            acceleration: prog_desk::item(5),
+            roll: prog_desk::item(&desk, 3),
+            acceleration: prog_desk::item(&desk, 5),
         },
-        decorrelation: prog_desk::item(4),
+        decorrelation: prog_desk::item(&desk, 4),
     };
-    prog_desk::end(count(items));
+    prog_desk::end(&desk, count(&desk, items));
 }

@@ -9,15 +9,13 @@
 
 ghost use Rattle.std.specs.Prelude.{◌≤◌};
 
-use libc::{STDERR_FILENO, STDIN_FILENO, STDOUT_FILENO};
 use peak_files::{Pass, Took};
-use prog_desk::{Continued, Name, Unused};
+use prog_desk::{Continued, Desk, Name, Unused};
+use std::fs::File;
+use std::io::{Read, Seek, SeekFrom};
 
 // The most bytes that are read at once, of a file and of the list of names.
 const BYTES: usize = 65_536;
-
-// The most bytes of a temporary file's name.
-const NAME: usize = 4096;
 
 // The argument that says where a temporary file may be made, and the one after it.
 const SPOOL: usize = 4;
@@ -25,7 +23,7 @@ const SPOOL: usize = 4;
 const LISTED: usize = 5;
 
 // The items that are asked for.
-#[derive(Drop)]
+#[derive(Clone, Copy)]
 struct Asked {
     step: u64,
     ramp: u64,
@@ -47,174 +45,177 @@ fn take_some(p: Pass, text: &[u8], u: Unused, out: &mut [u8]) -> Took {
 
 fn used_up(u: Unused, used: usize) -> Unused {
     Unused {
-        at: std::num::wrapping_add_usize(u.at, used),
+        at: u.at.wrapping_add(used),
         end: u.end,
         more: u.more,
     }
 }
 
-fn write_out(out: &[u8], n: usize) -> bool {
+fn write_out(desk: &Desk, out: &[u8], n: usize) -> bool {
     if n == 0 {
         return true;
     }
-    if prog_desk::write_to(STDOUT_FILENO, out, n) {
-        return true;
-    }
-    os::fail(b"standard output");
-    false
-}
-
-// Where a file is read from, where its bytes are copied to, below 0 for nowhere, and whether somebody is watching.
-#[derive(Drop)]
-struct Source {
-    from: i32,
-    copy: i32,
-    shown: bool,
+    prog_desk::write_out(desk, out, n)
 }
 
 // What a reading came to.
 #[derive(Drop)]
-enum Read {
+enum Ran {
     Over(Pass),
     Broken,
 }
 
-// The bytes after those that a call used; where it used none, more is read.
-fn go_on(s: Source, text: &mut [u8], u: Unused, used: usize) -> Continued {
+// The bytes after those that a call used; where it used none, more is read, and goes to the copy too.
+fn go_on<R: Read>(
+    desk: &Desk,
+    from: &mut R,
+    copy: Option<&File>,
+    text: &mut [u8],
+    u: Unused,
+    used: usize,
+) -> Continued {
     if used != 0 {
         return Continued::More(used_up(u, used));
     }
-    prog_desk::read_after(s.from, b"reading", s.copy, text, u)
+    prog_desk::read_after(desk, from, b"reading", copy, text, u)
 }
 
-// One reading of a file, call after call. The turns are counted down as in `prog_desk::serve`.
-fn go_over(start: Pass, s: Source, text: &mut [u8], out: &mut [u8]) -> Read {
+// One reading of a file, call after call. The turns are counted as in `prog_desk::serve`.
+fn go_over<R: Read>(
+    desk: &Desk,
+    start: Pass,
+    from: &mut R,
+    copy: Option<&File>,
+    text: &mut [u8],
+    out: &mut [u8],
+) -> Ran {
+    let shown = prog_desk::watched(desk);
     let mut pass = start;
     let mut unused = Unused {
         at: 0,
         end: 0,
         more: true,
     };
-    let mut turns = u64::MAX;
-    while turns > 0 {
+    for _ in 0..u64::MAX {
         let t = take_some(pass, &text[..], unused, out);
-        if !write_out(&out[..], t.put) {
-            return Read::Broken;
+        if !write_out(desk, &out[..], t.put) {
+            return Ran::Broken;
         }
         let next = t.pass;
-        prog_desk::show_lines(pass.follow.lines, next.follow.lines, s.shown);
+        prog_desk::show_lines(desk, pass.follow.lines, next.follow.lines, shown);
         pass = next;
         if next.over {
-            return Read::Over(pass);
+            return Ran::Over(pass);
         }
-        let Continued::More(u) = go_on(s, text, unused, t.used) else {
-            return Read::Broken;
+        let Continued::More(u) = go_on(desk, from, copy, text, unused, t.used) else {
+            return Ran::Broken;
         };
         unused = u;
-        turns -= 1;
     }
-    Read::Broken
+    Ran::Broken
 }
 
-fn changed() -> u8 {
-    io::write_all(
-        STDERR_FILENO,
-        b"peaks: the file changed while it was read\n",
-    );
+fn changed(desk: &Desk) -> u8 {
+    prog_desk::warn(desk, b"peaks: the file changed while it was read\n");
     desk_line::FAILED
 }
 
 // The second reading, from the start of what the first went over.
-fn read_again(a: Asked, first: Pass, s: Source, start: i64, text: &mut [u8], out: &mut [u8]) -> u8 {
-    if libc::lseek(s.from, start, libc::SEEK_SET) < 0 {
-        os::fail(b"going back to the start");
+fn read_again(
+    desk: &Desk,
+    a: Asked,
+    first: Pass,
+    mut again: &File,
+    start: u64,
+    text: &mut [u8],
+    out: &mut [u8],
+) -> u8 {
+    if let Err(e) = again.seek(SeekFrom::Start(start)) {
+        prog_desk::fail(desk, b"going back to the start", e);
         return desk_line::FAILED;
     }
-    let Read::Over(second) = go_over(peak_files::again(first, a.decorrelation), s, text, out) else {
+    let pass = peak_files::again(first, a.decorrelation);
+    let Ran::Over(second) = go_over(desk, pass, &mut again, None, text, out) else {
         return desk_line::FAILED;
     };
     let f = peak_files::finish(first, second, out);
     if f.end == desk_line::FAILED {
-        return changed();
+        return changed(desk);
     }
-    prog_desk::answer(&out[..], f)
+    prog_desk::answer(desk, &out[..], f)
 }
 
-// Both readings of a file, from `start` on where it can be read twice.
-fn both(a: Asked, file: u64, s: Source, start: i64, text: &mut [u8], out: &mut [u8]) -> u8 {
-    let Read::Over(first) = go_over(peak_files::open(a.step, a.ramp, file), s, text, out) else {
+// Both readings of a file: the first of `from`, to the copy too where there is one, the second of `again`, from `start`
+// on. `file` is its number among several, 0 where it is alone.
+fn both<R: Read>(
+    desk: &Desk,
+    a: Asked,
+    file: u64,
+    from: &mut R,
+    copy: Option<&File>,
+    again: &File,
+    start: u64,
+    text: &mut [u8],
+    out: &mut [u8],
+) -> u8 {
+    let pass = peak_files::open(a.step, a.ramp, file);
+    let Ran::Over(first) = go_over(desk, pass, from, copy, text, out) else {
         return desk_line::FAILED;
     };
     let f = peak_files::judge(first, out);
     if f.end != desk_line::READ {
-        return prog_desk::answer(&out[..], f);
+        return prog_desk::answer(desk, &out[..], f);
     }
-    if s.copy < 0 {
-        return read_again(a, first, s, start, text, out);
-    }
-    let again = Source {
-        from: s.copy,
-        copy: -1,
-        shown: s.shown,
-    };
-    read_again(a, first, again, 0, text, out)
+    read_again(desk, a, first, again, start, text, out)
 }
 
-// Makes a temporary file that has no name, and answers its descriptor or -1; `name` is room for the one it has at
-// first.
-fn nameless(name: &mut [u8]) -> i32 {
-    let n = os::arg(SPOOL, name);
-    let fd = os::create_temp(&mut name[..n]);
-    if fd < 0 {
-        os::fail(b"the temporary file");
-        return -1;
-    }
-    os::unlink(&name[..n]);
-    fd
-}
-
-fn spool() -> i32 {
-    let mut name = [0u8; NAME];
-    nameless(&mut name)
-}
-
-// One file that is open on `from`; `file` is its number among several, 0 where it is alone.
-fn one(a: Asked, file: u64, from: i32, text: &mut [u8], out: &mut [u8]) -> u8 {
-    let shown = prog_desk::watched();
-    let start = libc::lseek(from, 0, libc::SEEK_CUR);
-    if start >= 0 {
-        return both(
-            a,
-            file,
-            Source {
-                from,
-                copy: -1,
-                shown,
-            },
-            start,
-            text,
-            out,
-        );
-    }
-    let copy = spool();
-    if copy < 0 {
+// Both readings of what cannot be read twice: the second is of a copy.
+fn copied<R: Read>(
+    desk: &Desk,
+    a: Asked,
+    file: u64,
+    from: &mut R,
+    text: &mut [u8],
+    out: &mut [u8],
+) -> u8 {
+    let Some(copy) = prog_desk::temporary(desk, SPOOL) else {
         return desk_line::FAILED;
+    };
+    both(desk, a, file, from, Some(&copy), &copy, 0, text, out)
+}
+
+// The one file on standard input.
+fn alone(desk: &Desk, a: Asked, text: &mut [u8], out: &mut [u8]) -> u8 {
+    let mut input = desk.input();
+    match prog_desk::input_again(desk) {
+        Some(again) => {
+            let start = again.start;
+            both(desk, a, 0, &mut input, None, &again.file, start, text, out)
+        }
+        None => copied(desk, a, 0, &mut input, text, out),
     }
-    let end = both(a, file, Source { from, copy, shown }, 0, text, out);
-    libc::close(copy);
-    end
+}
+
+// One file that is open; `number` is its number among several.
+fn one(desk: &Desk, a: Asked, number: u64, mut file: &File, text: &mut [u8], out: &mut [u8]) -> u8 {
+    match file.seek(SeekFrom::Current(0)) {
+        Ok(start) => {
+            let again = file;
+            both(desk, a, number, &mut file, None, again, start, text, out)
+        }
+        Err(_) => copied(desk, a, number, &mut file, text, out),
+    }
 }
 
 // One file by its name.
-fn named(a: Asked, file: u64, name: &[u8], text: &mut [u8], out: &mut [u8]) -> u8 {
-    let from = os::open_read(name);
-    if from < 0 {
-        os::fail(name);
-        return desk_line::FAILED;
+fn named(desk: &Desk, a: Asked, number: u64, name: &[u8], text: &mut [u8], out: &mut [u8]) -> u8 {
+    match prog_desk::open_file(desk, name) {
+        Ok(file) => one(desk, a, number, &file, text, out),
+        Err(e) => {
+            prog_desk::fail(desk, name, e);
+            desk_line::FAILED
+        }
     }
-    let end = one(a, file, from, text, out);
-    libc::close(from);
-    end
 }
 
 // What a turn comes to: a file was searched, and where the bytes of the next name are; or the program ends so.
@@ -235,6 +236,7 @@ fn listed(n: Name) -> u8 {
 
 // The next file of the list, which has this number; the bytes from `at` up to `end` of its names are read already.
 fn turn(
+    desk: &Desk,
     file: u64,
     a: Asked,
     names: &mut [u8],
@@ -243,7 +245,7 @@ fn turn(
     at: usize,
     end: usize,
 ) -> After {
-    let name = prog_desk::next_name(names, at, end);
+    let name = prog_desk::next_name(desk, names, at, end);
     let Name::At(first, stop, upto) = name else {
         return After::Ended(listed(name));
     };
@@ -253,11 +255,11 @@ fn turn(
     if stop < first {
         return After::Ended(desk_line::FAILED);
     }
-    let how = named(a, file, &names[first..stop], text, out);
+    let how = named(desk, a, file, &names[first..stop], text, out);
     if how != desk_line::READ {
         return After::Ended(how);
     }
-    After::On(std::num::wrapping_add_usize(stop, 1), upto)
+    After::On(stop.wrapping_add(1), upto)
 }
 
 fn how(a: After) -> u8 {
@@ -268,41 +270,40 @@ fn how(a: After) -> u8 {
 }
 
 // File after file, up to the first that is refused. The file's number is up by one with each.
-fn each(a: Asked, names: &mut [u8], text: &mut [u8], out: &mut [u8]) -> u8 {
+fn each(desk: &Desk, a: Asked, names: &mut [u8], text: &mut [u8], out: &mut [u8]) -> u8 {
     let mut at = 0;
     let mut end = 0;
-    let mut file: u64 = 1;
-    while file < u64::MAX {
-        let next = turn(file, a, names, text, out, at, end);
+    for file in 1..u64::MAX {
+        let next = turn(desk, file, a, names, text, out, at, end);
         let After::On(from, upto) = next else {
             return how(next);
         };
         at = from;
         end = upto;
-        file += 1;
     }
     desk_line::FAILED
 }
 
-fn run(a: Asked, names: &mut [u8], text: &mut [u8], out: &mut [u8]) -> u8 {
+fn run(desk: &Desk, a: Asked, names: &mut [u8], text: &mut [u8], out: &mut [u8]) -> u8 {
     let f = peak_files::judge_items(a.step, a.ramp, a.decorrelation, out);
     if f.end != desk_line::READ {
-        return prog_desk::answer(&out[..], f);
+        return prog_desk::answer(desk, &out[..], f);
     }
-    if os::arg_count() <= LISTED {
-        return one(a, 0, STDIN_FILENO, text, out);
+    if prog_desk::count_words(desk) <= LISTED {
+        return alone(desk, a, text, out);
     }
-    each(a, names, text, out)
+    each(desk, a, names, text, out)
 }
 
-fn main() {
+fn main(rt: HostRuntime) {
+    let desk = Desk::with_second(rt);
     let mut names = [0u8; BYTES];
     let mut text = [0u8; BYTES];
     let mut out = [0u8; peak_files::ROOM];
     let asked = Asked {
-        step: prog_desk::item(1),
-        ramp: prog_desk::item(2),
-        decorrelation: prog_desk::item(3),
+        step: prog_desk::item(&desk, 1),
+        ramp: prog_desk::item(&desk, 2),
+        decorrelation: prog_desk::item(&desk, 3),
     };
-    prog_desk::end(run(asked, &mut names, &mut text, &mut out));
+    prog_desk::end(&desk, run(&desk, asked, &mut names, &mut text, &mut out));
 }

@@ -9,8 +9,7 @@
 
 ghost use Rattle.std.specs.Prelude.{◌≡◌, length};
 
-use libc::{STDERR_FILENO, STDIN_FILENO};
-use prog_desk::{Got, NextFile, NextPair};
+use prog_desk::{Desk, Got, NextFile, NextPair};
 use refusal::Refusal;
 use sample_channels::Levels;
 use sample_items::Items;
@@ -40,14 +39,14 @@ fn room_for_the_sheet() -> [u8; SHEET]
     [0; SHEET]
 }
 
-fn said(q: u64, a: FiledPairs, records: &[i32]) -> u8 {
+fn said(desk: &Desk, q: u64, a: FiledPairs, records: &[i32]) -> u8 {
     let mut out = room_for_the_sheet();
     let f = sheet_pairs::finish(q, a, records, &mut out);
-    prog_desk::answer(&out, f)
+    prog_desk::answer(desk, &out, f)
 }
 
 // What all records of a day share: the standard, the items, and whether a record has two files.
-#[derive(Drop)]
+#[derive(Clone, Copy)]
 struct Job {
     standard: u64,
     items: Items,
@@ -69,17 +68,17 @@ enum After {
 }
 
 // There is no name more: the list is over, or could not be read.
-fn no_file(q: u64, a: FiledPairs, records: &[i32], f: NextFile) -> u8 {
+fn no_file(desk: &Desk, q: u64, a: FiledPairs, records: &[i32], f: NextFile) -> u8 {
     match f {
-        NextFile::Over => said(q, a, records),
+        NextFile::Over => said(desk, q, a, records),
         NextFile::Counted(_, _, _) => desk_line::FAILED,
         NextFile::Broken => desk_line::FAILED,
     }
 }
 
-fn no_pair(q: u64, a: FiledPairs, records: &[i32], p: NextPair) -> u8 {
+fn no_pair(desk: &Desk, q: u64, a: FiledPairs, records: &[i32], p: NextPair) -> u8 {
     match p {
-        NextPair::Over => said(q, a, records),
+        NextPair::Over => said(desk, q, a, records),
         NextPair::Counted(_, _, _) => desk_line::FAILED,
         NextPair::Broken => desk_line::FAILED,
     }
@@ -87,6 +86,7 @@ fn no_pair(q: u64, a: FiledPairs, records: &[i32], p: NextPair) -> u8 {
 
 // The next record, of this number, from one file.
 fn one(
+    desk: &Desk,
     number: u64,
     j: Job,
     a: FiledPairs,
@@ -96,11 +96,11 @@ fn one(
     l: List,
 ) -> After {
     let start = comma_count::open(j.items);
-    let file = prog_desk::serve_next(start, names, l.at, l.end, text);
+    let file = prog_desk::serve_next(desk, start, names, l.at, l.end, text);
     let NextFile::Counted(c, next, upto) = file else {
-        return After::Ended(no_file(j.standard, a, records, file));
+        return After::Ended(no_file(desk, j.standard, a, records, file));
     };
-    prog_desk::show_files(number, prog_desk::watched());
+    prog_desk::show_files(desk, number, prog_desk::watched(desk));
     let f = a.filed;
     let filed = sheet_files::add(number, f, c, records);
     After::On(FiledPairs { filed, channel: 0 }, next, upto)
@@ -108,6 +108,7 @@ fn one(
 
 // The same from two, the roll's and the acceleration's.
 fn two(
+    desk: &Desk,
     number: u64,
     j: Job,
     a: FiledPairs,
@@ -118,19 +119,17 @@ fn two(
     l: List,
 ) -> After {
     let start = comma_pair::open(j.items);
-    let pair = prog_desk::serve_next_pair(start, names, l.at, l.end, text, other);
+    let pair = prog_desk::serve_next_pair(desk, start, names, l.at, l.end, text, other);
     let NextPair::Counted(w, next, upto) = pair else {
-        return After::Ended(no_pair(j.standard, a, records, pair));
+        return After::Ended(no_pair(desk, j.standard, a, records, pair));
     };
-    prog_desk::show_files(
-        std::num::wrapping_add_u64(number, number),
-        prog_desk::watched(),
-    );
+    prog_desk::show_files(desk, number.wrapping_add(number), prog_desk::watched(desk));
     After::On(sheet_pairs::add(number, a, w, records), next, upto)
 }
 
 // The next record, unless one was refused.
 fn turn(
+    desk: &Desk,
     number: u64,
     j: Job,
     a: FiledPairs,
@@ -141,12 +140,12 @@ fn turn(
     l: List,
 ) -> After {
     if sheet_pairs::is_over(a) {
-        return After::Ended(said(j.standard, a, records));
+        return After::Ended(said(desk, j.standard, a, records));
     }
     if j.two {
-        return two(number, j, a, names, text, other, records, l);
+        return two(desk, number, j, a, names, text, other, records, l);
     }
-    one(number, j, a, names, text, records, l)
+    one(desk, number, j, a, names, text, records, l)
 }
 
 fn how(a: After) -> u8 {
@@ -166,6 +165,7 @@ struct Start {
 // Record after record, up to the first that is refused. The number of the next one is up by one with each, and ends the
 // loop that has to end at a number that no run reaches.
 fn each(
+    desk: &Desk,
     j: Job,
     s: Start,
     names: &mut [u8],
@@ -176,17 +176,15 @@ fn each(
     let mut filed = s.filed;
     let mut at = 0;
     let mut end = 0;
-    let mut number = s.number;
-    while number < u64::MAX {
+    for number in s.number..u64::MAX {
         let l = List { at: at, end: end };
-        let after = turn(number, j, filed, names, text, other, records, l);
+        let after = turn(desk, number, j, filed, names, text, other, records, l);
         let After::On(a, next, upto) = after else {
             return how(after);
         };
         filed = a;
         at = next;
         end = upto;
-        number += 1;
     }
     desk_line::FAILED
 }
@@ -199,8 +197,9 @@ enum Morning {
     Broken,
 }
 
-fn read_sheet(items: Items, sheet: &mut [u8], records: &mut [i32]) -> Morning {
-    let Got::Upto(n) = prog_desk::read_whole(STDIN_FILENO, b"yesterday's sheet", sheet) else {
+fn read_sheet(desk: &Desk, items: Items, sheet: &mut [u8], records: &mut [i32]) -> Morning {
+    let Got::Upto(n) = prog_desk::read_whole(desk, &mut desk.input(), b"yesterday's sheet", sheet)
+    else {
         return Morning::Broken;
     };
     if sheet.len() < n {
@@ -209,19 +208,19 @@ fn read_sheet(items: Items, sheet: &mut [u8], records: &mut [i32]) -> Morning {
     Morning::Up(sheet_after::take_up(items, &sheet[..n], records))
 }
 
-fn take_up(items: Items, records: &mut [i32]) -> Morning {
+fn take_up(desk: &Desk, items: Items, records: &mut [i32]) -> Morning {
     let mut sheet = room_for_the_sheet();
-    read_sheet(items, &mut sheet, records)
+    read_sheet(desk, items, &mut sheet, records)
 }
 
-fn sheet_refused(line: u64, column: u64, r: Refusal) -> u8 {
+fn sheet_refused(desk: &Desk, line: u64, column: u64, r: Refusal) -> u8 {
     let mut out = [0u8; 128];
     let f = sheet_after::refuse(line, column, r, &mut out);
-    prog_desk::answer(&out, f)
+    prog_desk::answer(desk, &out, f)
 }
 
 // Whether the standard among the words, if there is one, is yesterday's sheet's; else it is said that it is not.
-fn agrees(given: u64, q: u64) -> bool {
+fn agrees(desk: &Desk, given: u64, q: u64) -> bool {
     if given == u64::MAX {
         return true;
     }
@@ -232,24 +231,25 @@ fn agrees(given: u64, q: u64) -> bool {
     let word = text::write_bytes(b"sheet: the standard of yesterday's sheet is ", &mut out, 0);
     let after = decimal::write_number(q, &mut out, word);
     let n = text::write_bytes(b", and another was given\n", &mut out, after);
-    prog_desk::write_to(STDERR_FILENO, &out, n);
+    prog_desk::warn_line(desk, &out, n);
     false
 }
 
 fn next_day(
+    desk: &Desk,
     j: Job,
     names: &mut [u8],
     text: &mut [u8],
     other: &mut [u8],
     records: &mut [i32],
 ) -> u8 {
-    let Morning::Up(t) = take_up(j.items, records) else {
+    let Morning::Up(t) = take_up(desk, j.items, records) else {
         return desk_line::FAILED;
     };
     match t {
-        TakenUp::Refused(line, column, r) => sheet_refused(line, column, r),
+        TakenUp::Refused(line, column, r) => sheet_refused(desk, line, column, r),
         TakenUp::Records(q, n, failures) => {
-            if !agrees(j.standard, q) {
+            if !agrees(desk, j.standard, q) {
                 return desk_line::FAILED;
             }
             let items = j.items;
@@ -263,9 +263,9 @@ fn next_day(
                     filed: Filed::Records(n, failures),
                     channel: 0,
                 },
-                number: std::num::wrapping_add_u64(n, 1),
+                number: n.wrapping_add(1),
             };
-            each(day, s, names, text, other, records)
+            each(desk, day, s, names, text, other, records)
         }
     }
 }
@@ -276,43 +276,54 @@ const WORDS: usize = 7;
 
 const SHEETS: usize = 6;
 
-fn day(j: Job, names: &mut [u8], text: &mut [u8], other: &mut [u8], records: &mut [i32]) -> u8 {
-    if prog_desk::item(SHEETS) == 1 {
-        return next_day(j, names, text, other, records);
+fn day(
+    desk: &Desk,
+    j: Job,
+    names: &mut [u8],
+    text: &mut [u8],
+    other: &mut [u8],
+    records: &mut [i32],
+) -> u8 {
+    if prog_desk::item(desk, SHEETS) == 1 {
+        return next_day(desk, j, names, text, other, records);
     }
     let s = Start {
         filed: sheet_pairs::open(j.standard, j.items),
         number: 1,
     };
-    each(j, s, names, text, other, records)
+    each(desk, j, s, names, text, other, records)
 }
 
-fn level_beside(two: bool) -> u64 {
+fn level_beside(desk: &Desk, two: bool) -> u64 {
     if two {
-        return prog_desk::item(WORDS);
+        return prog_desk::item(desk, WORDS);
     }
     sample_items::HIGHEST_LEVEL
 }
 
-fn main() {
+fn main(rt: HostRuntime) {
+    let desk = Desk::with_second(rt);
     let mut names = [0u8; BYTES];
     let mut text = [0u8; BYTES];
     let mut other = [0u8; BYTES];
     let mut records = room_for_records();
-    let two = os::arg_count() > WORDS;
+    let two = prog_desk::count_words(&desk) > WORDS;
     let items = Items {
-        step: prog_desk::item(2),
-        ramp: prog_desk::item(3),
+        step: prog_desk::item(&desk, 2),
+        ramp: prog_desk::item(&desk, 3),
         levels: Levels {
-            roll: prog_desk::item(4),
-            acceleration: level_beside(two),
+            roll: prog_desk::item(&desk, 4),
+            acceleration: level_beside(&desk, two),
         },
-        decorrelation: prog_desk::item(5),
+        decorrelation: prog_desk::item(&desk, 5),
     };
     let j = Job {
-        standard: prog_desk::item(1),
+        standard: prog_desk::item(&desk, 1),
         items,
         two,
     };
-    prog_desk::end(day(j, &mut names, &mut text, &mut other, &mut records));
+    prog_desk::end(
+        &desk,
+        day(&desk, j, &mut names, &mut text, &mut other, &mut records),
+    );
 }

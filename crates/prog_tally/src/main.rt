@@ -9,15 +9,14 @@ ghost use Rattle.std.specs.Prelude.{◌<◌, ◌≤◌, length};
 ghost use Rattle.sheet_line.specs.Form.{longest_sheet_line};
 ghost use Rattle.prog_tally.specs.Kept.{kept_by};
 
-use libc::{STDIN_FILENO, STDOUT_FILENO};
+use prog_desk::Desk;
 use refusal::Refusal;
 use sheet_line::Sheet;
 use sheet_text::{Ran, Reading};
+use std::io::Read;
 
-// Where the program says how it ended, and what it says: the sheet was read to its end, was refused, or something
-// could not be read or written.
-const END_FILENO: i32 = 3;
-
+// What the program says of how it ended: the sheet was read to its end, was refused, or something could not be read or
+// written.
 const READ: u8 = b'0';
 
 const REFUSED: u8 = b'1';
@@ -60,14 +59,14 @@ fn start_of(text: &[u8], lines: u64) -> usize
 fn taken(s: Sheet) -> u64 {
     match s {
         Sheet::Fresh => 0,
-        Sheet::Open(c) => std::num::wrapping_add_u64(c.records, 1),
+        Sheet::Open(c) => c.records.wrapping_add(1),
     }
 }
 
 // Whether the line of that number, in `text` after the lines taken before, is one by which a command refused.
 fn is_refused(s: Sheet, text: &[u8], line: u64) -> bool {
-    let before = std::num::wrapping_add_u64(taken(s), 1);
-    let at = start_of(text, std::num::wrapping_sub_u64(line, before));
+    let before = taken(s).wrapping_add(1);
+    let at = start_of(text, line.wrapping_sub(before));
     sheet_line::begins(&text[at..], b"refused\t")
 }
 
@@ -83,31 +82,24 @@ fn beside(handed: bool, r: Refusal) -> u64 {
     0
 }
 
-// Writes the first `n` bytes of `out`; answers whether it could.
-fn write_to(to: i32, out: &[u8], n: usize) -> bool {
-    if out.len() < n {
-        return false;
-    }
-    io::write_all(to, &out[..n])
-}
-
 // Tells it to whoever waits for how the program ends, and the refused line's fields with it.
-fn write_refusal(line: u64, column: u64, r: Refusal, handed: bool) -> u8 {
+fn write_refusal(desk: &Desk, line: u64, column: u64, r: Refusal, handed: bool) -> u8 {
     let mut out = [0u8; 128];
     let after_beside = decimal::write_field(beside(handed, r), LF, &mut out, 0);
     let after_word = text::write_bytes(b"refused\t", &mut out, after_beside);
     let after_line = decimal::write_field(line, TAB, &mut out, after_word);
     let after_number = decimal::write_field(refusal::number(r), TAB, &mut out, after_line);
     let n = decimal::write_field(column, LF, &mut out, after_number);
-    write_to(END_FILENO, &out, n);
+    prog_desk::tell_line(desk, &out, n);
     REFUSED
 }
 
 // How a reading that does not wait ended, from where it stood before `text`.
-fn ended(s: Sheet, text: &[u8], reading: Reading) -> u8 {
+fn ended(desk: &Desk, s: Sheet, text: &[u8], reading: Reading) -> u8 {
     match reading {
         Reading::Read(_) => READ,
         Reading::Stopped(line, column, r) => write_refusal(
+            desk,
             line,
             column,
             r,
@@ -119,48 +111,46 @@ fn ended(s: Sheet, text: &[u8], reading: Reading) -> u8 {
 
 // Works through the lines of the first `end` bytes of `text`, and writes what they give; a line begun goes to the
 // start of `text`.
-fn work(s: Sheet, text: &mut [u8], end: usize, more: bool, out: &mut [u8]) -> After
+fn work(desk: &Desk, s: Sheet, text: &mut [u8], end: usize, more: bool, out: &mut [u8]) -> After
     requires { end ≤ length text.old }
     ensures { kept_by result < longest_sheet_line }
 {
     let Ran::Came(reading, put) = sheet_text::run(s, &text[..end], more, out) else {
         return After::Over(FAILED);
     };
-    if !io::write_all(STDOUT_FILENO, &out[..put]) {
-        os::fail(b"standard output");
+    if !prog_desk::write_out(desk, out, put) {
         return After::Over(FAILED);
     }
     let Reading::Waiting(t, left) = reading else {
-        return After::Over(ended(s, &text[..end], reading));
+        return After::Over(ended(desk, s, &text[..end], reading));
     };
     text::keep(text, end - left, left);
     After::On(t, left)
 }
 
 // Reads once, after the `kept` bytes of a line begun.
-fn turn(s: Sheet, text: &mut [u8], kept: usize, out: &mut [u8]) -> After
+fn turn(desk: &Desk, s: Sheet, text: &mut [u8], kept: usize, out: &mut [u8]) -> After
     requires { kept ≤ length text.old }
     ensures { kept_by result < longest_sheet_line }
 {
-    let got = libc::read(STDIN_FILENO, &mut text[kept..]);
-    if got < 0 {
-        os::fail(b"standard input");
-        return After::Over(FAILED);
+    match desk.input().read(&mut text[kept..]) {
+        Ok(more) => work(desk, s, text, kept + more, more > 0, out),
+        Err(e) => {
+            prog_desk::fail(desk, b"standard input", e);
+            After::Over(FAILED)
+        }
     }
-    let more = io::count(got, &text[kept..]);
-    work(s, text, kept + more, more > 0, out)
 }
 
-// Answers how it ended. A proved loop has to end, and nothing says that the input does; so it counts its turns down,
-// from a number that no run uses up.
-fn serve(text: &mut [u8], out: &mut [u8]) -> u8
+// Answers how it ended. A proved loop has to end, and nothing says that the input does; so its turns are counted, up to
+// a number that no run uses up.
+fn serve(desk: &Desk, text: &mut [u8], out: &mut [u8]) -> u8
     requires { longest_sheet_line ≤ length text.old }
 {
     let mut sheet = Sheet::Fresh;
     let mut kept = 0;
-    let mut turns = u64::MAX;
-    while turns > 0 {
-        match turn(sheet, text, kept, out) {
+    for _ in 0..u64::MAX {
+        match turn(desk, sheet, text, kept, out) {
             After::On(t, left) => {
                 sheet = t;
                 kept = left;
@@ -169,15 +159,14 @@ fn serve(text: &mut [u8], out: &mut [u8]) -> u8
                 return end;
             }
         }
-        turns -= 1;
     }
     FAILED
 }
 
 // `out` has room for whatever `text` may give: five bytes for each, and 35; so each turn is a single pass.
-fn main() {
+fn main(rt: HostRuntime) {
+    let desk = Desk::new(rt);
     let mut text = [0u8; 16384];
     let mut out = [0u8; 81955];
-    let end = [serve(&mut text, &mut out); 1];
-    io::write_all(END_FILENO, &end);
+    prog_desk::end(&desk, serve(&desk, &mut text, &mut out));
 }

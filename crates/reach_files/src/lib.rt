@@ -41,7 +41,7 @@ const LINES: usize = 1024;
 const LOW_LEVEL: u64 = 20;
 
 // What is asked: the items of a record, k and the standard.
-#[derive(Drop)]
+#[derive(Clone, Copy)]
 pub struct Job {
     pub step: u64,
     pub ramp: u64,
@@ -52,7 +52,7 @@ pub struct Job {
 }
 
 // The files so far, their peaks, which stand at the start of the list, and their timed samples.
-#[derive(Drop)]
+#[derive(Clone, Copy)]
 pub struct Gathered {
     pub files: u64,
     pub peaks: u64,
@@ -60,14 +60,14 @@ pub struct Gathered {
 }
 
 // The same; or the number of the file at fault, its line or 0, and the refusal.
-#[derive(Drop)]
+#[derive(Clone, Copy)]
 pub enum Gathering {
     Of(Gathered),
     Refused(u64, u64, Refusal),
 }
 
 // What the line tells.
-#[derive(Drop)]
+#[derive(Clone, Copy)]
 pub struct Figures {
     pub files: u64,
     pub peaks: u64,
@@ -127,7 +127,7 @@ pub fn is_over(a: Gathering) -> bool
 }
 
 // The second reading of a file: where it stands, and how many peaks the list has, those of the files before with it.
-#[derive(Drop)]
+#[derive(Clone, Copy)]
 pub struct Kept {
     pub handed: Handed,
     pub peaks: u64,

@@ -11,7 +11,7 @@ use record_state::Record;
 use refusal::Refusal;
 
 // Whether there is a first failure, and the exposure in ms.
-#[derive(Drop)]
+#[derive(Clone, Copy)]
 pub struct Outcome {
     pub failed: bool,
     pub exposure: u64,
@@ -19,7 +19,7 @@ pub struct Outcome {
 
 // Crossings, counted failures, which are the groups, the place of the first failure, 0 for none, the exposure in ms,
 // and the largest set.
-#[derive(Drop)]
+#[derive(Clone, Copy)]
 pub struct Result {
     pub crossings: u64,
     pub counted: u64,
@@ -28,7 +28,7 @@ pub struct Result {
     pub largest: u64,
 }
 
-#[derive(Drop)]
+#[derive(Clone, Copy)]
 pub enum Ended {
     Given(Result),
     Refused(Refusal),

@@ -24,7 +24,7 @@ use sample_items::Items;
 
 // The walk before a timed sample: its time, whether a timed sample that is above in neither channel stands before it,
 // how many groups were counted, and from what time on a crossing starts a group.
-#[derive(Drop)]
+#[derive(Clone, Copy)]
 pub struct Walk {
     pub below: bool,
     pub time: u64,
@@ -39,7 +39,7 @@ pub fn starts(w: Walk) -> bool
     w.due <= w.time
 }
 
-#[derive(Drop)]
+#[derive(Clone, Copy)]
 pub enum Listed {
     Times(u64),
     Refused(Refusal),
@@ -55,14 +55,14 @@ const LOOK: usize = 1_024;
 const CROWD: u64 = 256;
 
 // How many groups are counted; or that a sample is bad.
-#[derive(Drop)]
+#[derive(Clone, Copy)]
 enum GroupCount {
     Count(u64),
     Bad,
 }
 
 // What the timed samples come to; or that one is bad, and nothing is written.
-#[derive(Drop)]
+#[derive(Clone, Copy)]
 enum Settled {
     Done(Listed),
     OutOfRange,

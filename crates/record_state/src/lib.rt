@@ -16,7 +16,7 @@ use sample_items::Items;
 // The items, how many samples came and the last of both channels, and the figures so far: the crossings, the largest
 // set of them, the groups. `first`, `last_chosen` and `last_crossing` are places of samples, those of the first
 // crossing, of the largest set's last and of the last crossing; places without a meaning yet hold 0.
-#[derive(Drop)]
+#[derive(Clone, Copy)]
 pub struct Record {
     pub items: Items,
     pub n: u64,
@@ -29,7 +29,7 @@ pub struct Record {
     pub groups: u64,
 }
 
-#[derive(Drop)]
+#[derive(Clone, Copy)]
 pub enum RecordAnswer {
     Taken(Record),
     Refused(Refusal),

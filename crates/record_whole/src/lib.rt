@@ -12,7 +12,7 @@ use refusal::Refusal;
 use sample_channels::Look;
 use sample_items::Items;
 
-#[derive(Drop)]
+#[derive(Clone, Copy)]
 pub enum Size {
     Fits,
     Refused(Refusal),

@@ -7,9 +7,9 @@
 ghost use Rattle.std.specs.Prelude.{◌≤◌, length};
 ghost use Rattle.sheet_text.specs.Sheet.{left_in};
 
-use libc::{STDIN_FILENO, STDOUT_FILENO};
 use sheet_line::Sheet;
 use sheet_text::{Ran, Reading};
+use std::io::{Read, Stdin};
 
 // What stands before a sheet.
 #[derive(Drop)]
@@ -26,9 +26,9 @@ fn pair(low: u8, high: u8) -> usize {
     (low as usize) + (high as usize) * 256
 }
 
-fn read_head() -> Head {
+fn read_head(from: &mut Stdin) -> Head {
     let mut b = [0u8; 6];
-    let here = io::read_full(STDIN_FILENO, &mut b) == 6;
+    let here = from.read_exact(&mut b).is_ok();
     Head {
         here: here,
         size: pair(b[0], b[1]),
@@ -38,44 +38,43 @@ fn read_head() -> Head {
 }
 
 // Runs over a piece and writes what it gives, or the refusal's number and what it carries. Answers what the reading
-// came to.
-fn piece(s: Sheet, text: &[u8], more: bool, out: &mut [u8]) -> Reading
+// came to. A write that fails is passed over: the full stop that the next one may not write either ends the run.
+fn piece(to: &impl Print, s: Sheet, text: &[u8], more: bool, out: &mut [u8]) -> Reading
     ensures { left_in result ≤ length text.now }
 {
     match sheet_text::run(s, text, more, out) {
         Ran::Came(reading, put) => {
-            io::write_all(STDOUT_FILENO, &out[..put]);
+            let _ = to.write_all(&out[..put]);
             reading
         }
         Ran::Refused(r) => {
-            io::print_decimal(STDOUT_FILENO, refusal::number(r));
-            io::write_all(STDOUT_FILENO, b"\t");
-            io::print_decimal(STDOUT_FILENO, refusal::carried(r));
-            io::write_all(STDOUT_FILENO, b"\n");
+            let number = refusal::number(r);
+            let carried = refusal::carried(r);
+            let _ = println!(to; "{number}\t{carried}");
             Reading::Waiting(s, 0)
         }
     }
 }
 
 // One sheet, cut in two at `cut`, the second part with `room` bytes for what it gives.
-fn one(text: &[u8], cut: usize, room: usize, out: &mut [u8]) {
+fn one(to: &impl Print, text: &[u8], cut: usize, room: usize, out: &mut [u8]) {
     if text.len() < cut {
         return;
     }
     if out.len() < room {
         return;
     }
-    let first = piece(Sheet::Fresh, &text[..cut], true, out);
+    let first = piece(to, Sheet::Fresh, &text[..cut], true, out);
     let Reading::Waiting(s, left) = first else {
         return;
     };
     let from = cut - left;
-    piece(s, &text[from..], false, &mut out[..room]);
+    piece(to, s, &text[from..], false, &mut out[..room]);
 }
 
 // Reads a sheet and answers whether there was one.
-fn next(text: &mut [u8], out: &mut [u8]) -> bool {
-    let h = read_head();
+fn next(from: &mut Stdin, to: &impl Print, text: &mut [u8], out: &mut [u8]) -> bool {
+    let h = read_head(from);
     let size = h.size;
     if !h.here {
         return false;
@@ -83,24 +82,24 @@ fn next(text: &mut [u8], out: &mut [u8]) -> bool {
     if text.len() < size {
         return false;
     }
-    io::read_full(STDIN_FILENO, &mut text[..size]);
-    one(&text[..size], h.cut, h.room, out);
-    io::write_all(STDOUT_FILENO, b".\n")
+    let _ = from.read_exact(&mut text[..size]);
+    one(to, &text[..size], h.cut, h.room, out);
+    to.write_all(b".\n").is_ok()
 }
 
 // A proved loop has to end, so it counts its sheets down, from a number that no run uses up.
-fn all(text: &mut [u8], out: &mut [u8]) {
+fn all(from: &mut Stdin, to: &impl Print, text: &mut [u8], out: &mut [u8]) {
     let mut sheets = u64::MAX;
     while sheets > 0 {
-        if !next(text, out) {
+        if !next(from, to, text, out) {
             return;
         }
         sheets -= 1;
     }
 }
 
-fn main() {
+fn main(rt: HostRuntime) {
     let mut text = [0u8; 65536];
     let mut out = [0u8; 327715];
-    all(&mut text, &mut out);
+    all(&mut rt.stdin(), &rt, &mut text, &mut out);
 }

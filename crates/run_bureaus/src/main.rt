@@ -21,42 +21,42 @@ const EXPOSURES: [u64; 32] = [
 
 const LONGEST: u64 = 1_800_000;
 
-fn text(s: &[u8]) {
-    io::write_all(1, s);
+// Writes a word; a write that fails is passed over, and so are those after it.
+fn text(out: &impl Print, s: &str) {
+    let _ = print!(out; "{s}");
 }
 
-fn number(name: &[u8], n: u64) {
-    io::write_all(1, name);
-    io::print_decimal(1, n);
+fn number(out: &impl Print, name: &str, n: u64) {
+    let _ = print!(out; "{name}{n}");
 }
 
-fn letter(v: Verdict) {
+fn letter(out: &impl Print, v: Verdict) {
     match v {
-        Verdict::Accept(_) => text(b"\tA"),
-        Verdict::Reject(_) => text(b"\tR"),
-        Verdict::Continue(_, _) => text(b"\tC"),
-        Verdict::NoRecord => text(b"\tE"),
+        Verdict::Accept(_) => text(out, "\tA"),
+        Verdict::Reject(_) => text(out, "\tR"),
+        Verdict::Continue(_, _) => text(out, "\tC"),
+        Verdict::NoRecord => text(out, "\tE"),
     }
 }
 
-fn refused(f: Refusal) {
-    number(b"\trefused ", refusal::number(f));
+fn refused(out: &impl Print, f: Refusal) {
+    number(out, "\trefused ", refusal::number(f));
 }
 
 // What a bureau is told; of a record that is entered, nothing.
-fn write_answer(a: TableAnswer) {
+fn write_answer(out: &impl Print, a: TableAnswer) {
     match a {
-        TableAnswer::Placed(i) => number(b"\tplace ", i),
-        TableAnswer::Entered => text(b""),
-        TableAnswer::Judged(v) => letter(v),
-        TableAnswer::Rated(_, _) => text(b"\trates"),
-        TableAnswer::Freed => text(b"\tfree"),
-        TableAnswer::Refused(f) => refused(f),
+        TableAnswer::Placed(i) => number(out, "\tplace ", i),
+        TableAnswer::Entered => text(out, ""),
+        TableAnswer::Judged(v) => letter(out, v),
+        TableAnswer::Rated(_, _) => text(out, "\trates"),
+        TableAnswer::Freed => text(out, "\tfree"),
+        TableAnswer::Refused(f) => refused(out, f),
     }
 }
 
 // A call, and the table that it leaves.
-fn asks(t: [Place; 32], bureau: u64, ask: Ask) -> [Place; 32] {
+fn asks(out: &impl Print, t: [Place; 32], bureau: u64, ask: Ask) -> [Place; 32] {
     let s = bureau_entries::lent(
         t,
         Call {
@@ -65,15 +65,15 @@ fn asks(t: [Place; 32], bureau: u64, ask: Ask) -> [Place; 32] {
         },
     );
     let a = s.answer;
-    write_answer(a);
+    write_answer(out, a);
     let left = s.places;
     left
 }
 
-fn line(t: [Place; 32], name: &[u8], bureau: u64, ask: Ask) -> [Place; 32] {
-    text(name);
-    let left = asks(t, bureau, ask);
-    text(b"\n");
+fn line(out: &impl Print, t: [Place; 32], name: &str, bureau: u64, ask: Ask) -> [Place; 32] {
+    text(out, name);
+    let left = asks(out, t, bureau, ask);
+    text(out, "\n");
     left
 }
 
@@ -89,24 +89,24 @@ fn outcome(k: usize) -> Outcome
 }
 
 // Record k for both bureaus, each in its own place.
-fn record(t: [Place; 32], k: usize) -> [Place; 32]
+fn record(out: &impl Print, t: [Place; 32], k: usize) -> [Place; 32]
     requires { k < 32 }
 {
     let o = outcome(k);
-    number(b"", (k as u64) + 1);
-    let a = asks(t, 1, Ask::On(0, Work::Enter(o)));
-    let b = asks(a, 2, Ask::On(1, Work::Enter(o)));
-    let c = asks(b, 1, Ask::On(0, Work::Judge));
-    let d = asks(c, 2, Ask::On(1, Work::Judge));
-    text(b"\n");
+    number(out, "", (k as u64) + 1);
+    let a = asks(out, t, 1, Ask::On(0, Work::Enter(o)));
+    let b = asks(out, a, 2, Ask::On(1, Work::Enter(o)));
+    let c = asks(out, b, 1, Ask::On(0, Work::Judge));
+    let d = asks(out, c, 2, Ask::On(1, Work::Judge));
+    text(out, "\n");
     d
 }
 
-fn all_records(t: [Place; 32]) -> [Place; 32] {
+fn all_records(out: &impl Print, t: [Place; 32]) -> [Place; 32] {
     let mut u = t;
     let mut k: usize = 0;
     while k < 32 {
-        let left = record(u, k);
+        let left = record(out, u, k);
         u = left;
         k += 1;
     }
@@ -114,11 +114,11 @@ fn all_records(t: [Place; 32]) -> [Place; 32] {
 }
 
 // Bureau 1 takes jobs up to its sixteenth, and one more.
-fn jobs(t: [Place; 32]) -> [Place; 32] {
+fn jobs(out: &impl Print, t: [Place; 32]) -> [Place; 32] {
     let mut u = t;
     let mut k: usize = 0;
     while k < 17 {
-        let left = line(u, b"1 takes", 1, Ask::Take(7_200_000));
+        let left = line(out, u, "1 takes", 1, Ask::Take(7_200_000));
         u = left;
         k += 1;
     }
@@ -140,16 +140,28 @@ fn bare() -> [Place; 32] {
     t
 }
 
-fn main() {
-    let a = line(bare(), b"1 takes", 1, Ask::Take(7_200_000));
-    let b = line(a, b"2 takes", 2, Ask::Take(600_000));
-    let c = line(b, b"3 takes", 3, Ask::Take(600_000));
-    let d = line(c, b"2 takes at 0", 2, Ask::Take(0));
-    let e = line(d, b"1 asks for 2's verdict", 1, Ask::On(1, Work::Judge));
-    let f = all_records(e);
-    let g = line(f, b"2 asks for 1's rates", 2, Ask::On(0, Work::Rate));
-    let h = line(g, b"1 gives 2's place back", 1, Ask::On(1, Work::GiveBack));
-    let i = line(h, b"1 gives its place back", 1, Ask::On(0, Work::GiveBack));
-    let j = jobs(i);
-    line(j, b"2 asks for its verdict", 2, Ask::On(1, Work::Judge));
+fn main(rt: HostRuntime) {
+    let a = line(&rt, bare(), "1 takes", 1, Ask::Take(7_200_000));
+    let b = line(&rt, a, "2 takes", 2, Ask::Take(600_000));
+    let c = line(&rt, b, "3 takes", 3, Ask::Take(600_000));
+    let d = line(&rt, c, "2 takes at 0", 2, Ask::Take(0));
+    let e = line(&rt, d, "1 asks for 2's verdict", 1, Ask::On(1, Work::Judge));
+    let f = all_records(&rt, e);
+    let g = line(&rt, f, "2 asks for 1's rates", 2, Ask::On(0, Work::Rate));
+    let h = line(
+        &rt,
+        g,
+        "1 gives 2's place back",
+        1,
+        Ask::On(1, Work::GiveBack),
+    );
+    let i = line(
+        &rt,
+        h,
+        "1 gives its place back",
+        1,
+        Ask::On(0, Work::GiveBack),
+    );
+    let j = jobs(&rt, i);
+    line(&rt, j, "2 asks for its verdict", 2, Ask::On(1, Work::Judge));
 }

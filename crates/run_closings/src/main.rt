@@ -47,69 +47,69 @@ const ROWS: [[u64; 9]; 23] = [
     [7_200_000, 0, 0, 0, 0, 1, 100_000, 8, 0],
 ];
 
-fn text(s: &[u8]) {
-    io::write_all(1, s);
+// Writes a word; a write that fails is passed over, and so are those after it.
+fn text(out: &impl Print, s: &str) {
+    let _ = print!(out; "{s}");
 }
 
-fn number(name: &[u8], n: u64) {
-    io::write_all(1, name);
-    io::print_decimal(1, n);
+fn number(out: &impl Print, name: &str, n: u64) {
+    let _ = print!(out; "{name}{n}");
 }
 
-fn refused(f: Refusal) {
-    number(b" refused ", refusal::number(f));
-    number(b" with ", refusal::carried(f));
+fn refused(out: &impl Print, f: Refusal) {
+    number(out, " refused ", refusal::number(f));
+    number(out, " with ", refusal::carried(f));
 }
 
-fn censored(c: Campaign) {
+fn censored(out: &impl Print, c: Campaign) {
     match campaign_verdict::censored(c) {
-        Counted::Count(n) => number(b" N* ", n),
-        Counted::Refused(f) => refused(f),
+        Counted::Count(n) => number(out, " N* ", n),
+        Counted::Refused(f) => refused(out, f),
     }
 }
 
-fn letter(v: Verdict) {
+fn letter(out: &impl Print, v: Verdict) {
     match v {
-        Verdict::Accept(_) => text(b" accept"),
-        Verdict::Reject(_) => text(b" reject"),
-        Verdict::Continue(_, _) => text(b" continue"),
-        Verdict::NoRecord => text(b" no record"),
+        Verdict::Accept(_) => text(out, " accept"),
+        Verdict::Reject(_) => text(out, " reject"),
+        Verdict::Continue(_, _) => text(out, " continue"),
+        Verdict::NoRecord => text(out, " no record"),
     }
 }
 
-fn verdict(c: Campaign) {
+fn verdict(out: &impl Print, c: Campaign) {
     match campaign_verdict::judge(c) {
-        Judged::Given(v) => letter(v),
-        Judged::Refused(f) => refused(f),
+        Judged::Given(v) => letter(out, v),
+        Judged::Refused(f) => refused(out, f),
     }
 }
 
-fn known(c: Campaign) {
+fn known(out: &impl Print, c: Campaign) {
     match campaign_verdict::rate(c) {
         Rated::Given(yes, _) => {
             if yes {
-                text(b" rates");
+                text(out, " rates");
             } else {
-                text(b" no rates");
+                text(out, " no rates");
             }
         }
-        Rated::Refused(f) => refused(f),
+        Rated::Refused(f) => refused(out, f),
     }
 }
 
-fn figures(c: Campaign) {
-    number(b" M ", c.records);
-    number(b" N ", c.failures);
-    censored(c);
-    number(b" T ", c.exposure);
-    verdict(c);
-    known(c);
+fn figures(out: &impl Print, c: Campaign) {
+    number(out, " M ", c.records);
+    number(out, " N ", c.failures);
+    censored(out, c);
+    number(out, " T ", c.exposure);
+    verdict(out, c);
+    known(out, c);
 }
 
-fn answer(a: CampaignAnswer) {
+fn answer(out: &impl Print, a: CampaignAnswer) {
     match a {
-        CampaignAnswer::Taken(c) => figures(c),
-        CampaignAnswer::Refused(f) => refused(f),
+        CampaignAnswer::Taken(c) => figures(out, c),
+        CampaignAnswer::Refused(f) => refused(out, f),
     }
 }
 
@@ -167,16 +167,16 @@ fn numbered(i: u64) -> Record {
     }
 }
 
-fn seen(a: Ended) {
+fn seen(out: &impl Print, a: Ended) {
     match a {
         Ended::Given(x) => {
-            number(b" crossings ", x.crossings);
-            number(b" counted ", x.counted);
-            number(b" largest set ", x.largest);
-            number(b" first ", x.first);
-            number(b" exposure ", x.exposure);
+            number(out, " crossings ", x.crossings);
+            number(out, " counted ", x.counted);
+            number(out, " largest set ", x.largest);
+            number(out, " first ", x.first);
+            number(out, " exposure ", x.exposure);
         }
-        Ended::Refused(f) => refused(f),
+        Ended::Refused(f) => refused(out, f),
     }
 }
 
@@ -236,27 +236,27 @@ fn more(row: [u64; 9], a: CampaignAnswer) -> CampaignAnswer {
     then(a, record_end::end(numbered(row[7])))
 }
 
-fn entered(row: [u64; 9]) {
+fn entered(out: &impl Print, row: [u64; 9]) {
     let e = record_end::end(numbered(row[5]));
     if row[6] > 0 {
-        seen(e);
+        seen(out, e);
     }
-    answer(more(row, again(start(row), e, row[6])));
+    answer(out, more(row, again(start(row), e, row[6])));
 }
 
-fn case(i: usize) {
+fn case(out: &impl Print, i: usize) {
     if 23 <= i {
         return;
     }
-    number(b"row ", (i as u64) + 1);
-    entered(ROWS[i]);
-    text(b"\n");
+    number(out, "row ", (i as u64) + 1);
+    entered(out, ROWS[i]);
+    text(out, "\n");
 }
 
-fn main() {
+fn main(rt: HostRuntime) {
     let mut i = 0;
     while i < 23 {
-        case(i);
+        case(&rt, i);
         i += 1;
     }
 }

@@ -2,19 +2,14 @@
 // these lines to an independent chi-squared program.
 #![tactic(auto)]
 
-use libc::STDOUT_FILENO;
-
-fn row(table: &[u8], n: u64, row: u32) {
-    io::write_all(STDOUT_FILENO, table);
-    io::print_decimal(STDOUT_FILENO, n);
-    io::write_all(STDOUT_FILENO, b"\t");
-    io::print_decimal(STDOUT_FILENO, row as u64);
-    io::write_all(STDOUT_FILENO, b"\n");
+// Writes a row. A write that fails is passed over, here and in all lines after it.
+fn row(out: &impl Print, table: &str, n: u64, row: u32) {
+    let _ = println!(out; "{table}\t{n}\t{row}");
 }
 
-fn main() {
+fn main(rt: HostRuntime) {
     for n in 1..65 {
-        row(b"upper\t", n, poisson::upper_row(n));
-        row(b"lower\t", n, poisson::lower_row(n));
+        row(&rt, "upper", n, poisson::upper_row(n));
+        row(&rt, "lower", n, poisson::lower_row(n));
     }
 }

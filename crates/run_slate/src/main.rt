@@ -87,34 +87,38 @@ const SAMPLES: [[i32; 7]; 17] = [
     [0, 0, -1000001, 0, 0, 0, 0],
 ];
 
-fn number(name: &[u8], n: u64) {
-    io::write_all(1, name);
-    io::print_decimal(1, n);
+// Writes a word; a write that fails is passed over, and so are those after it.
+fn text(out: &impl Print, s: &str) {
+    let _ = print!(out; "{s}");
 }
 
-fn refused(f: Refusal) {
-    number(b" refused ", refusal::number(f));
-    number(b" with ", refusal::carried(f));
+fn number(out: &impl Print, name: &str, n: u64) {
+    let _ = print!(out; "{name}{n}");
+}
+
+fn refused(out: &impl Print, f: Refusal) {
+    number(out, " refused ", refusal::number(f));
+    number(out, " with ", refusal::carried(f));
     let channel = refusal::channel(f);
     if channel != 0 {
-        number(b" channel ", channel);
+        number(out, " channel ", channel);
     }
 }
 
-fn figures(r: Record) {
-    number(b" n ", r.n);
-    number(b" crossings ", r.crossings);
-    number(b" groups ", r.groups);
-    number(b" largest set ", r.largest);
-    number(b" first ", r.first);
-    number(b" last chosen ", r.last_chosen);
-    number(b" last crossing ", r.last_crossing);
+fn figures(out: &impl Print, r: Record) {
+    number(out, " n ", r.n);
+    number(out, " crossings ", r.crossings);
+    number(out, " groups ", r.groups);
+    number(out, " largest set ", r.largest);
+    number(out, " first ", r.first);
+    number(out, " last chosen ", r.last_chosen);
+    number(out, " last crossing ", r.last_crossing);
 }
 
-fn answer(a: RecordAnswer) {
+fn answer(out: &impl Print, a: RecordAnswer) {
     match a {
-        RecordAnswer::Taken(r) => figures(r),
-        RecordAnswer::Refused(f) => refused(f),
+        RecordAnswer::Taken(r) => figures(out, r),
+        RecordAnswer::Refused(f) => refused(out, f),
     }
 }
 
@@ -141,10 +145,10 @@ fn wide(x: u32) -> u64 {
     x as u64
 }
 
-fn times(slice: &[u32]) {
+fn times(out: &impl Print, slice: &[u32]) {
     let mut i = 0;
     while i < slice.len() {
-        number(b" ", wide(slice[i]));
+        number(out, " ", wide(slice[i]));
         i += 1;
     }
 }
@@ -162,48 +166,49 @@ fn items(row: [u64; 11]) -> Items {
 }
 
 // The record in two pieces.
-fn fed(row: [u64; 11], roll: &[i32], acceleration: &[i32]) {
+fn fed(out: &impl Print, row: [u64; 11], roll: &[i32], acceleration: &[i32]) {
     let cut = row[5] as usize;
     if cut <= roll.len() {
         if cut <= acceleration.len() {
             let opened = record_state::open(items(row));
             let first = again(opened, &roll[0..cut], &acceleration[0..cut], row[4]);
-            answer(then(first, &roll[cut..], &acceleration[cut..]));
+            answer(out, then(first, &roll[cut..], &acceleration[cut..]));
         }
     }
 }
 
 // Its counted times, listed into the lent places, and what these then hold.
-fn listed(row: [u64; 11], roll: &[i32], acceleration: &[i32], slice: &mut [u32]) {
+fn listed(out: &impl Print, row: [u64; 11], roll: &[i32], acceleration: &[i32], slice: &mut [u32]) {
     let l = record_list::list(items(row), roll, acceleration, slice);
     match l {
-        Listed::Times(k) => number(b" times ", k),
-        Listed::Refused(f) => refused(f),
+        Listed::Times(k) => number(out, " times ", k),
+        Listed::Refused(f) => refused(out, f),
     }
-    times(slice);
+    times(out, slice);
 }
 
-fn case(row: [u64; 11], roll: &[i32], acceleration: &[i32]) {
-    fed(row, roll, acceleration);
+fn case(out: &impl Print, row: [u64; 11], roll: &[i32], acceleration: &[i32]) {
+    fed(out, row, roll, acceleration);
     let mut slice = [7u32; 3];
     let mut place = [7u32; 1];
     if row[7] == 1 {
-        listed(row, roll, acceleration, &mut place);
+        listed(out, row, roll, acceleration, &mut place);
     } else {
-        listed(row, roll, acceleration, &mut slice);
+        listed(out, row, roll, acceleration, &mut slice);
     }
     number(
-        b" found ",
+        out,
+        " found ",
         crossing_search::first_crossing(roll, acceleration, row[1], items(row).levels) as u64,
     );
 }
 
 // A case of the first samples.
-fn first_of(row: [u64; 11], roll: &[i32], acceleration: &[i32]) {
+fn first_of(out: &impl Print, row: [u64; 11], roll: &[i32], acceleration: &[i32]) {
     let count = row[6] as usize;
     if count <= roll.len() {
         if count <= acceleration.len() {
-            case(row, &roll[0..count], &acceleration[0..count]);
+            case(out, row, &roll[0..count], &acceleration[0..count]);
         }
     }
 }
@@ -212,40 +217,40 @@ fn samples_of(i: u64) -> [i32; 7] {
     if i < 17 { SAMPLES[i as usize] } else { [0; 7] }
 }
 
-fn row(i: usize) {
+fn row(out: &impl Print, i: usize) {
     if 44 <= i {
         return;
     }
     let row = ROWS[i];
     let roll = samples_of(row[8]);
     let acceleration = samples_of(row[10]);
-    number(b"row ", (i as u64) + 1);
-    first_of(row, &roll, &acceleration);
-    io::write_all(1, b"\n");
+    number(out, "row ", (i as u64) + 1);
+    first_of(out, row, &roll, &acceleration);
+    text(out, "\n");
 }
 
-fn rows() {
+fn rows(out: &impl Print) {
     let mut i = 0;
     while i < 44 {
-        row(i);
+        row(out, i);
         i += 1;
     }
 }
 
 // Seven crossings in two groups, of which four are pairwise apart; cut in the first group.
-fn seven() {
+fn seven(out: &impl Print) {
     let row = [500u64, 0, 40_000, 2000, 1, 6, 17, 3, 0, 9810, 6];
     let samples = [
         0i32, 41000, 0, -41000, 0, 41000, 0, -41000, 0, 0, 0, 0, 41000, 0, -41000, 0, 41000,
     ];
-    io::write_all(1, b"seven");
+    text(out, "seven");
     let zeros = [0i32; 17];
-    first_of(row, &samples, &zeros);
-    io::write_all(1, b"\n");
+    first_of(out, row, &samples, &zeros);
+    text(out, "\n");
 }
 
 // A first failure without a crossing, which no samples lead to.
-fn broken() {
+fn broken(out: &impl Print) {
     let r = Record {
         items: Items {
             step: 500,
@@ -268,26 +273,26 @@ fn broken() {
         last_crossing: 2,
         groups: 0,
     };
-    io::write_all(1, b"broken");
-    answer(record_feed::feed(r, &[2000000i32], &[0i32]));
-    io::write_all(1, b"\n");
+    text(out, "broken");
+    answer(out, record_feed::feed(r, &[2000000i32], &[0i32]));
+    text(out, "\n");
 }
 
 // Slices of unequal lengths, which go before a bad sample; in listing after the items.
-fn unequal() {
+fn unequal(out: &impl Print) {
     let roll = [2000000i32; 3];
     let zeros = [0i32; 2];
     let row = [500u64, 0, 40_000, 2000, 0, 0, 0, 1, 0, 9810, 6];
-    io::write_all(1, b"unequal");
-    answer(then(record_state::open(items(row)), &roll, &zeros));
+    text(out, "unequal");
+    answer(out, then(record_state::open(items(row)), &roll, &zeros));
     let mut place = [7u32; 1];
-    listed(row, &roll, &zeros, &mut place);
-    io::write_all(1, b"\n");
+    listed(out, row, &roll, &zeros, &mut place);
+    text(out, "\n");
 }
 
-fn main() {
-    rows();
-    seven();
-    broken();
-    unequal();
+fn main(rt: HostRuntime) {
+    rows(&rt);
+    seven(&rt);
+    broken(&rt);
+    unequal(&rt);
 }

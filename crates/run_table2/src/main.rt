@@ -9,7 +9,6 @@ ghost use Rattle.std.specs.Prelude.{T, not, ◌≤◌, ◌<◌};
 
 use campaign_state::{Campaign, CampaignAnswer};
 use campaign_verdict::{Counted, Rated, Rates};
-use libc::STDOUT_FILENO;
 use record_end::Outcome;
 
 // Table 1, in ms.
@@ -26,12 +25,13 @@ const STANDARD: u64 = 7_200_000;
 
 const LIMB: u64 = 4_294_967_296;
 
-fn write(text: &[u8]) {
-    io::write_all(STDOUT_FILENO, text);
+// A write that fails is passed over, and so are those after it.
+fn write(out: &impl Print, text: &str) {
+    let _ = print!(out; "{text}");
 }
 
-fn write_number(n: u64) {
-    io::print_decimal(STDOUT_FILENO, n);
+fn write_number(out: &impl Print, n: u64) {
+    let _ = print!(out; "{n}");
 }
 
 // A number below 2^32 with a fraction of 128 bits: `whole`, then four limbs of 32 bits, the highest first.
@@ -98,17 +98,17 @@ fn exact(x: f64) -> Fixed
 }
 
 // Writes n, from 1000 to 9999, as d.ddd.
-fn write_thousandths(n: u64) {
-    write_number(n / 1000);
-    write(b".");
-    write_number(n / 100 % 10);
-    write_number(n / 10 % 10);
-    write_number(n % 10);
+fn write_thousandths(out: &impl Print, n: u64) {
+    write_number(out, n / 1000);
+    write(out, ".");
+    write_number(out, n / 100 % 10);
+    write_number(out, n / 10 % 10);
+    write_number(out, n % 10);
 }
 
 // A rate above 0 to four digits, rounded to nearest: ten times the number, exactly, until its whole part has four
 // digits; then up if the fraction is a half or more.
-fn four_digits(rate: f64)
+fn four_digits(out: &impl Print, rate: f64)
     requires { T (not (is_nan rate)) }
 {
     let mut x = exact(rate);
@@ -123,60 +123,60 @@ fn four_digits(rate: f64)
     let up = x.a / 2_147_483_648;
     let rounded = x.whole % LIMB + up % 2;
     if rounded == 10_000 {
-        write_scientific(1000, tens, 4);
+        write_scientific(out, 1000, tens, 4);
     } else {
-        write_scientific(rounded, tens, 3);
+        write_scientific(out, rounded, tens, 3);
     }
 }
 
 // digits / 1000 * 10^(power - tens).
-fn write_scientific(digits: u64, tens: u64, power: u64) {
-    write_thousandths(digits);
+fn write_scientific(out: &impl Print, digits: u64, tens: u64, power: u64) {
+    write_thousandths(out, digits);
     if power < tens {
-        write(b"e-");
-        write_number(tens - power);
+        write(out, "e-");
+        write_number(out, tens - power);
     } else {
-        write(b"e");
-        write_number(power - tens);
+        write(out, "e");
+        write_number(out, power - tens);
     }
 }
 
 // A rate as Table 2 prints it, with `none` for 0.
-fn write_rate(rate: f64, none: &[u8]) {
-    write(b"\t");
+fn write_rate(out: &impl Print, rate: f64, none: &str) {
+    write(out, "\t");
     if rate > 0.0 {
-        four_digits(rate);
+        four_digits(out, rate);
     } else {
-        write(none);
+        write(out, none);
     }
 }
 
-fn write_rates(rates: Rates) {
-    write_rate(rates.estimate, b"0.0");
-    write_rate(rates.upper, b"0.0");
-    write_rate(rates.lower, b"-");
+fn write_rates(out: &impl Print, rates: Rates) {
+    write_rate(out, rates.estimate, "0.0");
+    write_rate(out, rates.upper, "0.0");
+    write_rate(out, rates.lower, "-");
 }
 
-fn write_line(c: Campaign) {
+fn write_line(out: &impl Print, c: Campaign) {
     let Counted::Count(censored) = campaign_verdict::censored(c) else {
         return;
     };
     let Rated::Given(_, rates) = campaign_verdict::rate(c) else {
         return;
     };
-    write_number(c.records);
-    write(b"\t");
-    write_number(c.failures);
-    write(b"\t");
-    write_number(censored);
-    write(b"\t");
-    write_number(c.exposure);
-    write_rates(rates);
-    write(b"\n");
+    write_number(out, c.records);
+    write(out, "\t");
+    write_number(out, c.failures);
+    write(out, "\t");
+    write_number(out, censored);
+    write(out, "\t");
+    write_number(out, c.exposure);
+    write_rates(out, rates);
+    write(out, "\n");
 }
 
 // The campaign with the record entered and its line written; unchanged if it is refused.
-fn enter(c: Campaign, failed: bool, exposure: u64) -> Campaign {
+fn enter(out: &impl Print, c: Campaign, failed: bool, exposure: u64) -> Campaign {
     let o = Outcome {
         failed: failed,
         exposure: exposure,
@@ -184,27 +184,27 @@ fn enter(c: Campaign, failed: bool, exposure: u64) -> Campaign {
     let CampaignAnswer::Taken(next) = c.enter(o) else {
         return c;
     };
-    write_line(next);
+    write_line(out, next);
     next
 }
 
 // An interval between failures: full records, and the one in which the failure came.
-fn enter_interval(c: Campaign, interval: u64) -> Campaign {
+fn enter_interval(out: &impl Print, c: Campaign, interval: u64) -> Campaign {
     let mut now = c;
     let mut left = interval;
     while LONGEST < left {
-        now = enter(now, false, LONGEST);
+        now = enter(out, now, false, LONGEST);
         left -= LONGEST;
     }
-    enter(now, true, left)
+    enter(out, now, true, left)
 }
 
-fn main() {
+fn main(rt: HostRuntime) {
     let CampaignAnswer::Taken(empty) = campaign_state::open(STANDARD) else {
         return;
     };
     let mut c = empty;
     for i in 0..25 {
-        c = enter_interval(c, INTERVALS[i]);
+        c = enter_interval(&rt, c, INTERVALS[i]);
     }
 }

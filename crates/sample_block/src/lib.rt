@@ -22,7 +22,7 @@ pub fn end(i: usize, n: usize) -> usize
 }
 
 // The ends of a block: the lowest and the highest of its samples and 0.
-#[derive(Drop)]
+#[derive(Clone, Copy)]
 pub struct Ends {
     pub lowest: i32,
     pub highest: i32,

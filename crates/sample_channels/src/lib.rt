@@ -12,21 +12,21 @@ ghost use Rattle.refusal.specs.declared.Refusal.TheVariants.{Sample, Acceleratio
 use refusal::Refusal;
 use sample_block::Ends;
 
-#[derive(Drop)]
+#[derive(Clone, Copy)]
 pub struct Levels {
     pub roll: u64,
     pub acceleration: u64,
 }
 
 // One sample of both channels.
-#[derive(Drop)]
+#[derive(Clone, Copy)]
 pub struct Moment {
     pub roll: i32,
     pub acceleration: i32,
 }
 
 // Whether all samples are in range, or refusal 2.
-#[derive(Drop)]
+#[derive(Clone, Copy)]
 pub enum Look {
     Good,
     Bad(Refusal),

@@ -18,7 +18,7 @@ pub const LONGEST_DECORRELATION: u64 = 10_000_000;
 pub const LONGEST_TIME: u64 = 10_000_000;
 
 // The items that open a record, by their names: two times in ms cannot change places unseen.
-#[derive(Drop)]
+#[derive(Clone, Copy)]
 pub struct Items {
     pub step: u64,
     pub ramp: u64,

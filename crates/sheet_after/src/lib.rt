@@ -23,7 +23,7 @@ const ITEM: u64 = 1;
 const MALFORMED: u64 = 9;
 
 // What taking a sheet up comes to.
-#[derive(Drop)]
+#[derive(Clone, Copy)]
 pub enum TakenUp {
     // The standard, how many records are in their places, and how many of them failed.
     Records(u64, u64, u64),

@@ -23,7 +23,7 @@ use text::Writing;
 
 // How many records are in their places, and how many of them failed; or the number of the file at fault, its line or 0,
 // and the refusal.
-#[derive(Drop)]
+#[derive(Clone, Copy)]
 pub enum Filed {
     Records(u64, u64),
     Refused(u64, u64, Refusal),
@@ -31,7 +31,7 @@ pub enum Filed {
 
 // What a file does: its record goes to a place, after which there are so many, so many of them failed; or it is
 // refused.
-#[derive(Drop)]
+#[derive(Clone, Copy)]
 enum Step {
     Placed(u64, u64, u64, i32),
     Refused(u64, u64, Refusal),

@@ -26,7 +26,7 @@ const TAB: u8 = 9;
 const LF: u8 = 10;
 
 // What a field reads as.
-#[derive(Drop)]
+#[derive(Clone, Copy)]
 pub enum Field {
     // A number, and the place of the byte that ended the field.
     Number(u64, usize),
@@ -156,7 +156,7 @@ fn is_parted(text: &[u8], tabs: usize) -> bool
 }
 
 // What a look at a field gives: the column of what is wrong with it, or 0, and where the next field starts.
-#[derive(Drop)]
+#[derive(Clone, Copy)]
 struct Look {
     column: u64,
     next: usize,
@@ -247,7 +247,7 @@ pub fn record_column(due: u64, text: &[u8]) -> u64
 }
 
 // Where the reading of a sheet stands.
-#[derive(Drop)]
+#[derive(Clone, Copy)]
 pub enum Sheet {
     // Before line 1.
     Fresh,
@@ -256,7 +256,7 @@ pub enum Sheet {
 }
 
 // What a line comes to.
-#[derive(Drop)]
+#[derive(Clone, Copy)]
 pub enum Step {
     Next(Sheet),
     // The line's number, the column of a malformed line's fault or 0, and the refusal.

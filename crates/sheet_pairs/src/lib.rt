@@ -29,7 +29,7 @@ const TAB: u8 = 9;
 const LF: u8 = 10;
 
 // What was filed, as of one file a record, and the channel of the line at fault, or 0.
-#[derive(Drop)]
+#[derive(Clone, Copy)]
 pub struct FiledPairs {
     pub filed: Filed,
     pub channel: u64,

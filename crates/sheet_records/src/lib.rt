@@ -32,7 +32,7 @@ const LF: u8 = 10;
 const ZERO: u8 = 48;
 
 // What judging the records comes to.
-#[derive(Drop)]
+#[derive(Clone, Copy)]
 enum Judged {
     Clean,
     // The refusal of the standard, or of the first record at fault.
@@ -195,7 +195,7 @@ pub fn write(q: u64, records: &[i32], out: &mut [u8]) -> Writing
 const FREE_DIGITS: usize = 7;
 
 // What reading the records of a sheet comes to.
-#[derive(Drop)]
+#[derive(Clone, Copy)]
 pub enum Resumed {
     // The standard, and the number of records.
     Records(u64, u64),
@@ -204,7 +204,7 @@ pub enum Resumed {
 }
 
 // What stands at a record's line.
-#[derive(Drop)]
+#[derive(Clone, Copy)]
 enum Entry {
     // Whether the record failed, and the place after the line.
     Says(bool, usize),
@@ -213,7 +213,7 @@ enum Entry {
 }
 
 // What stands at an exposure.
-#[derive(Drop)]
+#[derive(Clone, Copy)]
 enum Exposure {
     // Digits of an exposure that is taken, up to this place.
     Upto(usize),
@@ -221,7 +221,7 @@ enum Exposure {
 }
 
 // What stands at line 1.
-#[derive(Drop)]
+#[derive(Clone, Copy)]
 enum Head {
     // The standard, and the place after the line.
     Standard(u64, usize),
@@ -229,7 +229,7 @@ enum Head {
 }
 
 // What a pass over a sheet comes to.
-#[derive(Drop)]
+#[derive(Clone, Copy)]
 enum Passed {
     // The standard, the number of records and the place after line 1 of a sheet that reads cleanly.
     Clean(u64, u64, usize),
@@ -360,7 +360,7 @@ fn pass(text: &[u8]) -> Passed
 }
 
 // A record of a clean sheet: whether it failed, its exposure, and the place after its line.
-#[derive(Drop)]
+#[derive(Clone, Copy)]
 struct Record {
     failed: bool,
     exposure: u64,

@@ -23,7 +23,7 @@ const MALFORMED: u64 = 9;
 const LONGEST_RECORD: usize = 30;
 
 // The place after the text that was written.
-#[derive(Drop)]
+#[derive(Clone, Copy)]
 pub enum Written {
     Upto(usize),
     Refused(Refusal),

@@ -24,7 +24,7 @@ const LF: u8 = 10;
 const LONGEST_LINE: usize = 64;
 
 // What a piece of a sheet comes to.
-#[derive(Drop)]
+#[derive(Clone, Copy)]
 pub enum Reading {
     // The whole sheet was read.
     Read(Campaign),
@@ -35,14 +35,14 @@ pub enum Reading {
 }
 
 // What a run over a piece comes to, and the bytes that it wrote.
-#[derive(Drop)]
+#[derive(Clone, Copy)]
 pub enum Ran {
     Came(Reading, usize),
     Refused(Refusal),
 }
 
 // What a reader finds at a place of a text.
-#[derive(Drop)]
+#[derive(Clone, Copy)]
 enum LineFound {
     // A line that was taken, and the place after it.
     Taken(Sheet, usize),
@@ -202,7 +202,7 @@ fn put_end(end: Reading, out: &mut [u8], at: usize) -> usize
 }
 
 // What lines come to, and the bytes that are written for them.
-#[derive(Drop)]
+#[derive(Clone, Copy)]
 struct End {
     came: Reading,
     put: usize,

@@ -10,7 +10,7 @@ ghost use Rattle.text.specs.Write.{written, place_after};
 use refusal::Refusal;
 
 // What writing a whole text into lent bytes comes to, for every paper that is written.
-#[derive(Drop)]
+#[derive(Clone, Copy)]
 pub enum Writing {
     // The number of bytes.
     Bytes(u64),

@@ -1,5 +1,5 @@
 -- `binomial_files::add` meets its contract. Assumes nothing.
-use mathlib.Core.Path.{◌≡◌, ap, ◌∙◌}
+use mathlib.Core.Path.{ap, ◌∙◌}
 use Rattle.binomial_files.specs.Adding.{added_in}
 use borrow.Author.Rules.{rules}
 use Rattle.binomial_files.proofs.add.Statement.{statement}

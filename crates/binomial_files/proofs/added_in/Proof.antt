@@ -1,5 +1,5 @@
 -- `binomial_files::added_in` meets its contract, by its two cases. Assumes nothing.
-use mathlib.Core.Path.{◌≡◌, sym, ap, ◌∙◌}
+use mathlib.Core.Path.{sym, ap, ◌∙◌}
 use Rattle.binomial_files.specs.Adding.{added_in}
 use borrow.Author.Rules.{rules}
 use Rattle.binomial_files.proofs.added_in.Statement.{statement}

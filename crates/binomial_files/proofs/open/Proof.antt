@@ -1,5 +1,5 @@
 -- `binomial_files::open` meets its contract: an item is outside its range or not. Assumes nothing.
-use mathlib.Core.Path.{◌≡◌, sym, ap, ◌∙◌}
+use mathlib.Core.Path.{sym, ap, ◌∙◌}
 use borrow.Author.Tests.{eq-eqb, ne_eqb}
 use Rattle.sample_items.specs.Limits.{item_outside}
 use Rattle.refusal.specs.declared.Refusal.TheVariants.{Item}

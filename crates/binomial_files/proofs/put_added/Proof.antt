@@ -1,5 +1,5 @@
 -- `binomial_files::put_added` meets its contract, by its two cases. Assumes nothing.
-use mathlib.Core.Path.{◌≡◌, sym, ap, ◌∙◌}
+use mathlib.Core.Path.{sym, ap, ◌∙◌}
 use Rattle.desk_line.proofs.Put.{puts_same, with_room}
 use Rattle.binomial_files.specs.Files.{refused_in}
 use Rattle.binomial_files.specs.Adding.{said_bounded, added_said}

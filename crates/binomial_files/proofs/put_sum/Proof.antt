@@ -1,7 +1,7 @@
 -- `binomial_files::put_sum` meets its contract: six fields, one after the other. Assumes nothing.
 use Prim.Native.Nat.{ℕ}
-use mathlib.Core.Path.{◌≡◌, refl}
-use mathlib.Core.List.{List, ◌++◌}
+use mathlib.Core.Path.{refl}
+use mathlib.Core.List.{List}
 use native.Mathlib.Omega.{arith}
 use Rattle.decimal.specs.Field.{tab, line_feed, field_text}
 use Rattle.text.proofs.Parts.{Left, left_all, left_next, left_last}

@@ -1,0 +1,13 @@
+-- `peak_tail::copy` meets its contract. The invariant: storing the peaks that are left over what `to` holds now gives
+-- what storing all of them over `to` as it was gives. The measure is what is left. Assumes nothing.
+use mathlib.Core.Path.{◌≡◌}
+use Prim.Native.Nat.{◌-◌, ◌≤◌}
+use lib.ListN.{drop, length}
+use lib.Seq.{sets}
+use Rattle.peak_tail.proofs.copy.Given as goal
+
+abbrev pub invariant-loop-i : goal.invariant-loop-i
+invariant-loop-i l = (l.i ≤ length l.peaks) × (length l.to ≡ length l.initial.to) × (sets l.to l.i (drop l.i l.peaks) ≡ sets l.initial.to 0 l.peaks)
+
+abbrev pub decreases-loop-i : goal.decreases-loop-i
+decreases-loop-i l = length l.peaks - l.i

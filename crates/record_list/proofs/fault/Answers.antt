@@ -1,0 +1,17 @@
+-- `record_list::fault` meets its contract: where a sample is bad the look says which. Assumes nothing.
+use mathlib.Core.Path.{sym, ap, ◌∙◌}
+use Rattle.truth.proofs.Laws.{true≢false}
+use Rattle.sample_channels.proofs.Range.{looked_bad, looked_good, equally_long}
+use Rattle.record_list.specs.declared.Listed.TheVariants.{Refused}
+use Rattle.record_list.proofs.fault.Goals as goal
+
+pub returns-in-Bad : goal.returns-in-Bad
+returns-in-Bad c =
+    λ h.
+    let e = sym c.look_over-look.ensures ∙ c.in-Bad.is in
+    let l = looked_bad _ _ _ e in
+    ap Refused (sym l.1 ∙ equally_long _ _ c.requires h)
+
+pub returns : goal.returns
+returns c =
+    λ h. absurd (true≢false (sym h ∙ looked_good _ _ (sym c.look_over-look.ensures ∙ c.in_default.is)))

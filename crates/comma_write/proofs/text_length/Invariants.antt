@@ -1,0 +1,22 @@
+-- `comma_write::text_length` meets its contract: what was added up and what is left are the whole. What is left falls.
+-- Assumes nothing.
+use mathlib.Core.Path.{◌≡◌, ap, ◌∙◌}
+use mathlib.Core.List.{List}
+use Prim.Native.Nat.{◌+◌, ◌*◌, ◌-◌, ◌≤◌}
+use native.Mathlib.Omega.{arith}
+use lib.IntN.{ℤ, pos}
+use lib.ListN.{length, get_or, drop, drop_of_length-le}
+use mir.Facts.{to_z-of_z}
+use mir.Syntax.{w32}
+use mir.Val.{SFits}
+use borrow.Author.Rules.{rules}
+use Rattle.sample_size.proofs.Turn.{turn}
+use Rattle.comma_line.specs.Text.{text_from, text_of}
+use Rattle.comma_write.proofs.Puts.{next_bytes, text_none}
+use Rattle.comma_write.proofs.text_length.Given as goal
+
+abbrev pub invariant-loop-i : goal.invariant-loop-i
+invariant-loop-i l = (l.i ≤ length l.samples) × (l.total + length (text_from l.step l.time (drop l.i l.samples)) ≡ length (text_of l.step l.samples)) × (l.total ≤ 34 * l.i) × (l.time ≤ 10000 * l.i)
+
+abbrev pub decreases-loop-i : goal.decreases-loop-i
+decreases-loop-i l = length l.samples - l.i

@@ -29,6 +29,7 @@ fn no_sum() -> Sum
 }
 
 // The sum that an array holds.
+#[tactic(auto, unfolding(crate::specs::Told::sum_of))]
 fn sum_of(state: &[u64]) -> Sum
     ensures { result ≡ sum_of state.now }
 {
@@ -55,6 +56,7 @@ fn of_bounds(b: Bounds) -> [u64; 4]
 }
 
 // The sum of an answer in `state`; or refusal 8 for an array of another length, else the answer's.
+#[tactic(auto, unfolding(crate::specs::Told::sum_kept, crate::specs::Told::sum_told))]
 fn keep_sum(a: binomial_sum::SumAnswer, state: &mut [u64], carried: &mut u64) -> u64
     ensures { told result carried.new state.new ≡ sum_kept a state.old }
 {
@@ -89,6 +91,7 @@ pub fn chim_sum_add(state: &mut [u64], added: &[u64], carried: &mut u64) -> u64
 
 // The bounds in thousandths of a failure and P.D in `bounds`, and 1 in `carried`; 0 and bounds of 0 while there is no
 // record; or refusal 8.
+#[tactic(auto, unfolding(crate::specs::Told::sum_bounded, crate::specs::Told::bounds_told))]
 pub fn chim_sum_bounds(state: &[u64], bounds: &mut [u64], carried: &mut u64) -> u64
     ensures { told result carried.new bounds.new
         ≡ sum_bounded state.now bounds.old }
@@ -108,6 +111,7 @@ pub fn chim_sum_bounds(state: &[u64], bounds: &mut [u64], carried: &mut u64) -> 
 }
 
 // The three rates, and 1 in `carried`; 0 and rates of 0 while there is no record; or refusal 8.
+#[tactic(auto, unfolding(capi_verdict::specs::Told::rated_told))]
 pub fn chim_sum_rates(
     state: &[u64],
     estimate: &mut f64,

@@ -120,6 +120,7 @@ fn serve(table: &mut [[u64; 6]], c: Call) -> TableAnswer
 }
 
 // What an answer without rates tells: the place where a job was taken, else nothing.
+#[tactic(auto, unfolding(crate::specs::Told::plain))]
 fn tell(a: TableAnswer, carried: &mut u64) -> u64
     ensures { count result carried.new ≡ plain a }
 {
@@ -133,6 +134,7 @@ fn tell(a: TableAnswer, carried: &mut u64) -> u64
     }
 }
 
+#[tactic(auto, unfolding(crate::specs::Told::judged))]
 fn tell_verdict(a: TableAnswer, lower: &mut f64, upper: &mut f64, carried: &mut u64) -> u64
     ensures { judgement result carried.new lower.new upper.new
         ≡ judged a lower.old upper.old }
@@ -147,6 +149,7 @@ fn tell_verdict(a: TableAnswer, lower: &mut f64, upper: &mut f64, carried: &mut 
     }
 }
 
+#[tactic(auto, unfolding(crate::specs::Told::rated))]
 fn tell_rates(
     a: TableAnswer,
     estimate: &mut f64,

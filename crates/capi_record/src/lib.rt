@@ -88,6 +88,7 @@ pub fn chim_record_first_crossing(
 
 // The counted times of a whole record, in order, from the start of `times`, and their number; or refusal 1, 12, 2, 3,
 // 4, 7 with the places needed.
+#[tactic(auto, unfolding(crate::specs::Told::list_told, crate::specs::Told::list_channel))]
 pub fn chim_record_list(
     step: u64,
     ramp: u64,

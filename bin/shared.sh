@@ -296,11 +296,17 @@ handed_on="; it is the line by which another command refused, and no line of a s
 
 # --- what is proved and built
 
-# needs_kit: ends where there is no Rattle kit; else `tools` is where its tools are.
+# needs_kit: ends where there is no Rattle kit; else `kit` is its folder.
 needs_kit() {
     local rt
     rt=$(command -v rt) || stop "the Rattle kit is not there (no command rt)"
-    tools=$(dirname -- "$(readlink -f -- "$rt")")/../on/$(uname -m)/toolchain
+    rt=$(readlink -f -- "$rt")
+    kit=${rt%/bin/*}
+}
+
+# newer_than FILE PATH..: whether a source at or below the paths is newer than the file. What rt keeps in out/ is none.
+newer_than() {
+    [ -n "$(find "${@:2}" -name out -prune -o -newer "$1" -type f -print -quit)" ]
 }
 
 # lock_builds: waits until nobody else proves or builds in this tree. What is started from here does so under the same
@@ -321,10 +327,21 @@ unlock_builds() {
     unset CHIMENICKEL_BUILDS
 }
 
-# is_built NAME: whether the program stands as the sources have it. rt takes its stamp away first and puts it back last.
+# is_built NAME: whether the program stands as the sources have it. rt leaves it in the crate's out/.
 is_built() {
-    [ -x "$root/target/bin/$1" ] && [ -e "$root/target/stamp/$1" ] &&
-        [ -z "$(find "$root/crates" "$root/crates.txt" -newer "$root/target/stamp/$1" -type f -print -quit)" ]
+    local program=$root/crates/$1/out/$1
+    [ -x "$program" ] && ! newer_than "$program" "$root/crates" "$root/crates.txt"
+}
+
+# makes NAME LOG: proves the program and builds it; what the prover says goes to the file LOG. rt builds one only to run
+# it, which on no arguments and no input ends at once, and takes its stamp away where it is not proved.
+makes() {
+    local made=$root/crates/$1/out/$1 since
+    since=$(date +%s.%N)
+    (cd -- "$root/crates/$1" && rt run) </dev/null >"$2" 2>&1
+    [ -x "$made" ] && [ -e "$made.stamp" ] || return
+    # where only times have changed rt builds nothing; and what is saved meanwhile is newer
+    touch -d "@$since" "$made"
 }
 
 # build NAME WAIT: proves and builds the program, unless another has done so while this one waited.
@@ -333,31 +350,25 @@ build() {
     lock_builds
     if ! is_built "$1"; then
         echo "$speaker: proving and building what it stands on, which takes about $2 ($log)" >&2
-        [ -x "$root/target/bin/$1" ] || rm -f "$root/target/stamp/$1" # or it would pass for built
-        if ! (cd -- "$root" && rt check "$1" </dev/null >"$log" 2>&1); then
+        if ! makes "$1" "$log"; then
             cat "$log" >&2
             stop "it is not proved"
         fi
-        touch "$root/target/stamp/$1"
     fi
     unlock_builds
 }
 
-# finds NAME WAIT: the words that start the program go to `program`. Installed, it stands beside the commands and runs
-# on the machine's own libraries; in the source tree it is proved and built first, and runs on the kit's.
+# finds NAME WAIT: the program to start goes to `program`. Installed, it stands beside the commands; in the source tree
+# it is proved and built first.
 finds() {
-    local emulator
     if [ ! -e "$root/crates.txt" ]; then
-        program=("$here/$1")
-        [ -x "${program[0]}" ] || stop "${program[0]} is not there: it was not installed whole"
+        program=$here/$1
+        [ -x "$program" ] || stop "$program is not there: it was not installed whole"
         return
     fi
     needs_kit
     is_built "$1" || build "$1" "$2"
-    # the program is for x86-64; elsewhere the kit has an emulator
-    emulator=$tools/bin/qemu-x86_64
-    [ -x "$emulator" ] || emulator=
-    program=(${emulator:+"$emulator"} "$tools/lib/ld-linux-x86-64.so.2" --library-path "$tools/lib" "$root/target/bin/$1")
+    program=$root/crates/$1/out/$1
 }
 
 # opens_again: whether descriptor 4, where there is one, can be opened once more by its name. A socket cannot, and a named
@@ -386,7 +397,7 @@ run() {
         exec {second}<> <(:)
         exec 4< <(cat <&4 2>/dev/null || printf x >&"$second")
     fi
-    end=$("${program[@]}" "$@" 3>&1 >&"$out" {out}>&-)
+    end=$("$program" "$@" 3>&1 >&"$out" {out}>&-)
     exec {out}>&-
     status=${end##*"$lf"}
     # where all was read that there was, and there was not all

@@ -9,13 +9,13 @@ import struct
 import sys
 import threading
 
-TOKEN = re.compile(r"[(){};,]|[^\s(){};,]+")
+TOKEN = re.compile(r"(?<=\))\.[^\s(){};,]+|[(){};,]|[^\s(){};,]+")
 USE = re.compile(
     r"^(?:(?:unfoldable |abbrev )?pub )?use (?P<path>[^\s{]+?)(?:\.\{(?P<names>[^}]*)\}| as (?P<alias>\S+))?$", re.M)
 RIGHT, LEFT = 0, 1
 OPERATORS = {
     "→": (1, RIGHT), "×": (2, RIGHT), "⊎": (2, RIGHT), "≡": (4, LEFT), "≤": (50, LEFT), "<": (50, LEFT),
-    "||": (30, RIGHT), "&&": (35, RIGHT), "++": (60, RIGHT), "∷": (60, RIGHT), "+": (65, LEFT), "-": (65, LEFT),
+    "||": (30, RIGHT), "&&": (35, RIGHT), "==": (40, LEFT), "++": (60, RIGHT), "∷": (60, RIGHT), "+": (65, LEFT), "-": (65, LEFT),
     "*": (70, LEFT), "/": (70, LEFT), "%": (70, LEFT), "^": (75, RIGHT),
 }  # fmt: skip
 
@@ -46,8 +46,8 @@ def tokens(text):
 
 
 class Reader:
-    def __init__(self, words, infix):
-        self.words, self.at, self.infix = words, 0, {**OPERATORS, **infix}
+    def __init__(self, words, infix, aliases=()):
+        self.words, self.at, self.infix, self.aliases = words, 0, {**OPERATORS, **infix}, aliases
 
     def peek(self):
         return self.words[self.at] if self.at < len(self.words) else None
@@ -76,10 +76,7 @@ class Reader:
     def application(self):
         left = self.atom()
         while self.starts():
-            word = self.peek()
-            if word[0] == "." and len(word) > 1:
-                left = ("get", left, self.next()[1:])
-            elif word == "{":
+            if self.peek() == "{":
                 self.braces()
             else:
                 left = ("app", left, self.atom())
@@ -92,6 +89,17 @@ class Reader:
         self.next("}")
 
     def atom(self):
+        """What binds before an application does: a word or brackets, with the fields that are asked of it."""
+        left = self.bare()
+        if left[0] == "var" and "." in left[1] and left[1][0].isalpha():
+            first, *fields = left[1].split(".")
+            if first not in self.aliases:
+                left = with_fields(("var", first), fields)
+        while (self.peek() or "")[:1] == "." and len(self.peek()) > 1:
+            left = with_fields(left, self.next()[1:].split("."))
+        return left
+
+    def bare(self):
         word = self.next()
         if word == "(":
             inside = self.expression()
@@ -143,6 +151,12 @@ class Reader:
         if word in (")", "}", ";", ",", "=", ":", "in"):
             raise Unread(f"{word} in {' '.join(self.words[max(0, self.at - 8) : self.at + 4])}")
         return ("var", word)
+
+
+def with_fields(tree, fields):
+    for field in fields:
+        tree = ("get", tree, field)
+    return tree
 
 
 def spine(tree):
@@ -286,7 +300,7 @@ def divided(kind, a, b):
 
 
 def first_root(a, p, m, k):
-    """`firstFrom` of crates/root, which goes up one by one, by halving."""
+    """`first_from` of crates/root, which goes up one by one, by halving."""
     a, p, low, high = natural(a), natural(p), natural(m), natural(m) + natural(k)
     while low < high:
         middle = (low + high) // 2
@@ -315,31 +329,33 @@ BUILT = {
     "suc": Function(1, lambda n: natural(n) + 1),
     "pos": Function(1, lambda n: natural(n)),
     "negsuc": Function(1, lambda n: -1 - natural(n)),
-    "natAbs": Function(1, lambda x: abs(number(x))),
-    "negℤ": Function(1, lambda x: -number(x)),
-    "ltZ": Function(2, lambda x, y: number(x) < number(y)),
+    "nat_abs": Function(1, lambda x: abs(number(x))),
+    "neg_ℤ": Function(1, lambda x: -number(x)),
+    "lt_z": Function(2, lambda x, y: number(x) < number(y)),
     "min": Function(2, lambda a, b: min(natural(a), natural(b))),
     "leb": Function(2, lambda a, b: natural(a) <= natural(b)),
     "ltb": Function(2, lambda a, b: natural(a) < natural(b)),
     "eqb": Function(2, lambda a, b: natural(a) == natural(b)),
+    "nat_lt": Function(2, lambda a, b: natural(a) < natural(b)),
+    "nat_eq": Function(2, lambda a, b: natural(a) == natural(b)),
     "not": Function(1, lambda a: not truth(a)),
     "cond": Function(3, lambda c, a, b: a if truth(c) else b),
     "length": Function(1, size_of),
-    "getD": Function(3, nth),
+    "get_or": Function(3, nth),
     "take": Function(2, taken),
     "drop": Function(2, dropped),
     "set": Function(3, put),
     "replicate": Function(2, repeated),
     "map": Function(2, lambda f, l: listed([Later(lambda x: apply(f, [x]), x) for x in each(l)])),
     "foldl": Function(3, folded),
-    "dropLast": Function(1, lambda l: listed(list(each(l))[:-1])),
-    "bitAnd": Function(2, lambda a, b: natural(a) & natural(b)),
-    "bitXor": Function(2, lambda a, b: natural(a) ^ natural(b)),
-    "ofInt": Function(2, lambda kind, x: float(number(x))),
-    "ofBits": Function(2, lambda kind, x: struct.unpack("<d", struct.pack("<Q", natural(x)))[0]),
+    "drop_last": Function(1, lambda l: listed(list(each(l))[:-1])),
+    "bit_and": Function(2, lambda a, b: natural(a) & natural(b)),
+    "bit_xor": Function(2, lambda a, b: natural(a) ^ natural(b)),
+    "of_int": Function(2, lambda kind, x: float(number(x))),
+    "of_bits": Function(2, lambda kind, x: struct.unpack("<d", struct.pack("<Q", natural(x)))[0]),
     "div": Function(3, divided),
 }  # fmt: skip
-QUICKER = {"root/specs/Root firstFrom": first_root}
+QUICKER = {"root/specs/Root first_from": first_root}
 ARITHMETIC = {
     "+": lambda a, b: natural(a) + natural(b),
     "-": lambda a, b: max(natural(a) - natural(b), 0),
@@ -347,6 +363,7 @@ ARITHMETIC = {
     "/": lambda a, b: natural(a) // natural(b) if natural(b) else 0,
     "%": lambda a, b: natural(a) % natural(b) if natural(b) else natural(a),
     "^": raised,
+    "==": lambda a, b: natural(a) == natural(b),
     "++": lambda a, b: listed(each(a), b),
     "∷": lambda a, b: (a, b),
     "&&": lambda a, b: truth(a) and truth(b),
@@ -452,7 +469,12 @@ def bound(tree, names):
 
 def place(path):
     """The crate, folder and file of a path."""
-    return path[0].split("·")[1], "proofs" if "proofs" in path else "specs", path[-1]
+    return path[1], path[2], path[-1]
+
+
+def is_ours(path):
+    """It is of a crate of this repository, and not of the library."""
+    return path[0] == "Rattle" and path[1] != "std"
 
 
 class File:
@@ -474,21 +496,21 @@ class File:
         if name in self.variants or "." in name:
             return True
         path = self.uses.get(name, ((), None))[0]
-        if path and path[-1] != "the-variants" and path[0].startswith("Rattle·"):
+        if path and path[-1] != "TheVariants" and is_ours(path):
             return "declared" not in path and name in self.world.file(*place(path)).variants
-        return bool(path) and path[-1] == "the-variants"
+        return bool(path) and path[-1] == "TheVariants"
 
     def constant(self, path, name):
         """What a name of a module is."""
-        if path[-1] == "the-variants":
+        if path[-1] == "TheVariants":
             return lambda: Is(name)
-        if path[0].startswith("Rattle·"):
+        if is_ours(path):
             if name in self.world.file(*place(path)).variants:
                 return lambda: Is(name)
             definition = self.world.definition(*place(path), name)
             return lambda: definition.value
-        if name.strip("_") in ARITHMETIC:
-            run = ARITHMETIC[name.strip("_")]
+        if name.strip("◌") in ARITHMETIC:
+            run = ARITHMETIC[name.strip("◌")]
             return lambda: Function(2, run)
         if name in BUILT:
             return lambda: BUILT[name]
@@ -555,7 +577,7 @@ class File:
             if o in ARITHMETIC:
                 run = ARITHMETIC[o]
                 return lambda env: run(a(env), b(env))
-            code = self.meaning(f"_{o}_", definition)
+            code = self.meaning(f"◌{o}◌", definition)
             return lambda env: apply(code(env), [a(env), b(env)])
         if kind == "lam":
             names, code = tree[1], go(tree[2], tree[1])
@@ -599,7 +621,7 @@ class World:
                 raise Unread(f"{crate}/{name}")
             text = path.read_text()
             file = File(self, crate, kind, name, text)
-            file.infix = {o: (int(n), LEFT) for n, o in re.findall(r"^ *infix[lr]? (\d+) _(\S+)_", text, re.M)}
+            file.infix = {o: (int(n), LEFT) for n, o in re.findall(r"^ *infix[lr]? (\d+) ◌(\S+)◌", text, re.M)}
             for item in self.sources.antt(crate, name, text):
                 if not isinstance(item, tuple):
                     file.own[item.name] = item
@@ -611,12 +633,12 @@ class World:
     def infix(self, file):
         found = dict(file.infix)
         for name, (path, said) in file.uses.items():
-            if re.fullmatch(r"_\w+_", said) and path[0].startswith("Rattle·"):
+            if re.fullmatch(r"◌\w+◌", said) and is_ours(path):
                 found.update(self.file(*place(path)).infix)
         return found
 
     def tree(self, file, text):
-        reader = Reader(tokens(text), self.infix(file))
+        reader = Reader(tokens(text), self.infix(file), file.opened)
         tree = reader.expression()
         if reader.peek() is not None:
             raise Unread(f"{reader.peek()} after {text[:60]}")
@@ -625,7 +647,7 @@ class World:
     def clauses(self, file, item):
         """[(patterns, body)] of a definition."""
         statement = len(item.statement())
-        if item.name[0] == "_":
+        if item.name[0] == "◌":
             statement = next(i for i, line in enumerate(item.lines) if f" {item.name[1:-1]} " in line and " = " in line)
         floor = 2 if item.inside else 0
         parts = []
@@ -643,8 +665,8 @@ class World:
             while deep or words[at] != "=":
                 deep += (words[at] in "({") - (words[at] in ")}")
                 at += 1
-            head = Reader(words[:at], self.infix(file)).expression()
-            body = Reader(words[at + 1 :], self.infix(file))
+            head = Reader(words[:at], self.infix(file), file.opened).expression()
+            body = Reader(words[at + 1 :], self.infix(file), file.opened)
             tree = body.expression()
             if body.peek() is not None:
                 raise Unread(f"{body.peek()} in {item.name}")
@@ -661,7 +683,7 @@ class World:
         if key not in self.definitions:
             file = self.file(crate, kind, name)
             if declared not in file.own:
-                if declared in file.uses and file.uses[declared][0][0].startswith("Rattle·"):
+                if declared in file.uses and is_ours(file.uses[declared][0]):
                     path, said = file.uses[declared]
                     return self.definition(*place(path), said)
                 raise Unread(f"{declared} is not in {crate}/{kind}/{name}")

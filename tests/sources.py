@@ -13,7 +13,7 @@ FUNCTION = re.compile(
 )
 USE = re.compile(
     r"^(?:ghost |(?:unfoldable |abbrev )?pub )?use (?P<path>[^\s{;]+?)(?:\.\{(?P<names>[^}]*)\}| as (?P<alias>\S+?))?;?$", re.M)
-WORD = re.compile(r"[^\s(){};,⌜⌝]+")
+WORD = re.compile(r"[^\s(){};,]+")
 
 
 class Declaration:
@@ -141,9 +141,10 @@ def types(crate, text):
             continue
         end = next(j for j in range(i, len(lines)) if lines[j].startswith("}"))
         start = i
-        while start and lines[start - 1].startswith("//"):
+        while start and lines[start - 1].startswith(("//", "#[")):
             start -= 1
-        item = Declaration((crate, "src", head.group(1)), "pub", lines[start:i], line)
+        comment = [above for above in lines[start:i] if above.startswith("//")]
+        item = Declaration((crate, "src", head.group(1)), "pub", comment, line)
         item.lines = lines[i : end + 1]
         found.append(item)
     return found
@@ -157,7 +158,7 @@ class Function:
 
     @property
     def contract(self):
-        return " ".join(re.findall(r"^\s*ensures \{(.*?)\}\s*$", self.signature, re.M | re.S))
+        return " ".join(re.findall(r"^\s*ensures (?:\w+ )?\{(.*?)\}\s*$", self.signature, re.M | re.S))
 
 
 def functions(crate, text):
@@ -221,19 +222,18 @@ class Tree:
         words, aliases = {}, {}
         for m in USE.finditer(self.texts[crate, file]):
             parts = m["path"].split(".")
-            home = re.match(r"^Rattle·(\w+)", parts[0])
-            if not home or len(parts) < 3:
+            if len(parts) < 4 or parts[0] != "Rattle" or parts[1] == "std":
                 continue
-            home = home.group(1)
-            if parts[1] == "specs" and parts[2] == "declared":
-                key = (home, "src", parts[3])
+            home = parts[1]
+            if parts[2] == "specs" and parts[3] == "declared":
+                key = (home, "src", parts[4])
                 if m["alias"]:
                     aliases[m["alias"]] = key
                 for name in (m["names"] or "").split(","):
                     if name.strip():
                         words[name.split(" as ")[-1].strip()] = key
                 continue
-            where = parts[2] if parts[1] == "specs" else f"proofs/{parts[2]}"
+            where = parts[3] if parts[2] == "specs" else f"proofs/{parts[3]}"
             if m["alias"]:
                 aliases[m["alias"]] = (home, where)
             for name in (m["names"] or "").split(","):
@@ -241,8 +241,9 @@ class Tree:
                     first, last = (name.split(" as ") * 2)[:2]
                     words[last.strip()] = self.handed_on(home, where, first.strip())
         if file == "src":
-            for home, name in re.findall(r"^use (\w+)::(\w+);", self.texts[crate, file], re.M):
-                words.setdefault(name, (home, "src", name))
+            for home, names in re.findall(r"^use (\w+)::\{?([\w, ]+)\}?;", self.texts[crate, file], re.M):
+                for name in names.split(", "):
+                    words.setdefault(name, (home, "src", name))
         self._uses[crate, file] = words, aliases
         return words, aliases
 
@@ -270,21 +271,19 @@ class Tree:
                 alias, name = word.split(".", 1)
                 home = aliases[alias]
                 key = home if len(home) == 3 else (*home, name.split(".")[0])
+            elif word.startswith("Rattle."):
+                key = written_out(word.split("."))
             elif "::" in word:
                 parts = re.findall(r"\w+", word)
                 key = (parts[-2], "src", parts[-1])
-            elif word in bound:
-                continue
             else:
+                word = word.split(".")[0] if re.match(r"\w", word) else word  # of `r.n` the fields cite nothing
+                if word in bound or word == own:
+                    continue
                 key = self._own(crate, file, word) or words.get(word) or self._mixfix(crate, file, word, words)
             key = self.parts.get(key, key)
             if key in self.at and key not in found:
                 found.append(key)
-            if "." in word and not word.startswith(".") and word.split(".")[0] not in aliases:
-                for part in word.split("."):
-                    key = words.get(part) or self._own(crate, file, part)
-                    if key in self.at and key not in found and part not in bound:
-                        found.append(key)
         return found
 
     def _own(self, crate, file, word):
@@ -292,7 +291,7 @@ class Tree:
         return key if key in self.at else None
 
     def _mixfix(self, crate, file, word, words):
-        for form in (f"_{word}_", f"{word}_"):
+        for form in (f"◌{word}◌", f"{word}◌"):
             if form in words:
                 return words[form]
             if (crate, file, form) in self.at:
@@ -326,7 +325,7 @@ class Tree:
     def promised(self, function):
         """What the signature and the contract of a public function cite."""
         crate = function.crate
-        signature = re.sub(r"ensures \{.*", "", function.signature, flags=re.S)
+        signature = re.sub(r"ensures (?:\w+ )?\{.*", "", function.signature, flags=re.S)
         return self._types(crate, signature) + [k for k in self.cites(crate, "src", function.contract) if k]
 
     def closure(self, keys):
@@ -343,6 +342,14 @@ class Tree:
         for key in keys:
             visit(key)
         return order
+
+
+def written_out(parts):
+    """The key of a whole path, `Rattle.text.specs.Write.written`."""
+    _, home, kind, file, *names = parts
+    if file == "declared":
+        return home, "src", names[0]
+    return home, file if kind == "specs" else f"proofs/{file}", names[0]
 
 
 def binders(text, own):

@@ -2,7 +2,7 @@
 -- them all is added. So what is handed out keeps the relations, and a sum grown by adding is never refused with 8.
 -- Assumes nothing.
 use mathlib.Core.Path.{◌≡◌, ap, sym}
-use mathlib.Core.Bool.{Bool, cond, false, not, true, ◌||◌}
+use mathlib.Core.Bool.{Bool, cond, false, not, true}
 use Prim.Native.Nat.{ℕ, ◌+◌, ◌≤◌}
 use native.Mathlib.Omega.{arith}
 use borrow.Author.Tests.{eq-eqb, eqb-true, le-ltb, ltb-false, not-false}
@@ -11,14 +11,13 @@ use lib.Ieee.Fits.{and_l, and_r}
 use Rattle.truth.proofs.Laws.{holds, impossible, is_true, neither, past}
 use Rattle.sample_items.specs.Limits.{step_in_range}
 use Rattle.refusal.specs.declared.Refusal.{Refusal}
-use Rattle.refusal.specs.declared.Refusal.TheVariants.{BrokenState, Item, SumFull, TooShort}
+use Rattle.refusal.specs.declared.Refusal.TheVariants.{Item}
 use Rattle.record_state.specs.State as reading
 use Rattle.record_state.specs.State.{too_short}
 use Rattle.record_state.specs.declared.Record.{Record}
-use Rattle.binomial_sum.specs.declared.SumAnswer.{SumAnswer}
 use Rattle.binomial_sum.specs.declared.SumAnswer.TheVariants.{Refused, Taken}
 use Rattle.binomial_sum.specs.declared.Sum.{Sum}
-use Rattle.binomial_sum.specs.Answers.{adding, opened, taken}
+use Rattle.binomial_sum.specs.Answers.{adding, opened}
 use Rattle.binomial_sum.specs.Kept.{Kept}
 use Rattle.binomial_sum.specs.State.{empty, grown, most_failures, most_samples, sound, timed, would_pass}
 use Rattle.binomial_sum.proofs.Relations.{brings, kept_from, sound_from}

@@ -1,3 +1,1 @@
-pub mod Steps
-pub mod Thin
 pub mod Unique

@@ -33,6 +33,7 @@ one_is (c ∷ cs) e = by_test (rejected c) (λ r. this r) (λ r. another (one_is
 
 is_one : (cs : List Campaign) → One rejected cs → one_rejected cs ≡ true
 unfolding one_rejected
+is_one [] x' = elim x' [ ]
 is_one (c ∷ cs) (this r) = rw r
 is_one (c ∷ cs) (another o) = rw (is_one cs o) (or-true (rejected c))
   where
@@ -52,6 +53,7 @@ are_all (c ∷ cs) (next a rest) = rw (a, are_all cs rest)
 
 -- where all are accepted none is rejected
 none_rejected : (cs : List Campaign) → All accepted cs → One rejected cs → ⊥
+none_rejected [] _ x3 = elim x3 [ ]
 none_rejected (c ∷ cs) (next a rest) (this r) = never_both c a r
 none_rejected (c ∷ cs) (next a rest) (another o) = none_rejected cs rest o
 

@@ -40,6 +40,7 @@ fn code_of(x: i32) -> u64
     if x < 0 { m + m - 1 } else { m + m }
 }
 
+#[tactic(auto, unfolding(crate::specs::Numbers::sample_of))]
 fn sample_of(code: u64) -> i32
     requires { code ≤ highest_code }
     ensures { result ≡ sample_of code }
@@ -77,6 +78,7 @@ fn no_record() -> Record
 }
 
 // The record that an array holds.
+#[tactic(auto, unfolding(crate::specs::Numbers::record_of))]
 pub fn record_of(s: &[u64]) -> Record
     ensures { result ≡ record_of s.now }
 {
@@ -159,6 +161,7 @@ fn no_campaign() -> Campaign
 }
 
 // The campaign that an array holds.
+#[tactic(auto, unfolding(crate::specs::Numbers::campaign_of))]
 pub fn campaign_of(s: &[u64]) -> Campaign
     ensures { result ≡ campaign_of s.now }
 {
@@ -197,6 +200,7 @@ fn of_campaign(c: Campaign) -> [u64; 5]
 }
 
 // `to` takes the numbers if it has as many places; else it stays.
+#[tactic(auto, unfolding(crate::specs::Told::placed))]
 pub fn put(from: &[u64], to: &mut [u64])
     ensures { to.new ≡ placed from.now to.old }
 {
@@ -227,6 +231,7 @@ pub fn refuse(f: Refusal, carried: &mut u64) -> u64
 }
 
 // What writing a text came to: 0 and its bytes, or the refusal.
+#[tactic(auto, unfolding(crate::specs::Told::write_told))]
 pub fn tell_writing(w: Writing, carried: &mut u64) -> u64
     ensures { told result carried.new [] ≡ write_told w [] }
 {
@@ -237,6 +242,7 @@ pub fn tell_writing(w: Writing, carried: &mut u64) -> u64
 }
 
 // The numbers of an answer that was taken, in `state`; or refusal 8 for an array of another length.
+#[tactic(auto, unfolding(crate::specs::Told::placed))]
 pub fn keep(numbers: &[u64], state: &mut [u64], carried: &mut u64) -> u64
     ensures { told result carried.new state.new
         ≡ in_places (length numbers.now) state.old (told 0 0 numbers.now) }
@@ -260,6 +266,7 @@ pub fn for_places(f: Refusal, places: usize, lent: usize) -> Refusal
 }
 
 // The record of an answer in `state`; or refusal 8 for an array of another length, else the answer's.
+#[tactic(auto, unfolding(crate::specs::Told::record_kept, crate::specs::Told::record_told))]
 pub fn keep_record(a: record_state::RecordAnswer, state: &mut [u64], carried: &mut u64) -> u64
     ensures { told result carried.new state.new ≡ record_kept a state.old }
 {
@@ -276,6 +283,7 @@ pub fn keep_record(a: record_state::RecordAnswer, state: &mut [u64], carried: &m
 }
 
 // The channel that an answer names.
+#[tactic(auto, unfolding(crate::specs::Told::channel_in))]
 pub fn channel_in(a: record_state::RecordAnswer) -> u64
     ensures { result ≡ channel_in a }
 {
@@ -286,6 +294,7 @@ pub fn channel_in(a: record_state::RecordAnswer) -> u64
 }
 
 // The result of an answer in `result`; or refusal 8 for an array of another length, else the answer's.
+#[tactic(auto, unfolding(crate::specs::Told::result_kept, crate::specs::Told::result_told))]
 pub fn keep_result(a: Ended, res: &mut [u64], carried: &mut u64) -> u64
     ensures { told result carried.new res.new ≡ result_kept a res.old }
 {
@@ -299,6 +308,7 @@ pub fn keep_result(a: Ended, res: &mut [u64], carried: &mut u64) -> u64
 }
 
 // The campaign of an answer in `state`; or refusal 8 for an array of another length, else the answer's.
+#[tactic(auto, unfolding(crate::specs::Told::campaign_kept, crate::specs::Told::campaign_told))]
 pub fn keep_campaign(a: campaign_state::CampaignAnswer, state: &mut [u64], carried: &mut u64) -> u64
     ensures { told result carried.new state.new ≡ campaign_kept a state.old }
 {

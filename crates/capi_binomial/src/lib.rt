@@ -29,6 +29,7 @@ fn no_sum() -> Sum
 }
 
 // The sum that an array holds.
+#[tactic(auto, unfolding(crate::specs::Told::sum_of))]
 fn sum_of(state: &[u64]) -> Sum
     ensures { result ≡ sum_of state.now }
 {
@@ -55,6 +56,7 @@ fn of_bounds(b: Bounds) -> [u64; 4]
 }
 
 // The sum of an answer in `state`; or refusal 8 for an array of another length, else the answer's.
+#[tactic(auto, unfolding(crate::specs::Told::sum_kept, crate::specs::Told::sum_told))]
 fn keep_sum(a: binomial_sum::SumAnswer, state: &mut [u64], carried: &mut u64) -> u64
     ensures { told result carried.new state.new ≡ sum_kept a state.old }
 {
@@ -71,16 +73,14 @@ fn keep_sum(a: binomial_sum::SumAnswer, state: &mut [u64], carried: &mut u64) ->
 }
 
 // The sum of no records in `state`; or refusal 8 for an array of another length, 1 with item 1.
-#[unsafe(no_mangle)]
-pub extern "C" fn chim_sum_open(step: u64, state: &mut [u64], carried: &mut u64) -> u64
+pub fn chim_sum_open(step: u64, state: &mut [u64], carried: &mut u64) -> u64
     ensures { told result carried.new state.new ≡ sum_opened step state.old }
 {
     keep_sum(binomial_sum::open(step), state, carried)
 }
 
 // The sum in `state` with a record added; or refusal 8, 4, 1 with item 1 for a record of another step, 11.
-#[unsafe(no_mangle)]
-pub extern "C" fn chim_sum_add(state: &mut [u64], added: &[u64], carried: &mut u64) -> u64
+pub fn chim_sum_add(state: &mut [u64], added: &[u64], carried: &mut u64) -> u64
     ensures { told result carried.new state.new
         ≡ sum_added state.old added.now }
 {
@@ -91,8 +91,8 @@ pub extern "C" fn chim_sum_add(state: &mut [u64], added: &[u64], carried: &mut u
 
 // The bounds in thousandths of a failure and P.D in `bounds`, and 1 in `carried`; 0 and bounds of 0 while there is no
 // record; or refusal 8.
-#[unsafe(no_mangle)]
-pub extern "C" fn chim_sum_bounds(state: &[u64], bounds: &mut [u64], carried: &mut u64) -> u64
+#[tactic(auto, unfolding(crate::specs::Told::sum_bounded, crate::specs::Told::bounds_told))]
+pub fn chim_sum_bounds(state: &[u64], bounds: &mut [u64], carried: &mut u64) -> u64
     ensures { told result carried.new bounds.new
         ≡ sum_bounded state.now bounds.old }
 {
@@ -111,8 +111,8 @@ pub extern "C" fn chim_sum_bounds(state: &[u64], bounds: &mut [u64], carried: &m
 }
 
 // The three rates, and 1 in `carried`; 0 and rates of 0 while there is no record; or refusal 8.
-#[unsafe(no_mangle)]
-pub extern "C" fn chim_sum_rates(
+#[tactic(auto, unfolding(capi_verdict::specs::Told::rated_told))]
+pub fn chim_sum_rates(
     state: &[u64],
     estimate: &mut f64,
     lower: &mut f64,

@@ -120,6 +120,7 @@ fn serve(table: &mut [[u64; 6]], c: Call) -> TableAnswer
 }
 
 // What an answer without rates tells: the place where a job was taken, else nothing.
+#[tactic(auto, unfolding(crate::specs::Told::plain))]
 fn tell(a: TableAnswer, carried: &mut u64) -> u64
     ensures { count result carried.new ≡ plain a }
 {
@@ -133,6 +134,7 @@ fn tell(a: TableAnswer, carried: &mut u64) -> u64
     }
 }
 
+#[tactic(auto, unfolding(crate::specs::Told::judged))]
 fn tell_verdict(a: TableAnswer, lower: &mut f64, upper: &mut f64, carried: &mut u64) -> u64
     ensures { judgement result carried.new lower.new upper.new
         ≡ judged a lower.old upper.old }
@@ -147,6 +149,7 @@ fn tell_verdict(a: TableAnswer, lower: &mut f64, upper: &mut f64, carried: &mut 
     }
 }
 
+#[tactic(auto, unfolding(crate::specs::Told::rated))]
 fn tell_rates(
     a: TableAnswer,
     estimate: &mut f64,
@@ -189,13 +192,7 @@ fn outcome_of(failed: u64, exposure: u64) -> Outcome
 }
 
 // A job at this standard for the bureau; its place in `carried`. Refusals 8, 13, 14, 1 with item 5.
-#[unsafe(no_mangle)]
-pub extern "C" fn chim_bench_take(
-    table: &mut [[u64; 6]],
-    bureau: u64,
-    standard: u64,
-    carried: &mut u64,
-) -> u64
+pub fn chim_bench_take(table: &mut [[u64; 6]], bureau: u64, standard: u64, carried: &mut u64) -> u64
     ensures { (count result carried.new
         ≡ plain (called (places_of table.old) bureau (Take standard)).answer)
         × (table.new
@@ -210,8 +207,7 @@ pub extern "C" fn chim_bench_take(
 
 // A result entered into the campaign in the bureau's place: whether there is a first failure (1) or not (0), and the
 // exposure. Refusals 8, 13, 15, 8 for the result, 5, 6.
-#[unsafe(no_mangle)]
-pub extern "C" fn chim_bench_enter(
+pub fn chim_bench_enter(
     table: &mut [[u64; 6]],
     bureau: u64,
     place: u64,
@@ -235,8 +231,7 @@ pub extern "C" fn chim_bench_enter(
 }
 
 // The bureau's place is free again. Refusals 8, 13, 15.
-#[unsafe(no_mangle)]
-pub extern "C" fn chim_bench_give_back(
+pub fn chim_bench_give_back(
     table: &mut [[u64; 6]],
     bureau: u64,
     place: u64,
@@ -255,8 +250,7 @@ pub extern "C" fn chim_bench_give_back(
 }
 
 // The verdict of the campaign in the bureau's place, told as chim_campaign_verdict tells it. Refusals 8, 13, 15.
-#[unsafe(no_mangle)]
-pub extern "C" fn chim_bench_verdict(
+pub fn chim_bench_verdict(
     table: &mut [[u64; 6]],
     bureau: u64,
     place: u64,
@@ -278,8 +272,7 @@ pub extern "C" fn chim_bench_verdict(
 }
 
 // The rates of the campaign in the bureau's place, told as chim_campaign_rates tells them. Refusals 8, 13, 15.
-#[unsafe(no_mangle)]
-pub extern "C" fn chim_bench_rates(
+pub fn chim_bench_rates(
     table: &mut [[u64; 6]],
     bureau: u64,
     place: u64,

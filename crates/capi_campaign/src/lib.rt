@@ -12,8 +12,7 @@ use record_end::{Outcome, Result};
 use refusal::Refusal;
 
 // A campaign without a record in `state`; or refusal 8 for an array of another length, 1 with item 5.
-#[unsafe(no_mangle)]
-pub extern "C" fn chim_campaign_open(standard: u64, state: &mut [u64], carried: &mut u64) -> u64
+pub fn chim_campaign_open(standard: u64, state: &mut [u64], carried: &mut u64) -> u64
     ensures { told result carried.new state.new ≡ campaign_opened standard state.old }
 {
     capi::keep_campaign(campaign_state::open(standard), state, carried)
@@ -21,13 +20,8 @@ pub extern "C" fn chim_campaign_open(standard: u64, state: &mut [u64], carried: 
 
 // The campaign in `state` with a result entered: whether there is a first failure (1) or not (0), and the exposure;
 // or refusal 8, for another flag or an exposure that is not from 1 to 10,000,000 too, 5, 6.
-#[unsafe(no_mangle)]
-pub extern "C" fn chim_campaign_enter(
-    state: &mut [u64],
-    failed: u64,
-    exposure: u64,
-    carried: &mut u64,
-) -> u64
+#[tactic(auto, unfolding(crate::specs::Told::campaign_entered))]
+pub fn chim_campaign_enter(state: &mut [u64], failed: u64, exposure: u64, carried: &mut u64) -> u64
     ensures { told result carried.new state.new
         ≡ campaign_entered state.old failed exposure }
 {
@@ -56,6 +50,7 @@ fn no_result() -> Result
 }
 
 // The result that an array holds.
+#[tactic(auto, unfolding(capi::specs::Numbers::result_of))]
 fn result_of(s: &[u64]) -> Result
     ensures { result ≡ result_of s.now }
 {
@@ -73,12 +68,7 @@ fn result_of(s: &[u64]) -> Result
 
 // The campaign in `state` with the result in `result` entered, of which only the first failure and the exposure are
 // read; or refusal 8, for an array of another length or an exposure that is not from 1 to 10,000,000 too, 5, 6.
-#[unsafe(no_mangle)]
-pub extern "C" fn chim_campaign_enter_result(
-    state: &mut [u64],
-    res: &[u64],
-    carried: &mut u64,
-) -> u64
+pub fn chim_campaign_enter_result(state: &mut [u64], res: &[u64], carried: &mut u64) -> u64
     ensures { told result carried.new state.new
         ≡ campaign_result_entered state.old res.now }
 {

@@ -53,8 +53,8 @@ fn campaigns_of(rows: &[[u64; 5]]) -> [Campaign; 64]
 }
 
 // Where the condition stands, in `carried`: 1 accepted, 2 rejected, 3 open. Refusals 18, 8 with the lowest situation.
-#[unsafe(no_mangle)]
-pub extern "C" fn chim_condition_judge(campaigns: &[[u64; 5]], carried: &mut u64) -> u64
+#[tactic(auto, unfolding(crate::specs::Told::judge_told))]
+pub fn chim_condition_judge(campaigns: &[[u64; 5]], carried: &mut u64) -> u64
     ensures { told result carried.new [] ≡ condition_judged campaigns.now }
 {
     if campaigns.len() > campaign_condition::MOST_SITUATIONS {
@@ -67,12 +67,8 @@ pub extern "C" fn chim_condition_judge(campaigns: &[[u64; 5]], carried: &mut u64
 }
 
 // The report in `out`, its bytes in `carried`. Refusals 18, 8 with the lowest situation, 7 with the bytes needed.
-#[unsafe(no_mangle)]
-pub extern "C" fn chim_condition_report(
-    campaigns: &[[u64; 5]],
-    out: &mut [u8],
-    carried: &mut u64,
-) -> u64
+#[tactic(auto, unfolding(capi::specs::Told::write_told))]
+pub fn chim_condition_report(campaigns: &[[u64; 5]], out: &mut [u8], carried: &mut u64) -> u64
     ensures { told result carried.new out.new
         ≡ condition_reported campaigns.now out.old }
 {

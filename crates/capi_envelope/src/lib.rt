@@ -8,8 +8,8 @@ ghost use Rattle.capi_envelope.specs.Told.{envelope_found, envelope_times};
 
 // The envelope peaks of a whole record: magnitudes from the start of `sizes`, times from the start of `times`, their
 // number in `carried`; or refusal 1, 2, 3, 4, 7 with the places needed.
-#[unsafe(no_mangle)]
-pub extern "C" fn chim_envelope_find(
+#[tactic(auto, unfolding(crate::specs::Told::found_told))]
+pub fn chim_envelope_find(
     step: u64,
     ramp: u64,
     decorrelation: u64,

@@ -178,6 +178,7 @@ fn survey_at(s: &[u64]) -> Surveying
 }
 
 // The first pass that an array holds.
+#[tactic(auto, unfolding(crate::specs::Numbers::survey_of))]
 fn survey_of(state: &[u64]) -> Surveying
     ensures { result ≡ survey_of state.now }
 {
@@ -259,6 +260,7 @@ fn handing_at(s: &[u64]) -> Handing
 }
 
 // The second pass that an array holds.
+#[tactic(auto, unfolding(crate::specs::Numbers::handing_of))]
 fn handing_of(state: &[u64]) -> Handing
     ensures { result ≡ handing_of state.now }
 {
@@ -313,6 +315,7 @@ fn of_handing(h: Handing, left: u64) -> [u64; 24]
 
 // The first pass of an answer in `state`, with the ramp and what is left of it; or refusal 8 for an array of another
 // length, else the answer's.
+#[tactic(auto, unfolding(crate::specs::Told::survey_kept, crate::specs::Told::survey_told))]
 fn keep_survey(a: Surveyed, ramp: u64, left: u64, state: &mut [u64], carried: &mut u64) -> u64
     ensures { told result carried.new state.new
         ≡ survey_kept a ramp left state.old }
@@ -331,6 +334,7 @@ fn keep_survey(a: Surveyed, ramp: u64, left: u64, state: &mut [u64], carried: &m
 
 // The second pass of an answer in `state`, with what is left of the ramp, and how many peaks it closed; or refusal 8
 // for an array of another length, else the answer's.
+#[tactic(auto, unfolding(crate::specs::Told::handing_kept, crate::specs::Told::handing_told))]
 fn keep_handing(a: Handed, left: u64, state: &mut [u64], carried: &mut u64) -> u64
     ensures { told result carried.new state.new ≡ handing_kept a left state.old }
 {
@@ -369,6 +373,7 @@ fn left_after(left: u64, len: usize) -> u64
 }
 
 // The first pass before its first sample; or refusal 1 with item 1 or 2.
+#[tactic(auto, unfolding(crate::specs::Told::opened_at))]
 fn open(step: u64, ramp: u64) -> Surveyed
     ensures { result ≡ opened_at step ramp }
 {
@@ -383,6 +388,7 @@ fn open(step: u64, ramp: u64) -> Surveyed
 
 // The first pass with a piece more, of which what is left of the ramp is left out; or refusal 8, 2 with the first
 // place out of range, 3.
+#[tactic(auto, unfolding(crate::specs::Told::taken_in))]
 fn take(s: Surveying, left: u64, samples: &[i32]) -> Surveyed
     ensures { result ≡ taken_in s left samples.now }
 {
@@ -398,6 +404,7 @@ fn take(s: Surveying, left: u64, samples: &[i32]) -> Surveyed
 }
 
 // The second pass before its first sample; or refusal 8, 1 with item 4, 4.
+#[tactic(auto, unfolding(crate::specs::Told::begun_from))]
 fn begin(s: Surveying, decorrelation: u64) -> Handed
     ensures { result ≡ begun_from s decorrelation }
 {
@@ -419,6 +426,7 @@ fn begin(s: Surveying, decorrelation: u64) -> Handed
 
 // The second pass with a piece more, of which what is left of the ramp is left out, and how many peaks it closed; or
 // refusal 8, 2 with the first place out of range, 3, 7 with the places needed.
+#[tactic(auto, unfolding(crate::specs::Told::handed_in))]
 fn hand_over(h: Handing, left: u64, samples: &[i32], sizes: &mut [u32], times: &mut [u32]) -> Handed
     ensures { (result ≡ handed_in h left samples.now (length sizes.old)
         (length times.old))
@@ -440,13 +448,7 @@ fn hand_over(h: Handing, left: u64, samples: &[i32], sizes: &mut [u32], times: &
 
 // The first pass over a record with that step and ramp, before its first sample, in `state`; or refusal 8 for an array
 // of another length, 1 with item 1 or 2.
-#[unsafe(no_mangle)]
-pub extern "C" fn chim_peaks_survey(
-    step: u64,
-    ramp: u64,
-    state: &mut [u64],
-    carried: &mut u64,
-) -> u64
+pub fn chim_peaks_survey(step: u64, ramp: u64, state: &mut [u64], carried: &mut u64) -> u64
     ensures { told result carried.new state.new
         ≡ peaks_surveyed step ramp state.old }
 {
@@ -455,8 +457,7 @@ pub extern "C" fn chim_peaks_survey(
 
 // The first pass in `state` with a piece of samples more; or refusal 8, 2 with the first place of the piece that is
 // out of range, 3.
-#[unsafe(no_mangle)]
-pub extern "C" fn chim_peaks_take(state: &mut [u64], samples: &[i32], carried: &mut u64) -> u64
+pub fn chim_peaks_take(state: &mut [u64], samples: &[i32], carried: &mut u64) -> u64
     ensures { told result carried.new state.new
         ≡ peaks_taken state.old samples.now }
 {
@@ -469,8 +470,7 @@ pub extern "C" fn chim_peaks_take(state: &mut [u64], samples: &[i32], carried: &
 
 // The second pass after the first in `survey`, before its first sample, in `state`; or refusal 8 for the array's
 // length or for `survey`, 1 with item 4, 4 where the first pass took fewer than two samples after the ramp.
-#[unsafe(no_mangle)]
-pub extern "C" fn chim_peaks_begin(
+pub fn chim_peaks_begin(
     survey: &[u64],
     decorrelation: u64,
     state: &mut [u64],
@@ -487,8 +487,7 @@ pub extern "C" fn chim_peaks_begin(
 // The second pass in `state` with a piece more: the peaks of the chains that it closed, from the start of `sizes` and
 // `times`, and their number in `carried`; or refusal 8, 2 with the first place of the piece that is out of range, 3, 7
 // with the places needed, one for each sample after the ramp.
-#[unsafe(no_mangle)]
-pub extern "C" fn chim_peaks_hand_over(
+pub fn chim_peaks_hand_over(
     state: &mut [u64],
     samples: &[i32],
     sizes: &mut [u32],
@@ -510,13 +509,8 @@ pub extern "C" fn chim_peaks_hand_over(
 
 // The peak of the chain that is open where the samples end, in `size` and `time`, and 1 in `carried`; 0 in all three
 // where there is none; or refusal 8. The pass stays as it is.
-#[unsafe(no_mangle)]
-pub extern "C" fn chim_peaks_last(
-    state: &[u64],
-    size: &mut u32,
-    time: &mut u32,
-    carried: &mut u64,
-) -> u64
+#[tactic(auto, unfolding(crate::specs::Told::peak_last, crate::specs::Told::last_said))]
+pub fn chim_peaks_last(state: &[u64], size: &mut u32, time: &mut u32, carried: &mut u64) -> u64
     ensures { last_told result carried.new size.new time.new
         ≡ peak_last state.now size.old time.old }
 {

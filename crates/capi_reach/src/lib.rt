@@ -30,8 +30,8 @@ fn letter_code(l: Letter) -> u64
 // The three times of peaks that lie downwards in `times`, and the letter for the standard in `carried`: 1 accepted,
 // 2 rejected, 3 continue. Refusals 8 for a `times` of another length, 1 (items 1, 3 and 5), 16, 17 with the first place
 // at fault, 19, 20 with the k-th peak, 21.
-#[unsafe(no_mangle)]
-pub extern "C" fn chim_extrapolate(
+#[tactic(auto, unfolding(crate::specs::Told::beyond_told, crate::specs::Told::reach_told))]
+pub fn chim_extrapolate(
     peaks: &[u32],
     k: u64,
     level: u64,

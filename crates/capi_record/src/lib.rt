@@ -15,8 +15,7 @@ use sample_channels::Levels;
 use sample_items::Items;
 
 // A fresh record in `state`; or refusal 8 for an array of another length, 1 with the lowest item outside its range.
-#[unsafe(no_mangle)]
-pub extern "C" fn chim_record_open(
+pub fn chim_record_open(
     step: u64,
     ramp: u64,
     level: u64,
@@ -41,8 +40,7 @@ pub extern "C" fn chim_record_open(
 }
 
 // The record after the piece in `state`; or refusal 8, 12, 2 with the lower bad place in the piece, 3.
-#[unsafe(no_mangle)]
-pub extern "C" fn chim_record_feed(
+pub fn chim_record_feed(
     state: &mut [u64],
     roll: &[i32],
     acceleration: &[i32],
@@ -62,8 +60,7 @@ pub extern "C" fn chim_record_feed(
 
 // The result of the record in `state`: crossings, groups, the first failure's place or 0, exposure, largest set; or
 // refusal 8, 4. The record stays as it is.
-#[unsafe(no_mangle)]
-pub extern "C" fn chim_record_end(state: &[u64], res: &mut [u64], carried: &mut u64) -> u64
+pub fn chim_record_end(state: &[u64], res: &mut [u64], carried: &mut u64) -> u64
     ensures { told result carried.new res.new
         ≡ record_ended state.now res.old }
 {
@@ -72,8 +69,7 @@ pub extern "C" fn chim_record_end(state: &[u64], res: &mut [u64], carried: &mut 
 
 // The place of the first crossing of a whole record; the number of samples that both channels have, which is no
 // place, if there is none.
-#[unsafe(no_mangle)]
-pub extern "C" fn chim_record_first_crossing(
+pub fn chim_record_first_crossing(
     roll: &[i32],
     acceleration: &[i32],
     ramp: u64,
@@ -92,8 +88,8 @@ pub extern "C" fn chim_record_first_crossing(
 
 // The counted times of a whole record, in order, from the start of `times`, and their number; or refusal 1, 12, 2, 3,
 // 4, 7 with the places needed.
-#[unsafe(no_mangle)]
-pub extern "C" fn chim_record_list(
+#[tactic(auto, unfolding(crate::specs::Told::list_told, crate::specs::Told::list_channel))]
+pub fn chim_record_list(
     step: u64,
     ramp: u64,
     level: u64,

@@ -11,8 +11,8 @@ ghost use Rattle.capi_verdict.specs.Told.{rates, ratings, verdict_told};
 use campaign_verdict::Verdict;
 
 // The censored count N* in `carried`; or refusal 8.
-#[unsafe(no_mangle)]
-pub extern "C" fn chim_campaign_censored(state: &[u64], carried: &mut u64) -> u64
+#[tactic(auto, unfolding(crate::specs::Told::count_told))]
+pub fn chim_campaign_censored(state: &[u64], carried: &mut u64) -> u64
     ensures { count result carried.new ≡ campaign_censored state.now }
 {
     let a = campaign_verdict::censored(capi::campaign_of(state));
@@ -23,6 +23,7 @@ pub extern "C" fn chim_campaign_censored(state: &[u64], carried: &mut u64) -> u6
 }
 
 // The two rates of a verdict, 0 where it carries none, and its case in `carried`.
+#[tactic(auto, unfolding(crate::specs::Told::verdict_told))]
 pub fn tell(v: Verdict, lower: &mut f64, upper: &mut f64, carried: &mut u64) -> u64
     ensures { judgement result carried.new lower.new upper.new ≡ verdict_told v }
 {
@@ -52,8 +53,7 @@ pub fn tell(v: Verdict, lower: &mut f64, upper: &mut f64, carried: &mut u64) -> 
 
 // The verdict in `carried`: 0 no record, 1 accept, 2 reject, 3 continue, with the rates that it carries and 0 for one
 // that it does not; or refusal 8.
-#[unsafe(no_mangle)]
-pub extern "C" fn chim_campaign_verdict(
+pub fn chim_campaign_verdict(
     state: &[u64],
     lower: &mut f64,
     upper: &mut f64,
@@ -70,8 +70,8 @@ pub extern "C" fn chim_campaign_verdict(
 }
 
 // The three rates, and 1 in `carried`; 0 and rates of 0 while there is no record; or refusal 8.
-#[unsafe(no_mangle)]
-pub extern "C" fn chim_campaign_rates(
+#[tactic(auto, unfolding(crate::specs::Told::rated_told))]
+pub fn chim_campaign_rates(
     state: &[u64],
     estimate: &mut f64,
     lower: &mut f64,
@@ -95,16 +95,14 @@ pub extern "C" fn chim_campaign_rates(
 }
 
 // Upper row n in millionths, from 1 to 64; 0 for any other n.
-#[unsafe(no_mangle)]
-pub extern "C" fn chim_upper_row(n: u64) -> u32
+pub fn chim_upper_row(n: u64) -> u32
     ensures { UpperRow n result }
 {
     poisson::upper_row(n)
 }
 
 // Lower row n in millionths, from 1 to 64; 0 for any other n.
-#[unsafe(no_mangle)]
-pub extern "C" fn chim_lower_row(n: u64) -> u32
+pub fn chim_lower_row(n: u64) -> u32
     ensures { LowerRow n result }
 {
     poisson::lower_row(n)

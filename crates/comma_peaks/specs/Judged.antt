@@ -2,7 +2,6 @@
 -- text 10, 2, 3, 4, in this order, or the peaks that are handed out. And the same after a reading, from its number of
 -- lines and its first sample out of range. Items in range are assumed by who asks. Assumes nothing.
 use Rattle.std.specs.Prelude.{ℕ, ◌+◌, ◌-◌, ◌%◌, ◌^◌, Bool, cond, not, ◌&&◌, List, length, ◌==◌, nat_lt}
-use Rattle.refusal.specs.declared.Refusal.{Refusal}
 use Rattle.refusal.specs.declared.Refusal.TheVariants.{Sample, TooLong, TooShort, CommaLine}
 use Rattle.sample_items.specs.Limits.{most_in_range}
 use Rattle.sample_range.specs.Range.{first_bad}

@@ -1,7 +1,7 @@
 -- What is left once the tests are passed, in the request's order: the list lies downwards, its Hill sum is ours, and
 -- the three times have what they are found from. And an answer with times was refused by none. Assumes nothing.
 use mathlib.Core.Path.{◌≡◌, ap, refl, sym}
-use mathlib.Core.Bool.{Bool, true, false, cond, not, ◌||◌}
+use mathlib.Core.Bool.{Bool, true, false, cond, not}
 use mathlib.Core.List.{List}
 use Prim.Native.Nat.{ℕ, ◌-◌, ◌*◌, ◌^◌, ◌≤◌, ◌<◌}
 use native.Mathlib.Nat.{le_trans}

@@ -2,7 +2,7 @@
 -- division is exact. Assumes nothing.
 use mathlib.Core.Path.{◌≡◌}
 use mathlib.Core.Bool.{cond}
-use Prim.Native.Nat.{ℕ, suc, ◌+◌, ◌-◌, ◌*◌, ◌/◌, ◌%◌, ◌≤◌, ◌<◌}
+use Prim.Native.Nat.{ℕ, suc, ◌+◌, ◌*◌, ◌/◌, ◌%◌, ◌≤◌, ◌<◌}
 use native.Mathlib.Nat.{div-add-mod', div-lt_iff_lt-mul, div-mul-le_self, le_antisymm, le-div_iff_mul-le, le_of_lt}
 use native.Mathlib.Nat.{le_refl, le_trans}
 use native.Mathlib.Nat.{lt-div-mul-add, mod-lt, mul-le-mul, mul-le-mul_left, mul-le-mul_right, mul-pos}

@@ -1,6 +1,6 @@
 -- What the private steps find is what the definitions of our figures say. Assumes nothing.
 use mathlib.Core.Path.{◌≡◌, ap, sym}
-use mathlib.Core.Bool.{Bool, true, false, cond, ◌||◌}
+use mathlib.Core.Bool.{true, false, cond}
 use Prim.Native.Nat.{ℕ, ◌+◌, ◌-◌, ◌*◌, ◌/◌, ◌^◌, ◌≤◌, ◌<◌}
 use native.Mathlib.Nat.{le-div_iff_mul-le, le_of_mul-le-mul_right, mul-le-mul, mul-le-mul_left, mul-pos}
 use native.Mathlib.Omega.{arith}

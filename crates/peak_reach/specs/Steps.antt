@@ -1,5 +1,5 @@
 -- What the private steps promise one another. Assumes nothing.
-use Rattle.std.specs.Prelude.{◌≡◌, false, true, List, ℕ, ◌+◌, ◌-◌, ◌*◌, ◌^◌, ◌≤◌, ◌<◌, length}
+use Rattle.std.specs.Prelude.{◌≡◌, false, true, List, ℕ, ◌+◌, ◌*◌, ◌^◌, ◌≤◌, ◌<◌, length}
 use Rattle.sample_items.specs.Limits.{level_in_range, step_in_range}
 use Rattle.logarithm.specs.Ours.{our_figure}
 use Rattle.exponential.specs.Exponential.{one}

@@ -3,24 +3,23 @@
 -- looked at. Assumes nothing.
 use Prim.Native.Nat.{ℕ, ◌+◌, ◌*◌, ◌≤◌, ◌<◌}
 use mathlib.Core.Path.{◌≡◌, refl, sym, ap, ◌∙◌}
-use mathlib.Core.Bool.{Bool, true, false, cond, not, ◌&&◌}
+use mathlib.Core.Bool.{Bool, true, false, cond, ◌&&◌}
 use mathlib.Core.List.{List, [], ◌∷◌, drop_last}
 use native.Mathlib.Omega.{arith}
 use lib.ListN.{drop}
 use lib.Dec.{ltb, eqb}
 use lib.IntN.{ℤ, nat_abs}
 use borrow.Author.Tests.{lt-ltb, le-ltb, eq-eqb, ne_eqb, ltb-true, ltb-false, eqb-true, eqb-false}
-use Rattle.crossing_sets.specs.Groups.{groups}
 use Rattle.peak_groups.specs.declared.Peak.{Peak}
 use Rattle.peak_groups.specs.declared.Group.{Group}
 use Rattle.peak_groups.specs.Groups.{larger, tops, nothing}
-use Rattle.peak_groups.specs.Machine.{turned, gave, closed}
+use Rattle.peak_groups.specs.Machine.{turned, gave}
 use Rattle.peak_groups.proofs.Groups.{from}
 use Rattle.peak_groups.proofs.Left.{turned_next, left, left_next, within, within_next, within_last}
 use Rattle.peak_groups.specs.Runs.{same, side, point, points, started, same_side, peaks}
 use Rattle.peak_groups.proofs.Ahead.{same_true}
 use Rattle.peak_stream.specs.declared.Reading.{Reading}
-use Rattle.peak_stream.specs.Reading.{fresh, here, waits, stays, grown, read, closes}
+use Rattle.peak_stream.specs.Reading.{fresh, here, grown, read, closes}
 
 -- only the side of the last member counts
 from_side : (b x y : Peak) (l : List Peak) → x.below ≡ y.below → from same_side b x l ≡ from same_side b y l

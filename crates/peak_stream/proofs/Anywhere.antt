@@ -1,13 +1,12 @@
 -- The whole search over pieces: two passes over the same timed samples, each cut as it likes, hand out what the
 -- record hands out; and no piece of the second is refused where the record has room and the slices have a place for
 -- each sample of a piece. Assumes nothing.
-use Prim.Native.Nat.{ℕ, ◌+◌, ◌≤◌, ◌<◌}
+use Prim.Native.Nat.{ℕ, ◌+◌, ◌≤◌}
 use mathlib.Core.Path.{◌≡◌, refl, sym, ap, subst, ◌∙◌}
-use mathlib.Core.Bool.{Bool, true, false, ◌||◌}
+use mathlib.Core.Bool.{true, false}
 use mathlib.Core.List.{List, [], ◌∷◌, ◌++◌, foldl}
 use native.Mathlib.Omega.{arith}
 use lib.ListN.{length, drop, length-append}
-use lib.Dec.{ltb}
 use lib.IntN.{ℤ}
 use borrow.Author.Tests.{le-leb, le-ltb}
 use Rattle.truth.proofs.Laws.{both_true}
@@ -22,7 +21,6 @@ use Rattle.peak_stream.specs.declared.Handed.{Handed}
 use Rattle.peak_stream.specs.declared.Handed.TheVariants.{Taken}
 use Rattle.peak_stream.specs.Survey.{started, onwards, Totalled, Small}
 use Rattle.peak_stream.specs.Hands.{waiting, begun, moved, closed_by, ready, hands_on, handing_out, Pieces}
-use Rattle.peak_stream.proofs.Passing.{read_grows}
 use Rattle.peak_stream.proofs.Pieces.{survey_anywhere}
 use Rattle.peak_stream.proofs.Coming.{Set, set_out, set_next, ready_set, outs, handed_anywhere}
 use Rattle.peak_stream.proofs.Over.{no_refusal}

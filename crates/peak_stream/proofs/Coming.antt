@@ -1,17 +1,17 @@
 -- What is still to come of a second pass (`coming`): what a piece hands out, and what comes after it. However the
 -- samples are cut, what is handed out in order is what the whole record hands out. Assumes nothing.
-use Prim.Native.Nat.{ℕ, ◌+◌, ◌-◌, ◌*◌, ◌≤◌, ◌<◌}
-use mathlib.Core.Path.{◌≡◌, refl, sym, ap, subst, ◌∙◌}
-use mathlib.Core.Bool.{Bool, true, false, cond, not, ◌&&◌}
-use mathlib.Core.List.{List, [], ◌∷◌, ◌++◌, foldl, map, append_assoc}
+use Prim.Native.Nat.{ℕ, ◌+◌, ◌-◌, ◌≤◌, ◌<◌}
+use mathlib.Core.Path.{◌≡◌, refl, sym, ap, ◌∙◌}
+use mathlib.Core.Bool.{Bool, true, false, cond, ◌&&◌}
+use mathlib.Core.List.{List, [], ◌∷◌, ◌++◌, foldl, map}
 use native.Mathlib.Numerals.{add-one}
 use native.Mathlib.Nat.{zero-add}
 use native.Mathlib.Omega.{arith}
 use lib.ListN.{length, set, length-set, drop, drop_of_length-le, get_or}
 use lib.Seq.{sets}
-use lib.Dec.{leb, ltb}
+use lib.Dec.{leb}
 use lib.IntN.{ℤ, pos}
-use borrow.Author.Tests.{leb-true, le-leb, le-ltb, lt-ltb}
+use borrow.Author.Tests.{leb-true, le-leb}
 use Rattle.truth.proofs.Laws.{and-true, both_true}
 use Rattle.crossing_sets.specs.Parting.{together}
 use Rattle.peak_groups.specs.declared.Peak.{Peak}
@@ -20,7 +20,7 @@ use Rattle.peak_groups.specs.Machine.{closed}
 use Rattle.peak_groups.proofs.Left.{closed_none}
 use Rattle.sample_items.specs.Limits.{most_in_range}
 use Rattle.peak_groups.specs.Runs.{peaks}
-use Rattle.peak_groups.specs.Peaks.{sum, close, standing, handed}
+use Rattle.peak_groups.specs.Peaks.{close, standing, handed}
 use Rattle.peak_machine.specs.declared.Envelope.{Envelope}
 use Rattle.peak_machine.specs.Step.{stepped, Fits}
 use Rattle.peak_machine.specs.Step.{size_of, moment_of}

@@ -1,8 +1,8 @@
 -- The answers of a second pass to a piece, one law for each, and that no piece is refused while the record has room
 -- and the slices have a place for each sample. Assumes nothing.
 use Prim.Native.Nat.{ℕ, ◌+◌, ◌≤◌, ◌<◌}
-use mathlib.Core.Path.{◌≡◌, refl, sym, ap, ◌∙◌}
-use mathlib.Core.Bool.{Bool, true, false, cond, not, ◌||◌, true≢false}
+use mathlib.Core.Path.{◌≡◌, refl, ◌∙◌}
+use mathlib.Core.Bool.{true, false}
 use mathlib.Core.List.{List, map, foldl}
 use native.Mathlib.Nat.{zero-add}
 use native.Mathlib.Omega.{arith}

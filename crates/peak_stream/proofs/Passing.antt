@@ -1,8 +1,8 @@
 -- The first pass sample by sample: its numbers stay within their types while there is room for the samples to come
 -- (`Good`), and what it counted and what is to come are all peaks. Assumes nothing.
-use Prim.Native.Nat.{ℕ, ◌+◌, ◌-◌, ◌*◌, ◌≤◌, ◌<◌}
+use Prim.Native.Nat.{ℕ, ◌+◌, ◌*◌, ◌≤◌}
 use mathlib.Core.Path.{◌≡◌, refl, sym, ap, ◌∙◌}
-use mathlib.Core.Bool.{Bool, true, false, cond, not, ◌&&◌}
+use mathlib.Core.Bool.{Bool, true, false, cond, ◌&&◌}
 use mathlib.Core.List.{List, [], ◌∷◌, foldl}
 use native.Mathlib.Omega.{arith}
 use lib.ListN.{length}
@@ -13,11 +13,10 @@ use Rattle.truth.proofs.Laws.{and-true}
 use Rattle.peak_groups.specs.declared.Peak.{Peak}
 use Rattle.peak_groups.specs.Groups.{larger}
 use Rattle.sample_items.specs.Limits.{most_in_range}
-use Rattle.peak_groups.specs.Runs.{peaks}
 use Rattle.peak_groups.specs.Peaks.{sum}
 use Rattle.peak_stream.specs.declared.Reading.{Reading}
 use Rattle.peak_stream.specs.declared.Surveying.{Surveying}
-use Rattle.peak_stream.specs.Reading.{fresh, here, waits, stays, grown, read, closes, readable}
+use Rattle.peak_stream.specs.Reading.{here, waits, stays, grown, read, closes, readable}
 use Rattle.peak_stream.specs.Survey.{none, surveyed, sound, Totalled}
 use Rattle.peak_stream.proofs.Ahead.{ahead, ahead_next, ahead_last, ahead_first}
 

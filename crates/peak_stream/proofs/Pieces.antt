@@ -2,7 +2,7 @@
 -- peaks. Assumes nothing.
 use Prim.Native.Nat.{ℕ, ◌+◌, ◌*◌, ◌≤◌, ◌<◌}
 use mathlib.Core.Path.{◌≡◌, refl, sym, ap, subst, ◌∙◌}
-use mathlib.Core.Bool.{Bool, true, false, cond, not, ◌&&◌}
+use mathlib.Core.Bool.{Bool, true, false, cond, ◌&&◌}
 use mathlib.Core.List.{List, [], ◌∷◌, ◌++◌, foldl, foldl-append}
 use native.Mathlib.Omega.{arith}
 use lib.ListN.{length, length-append}
@@ -14,15 +14,13 @@ use Rattle.truth.proofs.Cases.{by_order}
 use Rattle.crossing_sets.specs.Parting.{together}
 use Rattle.refusal.specs.declared.Refusal.{Refusal}
 use Rattle.refusal.specs.declared.Refusal.TheVariants.{TooLong, BrokenState}
-use Rattle.peak_groups.specs.declared.Peak.{Peak}
 use Rattle.peak_groups.specs.Groups.{larger}
 use Rattle.sample_items.specs.Limits.{step_in_range, most_in_range}
 use Rattle.peak_stream.specs.declared.Reading.{Reading}
 use Rattle.peak_stream.specs.declared.Surveying.{Surveying}
-use Rattle.peak_stream.specs.declared.Surveyed.{Surveyed}
 use Rattle.peak_stream.specs.declared.Surveyed.TheVariants.{Taken, Refused}
-use Rattle.peak_stream.specs.Reading.{fresh, here, waits, stays, grown, read, closes, readable}
-use Rattle.peak_stream.specs.Survey.{none, started, surveyed, sound, too_many, taken, onwards, Totalled, Small}
+use Rattle.peak_stream.specs.Reading.{here, waits, stays, grown, read, closes, readable}
+use Rattle.peak_stream.specs.Survey.{none, started, surveyed, sound, taken, onwards, Totalled, Small}
 use Rattle.peak_stream.proofs.Passing.{Good, good, good_step, read_grows, totals}
 
 -- ---- the answers

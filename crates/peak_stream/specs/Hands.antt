@@ -1,6 +1,6 @@
 -- The second pass: the chains' largest, handed out as the chains close, for samples handed over in pieces. Assumes
 -- nothing.
-use Rattle.std.specs.Prelude.{ℕ, ◌+◌, ◌*◌, ◌≤◌, ◌≡◌, Bool, cond, not, ◌&&◌, length, drop, ltb, leb, ℤ}
+use Rattle.std.specs.Prelude.{ℕ, ◌+◌, ◌≤◌, ◌≡◌, Bool, cond, not, ◌&&◌, length, drop, ltb, leb, ℤ}
 use mathlib.Core.List.{List, [], ◌∷◌, ◌++◌, foldl, map}
 use Rattle.refusal.specs.declared.Refusal.TheVariants.{Item, TooLong, Room, BrokenState}
 use Rattle.sample_items.specs.Limits.{step_in_range, decorrelation_in_range, most_in_range}

@@ -1,5 +1,5 @@
 -- The first pass: the number and the sum of the peaks, for samples handed over in pieces. Assumes nothing.
-use Rattle.std.specs.Prelude.{ℕ, ◌+◌, ◌*◌, ◌≤◌, ◌≡◌, Bool, cond, not, ◌&&◌, length, ltb, leb, eqb, ℤ, nat_abs}
+use Rattle.std.specs.Prelude.{ℕ, ◌+◌, ◌*◌, ◌≤◌, ◌≡◌, Bool, cond, not, ◌&&◌, length, ltb, leb, ℤ, nat_abs}
 use mathlib.Core.List.{List, [], ◌∷◌, foldl}
 use Rattle.refusal.specs.declared.Refusal.TheVariants.{Item, TooLong, BrokenState}
 use Rattle.sample_items.specs.Limits.{step_in_range, most_in_range}

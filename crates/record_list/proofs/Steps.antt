@@ -34,10 +34,10 @@ ready_next {D} {τ} {w} up {n} r =
 
 pub ready_after : {D τ : ℕ} (a : Levels) {w : Walk} (ts : List ℕ) (xs : List Moment) (n : ℕ) {m : ℕ} → m ≡ length xs + n → Ready D τ w m → Ready D τ (foldl (noted D a τ) (noting w ts) xs).walk n
 unfolding noted
-ready_after a ts [] n e r = rw (e ∙ zero-add n) at r
-ready_after a {w} ts (x ∷ xs) n {m} e r =
+ready_after {D = D} {τ = τ} a ts [] n e r = rw (e ∙ zero-add n) at r
+ready_after {D = D} {τ = τ} a {w = w} ts (x ∷ xs) n {m = m} e r =
     let f : m ≡ suc (length xs + n) = omega arith in
-    ready_after a (cond (counts w (above a x)) (set ts w.count w.time) ts) xs n refl (ready_next (above a x) (rw f at r))
+    ready_after {D = D} {τ = τ} a {w = stepped D τ w (above a x)} (cond (counts w (above a x)) (set ts w.count w.time) ts) xs n refl (ready_next (above a x) (rw f at r))
 
 -- noting leaves the slice's length
 pub marked_length : (D τ : ℕ) (s : Noting) (up : Bool) → length (marked D τ s up).times ≡ length s.times

@@ -1,6 +1,5 @@
 -- `binomial_sum::sound` meets its contract, word for word. Assumes nothing.
 use Rattle.binomial_sum.specs.State.{sound}
-use borrow.Author.Rules.{rules}
 use Rattle.binomial_sum.proofs.sound.Goals as goal
 
 pub returns : goal.returns

@@ -2,15 +2,10 @@
 -- text has at least that many digits. A turn is made where v reaches the next power; comparing with v / 10 keeps the
 -- product from wrapping. The measure is how far the power is below v / 10 and falls, since the power grows. Assumes
 -- nothing.
-use mathlib.Core.Path.{◌≡◌, refl}
-use Prim.Native.Nat.{suc, ◌+◌, ◌-◌, ◌*◌, ◌^◌, ◌≤◌}
-use native.Mathlib.Nat.{pow-suc}
-use native.Mathlib.Numerals.{add-one}
-use native.Mathlib.Omega.{arith}
+use mathlib.Core.Path.{◌≡◌}
+use Prim.Native.Nat.{◌+◌, ◌-◌, ◌*◌, ◌^◌, ◌≤◌}
 use lib.ListN.{length}
-use borrow.Author.Rules.{rules}
 use Rattle.decimal.specs.Decimal.{digits_of}
-use Rattle.decimal.proofs.Text.{digits_some, digits_above, digits_below}
 use Rattle.decimal.proofs.digits.Given as goal
 
 abbrev pub invariant-loop-power : goal.invariant-loop-power

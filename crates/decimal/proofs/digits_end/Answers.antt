@@ -1,10 +1,5 @@
-use mathlib.Core.Path.{◌≡◌, refl, sym, ◌∙◌}
-use Prim.Native.Nat.{◌-◌}
-use native.Mathlib.Omega.{arith}
-use borrow.Author.Rules.{rules}
-use borrow.Author.Tests.{not-false, not-true}
-use lib.ListN.{length}
-use Rattle.decimal.proofs.Ends.{Reached, digit_here, digit_none, digit_on}
+use mathlib.Core.Path.{sym, ◌∙◌}
+use Rattle.decimal.proofs.Ends.{digit_here, digit_none, digit_on}
 use Rattle.decimal.proofs.digits_end.Goals as goal
 
 pub returns-then-not-is_digit : goal.returns-then-not-is_digit

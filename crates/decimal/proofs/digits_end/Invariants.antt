@@ -1,12 +1,9 @@
 -- `decimal::digits_end` meets its contract. The invariant: the digits from here on end where those from `at` on
 -- end. What is left falls. Assumes nothing.
-use mathlib.Core.Path.{◌≡◌, refl, sym, ◌∙◌}
+use mathlib.Core.Path.{◌≡◌}
 use Prim.Native.Nat.{◌-◌}
-use native.Mathlib.Omega.{arith}
-use borrow.Author.Rules.{rules}
-use borrow.Author.Tests.{not-false, not-true}
 use lib.ListN.{length}
-use Rattle.decimal.proofs.Ends.{Reached, digit_here, digit_none, digit_on}
+use Rattle.decimal.proofs.Ends.{Reached}
 use Rattle.decimal.proofs.digits_end.Given as goal
 
 abbrev pub invariant-loop-i : goal.invariant-loop-i

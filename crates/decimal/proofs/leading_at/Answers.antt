@@ -5,7 +5,6 @@ use mathlib.Core.Bool.{cond, not, ◌&&◌}
 use mathlib.Core.List.{List}
 use Prim.Native.Nat.{ℕ, ◌+◌, ◌<◌}
 use native.Mathlib.Omega.{arith}
-use borrow.Author.Rules.{rules}
 use borrow.Author.Tests.{le-leb, lt-leb, lt-ltb, le-ltb, eq-eqb, ne_eqb}
 use lib.Dec.{leb, ltb, eqb}
 use lib.ListN.{length, get_or}
@@ -15,7 +14,7 @@ use Rattle.decimal.specs.declared.Lead.TheVariants.{Number, Nothing}
 use Rattle.decimal.proofs.Reading.{run, run_within}
 use Rattle.decimal.proofs.Leading.{leads_bad, leads_read}
 use Rattle.decimal.proofs.leading_at.Goals as goal
-use Rattle.decimal.proofs.leading_at.Goals.{After-run_at-run, Else-digit_at, Start}
+use Rattle.decimal.proofs.leading_at.Goals.{Else-digit_at}
 
 pub returns-then-digit_at : goal.returns-then-digit_at
 returns-then-digit_at c =
@@ -26,24 +25,23 @@ returns-then-digit_at c =
 -- past the first test the run alone decides
 module _ (c : Else-digit_at) where
   abbrev S : List ℕ
-  S = let start : Start = search rules in start.args.s.now
+  S = c.args.s.now
 
   abbrev At : ℕ
-  At = let start : Start = search rules in start.args.at
+  At = c.args.at
 
   abbrev End : ℕ
-  End = let after-run-at : After-run_at-run = search rules in after-run-at.run_at-run.result.end
+  End = c.run_at-run.result.end
 
   abbrev Value : ℕ
-  Value = let after-run-at : After-run_at-run = search rules in after-run-at.run_at-run.result.value
+  Value = c.run_at-run.result.value
 
   end : End ≡ At + length (run S At)
-  end = let after-run-at : After-run_at-run = search rules in after-run-at.run_at-run.ensures.end_value
+  end = c.run_at-run.ensures.end_value
 
   by-run : leading_at S At ≡ cond (leb 1 (length (run S At)) && not (ltb 1 (length (run S At)) && eqb (get_or S At 0) zero_byte)) (Number Value End) Nothing
   by-run =
-      let after-run-at : After-run_at-run = search rules in
-      leads_read S At End end (sym c.digit_at.ensures ∙ c.if-digit_at.false) Value after-run-at.run_at-run.ensures.value_value
+      leads_read S At End end (sym c.digit_at.ensures ∙ c.if-digit_at.false) Value c.run_at-run.ensures.value_value
 
   none : End ≡ At → Nothing ≡ leading_at S At
   none h = rw (by-run, lt-leb 1 (length (run S At)) (omega (arith, end)))
@@ -55,20 +53,20 @@ module _ (c : Else-digit_at) where
   more h = rw (by-run, le-leb 1 (length (run S At)) (omega (arith, end)), lt-ltb 1 (length (run S At)) (omega (arith, end)))
 
 pub returns-then-end-at : goal.returns-then-end-at
-returns-then-end-at c = none c.before c.if-end-at.true
+returns-then-end-at c = none (goal.at.returns-then-end-at c).Else-digit_at c.if-end-at.true
 
 pub returns-then-end-at-eq1 : goal.returns-then-end-at-eq1
-returns-then-end-at-eq1 c = let else1 : Else-digit_at = search rules in one else1 (omega arith)
+returns-then-end-at-eq1 c = let else1 = (goal.at.returns-then-end-at-eq1 c).Else-digit_at in one else1 (omega arith)
 
 pub bounds-s-at : goal.bounds-s-at
-bounds-s-at c = let d : Else-digit_at = search rules in run_within (S d) (At d) (omega (arith, end d))
+bounds-s-at c = let d = (goal.at.bounds-s-at c).Else-digit_at in run_within (S d) (At d) (omega (arith, end d))
 
 pub returns-then-s-at-eq-ZERO : goal.returns-then-s-at-eq-ZERO
 returns-then-s-at-eq-ZERO c =
-    let d : Else-digit_at = search rules in
+    let d = (goal.at.returns-then-s-at-eq-ZERO c).Else-digit_at in
     rw (more d (omega arith), eq-eqb (get_or (S d) (At d) 0) zero_byte c.if-s-at-eq-ZERO.true)
 
 pub returns : goal.returns
 returns c =
-    let d : Else-digit_at = search rules in
+    let d = (goal.at.returns c).Else-digit_at in
     rw (more d (omega arith), ne_eqb (get_or (S d) (At d) 0) zero_byte c.if-s-at-eq-ZERO.false)

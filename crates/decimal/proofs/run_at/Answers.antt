@@ -1,17 +1,15 @@
 use mathlib.Core.Path.{◌≡◌, sym, ◌∙◌}
 use mathlib.Core.Bool.{true}
 use mathlib.Core.List.{List, [], ◌∷◌, foldl}
-use Prim.Native.Nat.{ℕ, ◌+◌, ◌-◌, ◌^◌, ◌≤◌, ◌<◌}
+use Prim.Native.Nat.{ℕ, ◌+◌, ◌-◌, ◌^◌, ◌<◌}
 use native.Mathlib.Nat.{lt_of_lt_of_le, pow-le-pow_right}
 use native.Mathlib.Omega.{arith}
-use borrow.Author.Rules.{rules}
-use borrow.Author.Tests.{not-true, not-false}
 use lib.ListN.{length, get_or}
 use Rattle.decimal.specs.Decimal.{longest, is_digit, push, value_of}
-use Rattle.decimal.proofs.Text.{digit_range, push_below}
+use Rattle.decimal.proofs.Text.{push_below}
 use Rattle.decimal.proofs.Reading.{run, left, left_digit, left_other, left_none}
 use Rattle.decimal.proofs.run_at.Goals as goal
-use Rattle.decimal.proofs.run_at.Goals.{At-loop-i, Else-not-is_digit}
+use Rattle.decimal.proofs.run_at.Goals.{Else-not-is_digit}
 
 -- where no digit is left, the value and the place are the run's
 stopped : (s : List ℕ) (at i value : ℕ)
@@ -35,30 +33,25 @@ returns-then-not-is_digit c =
     let other = sym c.is_digit.ensures ∙ c.if-not-is_digit.true in
     let whole = stopped a.s.now a.at l.i l.value l.invariant.1.1 (left_other a.s.now a.at l.i (omega arith) (omega arith) other) in record { value_value = whole.0; end_value = whole.1 }
 
--- past the test: the loop's values, the byte, that it is a digit, and that the value stays below ten to the digits
--- passed
-abbrev L : (c : Else-not-is_digit) → At-loop-i
-L c = let at-loop : At-loop-i = search rules in at-loop
-
 abbrev S : Else-not-is_digit → List ℕ
-S c = (L c).args.s.now
+S c = c.args.s.now
 
 abbrev At : Else-not-is_digit → ℕ
-At c = (L c).args.at
+At c = c.args.at
 
 abbrev B : Else-not-is_digit → ℕ
-B c = get_or (S c) (L c).loop-i.i 0
+B c = get_or (S c) c.loop-i.i 0
 
 digit : (c : Else-not-is_digit) → is_digit (B c) ≡ true
 digit c = sym c.is_digit.ensures ∙ c.if-not-is_digit.false
 
-below : (c : Else-not-is_digit) → push (L c).loop-i.value (B c) < 10 ^ ((L c).loop-i.i + 1 - At c)
+below : (c : Else-not-is_digit) → push c.loop-i.value (B c) < 10 ^ (c.loop-i.i + 1 - At c)
 below c =
-    let e : (L c).loop-i.i + 1 - At c ≡ (L c).loop-i.i - At c + 1 = omega arith in
-    rw e (push_below (L c).loop-i.value (B c) ((L c).loop-i.i - At c) (L c).loop-i.invariant.1.0 (digit c))
+    let e : c.loop-i.i + 1 - At c ≡ c.loop-i.i - At c + 1 = omega arith in
+    rw e (push_below c.loop-i.value (B c) (c.loop-i.i - At c) c.loop-i.invariant.1.0 (digit c))
 
-small : (c : Else-not-is_digit) → push (L c).loop-i.value (B c) < 10 ^ longest
-small c = lt_of_lt_of_le (below c) (pow-le-pow_right {n = 10} (omega arith) {i = (L c).loop-i.i + 1 - At c} {j = longest} (omega arith))
+small : (c : Else-not-is_digit) → push c.loop-i.value (B c) < 10 ^ longest
+small c = lt_of_lt_of_le (below c) (pow-le-pow_right {n = 10} (omega arith) {i = c.loop-i.i + 1 - At c} {j = longest} (omega arith))
 
 pub overflow_mul-value : goal.overflow_mul-value
 overflow_mul-value c = omega (arith, small c)
@@ -68,7 +61,7 @@ overflow_add-value c = omega (arith, small c)
 
 pub loop-i-preserved : goal.loop-i-preserved
 loop-i-preserved c =
-    let l = (L c).loop-i in
+    let l = c.loop-i in
     let turn : left (S c) (At c) l.i ≡ B c ∷ left (S c) (At c) (l.i + 1) = left_digit (S c) (At c) l.i (omega arith) (omega arith) (digit c) in
     (omega arith, (below c, (rw turn at l.invariant.1.1.0, omega (arith, rw turn at l.invariant.1.1.1))))
 

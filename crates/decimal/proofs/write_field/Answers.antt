@@ -4,8 +4,7 @@ use mathlib.Core.Path.{sym, ◌∙◌}
 use mathlib.Core.List.{[], ◌∷◌}
 use native.Mathlib.Omega.{arith}
 use lib.ListN.{length, length-append}
-use borrow.Author.Rules.{rules}
-use borrow.Author.Tests.{leb-true, leb-false, not-true, not-false}
+use borrow.Author.Tests.{leb-true, leb-false}
 use Rattle.text.proofs.Laws.{wrote_short}
 use Rattle.text.proofs.Parts.{left_all, left_next, left_last}
 use Rattle.decimal.specs.Decimal.{digits_of}
@@ -15,7 +14,7 @@ use Rattle.decimal.proofs.write_field.Goals.{After-has_room, Else-not-has_room, 
 
 -- ways back to earlier places of the function
 abbrev start : After-has_room → Start
-start c = search rules
+start c = c.before.before.before.before
 
 pub returns-then-not-has_room : goal.returns-then-not-has_room
 unfolding field_text
@@ -24,17 +23,17 @@ returns-then-not-has_room c =
     let no_room = leb-false _ (length a.out.now) (sym c.has_room.ensures ∙ c.if-not-has_room.true) in
     let whole = wrote_short a.out.now a.at (field_text a.v a.end) (omega (arith, length-append (digits_of a.v) (a.end ∷ []))) in record { value = whole.0; out_after = whole.1 }
 
-room : (c : Else-not-has_room) → let a = (start c.before).args in a.at + length (field_text a.v a.end) ≤ length a.out.now
+room : (c : Else-not-has_room) → let a = c.args in a.at + length (field_text a.v a.end) ≤ length a.out.now
 unfolding field_text
 room c =
-    let start : Start = search rules in let a = start.args in
+    let a = c.args in
     let fits = leb-true _ (length a.out.now) (sym c.has_room.ensures ∙ c.if-not-has_room.false) in
     omega (arith, length-append (digits_of a.v) (a.end ∷ []))
 
 pub returns : goal.returns
 unfolding field_text
 returns c =
-    let else1 : Else-not-has_room = search rules in
+    let else1 = (goal.at.returns c).Else-not-has_room in
     let a = c.args in
     let whole = left_last (left_next (digits_of a.v) (a.end ∷ []) (left_all a.out.now a.at (field_text a.v
-    a.end) (room else1)) c.write_number-next.ensures) c.write_byte.ensures in record { value = whole.0; out_after = whole.1 }
+    a.end) (room else1)) (c.write_number-next.ensures.value, c.write_number-next.ensures.out_after)) (c.write_byte.ensures.value, c.write_byte.ensures.out_after) in record { value = whole.0; out_after = whole.1 }

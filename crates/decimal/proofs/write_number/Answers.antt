@@ -1,9 +1,8 @@
-use mathlib.Core.Path.{◌≡◌, refl, sym, ◌∙◌}
+use mathlib.Core.Path.{◌≡◌, sym, ◌∙◌}
 use mathlib.Core.List.{List}
 use Prim.Native.Nat.{ℕ, ◌+◌, ◌-◌, ◌/◌, ◌%◌, ◌<◌, ◌≤◌}
 use native.Mathlib.Omega.{arith}
-use borrow.Author.Rules.{rules}
-use borrow.Author.Tests.{leb-true, leb-false, not-true, not-false}
+use borrow.Author.Tests.{leb-true, leb-false}
 use lib.ListN.{length, set, length-set}
 use Rattle.text.specs.Write.{laid}
 use Rattle.text.proofs.Laws.{wrote_laid, wrote_short, laid_one, laid_last}
@@ -14,7 +13,7 @@ use Rattle.decimal.proofs.write_number.Goals.{After-has_room, Else-not-has_room,
 
 -- ways back to earlier places of the function
 abbrev start : After-has_room → Start
-start c = search rules
+start c = c.before.before.before.before
 
 -- a turn's store, and the last store
 turn : (out : List ℕ) (at rest i b : ℕ) → 10 ≤ rest → i ≡ at + length (digits_of rest) → i ≤ length out → b ≡ zero_byte + rest % 10
@@ -35,10 +34,10 @@ returns-then-not-has_room c =
     let whole = wrote_short a.out.now a.at (digits_of a.v) (omega arith) in record { value = whole.0; out_after = whole.1 }
 
 room : (c : Else-not-has_room) →
-    let a = (start c.before).args in
+    let a = c.args in
     a.at + c.digits-count.result ≤ length a.out.now
 room c =
-    let start : Start = search rules in let a = start.args in
+    let a = c.args in
     leb-true _ (length a.out.now) (sym c.has_room.ensures ∙ c.if-not-has_room.false)
 
 pub overflow_sub-i : goal.overflow_sub-i

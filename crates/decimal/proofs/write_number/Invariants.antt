@@ -1,17 +1,11 @@
 -- `decimal::write_number` meets its contract. The invariant of its loop: laying the digits of the rest over what `out`
 -- holds now gives what laying those of v over `out` as it was gives, and i is the place after the rest's digits. A turn
 -- stores the last of them; the rest, the measure, falls. One digit is left for the last store. Assumes nothing.
-use mathlib.Core.Path.{◌≡◌, refl, sym, ◌∙◌}
-use mathlib.Core.List.{List}
-use Prim.Native.Nat.{ℕ, ◌+◌, ◌-◌, ◌/◌, ◌%◌, ◌<◌, ◌≤◌}
-use native.Mathlib.Omega.{arith}
-use borrow.Author.Rules.{rules}
-use borrow.Author.Tests.{leb-true, leb-false, not-true, not-false}
-use lib.ListN.{length, set, length-set}
+use mathlib.Core.Path.{◌≡◌}
+use Prim.Native.Nat.{◌+◌, ◌≤◌}
+use lib.ListN.{length}
 use Rattle.text.specs.Write.{laid}
-use Rattle.text.proofs.Laws.{wrote_laid, wrote_short, laid_one, laid_last}
-use Rattle.decimal.specs.Decimal.{zero_byte, digits_of}
-use Rattle.decimal.proofs.Text.{digits_one, digits_more, digits_some, length_more}
+use Rattle.decimal.specs.Decimal.{digits_of}
 use Rattle.decimal.proofs.write_number.Given as goal
 
 abbrev pub invariant-loop-rest : goal.invariant-loop-rest

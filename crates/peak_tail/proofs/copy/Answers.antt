@@ -1,11 +1,8 @@
-use mathlib.Core.Path.{◌≡◌, refl, ◌∙◌}
-use Prim.Native.Nat.{◌-◌, ◌≤◌}
+use mathlib.Core.Path.{◌∙◌}
 use native.Mathlib.Nat.{zero-add}
-use native.Mathlib.Numerals.{add-one}
 use native.Mathlib.Omega.{arith}
-use lib.ListN.{drop, drop_of_length-le, length, length-set}
-use lib.Seq.{drop-cons, sets, sets-eq}
-use borrow.Author.Rules.{rules}
+use lib.ListN.{drop_of_length-le}
+use lib.Seq.{sets-eq}
 use Rattle.peak_tail.proofs.copy.Goals as goal
 
 pub returns : goal.returns

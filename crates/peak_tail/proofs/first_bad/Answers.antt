@@ -1,11 +1,7 @@
 use mathlib.Core.Path.{◌≡◌, sym, ap, ◌∙◌}
 use mathlib.Core.Bool.{true, false}
-use Prim.Native.Nat.{◌+◌, ◌-◌, ◌≤◌}
-use native.Mathlib.Nat.{zero-add}
 use native.Mathlib.Omega.{arith}
-use borrow.Author.Rules.{rules}
-use borrow.Author.Tests.{not-true, not-false}
-use lib.ListN.{drop, drop_of_length-le, get_or, length}
+use lib.ListN.{drop, drop_of_length-le, get_or}
 use Rattle.peak_tail.specs.Fitting.{first_bad, peak_in_range}
 use Rattle.peak_tail.proofs.Bad.{bad_at, good_at}
 use Rattle.peak_tail.proofs.first_bad.Goals as goal

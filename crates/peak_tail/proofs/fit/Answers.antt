@@ -3,67 +3,50 @@
 use mathlib.Core.Path.{ap, sym, ◌∙◌}
 use mathlib.Core.List.{◌++◌}
 use native.Mathlib.Omega.{arith}
-use borrow.Author.Rules.{rules}
 use lib.ListN.{length}
 use Rattle.peak_tail.proofs.Bad.{none_zero}
 use Rattle.peak_tail.proofs.Order.{copied_rest, copied_start, inside, refuses_peak, refuses_room, refuses_tail, sums_up}
 use Rattle.peak_tail.proofs.fit.Goals as goal
-use Rattle.peak_tail.proofs.fit.Goals.{After-tail_outside, Start}
-
--- ways back to earlier places of the function
-abbrev start : After-tail_outside → Start
-start c = c.before.before.before
 
 pub returns-then-tail_outside : goal.returns-then-tail_outside
 returns-then-tail_outside c =
-    let a = (start c.before).args in
+    let a = c.args in
     refuses_tail a.peaks.now a.k a.sorted.now (sym c.tail_outside.ensures ∙ c.if-tail_outside.true)
 
 pub returns-then-bad-n : goal.returns-then-bad-n
 returns-then-bad-n c =
     let f = c.first_bad-bad in
-    let o = c.before.before.before in
-    let a = (start o).args in
+    let a = c.args in
     rw f.ensures
-    (refuses_peak a.peaks.now a.k a.sorted.now (sym o.tail_outside.ensures ∙ c.if-tail_outside.false) (rw f.ensures at c.if-bad-n.true))
+    (refuses_peak a.peaks.now a.k a.sorted.now (sym c.tail_outside.ensures ∙ c.if-tail_outside.false) (rw f.ensures at c.if-bad-n.true))
 
 pub returns-then-sorted-n : goal.returns-then-sorted-n
 returns-then-sorted-n c =
-    let b = c.before.before in
-    let f = b.first_bad-bad in
-    let o = b.before.before in
-    let a = (start o).args in
-    refuses_room a.peaks.now a.k a.sorted.now (sym o.tail_outside.ensures ∙ b.if-tail_outside.false)
+    let f = c.first_bad-bad in
+    let a = c.args in
+    refuses_room a.peaks.now a.k a.sorted.now (sym c.tail_outside.ensures ∙ c.if-tail_outside.false)
     (rw f.ensures at c.if-bad-n.false)
     c.if-sorted-n.true
 
 pub sum_of_largest-sum-requires : goal.sum_of_largest-sum-requires
 sum_of_largest-sum-requires c =
-    let b = c.before.before.before in
-    let y = b.copy in
-    let e = b.before.before.before in
-    let f = e.before in
-    let o = f.before.before in
-    let a = (start o).args in
-    let (long, low, high) = inside (length a.peaks.now) a.k (sym o.tail_outside.ensures ∙ f.if-tail_outside.false) in
+    let y = c.copy in
+    let a = c.args in
+    let (long, low, high) = inside (length a.peaks.now) a.k (sym c.tail_outside.ensures ∙ c.if-tail_outside.false) in
     rw (copied_start a.peaks.now a.sorted.now _ y.ensures)
-    (low, high, omega arith, none_zero a.peaks.now (rw f.first_bad-bad.ensures at e.if-bad-n.false))
+    (low, high, omega arith, none_zero a.peaks.now (rw c.first_bad-bad.ensures at c.if-bad-n.false))
 
 pub returns : goal.returns
 returns c =
-    let b = c.before.before.before.before.before.before in
     let s = c.sum_of_largest-sum in
-    let y = b.copy in
-    let e = b.before.before in
-    let f = e.before.before in
-    let o = f.before.before in
-    let a = (start o).args in
-    sums_up a.peaks.now a.k a.sorted.now (sym o.tail_outside.ensures ∙ f.if-tail_outside.false)
-    (rw f.first_bad-bad.ensures at e.if-bad-n.false)
-    e.if-sorted-n.false
+    let y = c.copy in
+    let a = c.args in
+    sums_up a.peaks.now a.k a.sorted.now (sym c.tail_outside.ensures ∙ c.if-tail_outside.false)
+    (rw c.first_bad-bad.ensures at c.if-bad-n.false)
+    c.if-sorted-n.false
     (record {
-      ys = s.new.0;
+      ys = s.new.y;
       sorted = rw (copied_start a.peaks.now a.sorted.now _ y.ensures) at s.ensures.0;
-      leaves = ap (◌++◌ s.new.0) (copied_rest a.peaks.now a.sorted.now _ y.ensures);
+      leaves = ap (◌++◌ s.new.y) (copied_rest a.peaks.now a.sorted.now _ y.ensures);
       sums = s.ensures.1;
     })

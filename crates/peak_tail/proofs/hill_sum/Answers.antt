@@ -1,9 +1,6 @@
 -- `peak_tail::hill_sum` meets its contract: past the test for 16 the sum over the first k is defined. Assumes nothing.
 use mathlib.Core.Path.{sym, ◌∙◌}
-use native.Mathlib.Omega.{arith}
-use borrow.Author.Rules.{rules}
 use Rattle.peak_tail.specs.Fitting.{hill_within}
-use Rattle.peak_tail.proofs.Order.{inside}
 use Rattle.peak_tail.proofs.hill_sum.Goals as goal
 
 pub returns-then-tail_outside : goal.returns-then-tail_outside

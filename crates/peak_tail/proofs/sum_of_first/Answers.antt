@@ -1,7 +1,5 @@
-use Prim.Native.Nat.{◌-◌}
 use native.Mathlib.Omega.{arith}
-use borrow.Author.Rules.{rules}
-use Rattle.peak_tail.proofs.Summing.{Part, ends, goes_on, starts}
+use Rattle.peak_tail.proofs.Summing.{ends, goes_on, starts}
 use Rattle.peak_tail.proofs.sum_of_first.Goals as goal
 
 pub loop-i-init : goal.loop-i-init

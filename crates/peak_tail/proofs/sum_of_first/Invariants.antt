@@ -1,9 +1,7 @@
 -- `peak_tail::sum_of_first` meets its contract. The invariant of its loop is `Part`, and the measure how many values are
 -- left. Assumes nothing.
 use Prim.Native.Nat.{◌-◌}
-use native.Mathlib.Omega.{arith}
-use borrow.Author.Rules.{rules}
-use Rattle.peak_tail.proofs.Summing.{Part, ends, goes_on, starts}
+use Rattle.peak_tail.proofs.Summing.{Part}
 use Rattle.peak_tail.proofs.sum_of_first.Given as goal
 
 abbrev pub invariant-loop-i : goal.invariant-loop-i

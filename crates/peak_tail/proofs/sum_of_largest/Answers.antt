@@ -2,7 +2,6 @@
 -- Assumes nothing.
 use mathlib.Core.Path.{sym, ◌∙◌}
 use native.Mathlib.Omega.{arith}
-use borrow.Author.Rules.{rules}
 use Rattle.peak_tail.proofs.Bad.{some_at}
 use Rattle.peak_tail.proofs.sum_of_largest.Goals as goal
 

@@ -1,54 +1,32 @@
-use Prim.Native.Nat.{◌+◌, ◌-◌, ◌≤◌, ◌<◌}
+use Prim.Native.Nat.{◌+◌, ◌-◌}
 use mathlib.Core.Path.{◌≡◌, refl, sym, ap, ◌∙◌}
-use mathlib.Core.Bool.{Bool, and_assoc, false, not, true, ◌&&◌}
+use mathlib.Core.Bool.{Bool, false, not}
 use mathlib.Core.List.{List, [], ◌∷◌, foldl}
 use native.Mathlib.Omega.{arith}
-use borrow.Author.Rules.{rules}
 use lib.ListN.{length, get_or, drop, drop_of_length-le}
-use lib.Dec.{ltb}
 use Rattle.sample_channels.specs.declared.Levels.{Levels}
 use Rattle.sample_channels.specs.Channels.{above, moments, AllInRange}
 use Rattle.sample_channels.proofs.Marks.{marks_many, marks_at}
 use Rattle.sample_channels.proofs.Moments.{moments_length, turn}
-use Rattle.sample_items.specs.Limits.{most_samples}
 use Rattle.crossing_places.specs.Reading.{sample_at}
-use Rattle.record_state.specs.State.{sound}
-use Rattle.record_feed.specs.Gap.{Gap}
-use Rattle.record_step.specs.Step.{below, stepped}
+use Rattle.record_step.specs.Step.{stepped}
 use Rattle.record_feed.proofs.Gaps.{gap_stays}
 use Rattle.record_step.proofs.Steps.{stepped_sound, stepped_n, stepped_most, stepped_levels, stepped_timed, stepped_low}
 use Rattle.record_feed.proofs.along.Goals as goal
-use Rattle.record_feed.proofs.along.Goals.{After-shared_slice_known-in-loop-i-1, At-loop-i, Start}
-
--- ways back to earlier places of the function
-abbrev start : At-loop-i → Start
-start c = search rules
-
-abbrev loop : After-shared_slice_known-in-loop-i-1 → At-loop-i
-loop c = search rules
 
 pub bounds-ups-i : goal.bounds-ups-i
 bounds-ups-i c =
     omega (arith, ap length c.requires.2 ∙ marks_many c.args.r.items.levels c.args.roll.now c.args.acceleration.now c.requires.0.equal)
 
--- what was noted of the sample
-noted : (c : After-shared_slice_known-in-loop-i-1) →
-    let b = loop c in
-    get_or (start b).args.ups.now b.loop-i.i false ≡ above b.loop-i.s.items.levels c.moment_at-x.result
-noted c =
-    let b : At-loop-i = search rules in
-    let a : Start = search rules in
-    let xs = a.args.roll.now in
-    let ys = a.args.acceleration.now in
-    let l = b.loop-i in
-    ap (λ (us : List Bool). get_or us l.i false) a.requires.2 ∙ marks_at a.args.r.items.levels xs ys l.i ∙
-    ap (λ (v : Levels). above v (sample_at (moments xs ys) l.i)) (sym l.invariant.7) ∙
-    ap (above l.s.items.levels) (sym c.moment_at-x.ensures)
-
 pub loop-i-preserved : goal.loop-i-preserved
 unfolding AllInRange
 loop-i-preserved c =
-    let after-shared-slice-known2 : After-shared_slice_known-in-loop-i-1 = search rules in
+    let noted : get_or c.args.ups.now c.loop-i.i false ≡ above c.loop-i.s.items.levels c.moment_at-x.result = let xs = c.args.roll.now in
+    let ys = c.args.acceleration.now in
+    let l = c.loop-i in
+    ap (λ (us : List Bool). get_or us l.i false) c.requires.2 ∙ marks_at c.args.r.items.levels xs ys l.i ∙
+    ap (λ (v : Levels). above v (sample_at (moments xs ys) l.i)) (sym l.invariant.7) ∙
+    ap (above l.s.items.levels) (sym c.moment_at-x.ensures) in
     let p = moments c.args.roll.now c.args.acceleration.now in
     let k : length p ≡ length c.args.roll.now = moments_length c.args.roll.now c.args.acceleration.now c.requires.0.equal in
     let i = c.loop-i.i in
@@ -57,7 +35,7 @@ loop-i-preserved c =
     let x = sample_at p i in
     let z : c.moment_at-x.result ≡ x = c.moment_at-x.ensures in
     let e : c.step-s.result ≡ stepped s x = c.step-s.ensures ∙ ap (stepped s) z in
-    let u = noted after-shared-slice-known2 ∙ ap (above s.items.levels) z in
+    let u = noted ∙ ap (above s.items.levels) z in
     let g : AllInRange (x ∷ drop (i + 1) p) = rw (← turn AllInRange p i (omega arith)) v.2 in
     let after = stepped_timed s x v.5 in
     let l = ap not u ∙ sym (stepped_low s x after) in

@@ -1,5 +1,4 @@
 -- `record_feed::fault` meets its contract: the look says whether a sample is bad. Assumes nothing.
-use borrow.Author.Rules.{rules}
 use mathlib.Core.Path.{sym, ap, ◌∙◌}
 use Rattle.record_state.specs.declared.RecordAnswer.TheVariants.{Refused}
 use Rattle.sample_channels.proofs.Range.{looked_bad, looked_good, equally_long}
@@ -7,9 +6,9 @@ use Rattle.record_feed.proofs.fault.Goals as goal
 
 pub returns-in-Bad : goal.returns-in-Bad
 returns-in-Bad c =
-    let b = looked_bad _ _ _ (sym c.look_over-look.ensures ∙ c.look.given.1) in
+    let b = looked_bad _ _ _ (sym c.look_over-look.ensures ∙ c.in-Bad.is) in
     rw b.0 (ap Refused (sym b.1 ∙ equally_long _ _ c.requires b.0))
 
 pub returns : goal.returns
 returns c =
-    rw (looked_good _ _ (sym c.look_over-look.ensures ∙ c.enum_told.given.1))
+    rw (looked_good _ _ (sym c.look_over-look.ensures ∙ c.in_default.is))

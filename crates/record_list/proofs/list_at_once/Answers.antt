@@ -1,6 +1,5 @@
 -- `record_list::list_at_once` meets its contract: where no sample is bad nothing is refused, since half as many times as
 -- samples are the most. Assumes nothing.
-use borrow.Author.Rules.{rules}
 use Prim.Native.Nat.{◌≤◌}
 use mathlib.Core.Path.{refl, sym, ap, ◌∙◌}
 use native.Mathlib.Omega.{arith}
@@ -16,7 +15,7 @@ use Rattle.record_list.proofs.list_at_once.Goals as goal
 
 pub returns-in-Bad : goal.returns-in-Bad
 returns-in-Bad c =
-    ((looked_bad _ _ c.enum_told.given.0.0 (sym c.look_over-look.ensures ∙ c.in-Bad.is)).0, refl)
+    ((looked_bad _ _ _ (sym c.look_over-look.ensures ∙ c.in-Bad.is)).0, refl)
 
 pub returns : goal.returns
 returns c =

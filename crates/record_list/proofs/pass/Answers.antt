@@ -1,9 +1,7 @@
-use Prim.Native.Nat.{◌+◌, ◌-◌, ◌≤◌, ◌<◌}
+use Prim.Native.Nat.{◌-◌, ◌≤◌, ◌<◌}
 use mathlib.Core.Path.{◌≡◌, sym, ap, ◌∙◌}
 use mathlib.Core.List.{[]}
-use native.Mathlib.Nat.{zero-add}
 use native.Mathlib.Omega.{arith}
-use borrow.Author.Rules.{rules}
 use lib.ListN.{length, take, drop, drop_of_length-le}
 use Rattle.sample_block.proofs.Cut.{end_within, end_near, block_length}
 use Rattle.sample_range.specs.Range.{first_bad}
@@ -13,92 +11,82 @@ use Rattle.sample_channels.proofs.Quiet.{ends_say}
 use Rattle.sample_channels.proofs.Range.{all_good, none_bad, ends_tell}
 use Rattle.record_list.specs.Walk.{Noting}
 use Rattle.record_list.proofs.Steps.{ready_less}
-use Rattle.record_list.proofs.Underway.{Underway, begins, goes_on, arrives}
+use Rattle.record_list.proofs.Underway.{goes_on, arrives}
 use Rattle.record_list.proofs.pass.Goals as goal
-use Rattle.record_list.proofs.pass.Goals.{After-end-end, After-ends_of-e, After-ends_of-f, After-outside, At-loop-i, Start}
-
--- ways back to earlier places of the function
-abbrev start : At-loop-i → Start
-start c = search rules
-
-abbrev start₂ : After-end-end → Start
-start₂ c = search rules
-
-abbrev end : After-ends_of-f → After-end-end
-end c = search rules
-
--- the block is within the samples, and not empty
-within : (c : After-end-end) → (c.loop-i.i < c.end-end.result) × (c.end-end.result ≤ length (start₂ c).args.roll.now)
-within c = end_within _ _ c.end-end.ensures (omega arith)
 
 pub slice_bounds-rolls-count : goal.slice_bounds-rolls-count
-slice_bounds-rolls-count c = omega (arith, within c)
+slice_bounds-rolls-count c =
+    let within : (c.loop-i.i < c.end-end.result) × (c.end-end.result ≤ length c.args.roll.now) = end_within _ _ c.end-end.ensures (omega arith) in
+    omega (arith, within)
 
 pub slice_bounds-rolls-start : goal.slice_bounds-rolls-start
-slice_bounds-rolls-start c = omega (arith, within c)
+slice_bounds-rolls-start c =
+    let within : (c.loop-i.i < c.end-end.result) × (c.end-end.result ≤ length c.args.roll.now) = end_within _ _ c.end-end.ensures (omega arith) in
+    omega (arith, within)
 
 pub slice_bounds-rolls-end : goal.slice_bounds-rolls-end
-slice_bounds-rolls-end c = omega (arith, within c)
+slice_bounds-rolls-end c =
+    let within : (c.loop-i.i < c.end-end.result) × (c.end-end.result ≤ length c.args.roll.now) = end_within _ _ c.end-end.ensures (omega arith) in
+    omega (arith, within)
 
 pub slice_bounds-accelerations-count : goal.slice_bounds-accelerations-count
 slice_bounds-accelerations-count c =
-    omega (arith, within c.before, c.requires.1)
+    let within : (c.loop-i.i < c.end-end.result) × (c.end-end.result ≤ length c.args.roll.now) = end_within _ _ c.end-end.ensures (omega arith) in
+    omega (arith, within, c.requires.1)
 
 pub slice_bounds-accelerations-start : goal.slice_bounds-accelerations-start
 slice_bounds-accelerations-start c =
-    omega (arith, within c.before, c.requires.1)
-
--- the ends of a block say whether a sample of it is bad
-told : (c : After-outside) →
-    let d = end c.before in
-    let e = d.end-end in let b = d.before.before in let a = (start b).args in
-    c.outside.result ≡ any_bad (take (e.result - b.loop-i.i) (drop b.loop-i.i a.roll.now)) (take (e.result - b.loop-i.i) (drop b.loop-i.i a.acceleration.now))
-told c =
-    let after-ends-of : After-ends_of-e = search rules in
-    c.outside.ensures ∙ ends_tell _ _ _ _ after-ends-of.ends_of-e.ensures c.ends_of-f.ensures
+    let within : (c.loop-i.i < c.end-end.result) × (c.end-end.result ≤ length c.args.roll.now) = end_within _ _ c.end-end.ensures (omega arith) in
+    omega (arith, within, c.requires.1)
 
 pub returns-then-outside : goal.returns-then-outside
 returns-then-outside c =
-    let b : After-end-end = search rules in
+    let within : (c.loop-i.i < c.end-end.result) × (c.end-end.result ≤ length c.args.roll.now) = end_within _ _ c.end-end.ensures (omega arith) in
+    let told : let e = c.end-end in let a = c.args in
+    c.outside.result ≡ any_bad (take (e.result - c.loop-i.i) (drop c.loop-i.i a.roll.now)) (take (e.result - c.loop-i.i) (drop c.loop-i.i a.acceleration.now)) = c.outside.ensures ∙ ends_tell _ _ _ _ (c.ends_of-e.ensures.lowest_value, c.ends_of-e.ensures.highest_value) (c.ends_of-f.ensures.lowest_value, c.ends_of-f.ensures.highest_value) in
     let v = c.loop-i.invariant in
-    let w = within b in
-    block_bad c.args.roll.now c.args.acceleration.now c.requires.1 _ _ (omega arith) w.1 v.1 v.2 (sym (told c.before) ∙ c.if-outside.true)
+    let w = within in
+    block_bad c.args.roll.now c.args.acceleration.now c.requires.1 _ _ (omega arith) w.1 v.1 v.2 (sym (told) ∙ c.if-outside.true)
 
 pub advance-w-requires : goal.advance-w-requires
 advance-w-requires c =
-    let b : After-end-end = search rules in
+    let within : (c.loop-i.i < c.end-end.result) × (c.end-end.result ≤ length c.args.roll.now) = end_within _ _ c.end-end.ensures (omega arith) in
     let l = c.loop-i in
-    let e = b.end-end.result in
-    let w = within b in
+    let e = c.end-end.result in
+    let w = within in
     let k = block_length c.args.roll.now l.i e (omega arith) w.1 in
-    let q = ends_say c.args.levels _ _ _ _ c.ends_of-e.ensures c.ends_of-f.ensures in (
+    let q = ends_say c.args.levels _ _ _ _ (c.ends_of-e.ensures.lowest_value, c.ends_of-e.ensures.highest_value) (c.ends_of-f.ensures.lowest_value, c.ends_of-f.ensures.highest_value) in (
       ready_less (omega (arith, k)) l.invariant.0.ready,
       block_equal c.args.roll.now c.args.acceleration.now
           c.requires.1 l.i e (omega arith) w.1,
       omega (
         arith,
         end_near l.i (length c.args.roll.now)
-            b.end-end.ensures,
+            c.end-end.ensures,
       ),
       c.past-loud.ensures ∙ q,
       omega arith,
     )
 
 pub loop-i-smaller : goal.loop-i-smaller
-loop-i-smaller c = let after-end : After-end-end = search rules in omega (arith, within after-end)
+loop-i-smaller c =
+    let within : (c.loop-i.i < c.end-end.result) × (c.end-end.result ≤ length c.args.roll.now) = end_within _ _ c.end-end.ensures (omega arith) in
+    omega (arith, within)
 
 pub loop-i-preserved : goal.loop-i-preserved
 loop-i-preserved c =
-    let after-outside : After-outside = search rules in
-    let b : After-end-end = search rules in let g = c.args in
+    let within : (c.loop-i.i < c.end-end.result) × (c.end-end.result ≤ length c.args.roll.now) = end_within _ _ c.end-end.ensures (omega arith) in
+    let told : let e = c.end-end in let a = c.args in
+    c.outside.result ≡ any_bad (take (e.result - c.loop-i.i) (drop c.loop-i.i a.roll.now)) (take (e.result - c.loop-i.i) (drop c.loop-i.i a.acceleration.now)) = c.outside.ensures ∙ ends_tell _ _ _ _ (c.ends_of-e.ensures.lowest_value, c.ends_of-e.ensures.highest_value) (c.ends_of-f.ensures.lowest_value, c.ends_of-f.ensures.highest_value) in
+    let g = c.args in
     let xs = g.roll.now in
     let ys = g.acceleration.now in
     let same = c.requires.1 in
     let i = c.loop-i.i in
     let inv = c.loop-i.invariant in
-    let e = b.end-end.result in
-    let h = within b in
-    let good = none_bad _ _ (sym (told after-outside) ∙ c.if-outside.false) in (
+    let e = c.end-end.result in
+    let h = within in
+    let good = none_bad _ _ (sym (told) ∙ c.if-outside.false) in (
       goes_on same inv.0 e (omega arith) h.1 c.advance-w.ensures,
       good_on xs i e (omega arith) h.1 inv.1 good.0,
       good_on ys i e (omega arith) (omega (arith, h.1, same)) inv.2 good.1,

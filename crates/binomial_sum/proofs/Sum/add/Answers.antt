@@ -2,12 +2,11 @@
 -- enough to add. Assumes nothing.
 use native.Mathlib.Omega.{arith}
 use borrow.Author.Tests.{eq-eqb, le-ltb, lt-ltb, ne_eqb}
-use Rattle.truth.proofs.Laws.{holds, said_no, said_yes}
+use Rattle.truth.proofs.Laws.{holds}
 use Rattle.record_state.proofs.Bounds.{items_of}
 use Rattle.record_state.proofs.Relations as kept
 use Rattle.binomial_sum.specs.Answers.{adding}
 use Rattle.binomial_sum.proofs.Relations.{brings, kept_from}
-use borrow.Author.Rules.{rules}
 use Rattle.binomial_sum.proofs.Sum.add.Goals as goal
 use Rattle.binomial_sum.proofs.Sum.add.Goals.{After-struct_known-4-1, Else-not-sound-2}
 use mathlib.Core.Path.{sym}

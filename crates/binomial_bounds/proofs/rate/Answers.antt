@@ -1,0 +1,29 @@
+-- `binomial_bounds::rate` meets its contract: each answer follows from the tests that led to it. Assumes nothing.
+use mathlib.Core.Path.{ap}
+use mathlib.Core.Bool.{true}
+use borrow.Author.Tests.{eq-eqb, ne_eqb}
+use Rattle.truth.proofs.Laws.{holds}
+use Rattle.binomial_sum.proofs.Relations.{kept_from}
+use Rattle.campaign_verdict.specs.declared.Rated.TheVariants.{Given}
+use Rattle.binomial_bounds.specs.Answers.{rating}
+use Rattle.binomial_bounds.proofs.rate.Goals as goal
+use mathlib.Core.Path.{sym}
+use mathlib.Core.Path.{◌∙◌}
+
+pub returns-then-not-sound : goal.returns-then-not-sound
+unfolding rating
+returns-then-not-sound c = rw ((sym c.sound.ensures ∙ c.if-not-sound.true))
+
+pub returns-then-s-eq0 : goal.returns-then-s-eq0
+unfolding rating
+returns-then-s-eq0 c =
+    rw ((sym c.sound.ensures ∙ c.if-not-sound.false), eq-eqb _ _ c.if-s-eq0.true)
+
+pub three-requires : goal.three-requires
+three-requires c =
+    kept_from _ (holds ((sym c.sound.ensures ∙ c.if-not-sound.false)))
+
+pub returns : goal.returns
+unfolding rating
+returns c =
+    rw ((sym c.sound.ensures ∙ c.if-not-sound.false), ne_eqb _ _ c.if-s-eq0.false) (ap (Given true) c.three.ensures)

@@ -115,6 +115,36 @@ fn hold(rt: &HostRuntime, link: &str) -> Option<File> {
         .ok()
 }
 
+// What stands for the standard streams that are closed: no file may take their numbers. Each is open the other way, so
+// that the stream fails as a closed one does.
+#[derive(Drop)]
+pub struct Closed {
+    input: Option<File>,
+    output: Option<File>,
+    error: Option<File>,
+}
+
+impl Closed {
+    // A file takes the lowest number that is free, so they come in this order, before all others.
+    pub fn filled(rt: &HostRuntime) -> Closed {
+        let input = fill_closed(rt, "/dev/fd/0", OpenOptions::new().write(true));
+        let output = fill_closed(rt, "/dev/fd/1", OpenOptions::new().read(true));
+        let error = fill_closed(rt, "/dev/fd/2", OpenOptions::new().read(true));
+        Closed {
+            input,
+            output,
+            error,
+        }
+    }
+}
+
+fn fill_closed(rt: &HostRuntime, link: &str, how: &OpenOptions) -> Option<File> {
+    match fs::symlink_metadata(rt, link) {
+        Ok(_) => None,
+        Err(_) => how.open(rt, "/dev/null").ok(),
+    }
+}
+
 // What standard input is open on, opened once more, and where in it the input stands.
 #[derive(Drop)]
 pub struct Again {

@@ -11,6 +11,7 @@ ghost use Rattle.std.specs.Prelude.{◌≤◌, length};
 use comma_count::Counting;
 use comma_pair::{Next, Watching};
 use desk_line::Finished;
+use given::Closed;
 pub use given::{Again, Given, input_again};
 pub use spool::temporary;
 use std::env::FillError;
@@ -33,6 +34,7 @@ const SECOND_PLACE: &str = "/proc/self/fdinfo/4";
 #[derive(Drop)]
 pub struct Desk {
     rt: HostRuntime,
+    closed: Closed,
     end: Given,
     second: Given,
 }
@@ -40,9 +42,11 @@ pub struct Desk {
 impl Desk {
     // That of a program that reads nothing but standard input.
     pub fn new(rt: HostRuntime) -> Desk {
+        let closed = Closed::filled(&rt);
         let end = Given::to_write(&rt, END);
         Desk {
             rt,
+            closed,
             end,
             second: Given::nothing(),
         }
@@ -50,9 +54,15 @@ impl Desk {
 
     // That of a program that reads a second descriptor.
     pub fn with_second(rt: HostRuntime) -> Desk {
+        let closed = Closed::filled(&rt);
         let second = Given::to_read(&rt, SECOND, SECOND_PLACE);
         let end = Given::to_write(&rt, END);
-        Desk { rt, end, second }
+        Desk {
+            rt,
+            closed,
+            end,
+            second,
+        }
     }
 
     pub fn input(&self) -> Stdin {

@@ -12,7 +12,8 @@ use Rattle.text.proofs.Parts.{Left, left_all, left_next, left_last}
 use Rattle.decimal.specs.Decimal.{digits_of}
 use Rattle.degrees.specs.Degrees.{point, sign, three_digits, degrees_text}
 use Rattle.degrees.proofs.write_degrees.Goals as goal
-use Rattle.degrees.proofs.write_degrees.Goals.{After-degrees_length, After-has_room, After-magnitude-size, After-put_sign-whole, Else-not-has_room, Start}
+use Rattle.degrees.proofs.write_degrees.Goals.{After-degrees_length, After-has_room, After-magnitude-size}
+use Rattle.degrees.proofs.write_degrees.Goals.{After-put_sign-whole, Else-not-has_room, Start}
 use mathlib.Core.Path.{sym}
 use mathlib.Core.Path.{◌∙◌}
 
@@ -20,7 +21,8 @@ room : (c : After-put_sign-whole) → let a = c.args in a.at + length (degrees_t
 room c =
     let a = c.args in
     let needed = rw (to_z-of_z c.ranges.x) at c.degrees_length.ensures.value in
-    rw (← needed) (leb-true (a.at + c.degrees_length.result) (length a.out.now) (sym c.has_room.ensures ∙ c.if-not-has_room.false))
+    rw (← needed) (leb-true (a.at + c.degrees_length.result) (length a.out.now)
+    (sym c.has_room.ensures ∙ c.if-not-has_room.false))
 
 -- the text in its parts, by the size that was answered
 abbrev Tail : After-put_sign-whole → List ℕ
@@ -41,7 +43,8 @@ left1 : (c : After-put_sign-whole) → Stands c (Whole c ++ Tail c) c.put_sign-w
 left1 c =
     let a = c.args in
     let signed = c.put_sign-whole.ensures in
-    left_next (sign a.x) _ (left_all a.out.now a.at _ (rw (← parts c) (room c))) (rw (to_z-of_z c.ranges.x) at signed.value, rw (to_z-of_z c.ranges.x) at signed.out_after)
+    left_next (sign a.x) _ (left_all a.out.now a.at _ (rw (← parts c) (room c)))
+    (rw (to_z-of_z c.ranges.x) at signed.value, rw (to_z-of_z c.ranges.x) at signed.out_after)
 
 pub returns-then-not-has_room : goal.returns-then-not-has_room
 returns-then-not-has_room c =

@@ -375,8 +375,9 @@ finds() {
 # output, once it is proved and built. A program of the kit has no exit status. It says how it ended by a digit on
 # descriptor 3, which goes to `status`: 0 done, 1 refused, 2 something could not be read or written. Before a 1 stand
 # what the refusal carries or nothing, for `carried`, and the refused line, for `refused`. What it writes goes straight
-# to standard output, so nothing on the way holds it back. Descriptor 4 is handed on as it is, for a second file or for
-# a list of names, each ended by a 0 byte.
+# to standard output, so nothing on the way holds it back. Descriptor 4 is handed on for a second file or for a list of
+# names, each ended by a 0 byte. A program opens it once more by its name: what it could not open so, or would wait for,
+# comes through a pipe.
 run() {
     local program out end IFS
     finds "$1" "$2"
@@ -386,6 +387,9 @@ run() {
     # and a descriptor that is closed would be taken by the pipe from the program itself
     [ -e /dev/fd/0 ] || stop "standard input is closed"
     { command exec {out}>&1; } 2>/dev/null || stop "standard output is closed"
+    if [ -S /dev/fd/4 ] || { [ -p /dev/fd/4 ] && [ ! -w /dev/fd/4 ]; } || { [ -e /dev/fd/4 ] && [ ! -r /dev/fd/4 ]; }; then
+        exec 4< <(cat <&4)
+    fi
     end=$("$program" "$@" 3>&1 >&"$out" {out}>&-)
     exec {out}>&-
     status=${end##*"$lf"}

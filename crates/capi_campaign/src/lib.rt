@@ -20,6 +20,7 @@ pub fn chim_campaign_open(standard: u64, state: &mut [u64], carried: &mut u64) -
 
 // The campaign in `state` with a result entered: whether there is a first failure (1) or not (0), and the exposure;
 // or refusal 8, for another flag or an exposure that is not from 1 to 10,000,000 too, 5, 6.
+#[tactic(auto, unfolding(crate::specs::Told::campaign_entered))]
 pub fn chim_campaign_enter(state: &mut [u64], failed: u64, exposure: u64, carried: &mut u64) -> u64
     ensures { told result carried.new state.new
         ≡ campaign_entered state.old failed exposure }
@@ -49,6 +50,7 @@ fn no_result() -> Result
 }
 
 // The result that an array holds.
+#[tactic(auto, unfolding(capi::specs::Numbers::result_of))]
 fn result_of(s: &[u64]) -> Result
     ensures { result ≡ result_of s.now }
 {

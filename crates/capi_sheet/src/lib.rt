@@ -44,6 +44,7 @@ fn column_of(end: Reading) -> u64
 
 // The campaign of a whole job sheet in `state`; or refusal 8 for an array of another length, else the sheet's first
 // refusal, with its line in `line` and its column, or 0, in `column`.
+#[tactic(auto, unfolding(sheet_text::specs::Sheet::meaning, sheet_text::specs::Sheet::reading_end, crate::specs::Told::sheet_line, crate::specs::Told::sheet_column))]
 pub fn chim_sheet_read(
     text: &[u8],
     state: &mut [u64],

@@ -9,6 +9,7 @@ ghost use Rattle.capi_sheet_records.specs.Told.{records_standard, sheet_written}
 
 // The sheet of a standard and its records in `out`, its bytes in `carried`; or refusal 1 with item 5, record by
 // record 4, 3, 5, 6, then 7 with the bytes needed.
+#[tactic(auto, unfolding(capi::specs::Told::write_told))]
 pub fn chim_sheet_write(standard: u64, records: &[i32], out: &mut [u8], carried: &mut u64) -> u64
     ensures { told result carried.new out.new
         ≡ sheet_written standard records.now out.old }
@@ -19,6 +20,7 @@ pub fn chim_sheet_write(standard: u64, records: &[i32], out: &mut [u8], carried:
 // The records of a sheet in `records`, their number in `carried` and the sheet's standard in `standard`; or the
 // sheet's first refusal, with its line in `line` and its column, or 0, in `column`, then 7 with the places needed, on
 // no line.
+#[tactic(auto, unfolding(crate::specs::Told::read_told))]
 pub fn chim_sheet_records(
     text: &[u8],
     records: &mut [i32],

@@ -11,6 +11,7 @@ ghost use Rattle.capi_verdict.specs.Told.{rates, ratings, verdict_told};
 use campaign_verdict::Verdict;
 
 // The censored count N* in `carried`; or refusal 8.
+#[tactic(auto, unfolding(crate::specs::Told::count_told))]
 pub fn chim_campaign_censored(state: &[u64], carried: &mut u64) -> u64
     ensures { count result carried.new ≡ campaign_censored state.now }
 {
@@ -22,6 +23,7 @@ pub fn chim_campaign_censored(state: &[u64], carried: &mut u64) -> u64
 }
 
 // The two rates of a verdict, 0 where it carries none, and its case in `carried`.
+#[tactic(auto, unfolding(crate::specs::Told::verdict_told))]
 pub fn tell(v: Verdict, lower: &mut f64, upper: &mut f64, carried: &mut u64) -> u64
     ensures { judgement result carried.new lower.new upper.new ≡ verdict_told v }
 {
@@ -68,6 +70,7 @@ pub fn chim_campaign_verdict(
 }
 
 // The three rates, and 1 in `carried`; 0 and rates of 0 while there is no record; or refusal 8.
+#[tactic(auto, unfolding(crate::specs::Told::rated_told))]
 pub fn chim_campaign_rates(
     state: &[u64],
     estimate: &mut f64,

@@ -1,7 +1,7 @@
 // What a program is started with beside its three standard streams: descriptors 3 and 4, and a standard input that can
 // be read twice. std reaches no descriptor by its number, so each is opened once more by the name that Linux gives it
-// in /dev/fd. A pipe is then the same pipe, and a file is read from its start and written at its end.
-ghost use Rattle.std.specs.Prelude.{◌≤◌};
+// in /dev/fd. A pipe is then the same pipe; a file is read from where its descriptor stands, and written at its end.
+ghost use Rattle.std.specs.Io.{ReadsAtMost};
 
 use crate::Desk;
 use decimal::Lead;
@@ -31,11 +31,13 @@ impl Given {
         }
     }
 
-    // The descriptor that `link` leads to, for reading.
-    pub fn to_read(rt: &HostRuntime, link: &str) -> Given {
-        Given {
-            file: open_again(rt, link, TO_READ, OpenOptions::new().read(true)),
+    // The descriptor that `link` leads to, for reading from its place on, which Linux tells in the file of that name.
+    pub fn to_read(rt: &HostRuntime, link: &str, place: &str) -> Given {
+        let file = open_again(rt, link, TO_READ, OpenOptions::new().read(true));
+        if let Ok(file) = &file {
+            go_to(file, place_told(rt, place));
         }
+        Given { file }
     }
 
     // The same for writing.
@@ -62,8 +64,17 @@ impl Read for &Given {
     }
 }
 
-fn read_from(mut file: &File, buf: &mut [u8]) -> io::Result<usize> {
+fn read_from(mut file: &File, buf: &mut [u8]) -> io::Result<usize>
+    ensures { ReadsAtMost result buf.new }
+{
     file.read(buf)
+}
+
+// What flows has no place, and stays as it is.
+fn go_to(mut file: &File, place: Option<u64>) {
+    if let Some(place) = place {
+        let _ = file.seek(SeekFrom::Start(place));
+    }
 }
 
 fn write_all_to(mut file: &File, bytes: &[u8]) -> io::Result<()> {
@@ -118,15 +129,15 @@ pub fn input_again(desk: &Desk) -> Option<Again> {
     if kind.is_fifo() || kind.is_socket() {
         return None;
     }
-    let start = input_place(rt)?;
+    let start = place_told(rt, "/proc/self/fdinfo/0")?;
     let mut file = File::open(rt, "/dev/fd/0").ok()?;
     file.seek(SeekFrom::Current(0)).ok()?;
     Some(Again { file, start })
 }
 
-// Where standard input stands, as Linux tells it in the first line: pos, a colon, a tab, the number.
-fn input_place(rt: &HostRuntime) -> Option<u64> {
-    let mut file = File::open(rt, "/proc/self/fdinfo/0").ok()?;
+// Where a descriptor stands, as Linux tells it in the first line of a file: pos, a colon, a tab, the number.
+fn place_told(rt: &HostRuntime, name: &str) -> Option<u64> {
+    let mut file = File::open(rt, name).ok()?;
     let mut text = [0u8; 64];
     let n = file.read(&mut text).ok()?;
     place_in(&text[..n])

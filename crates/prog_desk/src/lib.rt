@@ -25,6 +25,9 @@ const END: &str = "/dev/fd/3";
 // Where the names of files come from, one after the other, each ended by a 0 byte, which no name has; or a second file.
 const SECOND: &str = "/dev/fd/4";
 
+// Where Linux tells how far it is read.
+const SECOND_PLACE: &str = "/proc/self/fdinfo/4";
+
 // What a program is given: the runtime, the descriptor where it says how it ended, and the other one that it reads from.
 // Both are opened before anything else is, since a file would take the number of one that is not there.
 #[derive(Drop)]
@@ -47,7 +50,7 @@ impl Desk {
 
     // That of a program that reads a second descriptor.
     pub fn with_second(rt: HostRuntime) -> Desk {
-        let second = Given::to_read(&rt, SECOND);
+        let second = Given::to_read(&rt, SECOND, SECOND_PLACE);
         let end = Given::to_write(&rt, END);
         Desk { rt, end, second }
     }
@@ -61,17 +64,21 @@ impl Desk {
     }
 }
 
-// Writes a line to standard error: what failed, as the caller names it, a colon and the reason as the system has it,
-// without its number. Where that cannot be written either, nobody is left to be told.
+// An error in words, without the system's number that may stand after them.
+fn reason(said: &str) -> &str {
+    match said.rsplit_once(" (os error ") {
+        Some((words, _)) => words,
+        None => said,
+    }
+}
+
+// Writes a line to standard error: what failed, as the caller names it, a colon and the reason as the system has it.
+// Where that cannot be written either, nobody is left to be told.
 pub fn fail(desk: &Desk, what: &[u8], error: io::Error) {
     let said = InlineText::<256>::of(error);
-    let reason = match said.as_str().rsplit_once(" (os error ") {
-        Some((words, _)) => words,
-        None => said.as_str(),
-    };
     warn(desk, what);
     warn(desk, b": ");
-    warn(desk, reason.as_bytes());
+    warn(desk, reason(said.as_str()).as_bytes());
     warn(desk, b"\n");
 }
 

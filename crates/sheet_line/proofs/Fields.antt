@@ -4,10 +4,7 @@ use Prim.Native.Nat.{ℕ, ◌+◌, ◌^◌, ◌<◌}
 use mathlib.Core.Path.{◌≡◌, refl, sym, ap, ◌∙◌}
 use mathlib.Core.Bool.{true, false≢true}
 use mathlib.Core.List.{List, [], ◌∷◌, ◌++◌, append_assoc}
-use mathlib.Core.Logic.{inl, inr}
 use native.Mathlib.Omega.{arith}
-use types.Run.{OneOf}
-use denote.Enum.Declared.{tag_of}
 use lib.Dec.{eqb}
 use lib.ListN.{length, drop, take-append-drop}
 use lib.Seq.{drop-drop}
@@ -21,7 +18,6 @@ use Rattle.sheet_line.specs.declared.Field.{Field}
 use Rattle.sheet_line.specs.declared.Field.TheVariants.{Number, Empty, Strange, LeadingZero, TooLong}
 use Rattle.sheet_line.proofs.Back.{read_only}
 use Rattle.sheet_line.specs.Form.{begins}
-use Rattle.sheet_line.specs.contracts.Field.{the_type}
 use Rattle.sheet_line.specs.declared.Step.{Step}
 use Rattle.sheet_line.specs.Line.{starts_with, ended_by, field_then, with_number}
 
@@ -83,12 +79,10 @@ module _ (end : ℕ) (line : List ℕ) (at v next : ℕ) where
           (λ s. absurd (never (Strange place) refl (rw s at e)))
 
 -- what a `let Field::Number(..) = .. else` tells of the field in its else
-pub other_field : (f : Field) (bad : Step) (go : ℕ → ℕ → Step) → OneOf (1 ∷ 2 ∷ 3 ∷ 4 ∷ []) (tag_of the_type f) → with_number bad f go ≡ bad
-other_field (Number v next) bad go (inl e) = absurd (omega arith)
-other_field (Number v next) bad go (inr (inl e)) = absurd (omega arith)
-other_field (Number v next) bad go (inr (inr (inl e))) = absurd (omega arith)
-other_field (Number v next) bad go (inr (inr (inr e))) = absurd (omega arith)
-other_field Empty bad go keys = refl
-other_field (Strange p) bad go keys = refl
-other_field LeadingZero bad go keys = refl
-other_field TooLong bad go keys = refl
+pub other_field : (f : Field) (bad : Step) (go : ℕ → ℕ → Step) → ((v next : ℕ) → f ≡ Number v next → ⊥)
+    → with_number bad f go ≡ bad
+other_field (Number v next) bad go never = absurd (never v next refl)
+other_field Empty bad go never = refl
+other_field (Strange p) bad go never = refl
+other_field LeadingZero bad go never = refl
+other_field TooLong bad go never = refl

@@ -1,7 +1,5 @@
 -- `bureau_choice::choose` meets its contract: the tests in their order. Assumes nothing.
-use Rattle.truth.proofs.Laws.{said_no, said_yes}
 use Rattle.bureau_choice.specs.Steps.{chosen}
-use borrow.Author.Rules.{rules}
 use Rattle.bureau_choice.proofs.choose.Goals as goal
 use mathlib.Core.Path.{sym}
 use mathlib.Core.Path.{◌∙◌}

@@ -1,5 +1,4 @@
 -- `bureau_choice::work` meets its contract: by the four kinds of work. Assumes nothing.
-use borrow.Author.Rules.{rules}
 use Rattle.campaign_verdict.proofs.Only.{only}
 use Rattle.bureau_choice.proofs.work.Goals as goal
 

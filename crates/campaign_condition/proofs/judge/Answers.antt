@@ -1,14 +1,8 @@
 -- `campaign_condition::judge` meets its contract: each answer has the tests that led to it. Assumes nothing.
-use Prim.Native.Nat.{◌≤◌}
 use mathlib.Core.Path.{◌≡◌}
 use mathlib.Core.Bool.{true}
-use native.Mathlib.Omega.{arith}
-use lib.Dec.{leb}
-use borrow.Author.Tests.{leb-true}
-use Rattle.truth.proofs.Laws.{and-true, said_no, said_yes}
 use Rattle.campaign_condition.specs.Answers.{situations_in_range, judging}
 use Rattle.campaign_condition.proofs.Judging.{all_open, at_fault, one_bad, all_good}
-use borrow.Author.Rules.{rules}
 use Rattle.campaign_condition.proofs.judge.Goals as goal
 use mathlib.Core.Path.{sym}
 use mathlib.Core.Path.{◌∙◌}

@@ -2,12 +2,12 @@ use Prim.Native.Nat.{◌-◌, ◌≤◌}
 use mathlib.Core.Path.{ap, ◌∙◌}
 use mathlib.Core.Bool.{◌&&◌, ◌||◌}
 use native.Mathlib.Omega.{arith}
-use lib.ListN.{drop, length, take}
+use lib.ListN.{length}
 use borrow.Author.Rules.{rules}
 use Rattle.campaign_state.specs.State.{empty}
 use Rattle.campaign_condition.specs.declared.Told.{Told}
 use Rattle.campaign_condition.proofs.Front.{front_end, front_next}
-use Rattle.campaign_condition.proofs.Looking.{Along, ended, on, start}
+use Rattle.campaign_condition.proofs.Looking.{ended, on}
 use Rattle.campaign_condition.proofs.look.Goals as goal
 
 pub loop-i-preserved : goal.loop-i-preserved

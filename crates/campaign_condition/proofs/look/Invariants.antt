@@ -1,15 +1,8 @@
 -- `campaign_condition::look` meets its contract: the invariant is `Along`, that what was seen and what is left add up
 -- to what there is. What is left falls. Assumes nothing.
 use Prim.Native.Nat.{◌-◌, ◌≤◌}
-use mathlib.Core.Path.{ap, ◌∙◌}
-use mathlib.Core.Bool.{◌&&◌, ◌||◌}
-use native.Mathlib.Omega.{arith}
-use lib.ListN.{drop, length, take}
-use borrow.Author.Rules.{rules}
-use Rattle.campaign_state.specs.State.{empty}
-use Rattle.campaign_condition.specs.declared.Told.{Told}
-use Rattle.campaign_condition.proofs.Front.{front_end, front_next}
-use Rattle.campaign_condition.proofs.Looking.{Along, ended, on, start}
+use lib.ListN.{drop, take}
+use Rattle.campaign_condition.proofs.Looking.{Along}
 use Rattle.campaign_condition.proofs.look.Given as goal
 
 abbrev pub invariant-loop-i : goal.invariant-loop-i

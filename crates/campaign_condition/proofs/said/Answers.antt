@@ -1,7 +1,6 @@
 -- `campaign_condition::said` meets its contract: the verdict that is answered is the campaign's only one. Assumes
 -- nothing.
 use mathlib.Core.Path.{ap, sym, ◌∙◌}
-use borrow.Author.Rules.{rules}
 use Rattle.campaign_verdict.specs.declared.Judged.{Judged}
 use Rattle.campaign_verdict.proofs.Only.{only}
 use Rattle.campaign_condition.specs.declared.Told.{Told}

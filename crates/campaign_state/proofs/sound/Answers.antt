@@ -2,7 +2,6 @@
 -- it follows the definition word for word. Assumes nothing.
 use borrow.Author.Tests.{le-leb, lt-leb}
 use Rattle.campaign_state.specs.State.{sound}
-use borrow.Author.Rules.{rules}
 use Rattle.campaign_state.proofs.sound.Goals as goal
 
 pub returns-then-c-gt-MOST_RECORDS : goal.returns-then-c-gt-MOST_RECORDS

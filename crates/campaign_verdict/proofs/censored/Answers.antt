@@ -1,10 +1,9 @@
 -- `campaign_verdict::censored` meets its contract: a sound state is counted, a broken one refused. Assumes nothing.
 use mathlib.Core.Path.{ap}
-use Rattle.truth.proofs.Laws.{holds, said_no, said_yes}
+use Rattle.truth.proofs.Laws.{holds}
 use Rattle.campaign_verdict.specs.declared.Counted.TheVariants.{Count}
 use Rattle.campaign_verdict.specs.Answers.{counting}
 use Rattle.campaign_state.proofs.Relations.{kept_from}
-use borrow.Author.Rules.{rules}
 use Rattle.campaign_verdict.proofs.censored.Goals as goal
 use mathlib.Core.Path.{sym}
 use mathlib.Core.Path.{◌∙◌}

@@ -2,8 +2,6 @@
 -- subtraction stays above 0. Assumes nothing.
 use borrow.Author.Tests.{eq-eqb, ne_eqb}
 use Rattle.campaign_state.specs.State.{censored}
-use Rattle.campaign_state.proofs.Relations.{before_fits}
-use borrow.Author.Rules.{rules}
 use Rattle.campaign_verdict.proofs.censored_of.Goals as goal
 
 pub returns-then-c-eq0 : goal.returns-then-c-eq0

@@ -3,7 +3,6 @@ use mathlib.Core.Path.{ap, ◌∙◌}
 use Rattle.poisson.specs.Tables.{u}
 use Rattle.poisson.proofs.Rows.{upper_met}
 use Rattle.poisson.proofs.Unique.{upper_row_unique}
-use borrow.Author.Rules.{rules}
 use Rattle.campaign_verdict.proofs.high.Goals as goal
 
 pub returns : goal.returns

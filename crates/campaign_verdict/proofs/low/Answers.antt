@@ -2,7 +2,6 @@
 use Rattle.poisson.specs.Tables.{l}
 use Rattle.poisson.proofs.Rows.{lower_met}
 use Rattle.poisson.proofs.Unique.{lower_row_unique}
-use borrow.Author.Rules.{rules}
 use Rattle.campaign_verdict.proofs.low.Goals as goal
 
 pub returns : goal.returns

@@ -2,11 +2,10 @@
 use mathlib.Core.Path.{ap}
 use mathlib.Core.Bool.{true}
 use borrow.Author.Tests.{eq-eqb, ne_eqb}
-use Rattle.truth.proofs.Laws.{holds, said_no, said_yes}
+use Rattle.truth.proofs.Laws.{holds}
 use Rattle.campaign_verdict.specs.declared.Rated.TheVariants.{Given}
 use Rattle.campaign_verdict.specs.Answers.{rating}
 use Rattle.campaign_state.proofs.Relations.{kept_from}
-use borrow.Author.Rules.{rules}
 use Rattle.campaign_verdict.proofs.rate.Goals as goal
 use mathlib.Core.Path.{sym}
 use mathlib.Core.Path.{◌∙◌}

@@ -1,18 +1,10 @@
 -- `crossing_search::first_crossing` meets its contract. The invariant: i is past the ramp and no crossing stands before
 -- i. A turn takes a block, which is not empty, so what is left falls. Assumes nothing.
 use Prim.Native.Nat.{ℕ, ◌≤◌, ◌<◌, ◌-◌}
-use mathlib.Core.Path.{◌≡◌, sym, ◌∙◌}
-use mathlib.Core.Bool.{true, false}
-use native.Mathlib.Omega.{arith}
-use borrow.Author.Rules.{rules}
-use borrow.Author.Tests.{lt-ltb}
-use lib.ListN.{length}
-use Rattle.truth.proofs.Cases.{by_order}
-use Rattle.sample_block.proofs.Cut.{end_within}
+use mathlib.Core.Path.{◌≡◌}
+use mathlib.Core.Bool.{false}
 use Rattle.sample_channels.specs.Channels.{moments}
-use Rattle.sample_channels.proofs.Moments.{moments_shorter}
 use Rattle.crossing_places.specs.Reading.{crosses_at}
-use Rattle.crossing_places.proofs.First.{ramp_none, first-none, first-at}
 use Rattle.crossing_search.proofs.first_crossing.Given as goal
 
 abbrev pub invariant-loop-i : goal.invariant-loop-i

@@ -1,14 +1,9 @@
 -- `crossing_search::rise_in` meets its contract. In a quiet block no sample is above its level, so none crosses it. The
 -- loop's invariant: i is in the stretch and no level is crossed before i. The measure is what is left. Assumes nothing.
 use Prim.Native.Nat.{ℕ, ◌≤◌, ◌<◌, ◌-◌}
-use mathlib.Core.Path.{◌≡◌, refl, sym, ◌∙◌}
-use mathlib.Core.Bool.{Bool, true, false, not, ◌&&◌}
-use native.Mathlib.Omega.{arith}
-use borrow.Author.Rules.{rules}
-use borrow.Author.Count.{below_more}
-use borrow.Author.Tests.{not-true}
-use Rattle.sample_channels.specs.Channels.{above, moments}
-use Rattle.sample_channels.proofs.Quiet.{quiet_at}
+use mathlib.Core.Path.{◌≡◌}
+use mathlib.Core.Bool.{false}
+use Rattle.sample_channels.specs.Channels.{moments}
 use Rattle.crossing_places.specs.Reading.{sample_at, rises}
 use Rattle.crossing_search.proofs.rise_in.Given as goal
 

@@ -1,16 +1,14 @@
 use mathlib.Core.Path.{◌≡◌, refl, sym, ◌∙◌}
-use mathlib.Core.Logic.{⊎_elim}
 use Prim.Native.Nat.{suc, ◌-◌, ◌%◌}
 use native.Mathlib.Omega.{arith}
-use borrow.Author.Rules.{rules}
 use borrow.Author.Tests.{eq-eqb, ne_eqb}
 use lib.Dec.{lit≤}
 use Rattle.exponential.specs.Exponential.{one}
-use Rattle.exponential.specs.Ours.{row_down, rows_down, unit}
+use Rattle.exponential.specs.Ours.{row_down}
 use Rattle.exponential.proofs.Figures.{down_is, none_our_down, rows_down_lem, turned_down, whole_down}
 use Rattle.exponential.proofs.Ends.{none_down}
 use Rattle.exponential.proofs.Rows.{rows}
-use Rattle.exponential.proofs.Turn.{AfterDown, factors_down, starts}
+use Rattle.exponential.proofs.Turn.{factors_down, starts}
 use Rattle.exponential.proofs.down.Goals as goal
 use Rattle.exponential.proofs.down.Goals.{then-rest-eq1, else-rest-eq1}
 

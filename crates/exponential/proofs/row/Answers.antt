@@ -1,10 +1,7 @@
 -- `exponential::row` meets its contract: the constants are the lists of `Rows`, which the rule is proved of. Assumes
 -- nothing.
 use mathlib.Core.Path.{refl}
-use borrow.Author.Rules.{rules}
-use native.Mathlib.Omega.{arith}
 use Rattle.exponential.specs.Tables.{mantissas, shifts}
-use Rattle.exponential.proofs.Rows.{rows}
 use Rattle.exponential.proofs.row.Goals as goal
 
 pub returns : goal.returns

@@ -1,17 +1,15 @@
 use mathlib.Core.Path.{◌≡◌, refl, sym, ◌∙◌}
-use mathlib.Core.Logic.{⊎_elim}
 use Prim.Native.Nat.{suc, ◌-◌, ◌%◌}
 use native.Mathlib.Numerals.{add-one}
 use native.Mathlib.Omega.{arith}
-use borrow.Author.Rules.{rules}
 use borrow.Author.Tests.{eq-eqb, ne_eqb}
 use lib.Dec.{lit≤}
 use Rattle.exponential.specs.Exponential.{one}
-use Rattle.exponential.specs.Ours.{row_up, rows_up, unit}
+use Rattle.exponential.specs.Ours.{row_up}
 use Rattle.exponential.proofs.Figures.{up_is, none_our_up, rows_up_lem, turned_up, whole_up}
 use Rattle.exponential.proofs.Ends.{none_up}
 use Rattle.exponential.proofs.Rows.{rows}
-use Rattle.exponential.proofs.Turn.{AfterUp, factors_up, starts}
+use Rattle.exponential.proofs.Turn.{factors_up, starts}
 use Rattle.exponential.proofs.up.Goals as goal
 use Rattle.exponential.proofs.up.Goals.{then-rest-eq1, else-rest-eq1}
 

@@ -1,10 +1,9 @@
 use mathlib.Core.Path.{refl}
 use Prim.Native.Nat.{◌-◌}
 use native.Mathlib.Omega.{arith}
-use borrow.Author.Rules.{rules}
 use lib.Dec.{lit<}
 use Rattle.logarithm.proofs.Figure.{equal_near}
-use Rattle.logarithm.proofs.Turn.{After, ends, figure_fits, square_cut, square_fits, starts, turn}
+use Rattle.logarithm.proofs.Turn.{ends, figure_fits, starts, turn}
 use Rattle.logarithm.proofs.log2.Goals as goal
 
 pub returns-then-a-b : goal.returns-then-a-b

@@ -1,12 +1,7 @@
 -- `logarithm::log2` meets its contract. The invariant of its loop is `After`: after i squarings the bits taken and the
 -- number left are the state of `Squaring` at 2 ^ i. The measure is what is left of the 16 turns. Assumes nothing.
-use mathlib.Core.Path.{refl}
 use Prim.Native.Nat.{◌-◌}
-use native.Mathlib.Omega.{arith}
-use borrow.Author.Rules.{rules}
-use lib.Dec.{lit<}
-use Rattle.logarithm.proofs.Figure.{equal_near}
-use Rattle.logarithm.proofs.Turn.{After, ends, figure_fits, square_cut, square_fits, starts, turn}
+use Rattle.logarithm.proofs.Turn.{After}
 use Rattle.logarithm.proofs.log2.Given as goal
 
 abbrev pub invariant-loop-i : goal.invariant-loop-i

@@ -3,7 +3,6 @@
 use Prim.Native.Nat.{◌-◌, ◌*◌, ◌^◌}
 use native.Mathlib.Nat.{mod-eq_of_lt}
 use native.Mathlib.Omega.{arith}
-use borrow.Author.Rules.{rules}
 use Rattle.logarithm.proofs.Scaling.{quotient, shift_below, shift_less}
 use Rattle.logarithm.proofs.scale.Goals as goal
 

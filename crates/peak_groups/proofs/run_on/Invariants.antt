@@ -1,21 +1,10 @@
 -- `peak_groups::run_on` meets its contract. The invariant: the run so far, with what is left after it, comes to the
 -- first run. The measure is what is left. Assumes nothing.
-use Prim.Native.Nat.{ℕ, ◌+◌, ◌≤◌, ◌-◌}
-use mathlib.Core.Path.{◌≡◌, refl, sym, ap, ◌∙◌}
-use mathlib.Core.Bool.{Bool}
-use native.Mathlib.Omega.{arith}
-use borrow.Author.Rules.{rules}
-use borrow.Author.Tests.{not-true, not-false}
-use lib.ListN.{length, get_or, drop, drop_of_length-le}
-use lib.IntN.{ℤ, pos, nat_abs}
-use mir.Val.{SFits}
-use mir.Syntax.{w32}
-use mir.Facts.{to_z-of_z}
-use Rattle.sample_size.proofs.Turn.{turn}
-use Rattle.peak_groups.specs.declared.Run.{Run}
-use Rattle.peak_groups.specs.Runs.{same, side, first_run}
-use Rattle.peak_groups.specs.Step.{opened, longer}
-use Rattle.peak_groups.proofs.Ahead.{ahead, ahead_on, ahead_off, first_ahead}
+use Prim.Native.Nat.{◌≤◌, ◌-◌}
+use mathlib.Core.Path.{◌≡◌}
+use lib.ListN.{length, drop}
+use Rattle.peak_groups.specs.Runs.{first_run}
+use Rattle.peak_groups.proofs.Ahead.{ahead}
 use Rattle.peak_groups.proofs.run_on.Given as goal
 
 abbrev pub invariant-loop-i : goal.invariant-loop-i

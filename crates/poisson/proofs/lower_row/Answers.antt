@@ -1,7 +1,6 @@
 -- `poisson::lower_row` meets its contract: the constant is the table of specs/, which the rule is proved of, and a
 -- number outside it has what `lower_met` says there. Assumes nothing.
 use mathlib.Core.Path.{subst, sym}
-use borrow.Author.Rules.{rules}
 use native.Mathlib.Omega.{arith}
 use Rattle.poisson.specs.Rows.{LowerRow}
 use Rattle.poisson.specs.Tables.{l, lower_rows}

@@ -1,7 +1,6 @@
 -- `poisson::upper_row` meets its contract: the constant is the table of specs/, which the rule is proved of, and a
 -- number outside it has what `upper_met` says there. Assumes nothing.
 use mathlib.Core.Path.{subst, sym}
-use borrow.Author.Rules.{rules}
 use native.Mathlib.Omega.{arith}
 use Rattle.poisson.specs.Rows.{UpperRow}
 use Rattle.poisson.specs.Tables.{u, upper_rows}

@@ -2,11 +2,9 @@
 -- small enough to add to. Assumes nothing.
 use native.Mathlib.Omega.{arith}
 use borrow.Author.Tests.{le-ltb, lt-ltb}
-use Rattle.truth.proofs.Laws.{said_no, said_yes}
 use Rattle.record_state.proofs.Relations.{kept_from}
 use Rattle.record_state.proofs.Bounds.{items_of}
 use Rattle.record_end.specs.Result.{ending}
-use borrow.Author.Rules.{rules}
 use Rattle.record_end.proofs.end.Goals as goal
 use mathlib.Core.Path.{sym}
 use mathlib.Core.Path.{◌∙◌}

@@ -1,13 +1,12 @@
 -- `record_end::exposure_of` meets its contract: the record's laws bound both times. Assumes nothing.
 use native.Mathlib.Omega.{arith}
-use mathlib.Core.Path.{◌≡◌, ap, refl}
+use mathlib.Core.Path.{◌≡◌, ap}
 use mathlib.Core.Bool.{not, true}
 use Prim.Native.Nat.{◌+◌}
-use borrow.Author.Tests.{eq-eqb, le-ltb, ne_eqb}
+use borrow.Author.Tests.{le-ltb, ne_eqb}
 use Rattle.record_state.specs.declared.Record.{Record}
 use Rattle.record_state.specs.State.{failed}
 use Rattle.record_state.proofs.Times.{failed_failure, first_time_lem, whole_time_lem}
-use borrow.Author.Rules.{rules}
 use Rattle.record_end.proofs.exposure_of.Goals as goal
 use Rattle.record_end.proofs.exposure_of.Goals.{After-struct_known-else-r-eq0-1, Start}
 

@@ -1,6 +1,5 @@
 -- `record_feed::advance` meets its contract: a quiet block moves only n and the last sample (`quiet_still`); another is
 -- stepped. Assumes nothing.
-use borrow.Author.Rules.{rules}
 use Prim.Native.Nat.{◌-◌}
 use mathlib.Core.Path.{◌≡◌, sym, ap, ◌∙◌}
 use native.Mathlib.Omega.{arith}

@@ -1,20 +1,15 @@
-use Prim.Native.Nat.{◌+◌, ◌-◌, ◌≤◌, ◌<◌}
+use Prim.Native.Nat.{◌+◌, ◌-◌}
 use mathlib.Core.Path.{◌≡◌, refl, sym, ap, ◌∙◌}
-use mathlib.Core.Bool.{Bool, and_assoc, false, not, true, ◌&&◌}
+use mathlib.Core.Bool.{Bool, false, not}
 use mathlib.Core.List.{List, [], ◌∷◌, foldl}
 use native.Mathlib.Omega.{arith}
-use borrow.Author.Rules.{rules}
 use lib.ListN.{length, get_or, drop, drop_of_length-le}
-use lib.Dec.{ltb}
 use Rattle.sample_channels.specs.declared.Levels.{Levels}
 use Rattle.sample_channels.specs.Channels.{above, moments, AllInRange}
 use Rattle.sample_channels.proofs.Marks.{marks_many, marks_at}
 use Rattle.sample_channels.proofs.Moments.{moments_length, turn}
-use Rattle.sample_items.specs.Limits.{most_samples}
 use Rattle.crossing_places.specs.Reading.{sample_at}
-use Rattle.record_state.specs.State.{sound}
-use Rattle.record_feed.specs.Gap.{Gap}
-use Rattle.record_step.specs.Step.{below, stepped}
+use Rattle.record_step.specs.Step.{stepped}
 use Rattle.record_feed.proofs.Gaps.{gap_stays}
 use Rattle.record_step.proofs.Steps.{stepped_sound, stepped_n, stepped_most, stepped_levels, stepped_timed, stepped_low}
 use Rattle.record_feed.proofs.along.Goals as goal

@@ -1,13 +1,8 @@
 -- `record_feed::counted` meets its contract, which it follows word for word; the sums fit since n does and bounds the
 -- counts. Assumes nothing.
-use borrow.Author.Rules.{rules}
-use Prim.Native.Nat.{◌+◌}
-use mathlib.Core.Path.{refl, ap, ◌∙◌}
-use mathlib.Core.Bool.{Bool, cond}
 use native.Mathlib.Omega.{arith}
 use Rattle.record_state.proofs.Relations.{kept_from}
 use Rattle.record_state.proofs.Bounds.{small, crossings_below, groups_within, last_crossing_earlier}
-use Rattle.record_step.proofs.Steps.{ext}
 use Rattle.record_feed.proofs.counted.Goals as goal
 
 pub far-g-requires : goal.far-g-requires

@@ -1,6 +1,4 @@
 -- `record_feed::crossed` meets its contract, by its test. Assumes nothing.
-use mathlib.Core.Path.{sym, ◌∙◌}
-use borrow.Author.Rules.{rules}
 use Rattle.record_state.proofs.Relations.{kept_from}
 use Rattle.record_state.proofs.Bounds.{last_chosen_earlier}
 use Rattle.record_feed.proofs.crossed.Goals as goal

@@ -5,8 +5,7 @@ use mathlib.Core.Path.{◌≡◌, refl, ap}
 use mathlib.Core.Bool.{Bool, true, false}
 use native.Mathlib.Omega.{arith}
 use lib.Dec.{leb}
-use borrow.Author.Tests.{eq-eqb, ne_eqb, leb-true, leb-false, le-leb, lt-leb}
-use borrow.Author.Rules.{rules}
+use borrow.Author.Tests.{ne_eqb, leb-true, leb-false, le-leb, lt-leb}
 use Rattle.record_feed.proofs.Gaps.{in_samples}
 use Rattle.record_feed.proofs.far.Goals as goal
 

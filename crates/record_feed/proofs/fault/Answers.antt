@@ -1,5 +1,4 @@
 -- `record_feed::fault` meets its contract: the look says whether a sample is bad. Assumes nothing.
-use borrow.Author.Rules.{rules}
 use mathlib.Core.Path.{sym, ap, ◌∙◌}
 use Rattle.record_state.specs.declared.RecordAnswer.TheVariants.{Refused}
 use Rattle.sample_channels.proofs.Range.{looked_bad, looked_good, equally_long}

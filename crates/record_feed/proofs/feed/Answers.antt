@@ -4,7 +4,6 @@ use mathlib.Core.Path.{◌≡◌, sym, ◌∙◌}
 use mathlib.Core.Bool.{true}
 use native.Mathlib.Omega.{arith}
 use borrow.Author.Rules.{rules}
-use borrow.Author.Tests.{not-true, not-false}
 use Rattle.sample_items.specs.Limits.{most_samples}
 use Rattle.record_state.specs.State.{sound}
 use Rattle.record_state.proofs.Relations.{Kept, kept_from}

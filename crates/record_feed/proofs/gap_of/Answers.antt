@@ -1,6 +1,5 @@
 -- `record_feed::gap_of` meets its contract: a quotient rounded up. Assumes nothing.
 use native.Mathlib.Omega.{arith}
-use borrow.Author.Rules.{rules}
 use Rattle.record_feed.proofs.Gaps.{rounded_up}
 use Rattle.record_state.proofs.Relations.{kept_from}
 use Rattle.record_state.proofs.Bounds.{items_of}

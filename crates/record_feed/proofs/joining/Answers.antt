@@ -1,7 +1,6 @@
 -- `record_feed::joining` meets its contract: a crossing near the largest set's last is not the first, and near the
 -- crossing just before it (`near_both`); the sums fit since n does and bounds the crossings. Assumes nothing.
 use native.Mathlib.Omega.{arith}
-use borrow.Author.Rules.{rules}
 use Rattle.record_state.proofs.Relations.{kept_from}
 use Rattle.record_state.proofs.Bounds.{small, crossings_below}
 use Rattle.record_step.proofs.Steps.{near_both}

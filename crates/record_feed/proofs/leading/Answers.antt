@@ -1,6 +1,5 @@
 -- `record_feed::leading` meets its contract. Assumes nothing.
 use native.Mathlib.Omega.{arith}
-use borrow.Author.Rules.{rules}
 use Rattle.record_state.proofs.Relations.{kept_from}
 use Rattle.record_state.proofs.Bounds.{items_of}
 use Rattle.record_feed.proofs.leading.Goals as goal

@@ -1,10 +1,8 @@
-use Prim.Native.Nat.{◌+◌, ◌-◌, ◌≤◌, ◌<◌}
-use mathlib.Core.Path.{◌≡◌, refl, sym, ap, ◌∙◌}
+use Prim.Native.Nat.{◌-◌, ◌≤◌, ◌<◌}
+use mathlib.Core.Path.{◌≡◌, sym, ap, ◌∙◌}
 use mathlib.Core.Bool.{true}
 use mathlib.Core.List.{[], foldl, foldl-append}
-use native.Mathlib.Nat.{zero-add}
 use native.Mathlib.Omega.{arith}
-use borrow.Author.Rules.{rules}
 use lib.ListN.{length, take, drop, drop_of_length-le}
 use Rattle.sample_channels.specs.Channels.{moments, any_bad}
 use Rattle.sample_channels.proofs.Blocks.{good_on, block_equal, moments_cut, block_bad}
@@ -12,8 +10,6 @@ use Rattle.sample_channels.proofs.Moments.{moments_length}
 use Rattle.sample_channels.proofs.Quiet.{ends_say}
 use Rattle.sample_channels.proofs.Range.{all_in, none_bad, ends_tell}
 use Rattle.record_state.specs.declared.RecordAnswer.TheVariants.{Taken}
-use Rattle.sample_items.specs.Limits.{most_samples}
-use Rattle.record_state.specs.State.{sound}
 use Rattle.record_step.specs.Step.{stepped}
 use Rattle.sample_range.specs.Range.{first_bad}
 use Rattle.sample_block.proofs.Cut.{end_within, end_near, block_length}

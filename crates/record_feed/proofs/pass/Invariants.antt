@@ -1,28 +1,16 @@
 -- `record_feed::pass` meets its contract. The invariant is that of `run`, but for the samples left: the samples passed
 -- are in range, so the first bad place of each channel is i and the first bad place of what is left. A turn takes a
 -- block, which is not empty, so what is left falls. Assumes nothing.
-use Prim.Native.Nat.{◌+◌, ◌-◌, ◌≤◌, ◌<◌}
-use mathlib.Core.Path.{◌≡◌, refl, sym, ap, ◌∙◌}
+use Prim.Native.Nat.{◌+◌, ◌-◌, ◌≤◌}
+use mathlib.Core.Path.{◌≡◌}
 use mathlib.Core.Bool.{true}
-use mathlib.Core.List.{[], foldl, foldl-append}
-use native.Mathlib.Nat.{zero-add}
-use native.Mathlib.Omega.{arith}
-use borrow.Author.Rules.{rules}
-use lib.ListN.{length, take, drop, drop_of_length-le}
-use Rattle.sample_channels.specs.Channels.{moments, any_bad}
-use Rattle.sample_channels.proofs.Blocks.{good_on, block_equal, moments_cut, block_bad}
-use Rattle.sample_channels.proofs.Moments.{moments_length}
-use Rattle.sample_channels.proofs.Quiet.{ends_say}
-use Rattle.sample_channels.proofs.Range.{all_in, none_bad, ends_tell}
-use Rattle.record_state.specs.declared.RecordAnswer.TheVariants.{Taken}
+use mathlib.Core.List.{foldl}
+use lib.ListN.{length, drop}
+use Rattle.sample_channels.specs.Channels.{moments}
 use Rattle.sample_items.specs.Limits.{most_samples}
 use Rattle.record_state.specs.State.{sound}
 use Rattle.record_step.specs.Step.{stepped}
 use Rattle.sample_range.specs.Range.{first_bad}
-use Rattle.sample_block.proofs.Cut.{end_within, end_near, block_length}
-use Rattle.record_feed.specs.Fits.{Fits}
-use Rattle.record_feed.proofs.Cutting.{run_n, run_most, run_sound}
-use Rattle.record_feed.proofs.Fed.{fed_bad, fed_taken}
 use Rattle.record_feed.proofs.pass.Given as goal
 
 abbrev pub invariant-loop-i : goal.invariant-loop-i

@@ -1,14 +1,14 @@
 -- `record_feed::run` meets its contract: what was noted of the samples is what they are (`marks_front`). Assumes
 -- nothing.
 use borrow.Author.Rules.{rules}
-use mathlib.Core.Path.{◌≡◌, sym, ap, ◌∙◌}
+use mathlib.Core.Path.{◌≡◌, ap, ◌∙◌}
 use mathlib.Core.Bool.{false}
 use mathlib.Core.List.{map}
 use native.Mathlib.Omega.{arith}
 use lib.ListN.{length, take, replicate}
 use lib.Seq.{take_all}
 use Rattle.sample_channels.specs.Channels.{above, moments}
-use Rattle.sample_channels.proofs.Marks.{marks_front, marks_many}
+use Rattle.sample_channels.proofs.Marks.{marks_front}
 use Rattle.record_feed.proofs.run.Goals as goal
 use Rattle.record_feed.proofs.run.Goals.{After-mark, Start}
 

@@ -1,11 +1,8 @@
 -- `record_feed::step` meets its contract, by its test. Assumes nothing.
-use mathlib.Core.Path.{sym, ◌∙◌}
 use native.Mathlib.Omega.{arith}
-use borrow.Author.Rules.{rules}
 use Rattle.record_step.specs.Step.{stepped}
 use Rattle.record_state.proofs.Relations.{kept_from}
 use Rattle.record_state.proofs.Bounds.{small}
-use Rattle.record_step.proofs.Steps.{crosses_after}
 use Rattle.record_feed.proofs.step.Goals as goal
 
 pub moved-requires : goal.moved-requires

@@ -1,6 +1,5 @@
 -- `record_list::advance` meets its contract: over a quiet block only the time moves (`quiet_block`); another is walked.
 -- Assumes nothing.
-use borrow.Author.Rules.{rules}
 use mathlib.Core.Path.{◌≡◌, sym, ap, ◌∙◌}
 use native.Mathlib.Omega.{arith}
 use lib.ListN.{length}

@@ -1,14 +1,13 @@
-use Prim.Native.Nat.{suc, ◌+◌, ◌-◌, ◌≤◌}
-use mathlib.Core.Path.{◌≡◌, refl, sym, ap, ◌∙◌}
+use Prim.Native.Nat.{suc, ◌+◌, ◌-◌}
+use mathlib.Core.Path.{◌≡◌, sym, ap, ◌∙◌}
 use mathlib.Core.Bool.{false}
-use mathlib.Core.List.{foldl, [], ◌∷◌}
+use mathlib.Core.List.{foldl, ◌∷◌}
 use native.Mathlib.Numerals.{add-one}
 use native.Mathlib.Omega.{arith}
-use lib.ListN.{length, get_or, drop, drop_of_length-le}
+use lib.ListN.{length, get_or, drop}
 use lib.Seq.{drop-cons}
-use borrow.Author.Rules.{rules}
 use Rattle.record_list.specs.Walk.{Noting, noting, marked, Ready}
-use Rattle.record_list.proofs.Steps.{ready_less, ready_next, marked_length}
+use Rattle.record_list.proofs.Steps.{ready_next, marked_length}
 use Rattle.record_list.proofs.along.Goals as goal
 
 pub loop-i-preserved : goal.loop-i-preserved

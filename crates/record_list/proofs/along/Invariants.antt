@@ -1,16 +1,10 @@
 -- `record_list::along` meets its contract. The invariant: what is left, noted from here, leaves what the whole block
 -- would; and the walk is ready for what is left. The measure is what is left. Assumes nothing.
-use Prim.Native.Nat.{suc, ◌+◌, ◌-◌, ◌≤◌}
-use mathlib.Core.Path.{◌≡◌, refl, sym, ap, ◌∙◌}
-use mathlib.Core.Bool.{false}
-use mathlib.Core.List.{foldl, [], ◌∷◌}
-use native.Mathlib.Numerals.{add-one}
-use native.Mathlib.Omega.{arith}
-use lib.ListN.{length, get_or, drop, drop_of_length-le}
-use lib.Seq.{drop-cons}
-use borrow.Author.Rules.{rules}
-use Rattle.record_list.specs.Walk.{Noting, noting, marked, Ready}
-use Rattle.record_list.proofs.Steps.{ready_less, ready_next, marked_length}
+use Prim.Native.Nat.{◌-◌, ◌≤◌}
+use mathlib.Core.Path.{◌≡◌}
+use mathlib.Core.List.{foldl}
+use lib.ListN.{length, drop}
+use Rattle.record_list.specs.Walk.{noting, marked, Ready}
 use Rattle.record_list.proofs.along.Given as goal
 
 abbrev pub invariant-loop-i : goal.invariant-loop-i

@@ -1,7 +1,6 @@
 -- `record_list::crossed` meets its contract: the test says whether a group starts; the sums fit since the walk is ready
 -- for a sample. Assumes nothing.
 use mathlib.Core.Path.{sym, ◌∙◌}
-use borrow.Author.Rules.{rules}
 use Rattle.record_list.specs.Walk.{stepped}
 use Rattle.record_list.proofs.crossed.Goals as goal
 

@@ -1,5 +1,4 @@
 -- `record_list::fault` meets its contract: where a sample is bad the look says which. Assumes nothing.
-use borrow.Author.Rules.{rules}
 use mathlib.Core.Path.{sym, ap, ◌∙◌}
 use Rattle.truth.proofs.Laws.{true≢false}
 use Rattle.sample_channels.proofs.Range.{looked_bad, looked_good, equally_long}

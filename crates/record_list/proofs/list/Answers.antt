@@ -1,6 +1,5 @@
 -- `record_list::list` meets its contract: each answer is the law of `Answered` whose tests held on the way to it. A
 -- sample is bad in the ramp or after it (`any_parts`). Assumes nothing.
-use borrow.Author.Rules.{rules}
 use Prim.Native.Nat.{◌-◌}
 use mathlib.Core.Path.{◌≡◌, sym, ◌∙◌}
 use mathlib.Core.Bool.{true, false}

@@ -1,6 +1,5 @@
 -- `record_list::list_at_once` meets its contract: where no sample is bad nothing is refused, since half as many times as
 -- samples are the most. Assumes nothing.
-use borrow.Author.Rules.{rules}
 use Prim.Native.Nat.{◌≤◌}
 use mathlib.Core.Path.{refl, sym, ap, ◌∙◌}
 use native.Mathlib.Omega.{arith}

@@ -1,9 +1,7 @@
-use Prim.Native.Nat.{◌+◌, ◌-◌, ◌≤◌, ◌<◌}
+use Prim.Native.Nat.{◌-◌, ◌≤◌, ◌<◌}
 use mathlib.Core.Path.{◌≡◌, sym, ap, ◌∙◌}
 use mathlib.Core.List.{[]}
-use native.Mathlib.Nat.{zero-add}
 use native.Mathlib.Omega.{arith}
-use borrow.Author.Rules.{rules}
 use lib.ListN.{length, take, drop, drop_of_length-le}
 use Rattle.sample_block.proofs.Cut.{end_within, end_near, block_length}
 use Rattle.sample_range.specs.Range.{first_bad}
@@ -13,7 +11,7 @@ use Rattle.sample_channels.proofs.Quiet.{ends_say}
 use Rattle.sample_channels.proofs.Range.{all_good, none_bad, ends_tell}
 use Rattle.record_list.specs.Walk.{Noting}
 use Rattle.record_list.proofs.Steps.{ready_less}
-use Rattle.record_list.proofs.Underway.{Underway, begins, goes_on, arrives}
+use Rattle.record_list.proofs.Underway.{goes_on, arrives}
 use Rattle.record_list.proofs.pass.Goals as goal
 
 pub slice_bounds-rolls-count : goal.slice_bounds-rolls-count

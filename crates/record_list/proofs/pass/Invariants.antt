@@ -1,22 +1,11 @@
 -- `record_list::pass` meets its contract. The invariant: the walk is underway (`Underway`), and the samples passed are
 -- in range, so the first bad place of each channel is i and that of what is left. A turn takes a block, which is not
 -- empty, so what is left falls. Assumes nothing.
-use Prim.Native.Nat.{◌+◌, ◌-◌, ◌≤◌, ◌<◌}
-use mathlib.Core.Path.{◌≡◌, sym, ap, ◌∙◌}
-use mathlib.Core.List.{[]}
-use native.Mathlib.Nat.{zero-add}
-use native.Mathlib.Omega.{arith}
-use borrow.Author.Rules.{rules}
-use lib.ListN.{length, take, drop, drop_of_length-le}
-use Rattle.sample_block.proofs.Cut.{end_within, end_near, block_length}
+use Prim.Native.Nat.{◌+◌, ◌-◌}
+use mathlib.Core.Path.{◌≡◌}
+use lib.ListN.{length, drop}
 use Rattle.sample_range.specs.Range.{first_bad}
-use Rattle.sample_channels.specs.Channels.{any_bad}
-use Rattle.sample_channels.proofs.Blocks.{good_on, block_equal, block_bad}
-use Rattle.sample_channels.proofs.Quiet.{ends_say}
-use Rattle.sample_channels.proofs.Range.{all_good, none_bad, ends_tell}
-use Rattle.record_list.specs.Walk.{Noting}
-use Rattle.record_list.proofs.Steps.{ready_less}
-use Rattle.record_list.proofs.Underway.{Underway, begins, goes_on, arrives}
+use Rattle.record_list.proofs.Underway.{Underway}
 use Rattle.record_list.proofs.pass.Given as goal
 
 abbrev pub invariant-loop-i : goal.invariant-loop-i

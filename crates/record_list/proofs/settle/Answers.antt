@@ -1,7 +1,5 @@
 -- `record_list::settle` meets its contract: what the first pass found is the count, or that a sample is bad. Assumes
 -- nothing.
-use borrow.Author.Rules.{rules}
-use mathlib.Core.Path.{refl}
 use Rattle.record_list.proofs.Heard.{heard_count, heard_times}
 use Rattle.record_list.proofs.settle.Goals as goal
 

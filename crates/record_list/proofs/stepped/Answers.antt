@@ -1,9 +1,6 @@
 -- `record_list::stepped` meets its contract: the test says whether the level is crossed, and without a crossing nothing
 -- starts. Assumes nothing.
-use mathlib.Core.Path.{◌≡◌, sym, ◌∙◌}
-use mathlib.Core.Bool.{true}
-use borrow.Author.Rules.{rules}
-use Rattle.truth.proofs.Laws.{and-true}
+use mathlib.Core.Path.{sym, ◌∙◌}
 use Rattle.record_list.specs.Walk.{stepped}
 use Rattle.record_list.proofs.stepped.Goals as goal
 

@@ -1,11 +1,10 @@
 use Prim.Native.Nat.{◌-◌, ◌≤◌, ◌<◌}
 use native.Mathlib.Omega.{arith}
-use borrow.Author.Rules.{rules}
 use lib.ListN.{length}
 use Rattle.sample_block.proofs.Cut.{end_within, end_near, block_length}
 use Rattle.sample_channels.proofs.Blocks.{block_equal}
 use Rattle.record_list.proofs.Steps.{ready_less}
-use Rattle.record_list.proofs.Underway.{Underway, begins, goes_on, arrives}
+use Rattle.record_list.proofs.Underway.{goes_on, arrives}
 use Rattle.record_list.proofs.walk_all.Goals as goal
 
 pub slice_bounds-walk_block-count : goal.slice_bounds-walk_block-count

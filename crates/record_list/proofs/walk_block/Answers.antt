@@ -1,13 +1,12 @@
 -- `record_list::walk_block` meets its contract: the block is walked by what was noted of its samples (`marks_front`,
 -- `noted_marks`). Assumes nothing.
-use borrow.Author.Rules.{rules}
 use mathlib.Core.Path.{◌≡◌, sym, ap, ◌∙◌}
 use mathlib.Core.Bool.{false}
 use mathlib.Core.List.{foldl, map}
 use native.Mathlib.Omega.{arith}
 use lib.ListN.{length, take, replicate}
 use Rattle.sample_channels.specs.Channels.{above, moments}
-use Rattle.sample_channels.proofs.Marks.{marks_front, marks_many}
+use Rattle.sample_channels.proofs.Marks.{marks_front}
 use Rattle.record_list.specs.Walk.{noting, marked}
 use Rattle.record_list.proofs.Steps.{noted_marks}
 use Rattle.record_list.proofs.walk_block.Goals as goal

@@ -1,10 +1,7 @@
 -- `record_list::write` meets its contract: the times are those kept aside, or those that a second pass notes. Assumes
 -- nothing.
-use borrow.Author.Rules.{rules}
 use native.Mathlib.Nat.{zero-add}
 use native.Mathlib.Omega.{arith}
-use Rattle.sample_channels.specs.Channels.{moments}
-use Rattle.crossing_places.specs.Reading.{counted_times, unramped}
 use Rattle.record_list.proofs.Answered.{writes_room, writes_times}
 use Rattle.record_list.proofs.Heard.{writes_passed}
 use Rattle.record_list.proofs.write.Goals as goal

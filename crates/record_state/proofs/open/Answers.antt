@@ -1,5 +1,4 @@
 -- `record_state::open` meets its contract: the test on the item picks the answer. Assumes nothing.
-use borrow.Author.Rules.{rules}
 use borrow.Author.Tests.{eq-eqb, ne_eqb}
 use Rattle.record_state.specs.Answers.{opened}
 use Rattle.record_state.proofs.open.Goals as goal

@@ -1,6 +1,5 @@
 -- `record_state::sound` meets its contract: an item outside its range settles it; otherwise it follows the definition
 -- word for word. Assumes nothing.
-use borrow.Author.Rules.{rules}
 use borrow.Author.Tests.{eq-eqb, ne_eqb}
 use Rattle.record_state.specs.State.{sound, items_kept}
 use mathlib.Core.Path.{◌≡◌, sym, ◌∙◌}

@@ -6,7 +6,6 @@ use mathlib.Core.Bool.{◌&&◌}
 use native.Mathlib.Omega.{arith}
 use lib.ListN.{length}
 use lib.Dec.{leb}
-use borrow.Author.Rules.{rules}
 use Rattle.sample_items.specs.Limits.{item_outside, most_samples}
 use Rattle.sample_items.proofs.Ranges.{within_ranges, most_in_range_lem}
 use Rattle.record_whole.proofs.Judged.{sized_item, sized_unequal, sized_fits, sized_fault}

@@ -1,10 +1,7 @@
 -- `root::half_width` meets its contract: the square fits, and the least number that was found is the half_width_lem.
 -- Assumes nothing.
 use mathlib.Core.Path.{◌∙◌, sym}
-use native.Mathlib.Nat.{mul-le-mul}
 use native.Mathlib.Omega.{arith}
-use borrow.Author.Rules.{rules}
-use Rattle.truth.proofs.Laws.{said_no, said_yes}
 use Rattle.root.specs.HalfWidth.{width_within}
 use Rattle.root.proofs.HalfWidth.{Measured, measured_from, root_width, scatter_fits, width_within_lem}
 use Rattle.root.proofs.half_width.Goals as goal

@@ -2,7 +2,6 @@
 -- Assumes nothing.
 use mathlib.Core.Path.{◌≡◌, sym}
 use native.Mathlib.Omega.{arith}
-use borrow.Author.Rules.{rules}
 use Rattle.root.proofs.First.{least_root_lem, no_root, only_least}
 use Rattle.root.proofs.Halving.{least_of}
 use Rattle.root.proofs.least.Goals as goal

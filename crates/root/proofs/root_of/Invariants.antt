@@ -1,9 +1,7 @@
 -- `root::root_of` meets its contract. The invariant is that of halving (`Halving`), and the measure how far
 -- apart the two numbers are. Assumes nothing.
 use Prim.Native.Nat.{◌-◌}
-use native.Mathlib.Omega.{arith}
-use borrow.Author.Rules.{rules}
-use Rattle.root.proofs.Halving.{Between, downwards, ends, middle_high, middle_low, square, starts, upwards}
+use Rattle.root.proofs.Halving.{Between}
 use Rattle.root.proofs.root_of.Given as goal
 
 abbrev pub invariant-loop-low : goal.invariant-loop-low

@@ -1,7 +1,6 @@
 -- `sample_block::end` meets its contract: the tests say whether 64 more samples are there. Assumes nothing.
 use Prim.Native.Nat.{◌+◌}
 use native.Mathlib.Omega.{arith}
-use borrow.Author.Rules.{rules}
 use borrow.Author.Tests.{le-leb, lt-leb}
 use Rattle.sample_block.specs.Block.{block_end}
 use Rattle.sample_block.proofs.end.Goals as goal

@@ -1,16 +1,9 @@
 -- `sample_block::ends_of` meets its contract. The invariant: what is left, taken from the ends so far, has the ends of
 -- all. The measure is what is left. Assumes nothing.
-use Prim.Native.Nat.{◌+◌, ◌-◌, ◌≤◌, ◌<◌}
-use mathlib.Core.Path.{◌≡◌, refl, sym, ap, ◌∙◌}
-use mathlib.Core.List.{[], foldl}
-use native.Mathlib.Omega.{arith}
-use borrow.Author.Rules.{rules}
-use lib.ListN.{length, get_or, drop, drop_of_length-le}
-use lib.IntN.{ℤ, pos}
-use mir.Val.{SFits, to_z}
-use mir.Syntax.{w32}
-use mir.Facts.{to_z-of_z}
-use Rattle.sample_size.proofs.Turn.{turn}
+use Prim.Native.Nat.{◌-◌, ◌≤◌}
+use mathlib.Core.Path.{◌≡◌}
+use mathlib.Core.List.{foldl}
+use lib.ListN.{length, drop}
 use Rattle.sample_block.specs.Block.{lower, higher, lowest, highest}
 use Rattle.sample_block.proofs.ends_of.Given as goal
 

@@ -1,6 +1,5 @@
 -- `sample_block::loud` meets its contract: the ends say it. Assumes nothing.
 use mathlib.Core.Path.{◌∙◌}
-use borrow.Author.Rules.{rules}
 use Rattle.sample_block.proofs.Sides.{ends_say}
 use Rattle.sample_block.proofs.loud.Goals as goal
 

@@ -1,17 +1,11 @@
 -- `sample_channels::mark` meets its contract. The invariant: the first i samples are noted. The measure is what is
 -- left. Assumes nothing.
-use Prim.Native.Nat.{ℕ, ◌-◌, ◌≤◌, min}
-use mathlib.Core.Path.{◌≡◌, refl, sym, ap, ◌∙◌}
-use mathlib.Core.Bool.{Bool}
-use mathlib.Core.List.{List, map}
-use native.Mathlib.Numerals.{add-one}
-use native.Mathlib.Nat.{zero-add}
-use native.Mathlib.Omega.{arith}
-use borrow.Author.Rules.{rules}
-use lib.ListN.{length, get_or, set, length-set, length-map, get_or-map}
-use lib.Seq.{paste, paste-suc}
-use Rattle.sample_channels.specs.Channels.{above, still, moments}
-use Rattle.sample_channels.proofs.Moments.{moments_shorter}
+use Prim.Native.Nat.{◌-◌, ◌≤◌}
+use mathlib.Core.Path.{◌≡◌}
+use mathlib.Core.List.{map}
+use lib.ListN.{length}
+use lib.Seq.{paste}
+use Rattle.sample_channels.specs.Channels.{above, moments}
 use Rattle.sample_channels.proofs.mark.Given as goal
 
 abbrev pub invariant-loop-i : goal.invariant-loop-i

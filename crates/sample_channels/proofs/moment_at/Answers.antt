@@ -1,5 +1,4 @@
 -- `sample_channels::moment_at` meets its contract: the two samples, if both are there. Assumes nothing.
-use borrow.Author.Rules.{rules}
 use mathlib.Core.Path.{sym}
 use mathlib.Core.Logic.{inl, inr}
 use native.Mathlib.Omega.{arith}

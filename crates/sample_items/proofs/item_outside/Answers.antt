@@ -1,5 +1,4 @@
 -- `sample_items::item_outside` meets its contract, which it follows word for word. Assumes nothing.
-use borrow.Author.Rules.{rules}
 use Rattle.sample_items.specs.Limits.{item_outside}
 use Rattle.sample_items.proofs.item_outside.Goals as goal
 

@@ -1,13 +1,8 @@
 -- `sample_items::most_samples` meets its contract: the quotient is at most the longest time. Assumes nothing.
-use Prim.Native.Nat.{◌≤◌}
 use mathlib.Core.Path.{◌≡◌, sym, ◌∙◌}
 use mathlib.Core.Bool.{◌&&◌}
-use native.Mathlib.Omega.{arith}
-use native.Mathlib.Nat.{div-le_self}
 use borrow.Author.Rules.{rules}
-use Rattle.truth.proofs.Laws.{and-true}
 use Rattle.sample_items.specs.Limits.{step_in_range, ramp_in_range, most_in_range}
-use Rattle.sample_items.proofs.Ranges.{low, high}
 use Rattle.sample_items.proofs.most_samples.Goals as goal
 use Rattle.sample_items.proofs.most_samples.Goals.{After-between, After-both}
 

@@ -1,20 +1,9 @@
 -- `sample_range::first_of` meets its contract. The invariant: the i samples passed are in range, so the first bad place
 -- is i and the first bad place of what is left. The measure is what is left. Assumes nothing.
 use Prim.Native.Nat.{◌+◌, ◌≤◌, ◌-◌}
-use mathlib.Core.Path.{◌≡◌, sym, ap, ◌∙◌}
-use mathlib.Core.Bool.{true, false}
-use native.Mathlib.Nat.{zero-add}
-use native.Mathlib.Omega.{arith}
-use borrow.Author.Rules.{rules}
-use borrow.Author.Tests.{not-true, not-false}
-use lib.ListN.{length, get_or, drop, drop_of_length-le}
-use lib.IntN.{pos}
-use mir.Val.{SFits}
-use mir.Syntax.{w32}
-use mir.Facts.{to_z-of_z}
-use Rattle.sample_size.proofs.Turn.{turn}
-use Rattle.sample_range.specs.Range.{sample_in_range, first_bad}
-use Rattle.sample_range.proofs.Bad.{bad_in, bad_out}
+use mathlib.Core.Path.{◌≡◌}
+use lib.ListN.{length, drop}
+use Rattle.sample_range.specs.Range.{first_bad}
 use Rattle.sample_range.proofs.first_of.Given as goal
 
 abbrev pub invariant-loop-i : goal.invariant-loop-i

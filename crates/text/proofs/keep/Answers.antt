@@ -1,13 +1,11 @@
 use Prim.Native.Nat.{ℕ, ◌+◌, ◌-◌, ◌≤◌, ◌<◌}
-use mathlib.Core.Path.{◌≡◌, refl, sym}
+use mathlib.Core.Path.{◌≡◌, sym}
 use mathlib.Core.List.{List}
 use native.Mathlib.Numerals.{add-one}
 use native.Mathlib.Omega.{arith}
-use borrow.Author.Rules.{rules}
-use borrow.Author.Tests.{le-leb, leb-true}
-use lib.ListN.{length, take, drop, get_or, set, length-set, length-drop, take-append-drop}
+use borrow.Author.Tests.{le-leb}
+use lib.ListN.{length, drop, get_or, set, length-set, length-drop, take-append-drop}
 use lib.Seq.{get_or-drop, take-suc, take-suc-set, drop-set-lt, drop-drop}
-use Rattle.truth.proofs.Laws.{said_no, said_yes}
 use Rattle.text.specs.Front.{kept}
 use Rattle.text.proofs.keep.Goals as goal
 use Rattle.text.proofs.keep.Invariants.{Moved}

@@ -1,16 +1,9 @@
 -- `text::keep` meets its contract. The invariant: the bytes before i are moved, and those from i on are as they were,
 -- so that a byte is read before it is written over. What is left to move falls. Assumes nothing.
-use Prim.Native.Nat.{ℕ, ◌+◌, ◌-◌, ◌≤◌, ◌<◌}
-use mathlib.Core.Path.{◌≡◌, refl, sym}
+use Prim.Native.Nat.{ℕ, ◌+◌, ◌-◌, ◌≤◌}
+use mathlib.Core.Path.{◌≡◌}
 use mathlib.Core.List.{List}
-use native.Mathlib.Numerals.{add-one}
-use native.Mathlib.Omega.{arith}
-use borrow.Author.Rules.{rules}
-use borrow.Author.Tests.{le-leb, leb-true}
-use lib.ListN.{length, take, drop, get_or, set, length-set, length-drop, take-append-drop}
-use lib.Seq.{get_or-drop, take-suc, take-suc-set, drop-set-lt, drop-drop}
-use Rattle.truth.proofs.Laws.{said_no, said_yes}
-use Rattle.text.specs.Front.{kept}
+use lib.ListN.{length, take, drop}
 use Rattle.text.proofs.keep.Given as goal
 
 -- the first i bytes are those from `from` on, and the rest is as it was

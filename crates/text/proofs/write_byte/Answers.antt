@@ -4,7 +4,6 @@ use Prim.Native.Nat.{◌+◌}
 use mathlib.Core.List.{[], ◌∷◌}
 use native.Mathlib.Omega.{arith}
 use lib.ListN.{set}
-use borrow.Author.Rules.{rules}
 use Rattle.text.proofs.Laws.{wrote_laid, wrote_short, laid_one}
 use Rattle.text.proofs.write_byte.Goals as goal
 

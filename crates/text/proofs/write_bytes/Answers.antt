@@ -1,11 +1,9 @@
 use mathlib.Core.Path.{◌≡◌, refl, sym, ◌∙◌}
-use Prim.Native.Nat.{◌+◌, ◌≤◌}
+use Prim.Native.Nat.{◌+◌}
 use native.Mathlib.Omega.{arith}
 use borrow.Author.Rules.{rules}
-use borrow.Author.Tests.{leb-true, leb-false, not-true, not-false}
-use lib.ListN.{length, take, length-set}
-use lib.Seq.{take-length}
-use Rattle.text.specs.Write.{laid}
+use borrow.Author.Tests.{leb-false}
+use lib.ListN.{length, length-set}
 use Rattle.text.proofs.Laws.{wrote_laid, wrote_short, laid_none, laid_turn}
 use Rattle.text.proofs.write_bytes.Goals as goal
 use Rattle.text.proofs.write_bytes.Goals.{After-has_room, Start}

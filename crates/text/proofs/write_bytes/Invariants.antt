@@ -1,15 +1,10 @@
 -- `text::write_bytes` meets its contract. The invariant of its loop: laying the bytes that are left, the first i, over
 -- what `out` holds now gives what laying all of them over `out` as it was gives. A turn stores the last of those left;
 -- i, the measure, falls by one. Assumes nothing.
-use mathlib.Core.Path.{◌≡◌, refl, sym, ◌∙◌}
+use mathlib.Core.Path.{◌≡◌}
 use Prim.Native.Nat.{◌+◌, ◌≤◌}
-use native.Mathlib.Omega.{arith}
-use borrow.Author.Rules.{rules}
-use borrow.Author.Tests.{leb-true, leb-false, not-true, not-false}
-use lib.ListN.{length, take, length-set}
-use lib.Seq.{take-length}
+use lib.ListN.{length, take}
 use Rattle.text.specs.Write.{laid}
-use Rattle.text.proofs.Laws.{wrote_laid, wrote_short, laid_none, laid_turn}
 use Rattle.text.proofs.write_bytes.Given as goal
 
 abbrev pub invariant-loop-i : goal.invariant-loop-i

@@ -1,0 +1,13 @@
+-- `comma_count::feed` meets its contract: so many zeros are lent beside the samples. Assumes nothing.
+use mathlib.Core.Path.{◌≡◌, ap, ◌∙◌}
+use lib.IntN.{pos}
+use lib.ListN.{length, take, replicate}
+use Rattle.record_feed.specs.Answers.{fed}
+use Rattle.comma_count.specs.Line.{zeros}
+use Rattle.comma_count.proofs.Zeros.{zeros_take}
+use Rattle.comma_count.proofs.feed.Goals as goal
+
+pub returns : goal.returns
+returns c =
+    let lent : take (length c.args.samples.now) (replicate 1024 (pos 0)) ≡ zeros c.args.samples.now = zeros_take 1024 c.args.samples.now c.requires in
+    c.feed.ensures ∙ ap (fed c.args.r c.args.samples.now) (lent)

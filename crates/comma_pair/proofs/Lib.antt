@@ -1,0 +1,11 @@
+pub mod Few
+pub mod Front
+pub mod Joining
+pub mod Way
+pub mod Piece
+pub mod Agreeing
+pub mod Text
+pub mod Whole
+pub mod Stands
+pub mod Cut
+pub mod Unique

@@ -12,7 +12,8 @@ use Rattle.desk_line.proofs.Few.{Small, refused_in_few}
 use Rattle.desk_line.proofs.Put.{puts}
 use borrow.Author.Rules.{rules}
 use Rattle.desk_line.proofs.put_refused_in.Goals as goal
-use Rattle.desk_line.proofs.put_refused_in.Goals.{After-carried, After-write_bytes-number, After-write_field-place, After-write_field-why, Start}
+use Rattle.desk_line.proofs.put_refused_in.Goals.{After-carried, After-write_bytes-number, After-write_field-place}
+use Rattle.desk_line.proofs.put_refused_in.Goals.{After-write_field-why, Start}
 
 abbrev Whole : After-carried → List ℕ
 Whole c = refused_line (c.args.file ∷ c.args.line ∷ []) c.args.r
@@ -29,28 +30,41 @@ room c =
     let value : Small c.carried.result = search rules in
     let line : Small c.args.line = search rules in
     let file : Small c.args.file = search rules in
-    left_all _ 0 _ (omega (arith, c.requires, refused_in_few c.args.line c.args.r line (rw c.carried.ensures at value) c.args.file file))
+    left_all _ 0 _ (omega (
+      arith,
+      c.requires,
+      refused_in_few c.args.line c.args.r line (rw c.carried.ensures at value) c.args.file file,
+    ))
 
 left1 : (c : After-carried)
-    → Stands c (field_text c.args.file tab ++ (field_text c.args.line tab ++ Why c)) c.write_bytes-number.new.out c.write_bytes-number.result
+    → Stands c (field_text c.args.file tab ++ (field_text c.args.line tab ++ Why c)) c.write_bytes-number.new.out
+    c.write_bytes-number.result
 unfolding refused_line places_then
 left1 c =
     left_next refused_word _ (room c) (c.write_bytes-number.ensures.value, c.write_bytes-number.ensures.out_after)
 
-left2 : (c : After-carried) → Stands c (field_text c.args.line tab ++ Why c) c.write_field-place.new.out c.write_field-place.result
+left2 : (c : After-carried)
+    → Stands c (field_text c.args.line tab ++ Why c) c.write_field-place.new.out c.write_field-place.result
 left2 c =
-    left_next (field_text c.args.file tab) _ (left1 c) (c.write_field-place.ensures.value, c.write_field-place.ensures.out_after)
+    left_next (field_text c.args.file tab) _ (left1 c) (
+      c.write_field-place.ensures.value,
+      c.write_field-place.ensures.out_after,
+    )
 
 left3 : (c : After-carried) → Stands c (Why c) c.write_field-why.new.out c.write_field-why.result
 left3 c =
-    left_next (field_text c.args.line tab) _ (left2 c) (c.write_field-why.ensures.value, c.write_field-why.ensures.out_after)
+    left_next (field_text c.args.line tab) _ (left2 c) (
+      c.write_field-why.ensures.value,
+      c.write_field-why.ensures.out_after,
+    )
 
 -- the same by the numbers that were asked for
 asked : (c : After-carried) {n v : ℕ} → n ≡ number_of c.args.r → v ≡ value_of c.args.r
     → Stands c (why_text n v) c.write_field-why.new.out c.write_field-why.result
 asked c e f = rw (e, f) (left3 c)
 
-left4 : (c : After-carried) → Stands c (why_text c.number.result c.carried.result) c.write_field-why.new.out c.write_field-why.result
+left4 : (c : After-carried)
+    → Stands c (why_text c.number.result c.carried.result) c.write_field-why.new.out c.write_field-why.result
 left4 c = asked c c.number.ensures c.carried.ensures
 
 pub put_why-n-requires : goal.put_why-n-requires
@@ -60,4 +74,5 @@ pub returns : goal.returns
 returns c =
     let d = (goal.at.returns c).After-carried in
     let a = c.args in
-    puts (refused (a.file ∷ a.line ∷ []) a.r) (room d) refl (left_last (left4 d) (c.put_why-n.ensures.value, c.put_why-n.ensures.out_after))
+    puts (refused (a.file ∷ a.line ∷ []) a.r) (room d) refl
+    (left_last (left4 d) (c.put_why-n.ensures.value, c.put_why-n.ensures.out_after))

@@ -8,11 +8,11 @@ use Rattle.decimal.specs.Field.{tab, line_feed, field_text}
 use Rattle.text.proofs.Laws.{laid_none}
 use Rattle.text.proofs.Parts.{Left, left_next, left_last}
 use Rattle.desk_line.specs.Said.{why_text}
-use borrow.Author.Rules.{rules}
 use Rattle.desk_line.proofs.put_why.Goals as goal
 use Rattle.desk_line.proofs.put_why.Goals.{After-write_field-next, Else-number-eq-ITEM, Start}
 
-both : (c : After-write_field-next) → why_text c.args.number c.args.value ≡ field_text c.args.number tab ++ field_text c.args.value line_feed
+both : (c : After-write_field-next)
+    → why_text c.args.number c.args.value ≡ field_text c.args.number tab ++ field_text c.args.value line_feed
 unfolding why_text
 both c = rw (eq-eqb c.args.number 1 c.if-number-eq-ITEM.true)
 
@@ -24,18 +24,30 @@ alone c = rw (ne_eqb c.args.number 1 c.if-number-eq-ITEM.false)
 abbrev Stands : After-write_field-next → List ℕ → List ℕ → ℕ → Type 0
 Stands c rest out at = Left c.args.out.now c.args.at (why_text c.args.number c.args.value) rest out at
 
-left0 : (c : After-write_field-next) → Stands c (field_text c.args.number tab ++ field_text c.args.value line_feed) c.args.out.now c.args.at
+left0 : (c : After-write_field-next)
+    → Stands c (field_text c.args.number tab ++ field_text c.args.value line_feed) c.args.out.now c.args.at
 left0 c =
-    record { front = []; parts = sym (both c); place = sym (add-zero c.args.at); bytes = sym (laid_none c.args.out.now c.args.at); fits = c.requires }
+    record {
+      front = [];
+      parts = sym (both c);
+      place = sym (add-zero c.args.at);
+      bytes = sym (laid_none c.args.out.now c.args.at);
+      fits = c.requires;
+    }
 
-left1 : (c : After-write_field-next) → Stands c (field_text c.args.value line_feed) c.write_field-next.new.out c.write_field-next.result
+left1 : (c : After-write_field-next)
+    → Stands c (field_text c.args.value line_feed) c.write_field-next.new.out c.write_field-next.result
 left1 c =
-    left_next (field_text c.args.number tab) _ (left0 c) (c.write_field-next.ensures.value, c.write_field-next.ensures.out_after)
+    left_next (field_text c.args.number tab) _ (left0 c) (
+      c.write_field-next.ensures.value,
+      c.write_field-next.ensures.out_after,
+    )
 
 pub returns-then-number-eq-ITEM : goal.returns-then-number-eq-ITEM
 returns-then-number-eq-ITEM c =
     let after-write-field = (goal.at.returns-then-number-eq-ITEM c).After-write_field-next in
-    let whole = left_last (left1 after-write-field) (c.write_field.ensures.value, c.write_field.ensures.out_after) in record { value = whole.0; out_after = whole.1 }
+    let whole = left_last (left1 after-write-field) (c.write_field.ensures.value, c.write_field.ensures.out_after) in
+    record { value = whole.0; out_after = whole.1 }
 
 pub returns : goal.returns
 returns c =

@@ -2,15 +2,16 @@
 use mathlib.Core.List.{[], ◌∷◌}
 use Rattle.desk_line.specs.Said.{refused}
 use Rattle.desk_line.proofs.Put.{finished, without}
-use borrow.Author.Rules.{rules}
 use Rattle.desk_line.proofs.refuse.Goals as goal
 
 pub returns-then-out-lt-LONGEST_LINE : goal.returns-then-out-lt-LONGEST_LINE
 returns-then-out-lt-LONGEST_LINE c =
     let a = c.args in
-    let whole = without (refused (a.line ∷ []) a.r) a.out.now c.if-out-lt-LONGEST_LINE.true in record { value = whole.0; out_after = whole.1 }
+    let whole = without (refused (a.line ∷ []) a.r) a.out.now c.if-out-lt-LONGEST_LINE.true in
+    record { value = whole.0; out_after = whole.1 }
 
 pub returns : goal.returns
 returns c =
     let a = c.args in
-    let whole = finished (refused (a.line ∷ []) a.r) c.if-out-lt-LONGEST_LINE.false c.put_refused.ensures in record { value = whole.0; out_after = whole.1 }
+    let whole = finished (refused (a.line ∷ []) a.r) c.if-out-lt-LONGEST_LINE.false c.put_refused.ensures in
+    record { value = whole.0; out_after = whole.1 }

@@ -1,5 +1,5 @@
 -- `sheet_files::step_taken` meets its contract, test by test. Assumes nothing.
-use mathlib.Core.Path.{◌≡◌, sym, ap, ◌∙◌}
+use mathlib.Core.Path.{◌≡◌, ◌∙◌}
 use Prim.Native.Nat.{ℕ}
 use lib.IntN.{ℤ}
 use native.Mathlib.Omega.{arith}
@@ -12,45 +12,33 @@ use Rattle.sheet_files.specs.declared.Step.TheVariants as step
 use Rattle.sheet_files.specs.Files.{most_failures}
 use Rattle.sheet_files.specs.Filing.{step_taken}
 use borrow.Author.Rules.{rules}
-use Rattle.sheet_files.proofs.step_taken.Statement.{statement}
-use Rattle.sheet_files.proofs.step_taken.Tie as tie
+use Rattle.sheet_files.proofs.step_taken.Goals as goal
 
 placed : {place n failures more : ℕ} {x y : ℤ} → failures ≡ more → x ≡ y → step.Placed place n failures x ≡ step.Placed place n more y
 placed {place} {n} e f j = step.Placed place n (e j) (f j)
 
-returns : tie.Need-returns
+pub returns-then-n-ge-MOST_RECORDS : goal.returns-then-n-ge-MOST_RECORDS
 unfolding step_taken
-returns c = let a = c.before.args in rw (le-leb most_records a.n (omega arith))
+returns-then-n-ge-MOST_RECORDS c =
+    let a = c.args in rw (le-leb most_records a.n (omega arith))
 
-returns-2 : tie.Need-returns-2
+pub returns-then-failures-ge-ROWS : goal.returns-then-failures-ge-ROWS
 unfolding step_taken
-returns-2 c =
-    let a = c.before.before.args in
+returns-then-failures-ge-ROWS c =
+    let a = c.args in
     rw (lt-leb most_records a.n (omega arith), le-leb most_failures a.failures (omega arith))
 
-returns-3 : tie.Need-returns-3
+pub returns-then-places-n : goal.returns-then-places-n
 unfolding step_taken
-returns-3 c =
-    let a = c.before.before.before.args in
+returns-then-places-n c =
+    let a = c.args in
     rw (lt-leb most_records a.n (omega arith), lt-leb most_failures a.failures (omega arith), le-leb a.places a.n (omega arith))
 
-record-in-requires : tie.Need-record-in-requires
-record-in-requires c κs = let start : tie.Start = search rules in start.pre
-
-returns-4 : tie.Need-returns-4
+pub returns : goal.returns
 unfolding step_taken
-returns-4 c =
-    let start : tie.Start = search rules in let after-record-in : tie.After-record-in = search rules in
-    let e : tie.Else3 = search rules in
-    let a = start.args in
-    let r = after-record-in.record-in in
+returns c =
+    let a = c.args in
+    let r = c.record_in-record in
     let f : SFits w32 r.result = search rules in
     rw (lt-leb most_records a.n (omega arith), lt-leb most_failures a.failures (omega arith), lt-leb a.places a.n (omega arith))
     (placed c.pick.ensures (to_z-of_z f ∙ r.ensures))
-
-pub step-taken-spec : {M : Type 1} → statement M
-step-taken-spec =
-    tie.close
-    (tie.spec
-    returns returns-2 (λ c. search rules) returns-3 record-in-requires (λ c. search rules) (λ c. search rules)
-    (λ c κs. search rules) returns-4)

@@ -14,9 +14,7 @@ use Rattle.sheet_after.specs.declared.TakenUp.{TakenUp}
 use Rattle.sheet_after.specs.declared.TakenUp.TheVariants as up
 use Rattle.sheet_after.specs.Taking.{taking_up, taken_left, up_by, up_of}
 use Rattle.sheet_after.proofs.Old.{up_same}
-use borrow.Author.Rules.{rules}
-use Rattle.sheet_after.proofs.take_up.Statement.{statement}
-use Rattle.sheet_after.proofs.take_up.Tie as tie
+use Rattle.sheet_after.proofs.take_up.Goals as goal
 
 told : (s : List ℕ) (places : List ℤ) {r : Resumed} {later : List ℤ} {a : TakenUp} → r ≡ resuming s (length places)
     → later ≡ filled_by r (records_of s) places → a ≡ up_by r later
@@ -25,23 +23,16 @@ told s places {r} {later} e f g =
     let left = f ∙ ap (λ x. filled_by x (records_of s) places) e in
     (g ∙ ap (up_by r) left ∙ ap (λ x. up_by x (filled_by (resuming s (length places)) (records_of s) places)) e ∙ up_same s places, left)
 
-returns : tie.Need-returns
+pub returns-then-item-ne0 : goal.returns-then-item-ne0
+unfolding taking_up taken_left
+returns-then-item-ne0 c =
+    let a = c.args in
+    let is = c.item_outside-item.ensures in
+    rw (ne_eqb (item_outside a.items) 0 (λ z. c.if-item-ne0.true (is ∙ z))) (record { value = ap (λ n. up.Refused 0 0 (Item n)) is; records_after = refl })
+
+pub returns : goal.returns
 unfolding taking_up taken_left
 returns c =
-    let start : tie.Start = search rules in let o = c.before in
-    let a = start.args in
-    let is = o.item-outside.ensures in
-    rw (ne_eqb (item_outside a.items) 0 (λ z. c.if1.true (is ∙ z))) (ap (λ n. up.Refused 0 0 (Item n)) is, refl)
-
-returns-2 : tie.Need-returns-2
-unfolding taking_up taken_left
-returns-2 c =
-    let start : tie.Start = search rules in let r : tie.After-records = search rules in
-    let e : tie.Else1 = search rules in
-    let o = e.before in
-    let a = start.args in
-    rw (eq-eqb (item_outside a.items) 0 (sym o.item-outside.ensures ∙ e.if1.left))
-    (told a.sheet.now a.records.now r.records.ensures.0 r.records.ensures.1 c.by_reading.ensures)
-
-pub take-up-spec : {M : Type 1} → statement M
-take-up-spec = tie.close (tie.spec (λ c κs. search rules) returns (λ c κs. search rules) (λ c κs. search rules) (λ c. search rules) returns-2)
+    let a = c.args in
+    rw (eq-eqb (item_outside a.items) 0 (sym c.item_outside-item.ensures ∙ c.if-item-ne0.false))
+    (let whole = told a.sheet.now a.records.now c.records-r.ensures.value c.records-r.ensures.places_after c.by_reading.ensures in record { value = whole.0; records_after = whole.1 })

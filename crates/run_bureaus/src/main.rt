@@ -104,11 +104,9 @@ fn record(out: &impl Print, t: [Place; 32], k: usize) -> [Place; 32]
 
 fn all_records(out: &impl Print, t: [Place; 32]) -> [Place; 32] {
     let mut u = t;
-    let mut k: usize = 0;
-    while k < 32 {
+    for k in 0..32 {
         let left = record(out, u, k);
         u = left;
-        k += 1;
     }
     u
 }
@@ -116,11 +114,9 @@ fn all_records(out: &impl Print, t: [Place; 32]) -> [Place; 32] {
 // Bureau 1 takes jobs up to its sixteenth, and one more.
 fn jobs(out: &impl Print, t: [Place; 32]) -> [Place; 32] {
     let mut u = t;
-    let mut k: usize = 0;
-    while k < 17 {
+    for _ in 0..17 {
         let left = line(out, u, "1 takes", 1, Ask::Take(7_200_000));
         u = left;
-        k += 1;
     }
     u
 }

@@ -254,9 +254,7 @@ fn case(out: &impl Print, i: usize) {
 }
 
 fn main(rt: HostRuntime) {
-    let mut i = 0;
-    while i < 23 {
+    for i in 0..23 {
         case(&rt, i);
-        i += 1;
     }
 }

@@ -133,10 +133,8 @@ fn then(a: RecordAnswer, roll: &[i32], acceleration: &[i32]) -> RecordAnswer {
 // The same piece so many times over.
 fn again(a: RecordAnswer, roll: &[i32], acceleration: &[i32], times: u64) -> RecordAnswer {
     let mut b = a;
-    let mut i = 0;
-    while i < times {
+    for _ in 0..times {
         b = then(b, roll, acceleration);
-        i += 1;
     }
     b
 }
@@ -146,10 +144,8 @@ fn wide(x: u32) -> u64 {
 }
 
 fn times(out: &impl Print, slice: &[u32]) {
-    let mut i = 0;
-    while i < slice.len() {
+    for i in 0..slice.len() {
         number(out, " ", wide(slice[i]));
-        i += 1;
     }
 }
 
@@ -230,10 +226,8 @@ fn row(out: &impl Print, i: usize) {
 }
 
 fn rows(out: &impl Print) {
-    let mut i = 0;
-    while i < 44 {
+    for i in 0..44 {
         row(out, i);
-        i += 1;
     }
 }
 

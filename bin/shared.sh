@@ -371,6 +371,12 @@ finds() {
     program=$root/crates/$1/out/$1
 }
 
+# opens_again: whether descriptor 4, where there is one, can be opened once more by its name. A socket cannot, and a named
+# pipe that may only be read would be waited for where its writer is gone.
+opens_again() {
+    [ ! -e /dev/fd/4 ] || { [ ! -S /dev/fd/4 ] && [ -r /dev/fd/4 ] && { [ ! -p /dev/fd/4 ] || [ -w /dev/fd/4 ]; }; }
+}
+
 # run NAME WAIT [ARGUMENT..]: runs the program NAME of crates/ with the arguments, from standard input to standard
 # output, once it is proved and built. A program of the kit has no exit status. It says how it ended by a digit on
 # descriptor 3, which goes to `status`: 0 done, 1 refused, 2 something could not be read or written. Before a 1 stand
@@ -379,7 +385,7 @@ finds() {
 # names, each ended by a 0 byte. A program opens it once more by its name: what it could not open so, or would wait for,
 # comes through a pipe.
 run() {
-    local program out end IFS
+    local program out end second='' IFS
     finds "$1" "$2"
     shift 2
     # with nobody to read the answer a write fails, and the program says why; else it would be ended without a word
@@ -387,12 +393,15 @@ run() {
     # and a descriptor that is closed would be taken by the pipe from the program itself
     [ -e /dev/fd/0 ] || stop "standard input is closed"
     { command exec {out}>&1; } 2>/dev/null || stop "standard output is closed"
-    if [ -S /dev/fd/4 ] || { [ -p /dev/fd/4 ] && [ ! -w /dev/fd/4 ]; } || { [ -e /dev/fd/4 ] && [ ! -r /dev/fd/4 ]; }; then
-        exec 4< <(cat <&4)
+    if ! opens_again; then
+        exec {second}<> <(:)
+        exec 4< <(cat <&4 2>/dev/null || printf x >&"$second")
     fi
     end=$("$program" "$@" 3>&1 >&"$out" {out}>&-)
     exec {out}>&-
     status=${end##*"$lf"}
+    # where all was read that there was, and there was not all
+    [ -z "$second" ] || [ "$status" != 0 ] || ! read -r -t 0 -u "$second" || stop "descriptor 4 cannot be read"
     case $status in
     [02]) ;;
     1)

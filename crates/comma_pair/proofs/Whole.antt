@@ -1,6 +1,6 @@
 -- Both files at their end come to what both whole texts come to: where all lines are right (`end_right`), and where one
 -- is wrong (`end_wrong_roll`, `end_wrong_acceleration`). And what is said of two texts is what is said of what they come
--- to (`said_end_lem`). ls are the lines of the roll, ms those of the acceleration. Assumes nothing.
+-- to (`said_end`). ls are the lines of the roll, ms those of the acceleration. Assumes nothing.
 use Prim.Native.Nat.{ℕ, ◌+◌, ◌-◌, ◌≤◌, ◌<◌}
 use mathlib.Core.Path.{◌≡◌, refl, sym, ap, ◌∙◌}
 use mathlib.Core.Bool.{Bool, true, false, cond, not, ◌&&◌, ◌||◌}
@@ -264,9 +264,9 @@ module _ (i : Items) (ok : item_outside i ≡ 0) where
         (λ e. unequal (eqb-false (length ls) (length ms) e))
 
 -- ---- the line is that of what the lines come to
-pub said_end_lem : (i : Items) (ls ms : List (List ℕ)) → said_end (end_of_both i ls ms) ≡ pair_said_of_lines i ls ms
+pub said_end : (i : Items) (ls ms : List (List ℕ)) → said_end (end_of_both i ls ms) ≡ pair_said_of_lines i ls ms
 unfolding end_of_both pair_said_of_lines
-said_end_lem i ls ms =
+said_end i ls ms =
     let most = most_samples i.step i.ramp in
     by_test (eqb (item_outside i) 0)
     (λ e.

@@ -1,6 +1,6 @@
 -- A first pass over a file's samples in blocks, cut anywhere, as `count` takes them (`blocks`): where the record is not
 -- too long it comes to the number and the sum of the peaks of the timed samples. Assumes nothing.
-use Rattle.std.proofs.Common.{◌≡◌, ℕ, zero, suc, ◌+◌, ◌-◌, ◌≤◌, true, List, [], ◌∷◌, ◌++◌, length, drop, ℤ, sym, refl, ap, ◌∙◌, subst, arith, length-append, take_all}
+use Rattle.std.proofs.Common.{◌≡◌, ℕ, zero, suc, ◌+◌, ◌-◌, ◌<◌, ◌≤◌, true, List, [], ◌∷◌, ◌++◌, length, take, drop, ℤ, sym, refl, ap, ◌∙◌, subst, arith, length-append, length-drop, take_all}
 use mathlib.Core.List.{foldl, foldl-append}
 use lib.Seq.{drop-nil}
 use Rattle.crossing_sets.specs.Parting.{together}
@@ -9,7 +9,7 @@ use Rattle.peak_stream.specs.declared.Surveying.{Surveying}
 use Rattle.peak_stream.specs.Survey.{none, sound, surveyed, Totalled, Small}
 use Rattle.peak_stream.proofs.Passing.{good, totals}
 use Rattle.peak_stream.proofs.Pieces.{goes, sound_good, small_left, small_right, none_sound}
-use Rattle.comma_peaks.specs.Timed.{counting, blocks}
+use Rattle.comma_peaks.specs.Timed.{timed_of, counting, blocks}
 
 pub drop_join : (k : ℕ) (xs ys : List ℤ) → drop k (xs ++ ys) ≡ drop k xs ++ drop (k - length xs) ys
 drop_join k [] ys = let e : k - 0 ≡ k = omega arith in rw e (none_left k)

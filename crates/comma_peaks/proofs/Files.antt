@@ -1,10 +1,11 @@
 -- A file that comes in pieces, cut anywhere (`passing` of `comma_stream`), is judged at its end as its whole text is
 -- (`file_judged`). Assumes nothing.
-use Rattle.std.proofs.Common.{◌≡◌, ℕ, ◌+◌, ◌-◌, ◌*◌, ◌<◌, ◌≤◌, Bool, true, false, cond, not, eqb, ltb, List, length, take, sym, ap, ◌∙◌, zero-mul, arith, length-take-le, take_all, le-ltb, lt-ltb, eq-eqb, eqb-true}
+use Rattle.std.proofs.Common.{◌≡◌, ℕ, suc, ◌+◌, ◌-◌, ◌*◌, ◌<◌, ◌≤◌, Bool, true, false, cond, not, eqb, ltb, List, [], ◌∷◌, map, length, take, drop, ℤ, sym, refl, ap, ◌∙◌, subst, zero-mul, arith, length-take-le, take_all, le-ltb, lt-ltb, eq-eqb, eqb-true}
+use borrow.Author.Tests.{eqb-false}
 use Rattle.truth.proofs.Laws.{impossible}
 use Rattle.truth.proofs.Cases.{by_test, by_order}
 use Rattle.refusal.specs.declared.Refusal.TheVariants.{Sample, CommaLine}
-use Rattle.sample_items.specs.Limits.{step_in_range}
+use Rattle.sample_items.specs.Limits.{step_in_range, most_in_range}
 use Rattle.sample_range.specs.Range.{first_bad}
 use Rattle.text.specs.Pieces.{joined}
 use Rattle.decimal.specs.Lines.{lines_of}
@@ -13,9 +14,10 @@ use Rattle.comma_read.specs.declared.Reading.{Reading}
 use Rattle.comma_read.specs.declared.Reading.TheVariants.{Samples, Refused}
 use Rattle.comma_read.specs.Answers.{reading_lines}
 use Rattle.comma_stream.specs.declared.Follow.{Follow}
-use Rattle.comma_stream.specs.Follow.{right_lines, after_lines}
-use Rattle.comma_stream.specs.Pieces.{Passed, nothing, passing, ending}
+use Rattle.comma_stream.specs.Follow.{bytes_of, right_lines, after_lines}
+use Rattle.comma_stream.specs.Pieces.{Passed, nothing, with_piece, passing, ending}
 use Rattle.comma_stream.proofs.Pieces.{pieces_whole, followed_whole}
+use Rattle.comma_peaks.specs.declared.Judged.{Judged}
 use Rattle.comma_peaks.specs.Judged.{comes_to, judging}
 use Rattle.comma_peaks.proofs.Judges.{fresh, right_judged, wrong_judged}
 

@@ -1,20 +1,20 @@
 -- A second pass over a file's samples in blocks, cut anywhere, as `hand` takes them (`handing_blocks`): with the
 -- number and the sum of a first reading, however its blocks were cut, it hands out the record's peaks. Assumes
 -- nothing.
-use Rattle.std.proofs.Common.{◌≡◌, ℕ, ◌+◌, ◌-◌, ◌≤◌, true, List, [], ◌∷◌, ◌++◌, length, drop, ℤ, sym, refl, ap, ◌∙◌, subst, arith, length-append, length-drop, take_all}
+use Rattle.std.proofs.Common.{◌≡◌, ℕ, ◌+◌, ◌-◌, ◌≤◌, true, false, List, [], ◌∷◌, ◌++◌, length, take, drop, ℤ, sym, refl, ap, ◌∙◌, subst, arith, length-append, length-drop, take_all}
 use mathlib.Core.List.{foldl}
 use lib.Seq.{drop-nil}
 use Rattle.crossing_sets.specs.Parting.{together}
 use Rattle.sample_items.specs.Limits.{step_in_range, decorrelation_in_range, most_in_range}
 use Rattle.peak_groups.specs.declared.Peak.{Peak}
-use Rattle.peak_groups.specs.Peaks.{handed}
+use Rattle.peak_groups.specs.Peaks.{handed, short}
 use Rattle.peak_stream.specs.declared.Surveying.{Surveying}
 use Rattle.peak_stream.specs.declared.Surveyed.TheVariants as surveyed
 use Rattle.peak_stream.specs.declared.Handing.{Handing}
 use Rattle.peak_stream.specs.declared.Handed.{Handed}
 use Rattle.peak_stream.specs.declared.Handed.TheVariants.{Taken}
-use Rattle.peak_stream.specs.Survey.{none, Totalled, Small}
-use Rattle.peak_stream.specs.Hands.{waiting, begun, moved, closed_by, hands_on, handing_out, Pieces}
+use Rattle.peak_stream.specs.Survey.{none, started, onwards, Totalled, Small}
+use Rattle.peak_stream.specs.Hands.{waiting, begun, moved, closed_by, at_end, hands_on, handing_out, Pieces}
 use Rattle.peak_stream.proofs.Coming.{Set, set_out, ready_set}
 use Rattle.peak_stream.proofs.Over.{no_refusal}
 use Rattle.peak_stream.proofs.Pieces.{survey_anywhere}

@@ -1,12 +1,13 @@
 -- The timed part of some samples, as the code cuts it, and what a first pass makes of it. Assumes nothing.
-use Rattle.std.proofs.Common.{◌≡◌, ℕ, ◌+◌, ◌-◌, ◌≤◌, min, true, List, length, take, drop, ℤ, sym, refl, ap, ◌∙◌, arith, drop_of_length-le, length-take, take_all}
+use Rattle.std.proofs.Common.{◌≡◌, ℕ, ◌+◌, ◌-◌, ◌<◌, ◌≤◌, min, Bool, true, false, cond, List, length, take, drop, ℤ, sym, refl, ap, ◌∙◌, subst, arith, drop_of_length-le, length-take, take_all}
+use mathlib.Core.List.{foldl}
 use Rattle.truth.proofs.Cases.{by_test, by_order}
 use Rattle.peak_groups.proofs.Due.{from_place}
 use Rattle.sample_items.specs.Limits.{most_in_range}
 use Rattle.peak_stream.specs.declared.Reading.{Reading}
 use Rattle.peak_stream.specs.declared.Surveying.{Surveying}
 use Rattle.peak_stream.specs.declared.Surveyed.{Surveyed}
-use Rattle.peak_stream.specs.Survey.{sound, taken}
+use Rattle.peak_stream.specs.Survey.{sound, surveyed, taken}
 use Rattle.peak_stream.proofs.Pieces.{taken_broken, taken_all, fits}
 use Rattle.comma_peaks.specs.Timed.{timed_of, counting, surveying_in}
 

@@ -1,10 +1,11 @@
 -- Where nothing is refused of a file, its samples are those of the whole text, all in range and no more than a record
 -- may have; so two readings of it, each in pieces and blocks cut anywhere, hand out the peaks of the text (`file-
 -- peaks`). Assumes nothing.
-use Rattle.std.proofs.Common.{◌≡◌, ℕ, suc, ◌-◌, ◌≤◌, Bool, true, false, cond, eqb, ltb, List, [], ◌∷◌, map, length, drop, ℤ, pos, nat_abs, sym, refl, ap, ◌∙◌, subst, arith, length-drop, ltb-false, eqb-true, leb-true}
+use Rattle.std.proofs.Common.{◌≡◌, ℕ, suc, ◌+◌, ◌-◌, ◌/◌, ◌<◌, ◌≤◌, Bool, true, false, cond, ◌&&◌, eqb, ltb, leb, List, [], ◌∷◌, map, length, drop, ℤ, pos, nat_abs, sym, refl, ap, ◌∙◌, subst, arith, length-drop, ltb-false, eqb-true, leb-true}
 use lib.ListN.{length-map}
-use Rattle.truth.proofs.Cases.{by_test}
-use Rattle.truth.proofs.Laws.{impossible}
+use Rattle.truth.proofs.Cases.{by_test, by_order}
+use Rattle.truth.proofs.Laws.{both_true, impossible}
+use Rattle.refusal.specs.declared.Refusal.TheVariants.{Sample, TooLong, TooShort, CommaLine}
 use Rattle.sample_items.specs.Limits.{step_in_range, ramp_in_range, decorrelation_in_range, most_samples, most_in_range}
 use Rattle.sample_range.specs.Range.{sample_in_range, first_bad}
 use Rattle.crossing_sets.specs.Parting.{together}

@@ -128,8 +128,7 @@ fn all(desk: &Desk, number: usize, text: &mut [u8]) -> u8
         failed: false,
     }; 64];
     let mut a = condition_sheets::open(number as u64);
-    let mut i = 0;
-    while i < number {
+    for i in 0..number {
         if condition_sheets::is_over(a) {
             return said(desk, a, campaigns);
         }
@@ -140,7 +139,6 @@ fn all(desk: &Desk, number: usize, text: &mut [u8]) -> u8
         let later = condition_sheets::place(campaigns, a, r);
         campaigns = later;
         a = condition_sheets::add(a, r);
-        i += 1;
     }
     said(desk, a, campaigns)
 }

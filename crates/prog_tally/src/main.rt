@@ -41,18 +41,16 @@ enum After {
 fn start_of(text: &[u8], lines: u64) -> usize
     ensures { result ≤ length text.now }
 {
-    let mut at = 0;
     let mut left = lines;
-    while at < text.len() {
+    for at in 0..text.len() {
         if left == 0 {
             return at;
         }
         if text[at] == LF {
             left -= 1;
         }
-        at += 1;
     }
-    at
+    text.len()
 }
 
 // The lines that were taken before.

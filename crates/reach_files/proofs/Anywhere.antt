@@ -1,12 +1,12 @@
 -- However each of several files is cut into pieces and blocks, at either reading, what is said of them is what is said of
 -- their texts (`reach_anywhere`). File by file it is `comma_peaks`' theorem: a file is judged as its text is, and its peaks
 -- are those of its text; the list holds the peaks of all files before; and what was refused stays. Assumes nothing.
-use Prim.Native.Nat.{ℕ, ◌+◌, ◌-◌, ◌≤◌, ◌<◌, min}
+use Prim.Native.Nat.{ℕ, ◌+◌, ◌≤◌, ◌<◌, min}
 use mathlib.Core.Path.{◌≡◌, refl, sym, ap, subst, ◌∙◌}
-use mathlib.Core.Bool.{Bool, true, false, cond, not}
+use mathlib.Core.Bool.{Bool, true, false, cond}
 use mathlib.Core.List.{List, [], ◌∷◌, ◌++◌, map}
 use native.Mathlib.Omega.{arith}
-use lib.Dec.{eqb, leb, ltb}
+use lib.Dec.{eqb, ltb}
 use lib.IntN.{ℤ}
 use lib.ListN.{length, take, drop, replicate, length-append, length-replicate}
 use lib.Seq.{sets, sets-eq, length-sets, take-append_seam}
@@ -20,16 +20,14 @@ use Rattle.sample_items.proofs.Ranges.{within_ranges}
 use Rattle.sample_range.specs.Range.{first_bad}
 use Rattle.crossing_sets.specs.Parting.{together}
 use Rattle.peak_groups.specs.Peaks.{handed}
-use Rattle.peak_groups.specs.declared.Peak.{Peak}
 use Rattle.peak_machine.specs.Step.{size_of}
 use Rattle.peak_stream.specs.Hands.{begun}
 use Rattle.text.specs.Pieces.{joined}
 use Rattle.decimal.specs.Lines.{lines_of}
 use Rattle.comma_line.specs.Text.{first_wrong, samples_of}
-use Rattle.comma_read.specs.declared.Reading.{Reading}
 use Rattle.comma_read.specs.declared.Reading.TheVariants as reading
 use Rattle.comma_read.specs.Answers.{reading_lines}
-use Rattle.comma_stream.specs.Pieces.{Passed, nothing, passing, ending}
+use Rattle.comma_stream.specs.Pieces.{nothing, passing, ending}
 use Rattle.comma_stream.proofs.Pieces.{followed_whole}
 use Rattle.comma_peaks.specs.declared.Judged.{Judged}
 use Rattle.comma_peaks.specs.declared.Judged.TheVariants as judged
@@ -47,9 +45,8 @@ use Rattle.reach_files.specs.declared.Gathering.TheVariants.{Of, Refused}
 use Rattle.reach_files.specs.Down.{downwards}
 use Rattle.reach_files.specs.Line.{list_said}
 use Rattle.reach_files.specs.Files.{items_of, most_timed, refused_in, peaks_of, timed_of, judged_then, grown_then, reach_from, reach_said}
-use Rattle.reach_files.specs.Gathering as gathering
 use Rattle.reach_files.specs.Gathering.{block, opened, grown_by, first_of, gathered_said}
-use Rattle.reach_files.specs.Readings.{Readings, Read, AllRead, Stands, Desk, passed, came_to, counted, second, with_file, files_after}
+use Rattle.reach_files.specs.Readings.{Readings, Read, AllRead, Stands, Desk, passed, came_to, counted, second, files_after}
 use Rattle.reach_files.proofs.Second.{Gathers, gathers_begun}
 
 abbrev pub text_of : Readings → List ℕ

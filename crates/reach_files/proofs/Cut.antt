@@ -1,7 +1,7 @@
 -- However each of several files is cut into pieces, at either of its two readings, where the right lines of a piece are
 -- taken at most 1,024 at a time: what is said is what is said of the texts (`reach_cut`). The blocks hold the samples of the
 -- reading, and none is too long. Assumes nothing.
-use Prim.Native.Nat.{ℕ, zero, suc, ◌+◌, ◌-◌, ◌≤◌, ◌<◌, min}
+use Prim.Native.Nat.{ℕ, zero, suc, ◌≤◌}
 use mathlib.Core.Path.{◌≡◌, refl, sym, ap, ◌∙◌}
 use mathlib.Core.List.{List, [], ◌∷◌, ◌++◌, map, map-append, append_assoc, append-nil}
 use native.Mathlib.Omega.{arith}
@@ -20,7 +20,7 @@ use Rattle.peak_tail.specs.Fitting.{longest_list}
 use Rattle.reach_files.specs.declared.Job.{Job}
 use Rattle.reach_files.specs.Files.{reach_said}
 use Rattle.reach_files.specs.Gathering.{block, opened, gathered_said}
-use Rattle.reach_files.specs.Readings.{Readings, Read, AllRead, files_after, chunks, held_of, blocks_in, Cut, readings_of, AllCut}
+use Rattle.reach_files.specs.Readings.{AllRead, files_after, chunks, held_of, blocks_in, Cut, readings_of, AllCut}
 use Rattle.reach_files.proofs.Anywhere.{reach_anywhere, text_of}
 
 none_of : (xs : List ℤ) → length xs ≡ 0 → [] ≡ xs

@@ -2,7 +2,7 @@
 -- Assumes nothing.
 use Prim.Native.Nat.{ℕ, zero, suc, ◌+◌, ◌≤◌, ◌<◌}
 use mathlib.Core.Path.{◌≡◌, refl, sym, ap, ◌∙◌}
-use mathlib.Core.Bool.{Bool, true, false, cond}
+use mathlib.Core.Bool.{cond}
 use mathlib.Core.List.{List, [], ◌∷◌, ◌++◌}
 use native.Mathlib.Omega.{arith}
 use lib.Dec.{eqb, leb}
@@ -10,7 +10,7 @@ use lib.ListN.{get_or, length, take, drop}
 use lib.Seq.{length-take-le, take-append_seam}
 use borrow.Author.Tests.{leb-true, leb-false}
 use Rattle.truth.proofs.Cases.{by_test}
-use Rattle.sorting.specs.Sorting.{count, Downwards, SameValues, Sorted}
+use Rattle.sorting.specs.Sorting.{count, Downwards, Sorted}
 use Rattle.sorting.proofs.Unique.{sort_unique}
 use Rattle.reach_files.specs.Down.{placed, downwards}
 

@@ -1,16 +1,16 @@
 -- How long the line of the figures is: it has room in 128 bytes, since a list has at most 4,096 peaks, samples and times
 -- are bounded, and only the number of files has up to 20 digits. Assumes nothing.
-use Prim.Native.Nat.{ℕ, ◌+◌, ◌-◌, ◌*◌, ◌/◌, ◌≤◌, ◌<◌}
-use mathlib.Core.Path.{◌≡◌, refl, sym, ap, subst, ◌∙◌}
+use Prim.Native.Nat.{ℕ, ◌-◌, ◌*◌, ◌/◌, ◌≤◌}
+use mathlib.Core.Path.{◌≡◌, sym, subst}
 use mathlib.Core.Bool.{Bool, true, false, cond}
-use mathlib.Core.List.{List, [], ◌∷◌, ◌++◌}
+use mathlib.Core.List.{List, [], ◌∷◌}
 use native.Mathlib.Omega.{arith}
 use lib.Dec.{eqb, leb, ltb}
 use lib.ListN.{length, length-append}
-use borrow.Author.Tests.{leb-true, leb-false, ltb-true, ltb-false}
+use borrow.Author.Tests.{leb-false, ltb-true, ltb-false}
 use Rattle.truth.proofs.Cases.{by_test}
 use Rattle.truth.proofs.Laws.{neither}
-use Rattle.decimal.specs.Field.{tab, line_feed, field_text}
+use Rattle.decimal.specs.Field.{tab}
 use Rattle.decimal.proofs.Text.{field_few}
 use Rattle.desk_line.specs.Said.{longest_said}
 use Rattle.desk_line.proofs.Few.{Small, field_small}
@@ -24,8 +24,7 @@ use Rattle.exponential.specs.Exponential.{one, past}
 use Rattle.exponential.specs.Ours.{down_times, up_times}
 use Rattle.peak_reach.specs.Figures.{lesser, longest_standard, longest_within, longest_by, rejected_by, shortest_above, shortest_after, no_lower_end}
 use Rattle.peak_reach.specs.Figures.{exponent_down, exponent_up}
-use Rattle.peak_reach.specs.Answers.{times}
-use Rattle.peak_reach.proofs.Order.{Answered, answered}
+use Rattle.peak_reach.proofs.Order.{answered}
 use Rattle.reach_files.specs.declared.Job.{Job}
 use Rattle.reach_files.specs.Line.{above_level, rejected_text, letter_text, figures_line, figures_of, extrapolated_for}
 

@@ -1,9 +1,9 @@
 -- What keeping peaks answers and leaves: nothing past the longest list, nothing of no peaks, and the figures of a block
 -- that a pass has closed. Assumes nothing.
 use Prim.Native.Nat.{ℕ, ◌+◌, ◌≤◌, ◌<◌, min}
-use mathlib.Core.Path.{◌≡◌, refl, sym, ap, subst, ◌∙◌}
+use mathlib.Core.Path.{◌≡◌, refl, sym, ap, ◌∙◌}
 use mathlib.Core.Bool.{Bool, true, false, cond, not}
-use mathlib.Core.List.{List, [], ◌∷◌, ◌++◌, map}
+use mathlib.Core.List.{List, [], ◌++◌, map}
 use native.Mathlib.Nat.{add-zero}
 use native.Mathlib.Omega.{arith}
 use lib.Dec.{ltb}
@@ -20,12 +20,10 @@ use Rattle.peak_machine.specs.Step.{size_of}
 use Rattle.peak_stream.specs.declared.Handing.{Handing}
 use Rattle.peak_stream.specs.declared.Handed.{Handed}
 use Rattle.peak_stream.specs.declared.Handed.TheVariants.{Taken, Refused}
-use Rattle.peak_stream.specs.declared.Last.{Last}
-use Rattle.peak_stream.specs.Hands.{ready, moved, closed_by, at_end, last_of, hands_on, noted, HandsOver}
+use Rattle.peak_stream.specs.Hands.{ready, closed_by, at_end, last_of, hands_on, noted, HandsOver}
 use Rattle.comma_peaks.specs.Timed as timed
 use Rattle.peak_tail.specs.Fitting.{longest_list}
-use Rattle.reach_files.specs.declared.Kept.{Kept}
-use Rattle.reach_files.specs.Gathering.{counted_to, put_from, block, out_of, kept_by, list_by, last_sizes, last_one}
+use Rattle.reach_files.specs.Gathering.{counted_to, put_from, block, out_of, last_one}
 use Rattle.reach_files.specs.Steps.{kept_with, list_with, kept_on, list_on}
 
 module _ (at : ℕ) (sizes list : List ℕ) where

@@ -1,17 +1,17 @@
 -- What opening, adding and refusing answer, one law for each way. Assumes nothing.
 use Prim.Native.Nat.{ℕ, ◌+◌, ◌-◌, ◌≤◌, ◌<◌}
-use mathlib.Core.Path.{◌≡◌, refl, sym, ap, ◌∙◌}
-use mathlib.Core.Bool.{Bool, true, false, cond, not}
-use mathlib.Core.List.{List, [], ◌∷◌}
+use mathlib.Core.Path.{◌≡◌, sym, ◌∙◌}
+use mathlib.Core.Bool.{true, false}
+use mathlib.Core.List.{[], ◌∷◌}
 use native.Mathlib.Omega.{arith}
-use lib.Dec.{eqb, ltb}
+use lib.Dec.{ltb}
 use borrow.Author.Tests.{eq-eqb, ne_eqb, lt-ltb, le-ltb}
 use Rattle.truth.proofs.Cases.{by_order}
 use Rattle.refusal.specs.declared.Refusal.{Refusal}
 use Rattle.refusal.specs.declared.Refusal.TheVariants.{Item, Tail, TimedSamples}
 use Rattle.refusal.specs.Numbers.{number_of, value_of}
 use Rattle.sample_items.specs.Limits.{item_outside}
-use Rattle.desk_line.specs.Said.{Said, refused}
+use Rattle.desk_line.specs.Said.{refused}
 use Rattle.peak_tail.specs.Fitting.{longest_list, tail_outside}
 use Rattle.peak_reach.specs.Answers.{standard_in_range}
 use Rattle.reach_files.specs.declared.Job.{Job}

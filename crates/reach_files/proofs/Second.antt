@@ -6,9 +6,8 @@ use mathlib.Core.Bool.{true}
 use mathlib.Core.List.{List, [], ◌∷◌, ◌++◌, map, map-append, foldl}
 use native.Mathlib.Nat.{add-zero}
 use native.Mathlib.Omega.{arith}
-use lib.Dec.{ltb}
 use lib.IntN.{ℤ}
-use lib.ListN.{length, drop, set, replicate, length-append, length-drop, length-map, length-replicate}
+use lib.ListN.{length, drop, set, replicate, length-append, length-drop, length-replicate}
 use lib.Seq.{sets, take_all}
 use borrow.Author.Tests.{lt-ltb, le-ltb}
 use Rattle.truth.proofs.Cases.{by_order}
@@ -26,7 +25,6 @@ use Rattle.peak_stream.proofs.Anywhere.{set_fold, both_long, fresh_ready}
 use Rattle.comma_peaks.specs.Timed.{timed_of, handing_blocks}
 use Rattle.comma_peaks.proofs.Blocks.{drop_join}
 use Rattle.peak_tail.specs.Fitting.{longest_list}
-use Rattle.reach_files.specs.declared.Kept.{Kept}
 use Rattle.reach_files.specs.Gathering.{block, counted_to, put_from, out_of}
 use Rattle.reach_files.specs.Readings.{Stands, second_from}
 

@@ -1,10 +1,7 @@
 -- What the functions over several files answer and leave in the list of peaks. Assumes nothing.
 use Rattle.std.specs.Prelude.{ℕ, ◌+◌, ◌-◌, min, Bool, true, false, cond, List, [], ◌∷◌, ◌++◌, map, ltb, ℤ, length, take, drop}
 use Rattle.std.proofs.lemmas.List.Edits.{sets}
-use Rattle.refusal.specs.declared.Refusal.{Refusal}
-use Rattle.peak_groups.specs.declared.Peak.{Peak}
 use Rattle.peak_machine.specs.Step.{size_of}
-use Rattle.peak_stream.specs.declared.Handing.{Handing}
 use Rattle.peak_stream.specs.declared.Handed.{Handed}
 use Rattle.peak_stream.specs.declared.Handed.TheVariants as handed
 use Rattle.peak_stream.specs.declared.Last.{Last}

@@ -1,6 +1,6 @@
 -- Two readings of each of several files, as a program makes them: a file comes in pieces, which may be others at the
 -- second reading, and its samples in blocks, cut anywhere. Assumes nothing.
-use Rattle.std.specs.Prelude.{ℕ, zero, suc, ◌+◌, ◌≤◌, ◌<◌, ◌≡◌, cond, not, List, [], ◌∷◌, ◌++◌, map, eqb, ℤ, length, take, drop}
+use Rattle.std.specs.Prelude.{ℕ, zero, suc, ◌+◌, ◌<◌, ◌≡◌, cond, not, List, [], ◌∷◌, ◌++◌, map, eqb, ℤ, length, take, drop}
 use Rattle.crossing_sets.specs.Parting.{together}
 use Rattle.text.specs.Pieces.{joined}
 use Rattle.decimal.specs.Lines.{lines_of}
@@ -17,7 +17,6 @@ use Rattle.reach_files.specs.declared.Job.{Job}
 use Rattle.reach_files.specs.declared.Gathering.{Gathering}
 use Rattle.reach_files.specs.declared.Kept.{Kept}
 use Rattle.reach_files.specs.Files.{judged_then}
-use Rattle.reach_files.specs.Gathering as gathering
 use Rattle.reach_files.specs.Gathering.{block, kept_by, list_by, last_sizes, counted_to, put_from, added_in}
 
 pub record Readings : Type 0 where

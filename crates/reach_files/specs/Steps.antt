@@ -1,6 +1,5 @@
 -- What the private steps promise one another. Assumes nothing.
-use Rattle.std.specs.Prelude.{ℕ, min, List, map, ℤ, length, take}
-use Rattle.peak_machine.specs.Step.{size_of}
+use Rattle.std.specs.Prelude.{ℕ, min, List, ℤ, length, take}
 use Rattle.peak_stream.specs.declared.Handing.{Handing}
 use Rattle.peak_stream.specs.declared.Handed.{Handed}
 use Rattle.peak_stream.specs.declared.Handed.TheVariants as handed

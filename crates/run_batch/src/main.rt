@@ -87,14 +87,12 @@ fn next(from: &mut Stdin, to: &impl Print, text: &mut [u8], out: &mut [u8]) -> b
     to.write_all(b".\n").is_ok()
 }
 
-// A proved loop has to end, so it counts its sheets down, from a number that no run uses up.
+// A proved loop has to end, so its sheets are counted, up to a number that no run uses up.
 fn all(from: &mut Stdin, to: &impl Print, text: &mut [u8], out: &mut [u8]) {
-    let mut sheets = u64::MAX;
-    while sheets > 0 {
+    for _ in 0..u64::MAX {
         if !next(from, to, text, out) {
             return;
         }
-        sheets -= 1;
     }
 }
 

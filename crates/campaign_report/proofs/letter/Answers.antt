@@ -1,9 +1,8 @@
 -- `campaign_report::letter` meets its contract: of a state that keeps its relations the campaign gives its verdict,
 -- which has its letter. Assumes nothing.
 use mathlib.Core.Path.{ap, ◌∙◌}
-use Rattle.campaign_verdict.proofs.Given.{has_verdict, not_refused}
+use Rattle.campaign_verdict.proofs.Given.{has_verdict}
 use Rattle.campaign_report.specs.Report.{letter_for, verdict_letter}
-use borrow.Author.Rules.{rules}
 use Rattle.campaign_report.proofs.letter.Goals as goal
 
 pub returns-in-Given : goal.returns-in-Given

@@ -7,7 +7,6 @@ use Rattle.truth.proofs.Laws.{holds}
 use Rattle.decimal.specs.Decimal.{digits_of}
 use Rattle.campaign_state.proofs.Relations.{kept_from}
 use Rattle.campaign_report.proofs.Texts.{line_bytes}
-use borrow.Author.Rules.{rules}
 use Rattle.campaign_report.proofs.line_length.Goals as goal
 
 pub blocks-requires : goal.blocks-requires

@@ -1,8 +1,9 @@
 -- `comma_count::finish` meets its contract: without room nothing is written, and with it the line of the answer.
 -- Assumes nothing.
-use mathlib.Core.Path.{ap}
+use mathlib.Core.Path.{◌≡◌, ap}
 use Rattle.desk_line.proofs.Put.{puts_same, finished, without}
 use Rattle.comma_count.specs.Taking.{said_end, saying}
+use borrow.Author.Rules.{rules}
 use Rattle.comma_count.proofs.finish.Goals as goal
 
 pub returns-then-out-lt-LONGEST_LINE : goal.returns-then-out-lt-LONGEST_LINE

@@ -3,81 +3,75 @@ use mathlib.Core.Path.{◌≡◌, sym, ap, ◌∙◌}
 use mathlib.Core.Bool.{true}
 use mathlib.Core.List.{List}
 use native.Mathlib.Omega.{arith}
-use lib.IntN.{ℤ}
-use lib.ListN.{length, drop}
+use lib.IntN.{ℤ, pos}
+use lib.ListN.{length, drop, length-replicate, length-take}
 use lib.Seq.{length-take-le}
 use borrow.Author.Rules.{rules}
 use Rattle.sample_items.specs.Limits.{step_in_range}
-use Rattle.comma_count.proofs.Way.{Took, took, never_refused, from, turn_few, turn_within, turn_falls, turn_on, turn_ends}
+use Rattle.comma_count.proofs.Way.{Way, Took, way_start, took, never_refused, from, turn_few, turn_within, turn_falls, turn_on, turn_ends}
 use Rattle.comma_count.proofs.lines.Goals as goal
+use Rattle.comma_count.proofs.lines.Goals.{At-loop-f, In-Taken, Start}
+
+-- the text has a length
+short : (c : Start) → length c.args.text.now ≤ 18446744073709551615
+short c = search rules
+
+-- the step is in range all along
+step : (c : At-loop-f) → step_in_range c.loop-f.follow.step ≡ true
+step c = ap step_in_range c.loop-f.invariant.1.step ∙ c.requires
+
+step₂ : (c : In-Taken) → step_in_range c.loop-f.follow.step ≡ true
+step₂ c = ap step_in_range c.loop-f.invariant.1.step ∙ c.requires
+
+-- lines were taken
+module _ (c : In-Taken) where
+  abbrev text : List ℕ
+  text = c.args.text.now
+
+  abbrev later : List ℤ
+  later = c.take.new.samples
+
+  taken : Took c.loop-f.follow (drop c.loop-f.at text) c.loop-f.samples (step₂ c) c.in-Taken.f c.in-Taken.bytes c.in-Taken.n later
+  taken =
+      let t = c.take in
+      took c.loop-f.follow (drop c.loop-f.at text) c.loop-f.samples (step₂ c) (from text c.loop-f.at) t.ensures.value t.ensures.samples_after c.in-Taken.is
+
+  later-long : length later ≡ 1024
+  later-long = search rules
+
+  few : c.in-Taken.n ≤ 1024
+  few = omega (arith, turn_few c.loop-f.invariant.1 taken, c.loop-f.invariant.0)
 
 pub enum_told-1 : goal.enum_told-1
-enum_told-1 c =
-    search rules
+enum_told-1 c = search rules
 
 pub returns-in_default : goal.returns-in_default
 returns-in_default c =
-    let step : step_in_range c.loop-f.follow.step ≡ true = ap step_in_range c.loop-f.invariant.1.step ∙ c.requires in
     let text = c.args.text.now in
     let told = c.take.ensures.value in
-    absurd (never_refused c.loop-f.follow (drop c.loop-f.at text) c.loop-f.samples (step) (from text c.loop-f.at) told c.in_default.is)
+    absurd (never_refused c.loop-f.follow (drop c.loop-f.at text) c.loop-f.samples (step (goal.at.returns-in_default c).At-loop-f) (from text c.loop-f.at) told c.in_default.is)
 
 pub slice_bounds-samples-end : goal.slice_bounds-samples-end
-slice_bounds-samples-end c =
-    let later : List ℤ = c.take.new.samples in
-    let later-long : length later ≡ 1024 = search rules in
-    let step : step_in_range c.loop-f.follow.step ≡ true = ap step_in_range c.loop-f.invariant.1.step ∙ c.requires in
-    let text : List ℕ = c.args.text.now in
-    let taken : Took c.loop-f.follow (drop c.loop-f.at text) c.loop-f.samples (step) _ _ _ later = let t = c.take in
-    took c.loop-f.follow (drop c.loop-f.at text) c.loop-f.samples (step) (from text c.loop-f.at) t.ensures.value t.ensures.samples_after c.in-Taken.is in
-    let few : c.in-Taken.n ≤ 1024 = omega (arith, turn_few c.loop-f.invariant.1 taken, c.loop-f.invariant.0) in
-    omega (arith, few, later-long)
+slice_bounds-samples-end c = omega (arith, few c, later-long c)
 
 pub slice_bounds-answering-end : goal.slice_bounds-answering-end
 slice_bounds-answering-end c =
-    let later : List ℤ = c.take.new.samples in
-    let later-long : length later ≡ 1024 = search rules in
-    let step : step_in_range c.loop-f.follow.step ≡ true = ap step_in_range c.loop-f.invariant.1.step ∙ c.requires in
-    let text : List ℕ = c.args.text.now in
-    let taken : Took c.loop-f.follow (drop c.loop-f.at text) c.loop-f.samples (step) _ _ _ later = let t = c.take in
-    took c.loop-f.follow (drop c.loop-f.at text) c.loop-f.samples (step) (from text c.loop-f.at) t.ensures.value t.ensures.samples_after c.in-Taken.is in
-    let few : c.in-Taken.n ≤ 1024 = omega (arith, turn_few c.loop-f.invariant.1 taken, c.loop-f.invariant.0) in
-    sym (length-take-le _ _ (omega (arith, few, later-long)))
+    let at1 = (goal.at.slice_bounds-answering-end c).In-Taken in
+    sym (length-take-le _ _ (omega (arith, few at1, later-long at1)))
 
 pub overflow_add-at : goal.overflow_add-at
 overflow_add-at c =
-    let short : length c.args.text.now ≤ 18446744073709551615 = search rules in
-    let step : step_in_range c.loop-f.follow.step ≡ true = ap step_in_range c.loop-f.invariant.1.step ∙ c.requires in
-    let text : List ℕ = c.args.text.now in
-    let later : List ℤ = c.take.new.samples in
-    let taken : Took c.loop-f.follow (drop c.loop-f.at text) c.loop-f.samples (step) _ _ _ later = let t = c.take in
-    took c.loop-f.follow (drop c.loop-f.at text) c.loop-f.samples (step) (from text c.loop-f.at) t.ensures.value t.ensures.samples_after c.in-Taken.is in
-    omega (arith, turn_within c.loop-f.invariant.1 (taken), short)
+    omega (arith, turn_within c.loop-f.invariant.1 (taken (goal.at.overflow_add-at c).In-Taken), short (goal.at.overflow_add-at c).Start)
 
 pub returns-then-n-lt-LINES : goal.returns-then-n-lt-LINES
 returns-then-n-lt-LINES c =
-    let step : step_in_range c.loop-f.follow.step ≡ true = ap step_in_range c.loop-f.invariant.1.step ∙ c.requires in
-    let text : List ℕ = c.args.text.now in
-    let later : List ℤ = c.take.new.samples in
-    let taken : Took c.loop-f.follow (drop c.loop-f.at text) c.loop-f.samples (step) _ _ _ later = let t = c.take in
-    took c.loop-f.follow (drop c.loop-f.at text) c.loop-f.samples (step) (from text c.loop-f.at) t.ensures.value t.ensures.samples_after c.in-Taken.is in
-    turn_ends c.loop-f.invariant.1 (taken) c.answering-answer.ensures (omega (arith, c.if-n-lt-LINES.true, c.loop-f.invariant.0))
+    turn_ends c.loop-f.invariant.1 (taken (goal.at.returns-then-n-lt-LINES c).In-Taken) c.answering-answer.ensures (omega (arith, c.if-n-lt-LINES.true, c.loop-f.invariant.0))
 
 pub loop-f-smaller : goal.loop-f-smaller
 loop-f-smaller c =
-    let step : step_in_range c.loop-f.follow.step ≡ true = ap step_in_range c.loop-f.invariant.1.step ∙ c.requires in
-    let text : List ℕ = c.args.text.now in
-    let later : List ℤ = c.take.new.samples in
-    let taken : Took c.loop-f.follow (drop c.loop-f.at text) c.loop-f.samples (step) _ _ _ later = let t = c.take in
-    took c.loop-f.follow (drop c.loop-f.at text) c.loop-f.samples (step) (from text c.loop-f.at) t.ensures.value t.ensures.samples_after c.in-Taken.is in
-    turn_falls c.loop-f.invariant.1 (taken) (omega (arith, c.if-n-lt-LINES.false))
+    turn_falls c.loop-f.invariant.1 (taken (goal.at.loop-f-smaller c).In-Taken) (omega (arith, c.if-n-lt-LINES.false))
 
 pub loop-f-preserved : goal.loop-f-preserved
 loop-f-preserved c =
-    let step : step_in_range c.loop-f.follow.step ≡ true = ap step_in_range c.loop-f.invariant.1.step ∙ c.requires in
-    let text : List ℕ = c.args.text.now in
-    let later : List ℤ = c.take.new.samples in
-    let taken : Took c.loop-f.follow (drop c.loop-f.at text) c.loop-f.samples (step) _ _ _ later = let t = c.take in
-    took c.loop-f.follow (drop c.loop-f.at text) c.loop-f.samples (step) (from text c.loop-f.at) t.ensures.value t.ensures.samples_after c.in-Taken.is in
-    let later-long : length later ≡ 1024 = search rules in
-    (later-long, turn_on c.loop-f.invariant.1 (taken) c.answering-answer.ensures)
+    let k = (goal.at.loop-f-preserved c).In-Taken in
+    (later-long k, turn_on c.loop-f.invariant.1 (taken k) c.answering-answer.ensures)

@@ -1,11 +1,12 @@
 -- `comma_count::put_end` meets its contract, by its two cases. Assumes nothing.
-use mathlib.Core.Path.{sym, ap}
+use mathlib.Core.Path.{◌≡◌, sym, ap, ◌∙◌}
 use Rattle.desk_line.proofs.Put.{puts_same, with_room}
 use Rattle.comma_count.specs.Line.{refused_at}
-use Rattle.comma_count.specs.Taking.{said_end}
+use Rattle.comma_count.specs.Taking.{said_ended, said_end}
+use borrow.Author.Rules.{rules}
 use Rattle.comma_count.proofs.put_end.Goals as goal
 
 pub returns-in-Refused : goal.returns-in-Refused
 returns-in-Refused c =
     puts_same (sym (ap said_end c.in-Refused.is))
-    (with_room (refused_at _ _) c.requires c.refuse.ensures.value c.refuse.ensures.out_after)
+    (with_room (refused_at c.in-Refused.line c.in-Refused.q) c.requires c.refuse.ensures.value c.refuse.ensures.out_after)

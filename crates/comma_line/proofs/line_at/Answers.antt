@@ -6,16 +6,13 @@ use Prim.Native.Nat.{ℕ, ◌+◌, ◌≤◌}
 use native.Mathlib.Omega.{arith}
 use lib.Dec.{eqb}
 use lib.ListN.{get_or}
-use Rattle.truth.proofs.Laws.{said_no, said_yes}
 use Rattle.decimal.specs.Field.{line_feed}
 use Rattle.decimal.specs.Leading.{stands_at}
-use Rattle.decimal.proofs.Leading.{LeadsTo, leads_number, leads_none, stands_byte, stands_inside}
-use Rattle.degrees.proofs.Signs.{ReadsAs, degrees_read, degrees_none}
+use Rattle.decimal.proofs.Leading.{leads_number, leads_none, stands_byte}
+use Rattle.degrees.proofs.Signs.{degrees_read, degrees_none}
 use Rattle.comma_line.specs.Line.{comma}
 use Rattle.comma_line.proofs.At.{no_number, other_time, no_comma, no_degrees, no_feed, whole_line}
-use borrow.Author.Rules.{rules}
 use Rattle.comma_line.proofs.line_at.Goals as goal
-use Rattle.comma_line.proofs.line_at.Goals.{After-leading_at, After-roll_at, After-stands-2, In-Number, In-Says, Start}
 
 -- a byte other than 0 stands at a place, as was asked, or it does not
 stood : (s : List ℕ) (at b : ℕ) → 1 ≤ b → {said is : Bool} → said ≡ stands_at s at b → said ≡ is → eqb (get_or s at 0) b ≡ is

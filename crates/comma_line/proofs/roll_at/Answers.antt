@@ -1,6 +1,5 @@
 -- `comma_line::roll_at` meets its contract: plain degrees after the sign are what is read there. Assumes nothing.
 use native.Mathlib.Omega.{arith}
-use borrow.Author.Rules.{rules}
 use Rattle.comma_word.specs.Plain.{Plain}
 use Rattle.comma_word.proofs.Plain.{plain_of, plain_facts, plain_size_lem, plain_read}
 use Rattle.comma_line.proofs.roll_at.Goals as goal

@@ -1,5 +1,5 @@
 -- `comma_peaks::judge` meets its contract, test by test. Assumes nothing.
-use Rattle.std.proofs.Common.{arith}
+use Rattle.std.proofs.Common.{arith, rules}
 use Rattle.comma_peaks.proofs.Judges.{judged_wrong, judged_outside, judged_long, judged_short, judged_peaks}
 use Rattle.comma_peaks.proofs.judge.Goals as goal
 

@@ -1,6 +1,5 @@
 -- `comma_read::eight` meets its contract: four bytes after four. Assumes nothing.
 use Rattle.comma_word.proofs.Row.{eight_beside, eight_small}
-use Rattle.std.proofs.Common.{rules}
 use Rattle.comma_read.proofs.eight.Goals as goal
 
 pub returns : goal.returns

@@ -1,5 +1,5 @@
 -- `comma_read::eight_digits` meets its contract: four digits stand before four. Assumes nothing.
-use Rattle.std.proofs.Common.{arith, rules}
+use Rattle.std.proofs.Common.{arith}
 use Rattle.comma_word.proofs.Dial.{parts, short}
 use Rattle.comma_read.proofs.eight_digits.Goals as goal
 

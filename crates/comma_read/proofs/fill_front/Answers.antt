@@ -5,11 +5,11 @@ use Rattle.degrees.specs.Degrees.{signed, largest_size}
 use Rattle.comma_word.proofs.Plain.{plain_facts}
 use Rattle.comma_line.proofs.At.{LineRead}
 use Rattle.comma_read.specs.Roll.{AnyRoll, roll_size}
-use Rattle.comma_read.specs.Plain.{Narrow, none}
+use Rattle.comma_read.specs.Plain.{none}
 use Rattle.comma_read.proofs.Times.{narrow_on}
 use Rattle.comma_read.proofs.PlainLine.{roll_read, roll_within}
-use Rattle.comma_read.proofs.Along.{Along, Putting, of_front, put_none, filled_on}
-use Rattle.comma_read.proofs.Front.{Ahead, First, forward, first, arrived}
+use Rattle.comma_read.proofs.Along.{of_front, put_none, filled_on}
+use Rattle.comma_read.proofs.Front.{First, forward, first, arrived}
 use Rattle.comma_read.proofs.fill_front.Goals as goal
 use Rattle.comma_read.proofs.fill_front.Goals.{After-form_of-roll, After-width_in-width, In-loop-count}
 

@@ -1,6 +1,6 @@
 -- `comma_read::form_of` meets its contract: the minus says where the degrees start, and their second byte whether it is
 -- a point. Assumes nothing.
-use Rattle.std.proofs.Common.{◌≡◌, ℕ, ◌+◌, ◌-◌, ◌*◌, ◌/◌, ◌%◌, List, get_or, drop, sym, refl, ap, ◌∙◌, arith, rules}
+use Rattle.std.proofs.Common.{◌≡◌, ℕ, ◌+◌, ◌-◌, ◌*◌, ◌/◌, ◌%◌, List, get_or, drop, sym, refl, ap, ◌∙◌, arith}
 use Rattle.degrees.specs.Degrees.{minus, point, sign_length}
 use Rattle.comma_word.specs.Plain.{byte_at}
 use Rattle.comma_read.specs.Roll.{PlainRoll, AnyRoll}

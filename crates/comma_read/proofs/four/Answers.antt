@@ -1,5 +1,5 @@
 -- `comma_read::four` meets its contract: each byte is put after those before it. Assumes nothing.
-use Rattle.std.proofs.Common.{arith, rules}
+use Rattle.std.proofs.Common.{arith}
 use Rattle.comma_word.specs.Word.{word}
 use Rattle.comma_read.proofs.four.Goals as goal
 

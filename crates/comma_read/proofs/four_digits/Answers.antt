@@ -1,5 +1,5 @@
 -- `comma_read::four_digits` meets its contract: two digits stand before two. Assumes nothing.
-use Rattle.std.proofs.Common.{arith, rules}
+use Rattle.std.proofs.Common.{arith}
 use Rattle.comma_word.proofs.Dial.{parts, short}
 use Rattle.comma_read.proofs.four_digits.Goals as goal
 

@@ -1,5 +1,5 @@
 -- `comma_read::four_value` meets its contract: the zeros of four digits are worth 53,328. Assumes nothing.
-use Rattle.std.proofs.Common.{ℕ, ◌+◌, ◌<◌, ◌≤◌, [], arith, rules}
+use Rattle.std.proofs.Common.{ℕ, ◌+◌, ◌<◌, ◌≤◌, [], arith}
 use Rattle.decimal.specs.Decimal.{zero_byte, value_of}
 use Rattle.decimal.proofs.Text.{digit_range}
 use Rattle.comma_word.proofs.Plain.{four}

@@ -1,6 +1,6 @@
 -- `comma_read::moved_on` meets its contract. The product fits, since each of its bytes is 246 at most; and what is left,
 -- with the product added back, wraps to the sum, so that it is the sum less the product. Assumes nothing.
-use Rattle.std.proofs.Common.{◌≡◌, ℕ, ◌+◌, ◌*◌, ◌/◌, ◌%◌, ◌^◌, ◌<◌, ◌≤◌, arith, rules}
+use Rattle.std.proofs.Common.{◌≡◌, ℕ, ◌+◌, ◌*◌, ◌/◌, ◌%◌, ◌^◌, ◌<◌, ◌≤◌, arith}
 use lib.Bits.{bit_and, and_le_r}
 use Rattle.comma_word.specs.Dial.{each, less, turned}
 use Rattle.comma_read.proofs.moved_on.Goals as goal

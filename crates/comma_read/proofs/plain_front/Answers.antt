@@ -1,11 +1,11 @@
-use Rattle.std.proofs.Common.{◌-◌, ◌*◌, length, add-mul, arith, rules}
+use Rattle.std.proofs.Common.{◌-◌, ◌*◌, add-mul, arith}
 use Rattle.decimal.proofs.Text.{digits_some}
-use Rattle.comma_read.specs.Plain.{Narrow, PlainLines, none}
+use Rattle.comma_read.specs.Plain.{none}
 use Rattle.comma_read.proofs.Times.{narrow_on}
 use Rattle.comma_read.proofs.Along.{Along, of_front, lines_ahead}
 use Rattle.comma_read.proofs.Front.{run_after_run}
 use Rattle.comma_read.proofs.plain_front.Goals as goal
-use Rattle.comma_read.proofs.plain_front.Goals.{At-loop-at, Start}
+use Rattle.comma_read.proofs.plain_front.Goals.{At-loop-at}
 
 gone : (c : At-loop-at) → let a = c.args in Along a.step a.text.now c.loop-at.at (c.loop-at.passed * a.step) c.loop-at.passed c.loop-at.passed
 gone c = of_front c.loop-at.invariant.0 c.requires

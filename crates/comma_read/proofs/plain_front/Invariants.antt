@@ -1,11 +1,7 @@
 -- `comma_read::plain_front` meets its contract: a run stands after the runs before it; what is left of the text falls.
 -- Assumes nothing.
-use Rattle.std.proofs.Common.{◌-◌, ◌*◌, length, add-mul, arith, rules}
-use Rattle.decimal.proofs.Text.{digits_some}
-use Rattle.comma_read.specs.Plain.{Narrow, PlainLines, none}
-use Rattle.comma_read.proofs.Times.{narrow_on}
-use Rattle.comma_read.proofs.Along.{Along, of_front, lines_ahead}
-use Rattle.comma_read.proofs.Front.{run_after_run}
+use Rattle.std.proofs.Common.{◌-◌, ◌*◌, length}
+use Rattle.comma_read.specs.Plain.{Narrow, PlainLines}
 use Rattle.comma_read.proofs.plain_front.Given as goal
 
 abbrev pub invariant-loop-at : goal.invariant-loop-at

@@ -1,7 +1,5 @@
 -- `comma_read::plain_lines` meets its contract: where there is no line to look at there are none, and else the run has
 -- them. Assumes nothing.
-use Rattle.std.proofs.Common.{refl, rules}
-use Rattle.truth.proofs.Laws.{said_yes}
 use Rattle.comma_read.specs.Plain.{none}
 use Rattle.comma_read.proofs.plain_lines.Goals as goal
 

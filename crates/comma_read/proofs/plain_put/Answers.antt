@@ -1,13 +1,13 @@
 use Rattle.std.proofs.Common.{◌≡◌, ℕ, ◌+◌, ◌-◌, ◌*◌, ◌/◌, ◌^◌, ◌<◌, ◌≤◌, length, take, drop, sym, ap, ◌∙◌, div-le_self, arith, to_z-of_z, w32, SFits, rules, ltb-true, leb-true}
-use Rattle.truth.proofs.Laws.{and-true, said_yes}
+use Rattle.truth.proofs.Laws.{and-true}
 use Rattle.comma_word.specs.Word.{word}
 use Rattle.comma_word.specs.Dial.{each}
 use Rattle.comma_word.proofs.Turn.{fits}
 use Rattle.comma_read.specs.Roll.{PlainRoll}
-use Rattle.comma_read.specs.Plain.{RollLine, PlainPut, as_it_stood}
+use Rattle.comma_read.specs.Plain.{RollLine, as_it_stood}
 use Rattle.comma_read.proofs.PlainLine.{roll_within}
-use Rattle.comma_read.proofs.Running.{Running, set_out, due_line, on_line}
-use Rattle.comma_read.proofs.Puts.{roll_sample_lem, put_on, put_length}
+use Rattle.comma_read.proofs.Running.{set_out, due_line, on_line}
+use Rattle.comma_read.proofs.Puts.{roll_sample_lem, put_on}
 use Rattle.comma_read.proofs.plain_put.Goals as goal
 use Rattle.comma_read.proofs.plain_put.Goals.{Else-roll-eq0}
 

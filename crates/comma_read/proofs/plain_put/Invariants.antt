@@ -1,15 +1,8 @@
 -- `comma_read::plain_put` meets its contract: `Running` is its invariant, with the samples put so far, and the places
 -- that are left fall. Assumes nothing.
-use Rattle.std.proofs.Common.{◌≡◌, ℕ, ◌+◌, ◌-◌, ◌*◌, ◌/◌, ◌^◌, ◌<◌, ◌≤◌, length, take, drop, sym, ap, ◌∙◌, div-le_self, arith, to_z-of_z, w32, SFits, rules, ltb-true, leb-true}
-use Rattle.truth.proofs.Laws.{and-true, said_yes}
-use Rattle.comma_word.specs.Word.{word}
-use Rattle.comma_word.specs.Dial.{each}
-use Rattle.comma_word.proofs.Turn.{fits}
-use Rattle.comma_read.specs.Roll.{PlainRoll}
-use Rattle.comma_read.specs.Plain.{RollLine, PlainPut, as_it_stood}
-use Rattle.comma_read.proofs.PlainLine.{roll_within}
-use Rattle.comma_read.proofs.Running.{Running, set_out, due_line, on_line}
-use Rattle.comma_read.proofs.Puts.{roll_sample_lem, put_on, put_length}
+use Rattle.std.proofs.Common.{◌+◌, ◌-◌, ◌≤◌, length}
+use Rattle.comma_read.specs.Plain.{PlainPut}
+use Rattle.comma_read.proofs.Running.{Running}
 use Rattle.comma_read.proofs.plain_put.Given as goal
 
 abbrev pub invariant-loop-lines : goal.invariant-loop-lines

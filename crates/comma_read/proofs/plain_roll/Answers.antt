@@ -1,5 +1,5 @@
 -- `comma_read::plain_roll` meets its contract: eight bytes that are held by a form are of its kinds. Assumes nothing.
-use Rattle.std.proofs.Common.{◌≡◌, ℕ, ◌+◌, ◌%◌, ◌^◌, ◌≤◌, true, List, length, sym, refl, ap, ◌∙◌, arith, rules, ltb-true, eqb-true}
+use Rattle.std.proofs.Common.{◌≡◌, ℕ, ◌+◌, ◌%◌, ◌^◌, ◌≤◌, true, List, length, sym, refl, ap, ◌∙◌, arith, ltb-true, eqb-true}
 use lib.Bits.{bit_and, bit_xor}
 use Rattle.truth.proofs.Laws.{and-true}
 use Rattle.comma_word.specs.Word.{word}
@@ -9,7 +9,7 @@ use Rattle.comma_word.proofs.Form.{Are, own, against}
 use Rattle.comma_read.specs.Forms.{plus_long, plus_short, minus_long, minus_short}
 use Rattle.comma_read.proofs.Rolls.{plus_long_lem, plus_short_lem, minus_long_lem, minus_short_lem}
 use Rattle.comma_read.proofs.plain_roll.Goals as goal
-use Rattle.comma_read.proofs.plain_roll.Goals.{After-eight-v, Start}
+use Rattle.comma_read.proofs.plain_roll.Goals.{After-eight-v}
 
 -- the eight bytes at the comma
 module _ (e : After-eight-v) where

@@ -1,9 +1,9 @@
-use Rattle.std.proofs.Common.{ℕ, ◌+◌, ◌-◌, ◌*◌, ◌/◌, ◌^◌, ◌≤◌, length, sym, ap, ◌∙◌, div-le_self, arith, rules}
+use Rattle.std.proofs.Common.{ℕ, ◌+◌, ◌-◌, ◌*◌, ◌/◌, ◌^◌, ◌≤◌, length, sym, ap, ◌∙◌, div-le_self, arith}
 use Rattle.comma_word.specs.Dial.{each}
 use Rattle.comma_word.proofs.Turn.{fits}
 use Rattle.comma_read.specs.Roll.{PlainRoll}
 use Rattle.comma_read.proofs.PlainLine.{roll_within}
-use Rattle.comma_read.proofs.Running.{Running, set_out, on_line}
+use Rattle.comma_read.proofs.Running.{set_out, on_line}
 use Rattle.comma_read.proofs.plain_run.Goals as goal
 use Rattle.comma_read.proofs.plain_run.Goals.{Else-last-place, Else-roll-eq0}
 

@@ -1,11 +1,7 @@
 -- `comma_read::plain_run` meets its contract: `Running` is its invariant, and what is left of the text falls. Assumes
 -- nothing.
-use Rattle.std.proofs.Common.{ℕ, ◌+◌, ◌-◌, ◌*◌, ◌/◌, ◌^◌, ◌≤◌, length, sym, ap, ◌∙◌, div-le_self, arith, rules}
-use Rattle.comma_word.specs.Dial.{each}
-use Rattle.comma_word.proofs.Turn.{fits}
-use Rattle.comma_read.specs.Roll.{PlainRoll}
-use Rattle.comma_read.proofs.PlainLine.{roll_within}
-use Rattle.comma_read.proofs.Running.{Running, set_out, on_line}
+use Rattle.std.proofs.Common.{◌-◌, length}
+use Rattle.comma_read.proofs.Running.{Running}
 use Rattle.comma_read.proofs.plain_run.Given as goal
 
 abbrev pub invariant-loop-time : goal.invariant-loop-time

@@ -1,5 +1,5 @@
 -- `comma_read::plain_size_lem` meets its contract: the digits of each form are worth its thousandths. Assumes nothing.
-use Rattle.std.proofs.Common.{◌+◌, ◌-◌, ◌*◌, ◌<◌, ◌≤◌, get_or, drop, sym, ◌∙◌, arith, rules}
+use Rattle.std.proofs.Common.{◌+◌, ◌-◌, ◌*◌, ◌<◌, ◌≤◌, get_or, drop, sym, ◌∙◌, arith}
 use Rattle.decimal.specs.Decimal.{zero_byte, value_of}
 use Rattle.decimal.proofs.Text.{digit_range}
 use Rattle.degrees.proofs.Forms.{Sized}

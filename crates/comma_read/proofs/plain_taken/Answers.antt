@@ -1,7 +1,6 @@
 -- `comma_read::plain_taken` meets its contract: where there is no line to look at nothing is put, and else the run puts
 -- its samples. Assumes nothing.
-use Rattle.std.proofs.Common.{refl, arith, rules}
-use Rattle.truth.proofs.Laws.{said_yes}
+use Rattle.std.proofs.Common.{arith}
 use Rattle.comma_read.specs.Plain.{as_it_stood}
 use Rattle.comma_read.proofs.plain_taken.Goals as goal
 

@@ -1,7 +1,7 @@
 -- `comma_read::read` meets its contract: the survey decides the answer, and where all is well the samples are put.
 -- Assumes nothing.
-use Rattle.std.proofs.Common.{◌≡◌, ℕ, ◌≤◌, true, leb, List, length, sym, refl, ◌∙◌, arith, rules, leb-true}
-use Rattle.truth.proofs.Laws.{and-true, said_no, said_yes}
+use Rattle.std.proofs.Common.{◌≡◌, ℕ, ◌≤◌, true, leb, List, length, sym, refl, ◌∙◌, arith, leb-true}
+use Rattle.truth.proofs.Laws.{and-true}
 use Rattle.sample_items.specs.Limits.{step_in_range}
 use Rattle.decimal.specs.Lines.{lines_of}
 use Rattle.comma_read.specs.Survey.{AllGood}
@@ -82,19 +82,21 @@ pub returns-then-samples-count : goal.returns-then-samples-count
 unfolding filled_by
 returns-then-samples-count c =
     let s = (goal.at.returns-then-samples-count c).After-survey in
-    record { value = no_room c.args.step
-      (Found s) (Places s) (step (goal.at.returns-then-samples-count c).Else-not-step_in_range) _ _ (right-found (goal.at.returns-then-samples-count c).In-Right) c.if-sound-count.false c.if-samples-count.true; samples_after = refl }
+    record {
+      value = no_room c.args.step
+          (Found s) (Places s) (step (goal.at.returns-then-samples-count c).Else-not-step_in_range) _ _ (right-found (goal.at.returns-then-samples-count c).In-Right) c.if-sound-count.false c.if-samples-count.true;
+      samples_after = refl;
+    }
 
 pub fill-requires : goal.fill-requires
 fill-requires c =
-    let k = (goal.at.fill-requires c).In-Right in
-    (
-  small k,
-  all_good k c.if-sound-count.false,
-  c.plain_front-front.ensures,
-  some (goal.at.fill-requires c).Else-not-step_in_range,
-  omega (arith, fewer k, c.if-samples-count.false),
-)
+    let k = (goal.at.fill-requires c).In-Right in (
+      small k,
+      all_good k c.if-sound-count.false,
+      c.plain_front-front.ensures,
+      some (goal.at.fill-requires c).Else-not-step_in_range,
+      omega (arith, fewer k, c.if-samples-count.false),
+    )
 
 pub returns-in-Wrong : goal.returns-in-Wrong
 unfolding filled_by

@@ -1,8 +1,7 @@
-use Rattle.std.proofs.Common.{◌≡◌, ℕ, ◌+◌, ◌-◌, ◌*◌, ◌<◌, ◌≤◌, cond, eqb, List, length, drop, ℤ, sym, ◌∙◌, arith, to_z-of_z, w32, SFits, rules}
-use Rattle.sample_items.proofs.Ranges.{low, high}
+use Rattle.std.proofs.Common.{◌≡◌, ℕ, ◌+◌, ◌-◌, ◌*◌, ◌<◌, cond, eqb, List, length, ℤ, sym, ◌∙◌, arith, to_z-of_z, w32, SFits, rules}
+use Rattle.sample_items.proofs.Ranges.{high}
 use Rattle.decimal.proofs.Text.{digits_some}
 use Rattle.comma_line.proofs.At.{LineRead, line_read, line_wrong}
-use Rattle.comma_read.specs.Plain.{Narrow}
 use Rattle.comma_read.proofs.Times.{narrow_on}
 use Rattle.comma_read.proofs.Going.{going_low, going_length}
 use Rattle.comma_read.proofs.Way.{Way, way_as, way_start, way_run, way_line, way_full, way_stopped}

@@ -1,14 +1,9 @@
 -- `comma_read::right_lines` meets its contract: `Way` is its invariant, plain lines together and a right line keep it,
 -- and where no place is left or no right line stands it has what is promised. The places that are left fall. Assumes
 -- nothing.
-use Rattle.std.proofs.Common.{◌≡◌, ℕ, ◌+◌, ◌-◌, ◌*◌, ◌<◌, ◌≤◌, cond, eqb, List, length, drop, ℤ, sym, ◌∙◌, arith, to_z-of_z, w32, SFits, rules}
-use Rattle.sample_items.proofs.Ranges.{low, high}
-use Rattle.decimal.proofs.Text.{digits_some}
-use Rattle.comma_line.proofs.At.{LineRead, line_read, line_wrong}
+use Rattle.std.proofs.Common.{◌-◌, length}
 use Rattle.comma_read.specs.Plain.{Narrow}
-use Rattle.comma_read.proofs.Times.{narrow_on}
-use Rattle.comma_read.proofs.Going.{going_low, going_length}
-use Rattle.comma_read.proofs.Way.{Way, way_as, way_start, way_run, way_line, way_full, way_stopped}
+use Rattle.comma_read.proofs.Way.{Way}
 use Rattle.comma_read.proofs.right_lines.Given as goal
 
 abbrev pub invariant-loop-count : goal.invariant-loop-count

@@ -1,7 +1,6 @@
-use Rattle.std.proofs.Common.{ℕ, ◌+◌, ◌-◌, ◌*◌, ◌<◌, cond, eqb, leb, List, length, drop, sym, ap, ◌∙◌, arith, rules}
+use Rattle.std.proofs.Common.{ℕ, ◌+◌, ◌-◌, ◌*◌, ◌<◌, cond, eqb, leb, List, drop, sym, ap, ◌∙◌, arith}
 use Rattle.degrees.specs.Degrees.{largest_size}
 use Rattle.decimal.proofs.Text.{digits_some}
-use Rattle.comma_read.specs.Plain.{Narrow}
 use Rattle.comma_read.proofs.Times.{narrow_on}
 use Rattle.comma_read.proofs.Lines.{turn}
 use Rattle.comma_line.proofs.At.{LineRead, line_read, line_wrong}
@@ -87,8 +86,7 @@ loop-at-smaller c =
 
 pub loop-at-preserved : goal.loop-at-preserved
 loop-at-preserved c =
-    let d = (goal.at.loop-at-preserved c).In-Says in
-    (
+    let d = (goal.at.loop-at-preserved c).In-Says in (
       rw (
         c.tallied-sound.ensures,
         c.carried-sound.ensures,

@@ -1,7 +1,6 @@
 -- `comma_read::take` meets its contract: a step out of range, lines after which no time has 12 digits, or the right
 -- lines. Assumes nothing.
-use Rattle.std.proofs.Common.{◌≡◌, true, refl, arith, rules}
-use Rattle.truth.proofs.Laws.{said_no, said_yes}
+use Rattle.std.proofs.Common.{◌≡◌, true, refl, arith}
 use Rattle.sample_items.specs.Limits.{step_in_range}
 use Rattle.comma_read.specs.Taken.{lines_taken, taken_of, put_by}
 use Rattle.comma_read.proofs.Going.{none_late}

@@ -1,5 +1,5 @@
 -- `comma_read::width_at` meets its contract: past the end of the text the time's digits are counted. Assumes nothing.
-use Rattle.std.proofs.Common.{arith, rules}
+use Rattle.std.proofs.Common.{arith}
 use Rattle.decimal.proofs.Text.{digits_below}
 use Rattle.comma_read.proofs.width_at.Goals as goal
 

@@ -1,6 +1,6 @@
 -- `comma_read::width_in` meets its contract: where the comma stands after the last width, this is the time's width;
 -- else its digits are counted. Assumes nothing.
-use Rattle.std.proofs.Common.{drop, get_or-drop, rules}
+use Rattle.std.proofs.Common.{drop, get_or-drop}
 use Rattle.comma_read.proofs.Times.{as_wide}
 use Rattle.comma_read.proofs.width_in.Goals as goal
 

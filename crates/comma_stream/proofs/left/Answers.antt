@@ -5,9 +5,7 @@ use mathlib.Core.Bool.{Bool, true, false, cond, ◌&&◌}
 use mathlib.Core.List.{List}
 use native.Mathlib.Omega.{arith}
 use lib.ListN.{length, drop, length-drop, drop_of_length-le}
-use borrow.Author.Rules.{rules}
-use borrow.Author.Tests.{ne_eqb, lt-ltb, le-ltb, not-true, not-false}
-use Rattle.truth.proofs.Laws.{said_no, said_yes}
+use borrow.Author.Tests.{ne_eqb, lt-ltb, le-ltb}
 use Rattle.comma_stream.specs.declared.Rest.TheVariants.{Waits, Wrong}
 use Rattle.comma_stream.specs.Follow.{longest_comma_line, unended, may_begin, resting, waiting_for}
 use Rattle.comma_stream.proofs.left.Goals as goal

@@ -3,7 +3,6 @@
 use mathlib.Core.Path.{sym, ap, ◌∙◌}
 use Prim.Native.Nat.{◌+◌}
 use native.Mathlib.Omega.{arith}
-use borrow.Author.Rules.{rules}
 use Rattle.comma_stream.specs.declared.Followed.TheVariants.{Taken}
 use Rattle.comma_stream.proofs.Going.{follows, said, number_fits}
 use Rattle.comma_stream.proofs.take.Goals as goal

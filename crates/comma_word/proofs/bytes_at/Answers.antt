@@ -2,17 +2,14 @@
 use mathlib.Core.Path.{◌≡◌, sym, ◌∙◌}
 use mathlib.Core.Bool.{true, false}
 use mathlib.Core.List.{List}
-use Prim.Native.Nat.{ℕ, ◌+◌, ◌≤◌}
-use native.Mathlib.Omega.{arith}
-use borrow.Author.Rules.{rules}
-use borrow.Author.Tests.{leb-true, eq-eqb, ne_eqb}
+use Prim.Native.Nat.{ℕ, ◌+◌}
+use borrow.Author.Tests.{eq-eqb, ne_eqb}
 use lib.Dec.{eqb, leb}
 use lib.ListN.{length}
-use Rattle.truth.proofs.Laws.{said_no, said_yes}
 use Rattle.degrees.specs.Degrees.{point}
 use Rattle.comma_word.specs.Plain.{byte_at, plain_bytes}
 use Rattle.comma_word.proofs.bytes_at.Goals as goal
-use Rattle.comma_word.proofs.bytes_at.Goals.{After-is_long, After-is_short, After-shared_slice_known-3-1, Else-not-has_room, Else-s-at-eq-POINT, Start}
+use Rattle.comma_word.proofs.bytes_at.Goals.{After-is_long, After-is_short, Else-not-has_room}
 
 has : (c : Else-not-has_room) → let a = c.args in leb (a.at + 7) (length a.s.now) ≡ true
 has c = (sym c.has_room.ensures ∙ c.if-not-has_room.false)

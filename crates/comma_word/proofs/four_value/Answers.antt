@@ -1,7 +1,6 @@
 -- `comma_word::four_value` meets its contract: the digits by their places. Assumes nothing.
 use native.Mathlib.Omega.{arith}
 use Rattle.decimal.specs.Decimal.{value_of}
-use borrow.Author.Rules.{rules}
 use Rattle.comma_word.proofs.four_value.Goals as goal
 
 pub returns : goal.returns

@@ -2,11 +2,9 @@
 use mathlib.Core.Path.{◌≡◌}
 use mathlib.Core.Bool.{true}
 use Prim.Native.Nat.{◌+◌}
-use borrow.Author.Rules.{rules}
-use borrow.Author.Tests.{leb-true, eq-eqb, ne_eqb}
+use borrow.Author.Tests.{eq-eqb, ne_eqb}
 use lib.Dec.{leb}
 use lib.ListN.{length}
-use Rattle.truth.proofs.Laws.{said_no, said_yes}
 use Rattle.comma_word.specs.Plain.{plain_size}
 use Rattle.comma_word.proofs.size_at.Goals as goal
 use Rattle.comma_word.proofs.size_at.Goals.{Else-not-has_room}

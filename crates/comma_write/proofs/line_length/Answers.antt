@@ -1,7 +1,6 @@
 -- `comma_write::line_length` meets its contract: the digits, the comma, the degrees, the LF. Assumes nothing.
 use native.Mathlib.Omega.{arith}
 use mir.Facts.{to_z-of_z}
-use borrow.Author.Rules.{rules}
 use Rattle.comma_write.proofs.Puts.{line_bytes}
 use Rattle.comma_write.proofs.line_length.Goals as goal
 

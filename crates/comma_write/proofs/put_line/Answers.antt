@@ -3,7 +3,6 @@
 use mathlib.Core.List.{List, [], ◌∷◌, ◌++◌}
 use Prim.Native.Nat.{ℕ}
 use mir.Facts.{to_z-of_z}
-use borrow.Author.Rules.{rules}
 use Rattle.text.proofs.Parts.{Left, left_all, left_next, left_last}
 use Rattle.decimal.specs.Decimal.{digits_of}
 use Rattle.decimal.specs.Field.{line_feed}

@@ -1,15 +1,15 @@
 use mathlib.Core.Path.{◌≡◌, ap, subst, ◌∙◌}
 use mathlib.Core.List.{List, [], ◌++◌}
-use Prim.Native.Nat.{ℕ, ◌+◌, ◌*◌, ◌-◌, ◌≤◌}
+use Prim.Native.Nat.{ℕ, ◌+◌, ◌-◌}
 use native.Mathlib.Omega.{arith}
 use lib.IntN.{ℤ, pos}
-use lib.ListN.{length, get_or, drop, drop_of_length-le}
+use lib.ListN.{get_or, drop, drop_of_length-le}
 use mir.Facts.{to_z-of_z}
 use mir.Syntax.{w32}
 use mir.Val.{SFits}
 use borrow.Author.Rules.{rules}
 use Rattle.sample_size.proofs.Turn.{turn}
-use Rattle.text.proofs.Parts.{Left, left_all, left_done, left_length, left_next, left_room}
+use Rattle.text.proofs.Parts.{Left, left_all, left_done, left_next, left_room}
 use Rattle.comma_line.specs.Line.{sample_text}
 use Rattle.comma_line.specs.Text.{text_from, text_of}
 use Rattle.comma_write.proofs.Puts.{text_next, text_none}

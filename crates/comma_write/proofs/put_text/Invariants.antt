@@ -1,20 +1,9 @@
 -- `comma_write::put_text` meets its contract: each line takes itself off what is left of the text. What is left falls.
 -- Assumes nothing.
-use mathlib.Core.Path.{◌≡◌, ap, subst, ◌∙◌}
-use mathlib.Core.List.{List, [], ◌++◌}
-use Prim.Native.Nat.{ℕ, ◌+◌, ◌*◌, ◌-◌, ◌≤◌}
-use native.Mathlib.Omega.{arith}
-use lib.IntN.{ℤ, pos}
-use lib.ListN.{length, get_or, drop, drop_of_length-le}
-use mir.Facts.{to_z-of_z}
-use mir.Syntax.{w32}
-use mir.Val.{SFits}
-use borrow.Author.Rules.{rules}
-use Rattle.sample_size.proofs.Turn.{turn}
-use Rattle.text.proofs.Parts.{Left, left_all, left_done, left_length, left_next, left_room}
-use Rattle.comma_line.specs.Line.{sample_text}
+use Prim.Native.Nat.{◌*◌, ◌-◌, ◌≤◌}
+use lib.ListN.{length, drop}
+use Rattle.text.proofs.Parts.{Left}
 use Rattle.comma_line.specs.Text.{text_from, text_of}
-use Rattle.comma_write.proofs.Puts.{text_next, text_none}
 use Rattle.comma_write.proofs.put_text.Given as goal
 
 abbrev pub invariant-loop-i : goal.invariant-loop-i

@@ -1,6 +1,6 @@
 use mathlib.Core.Path.{◌≡◌, ap, ◌∙◌}
 use mathlib.Core.List.{List}
-use Prim.Native.Nat.{◌+◌, ◌*◌, ◌-◌, ◌≤◌}
+use Prim.Native.Nat.{◌+◌, ◌-◌}
 use native.Mathlib.Omega.{arith}
 use lib.IntN.{ℤ, pos}
 use lib.ListN.{length, get_or, drop, drop_of_length-le}
@@ -9,7 +9,7 @@ use mir.Syntax.{w32}
 use mir.Val.{SFits}
 use borrow.Author.Rules.{rules}
 use Rattle.sample_size.proofs.Turn.{turn}
-use Rattle.comma_line.specs.Text.{text_from, text_of}
+use Rattle.comma_line.specs.Text.{text_from}
 use Rattle.comma_write.proofs.Puts.{next_bytes, text_none}
 use Rattle.comma_write.proofs.text_length.Goals as goal
 

@@ -1,18 +1,9 @@
 -- `comma_write::text_length` meets its contract: what was added up and what is left are the whole. What is left falls.
 -- Assumes nothing.
-use mathlib.Core.Path.{◌≡◌, ap, ◌∙◌}
-use mathlib.Core.List.{List}
+use mathlib.Core.Path.{◌≡◌}
 use Prim.Native.Nat.{◌+◌, ◌*◌, ◌-◌, ◌≤◌}
-use native.Mathlib.Omega.{arith}
-use lib.IntN.{ℤ, pos}
-use lib.ListN.{length, get_or, drop, drop_of_length-le}
-use mir.Facts.{to_z-of_z}
-use mir.Syntax.{w32}
-use mir.Val.{SFits}
-use borrow.Author.Rules.{rules}
-use Rattle.sample_size.proofs.Turn.{turn}
+use lib.ListN.{length, drop}
 use Rattle.comma_line.specs.Text.{text_from, text_of}
-use Rattle.comma_write.proofs.Puts.{next_bytes, text_none}
 use Rattle.comma_write.proofs.text_length.Given as goal
 
 abbrev pub invariant-loop-i : goal.invariant-loop-i

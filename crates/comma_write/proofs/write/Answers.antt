@@ -8,9 +8,8 @@ use native.Mathlib.Omega.{arith}
 use lib.Dec.{leb}
 use lib.IntN.{ℤ}
 use lib.ListN.{length}
-use borrow.Author.Rules.{rules}
-use borrow.Author.Tests.{leb-true, leb-false}
-use Rattle.truth.proofs.Laws.{and-true, said_no, said_yes}
+use borrow.Author.Tests.{leb-true}
+use Rattle.truth.proofs.Laws.{and-true}
 use Rattle.sample_items.specs.Limits.{step_in_range}
 use Rattle.sample_range.specs.Range.{first_bad}
 use Rattle.text.specs.Write.{laid_by}
@@ -18,7 +17,7 @@ use Rattle.text.proofs.Laws.{laid_front}
 use Rattle.decimal.specs.Decimal.{longest}
 use Rattle.comma_line.specs.Text.{text_of}
 use Rattle.comma_write.specs.Answers.{last_time}
-use Rattle.comma_write.proofs.Puts.{bad_step, bad_sample, too_late, no_room, all_written, few}
+use Rattle.comma_write.proofs.Puts.{bad_step, bad_sample, too_late, no_room, all_written}
 use Rattle.comma_write.proofs.write.Goals as goal
 use Rattle.comma_write.proofs.write.Goals.{After-too_long, Else-bad-samples, Else-not-step_in_range, Else-too_long}
 

@@ -12,10 +12,11 @@ use Rattle.decimal.specs.Decimal.{is_number, value_of}
 use Rattle.decimal.specs.Leading.{leading}
 use Rattle.decimal.proofs.Leading.{LeadsTo, all_lead, led_all, leads_none, leads_number}
 use Rattle.decimal.proofs.number_or.Goals as goal
-use Rattle.decimal.proofs.number_or.Goals.{After-leading_at, In-Number, Start}
+use Rattle.decimal.proofs.number_or.Goals.{In-Number}
 
 -- a text whose leading digits are no number, or not all of it, is none
-other-than : (s : List ℕ) (other : ℕ) → (is_number s ≡ true → leading s ≡ s → true ≡ false) → other ≡ cond (is_number s) (value_of s) other
+other-than : (s : List ℕ) (other : ℕ) → (is_number s ≡ true → leading s ≡ s → true ≡ false)
+    → other ≡ cond (is_number s) (value_of s) other
 other-than s other never = by_test (is_number s) (λ n. absurd (true≢false (never n (all_lead s n)))) (λ n. rw n)
 
 pub returns-in_default : goal.returns-in_default

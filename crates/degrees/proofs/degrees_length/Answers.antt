@@ -10,7 +10,7 @@ use Rattle.decimal.specs.Decimal.{digits_of}
 use Rattle.decimal.proofs.Text.{digits_below}
 use Rattle.degrees.proofs.Signs.{sign_below, sign_other, text_length, abs_small}
 use Rattle.degrees.proofs.degrees_length.Goals as goal
-use Rattle.degrees.proofs.degrees_length.Goals.{After-digits-whole, Start}
+use Rattle.degrees.proofs.degrees_length.Goals.{After-digits-whole}
 
 size : (c : After-digits-whole) → c.magnitude.result ≡ nat_abs c.args.x
 size c = rw (to_z-of_z c.ranges.x) at c.magnitude.ensures
@@ -26,9 +26,17 @@ few c =
 pub returns-then-x-lt0 : goal.returns-then-x-lt0
 returns-then-x-lt0 c =
     let after-digits = (goal.at.returns-then-x-lt0 c).After-digits-whole in
-    record { value = rw (text_length, sign_below c.args.x (rw (to_z-of_z c.ranges.x) at c.if-x-lt0.true)) (omega (arith, whole after-digits)); upper_bound = omega (arith, few after-digits) }
+    record {
+      value = rw (text_length, sign_below c.args.x (rw (to_z-of_z c.ranges.x) at c.if-x-lt0.true))
+          (omega (arith, whole after-digits));
+      upper_bound = omega (arith, few after-digits);
+    }
 
 pub returns : goal.returns
 returns c =
     let after-digits = (goal.at.returns c).After-digits-whole in
-    record { value = rw (text_length, sign_other c.args.x (rw (to_z-of_z c.ranges.x) at c.if-x-lt0.false)) (omega (arith, whole after-digits)); upper_bound = omega (arith, few after-digits) }
+    record {
+      value = rw (text_length, sign_other c.args.x (rw (to_z-of_z c.ranges.x) at c.if-x-lt0.false))
+          (omega (arith, whole after-digits));
+      upper_bound = omega (arith, few after-digits);
+    }

@@ -17,7 +17,7 @@ use Rattle.decimal.proofs.Leading.{leads_number, leads_none, stands_byte}
 use Rattle.degrees.specs.Degrees.{point}
 use Rattle.degrees.proofs.Sizes.{size_bad, size_plain, size_none, size_many, size-some}
 use Rattle.degrees.proofs.size_at.Goals as goal
-use Rattle.degrees.proofs.size_at.Goals.{After-leading_at, After-run_at-run, After-stands, Else-count-gt3, In-Number, Start}
+use Rattle.degrees.proofs.size_at.Goals.{Else-count-gt3}
 
 -- filled up with zeros, three digits are below 100,000
 cond_below : (n v : ℕ) → v < 1000 → cond (eqb n 1) (v * 100) (cond (eqb n 2) (v * 10) v) < 100000

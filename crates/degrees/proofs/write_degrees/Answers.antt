@@ -12,7 +12,7 @@ use Rattle.text.proofs.Parts.{Left, left_all, left_next, left_last}
 use Rattle.decimal.specs.Decimal.{digits_of}
 use Rattle.degrees.specs.Degrees.{point, sign, three_digits, degrees_text}
 use Rattle.degrees.proofs.write_degrees.Goals as goal
-use Rattle.degrees.proofs.write_degrees.Goals.{After-degrees_length, After-has_room, After-magnitude-size, After-put_sign-whole, Else-not-has_room, Start}
+use Rattle.degrees.proofs.write_degrees.Goals.{After-put_sign-whole}
 use mathlib.Core.Path.{sym}
 use mathlib.Core.Path.{◌∙◌}
 

@@ -11,7 +11,7 @@ use Rattle.desk_line.proofs.Few.{Small, refused_few}
 use Rattle.desk_line.proofs.Put.{puts}
 use borrow.Author.Rules.{rules}
 use Rattle.desk_line.proofs.put_refused.Goals as goal
-use Rattle.desk_line.proofs.put_refused.Goals.{After-carried, After-write_bytes-number, After-write_field-why, Start}
+use Rattle.desk_line.proofs.put_refused.Goals.{After-carried}
 
 abbrev Whole : After-carried → List ℕ
 Whole c = refused_line (c.args.line ∷ []) c.args.r

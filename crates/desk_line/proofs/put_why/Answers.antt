@@ -8,9 +8,8 @@ use Rattle.decimal.specs.Field.{tab, line_feed, field_text}
 use Rattle.text.proofs.Laws.{laid_none}
 use Rattle.text.proofs.Parts.{Left, left_next, left_last}
 use Rattle.desk_line.specs.Said.{why_text}
-use borrow.Author.Rules.{rules}
 use Rattle.desk_line.proofs.put_why.Goals as goal
-use Rattle.desk_line.proofs.put_why.Goals.{After-write_field-next, Else-number-eq-ITEM, Start}
+use Rattle.desk_line.proofs.put_why.Goals.{After-write_field-next, Else-number-eq-ITEM}
 
 both : (c : After-write_field-next) → why_text c.args.number c.args.value ≡ field_text c.args.number tab ++ field_text c.args.value line_feed
 unfolding why_text

@@ -2,7 +2,6 @@
 use mathlib.Core.List.{[], ◌∷◌}
 use Rattle.desk_line.specs.Said.{refused}
 use Rattle.desk_line.proofs.Put.{finished, without}
-use borrow.Author.Rules.{rules}
 use Rattle.desk_line.proofs.refuse_in.Goals as goal
 
 pub returns-then-out-lt-LONGEST_LINE : goal.returns-then-out-lt-LONGEST_LINE

@@ -1,5 +1,4 @@
 -- `peak_lines::put_file` meets its contract, by its test. Assumes nothing.
-use borrow.Author.Rules.{rules}
 use borrow.Author.Tests.{eq-eqb, ne_eqb}
 use Rattle.text.proofs.Parts.{wrote_none}
 use Rattle.peak_lines.specs.Lines.{file_text}

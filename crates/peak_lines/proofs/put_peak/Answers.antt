@@ -1,14 +1,11 @@
 -- `peak_lines::put_peak` meets its contract: the line is written part by part, each taking itself off what is left of
 -- it. Assumes nothing.
-use Prim.Native.Nat.{ℕ, ◌+◌, ◌≤◌}
-use mathlib.Core.Path.{◌≡◌, ap, ◌∙◌}
+use Prim.Native.Nat.{ℕ, ◌+◌}
 use mathlib.Core.List.{List, [], ◌∷◌, ◌++◌}
-use native.Mathlib.Omega.{arith}
 use mir.Facts.{to_z-of_z}
 use mir.Syntax.{w32}
 use mir.Val.{SFits}
 use borrow.Author.Rules.{rules}
-use lib.ListN.{length}
 use Rattle.text.proofs.Parts.{Left, left_all, left_next, left_last}
 use Rattle.decimal.specs.Field.{tab, line_feed, field_text}
 use Rattle.degrees.specs.Degrees.{degrees_text}

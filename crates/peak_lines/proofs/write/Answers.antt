@@ -1,12 +1,11 @@
 -- `peak_lines::write` meets its contract, test by test. Assumes nothing.
-use Prim.Native.Nat.{ℕ, ◌+◌, ◌*◌, ◌≤◌, ◌<◌}
+use Prim.Native.Nat.{◌+◌, ◌*◌, ◌<◌}
 use mathlib.Core.Path.{◌≡◌, sym, ◌∙◌}
 use mathlib.Core.Bool.{true}
 use native.Mathlib.Omega.{arith}
 use borrow.Author.Rules.{rules}
 use borrow.Author.Tests.{leb-true}
 use lib.ListN.{length}
-use Rattle.truth.proofs.Laws.{said_no, said_yes}
 use Rattle.peak_lines.specs.Lines.{room_for}
 use Rattle.peak_lines.proofs.Laws.{lines_few, writes_none, writes_all, uneven, no_room, all_room}
 use Rattle.peak_lines.proofs.write.Goals as goal

@@ -7,7 +7,7 @@ use Rattle.peak_stream.specs.Reading.{read}
 use Rattle.peak_stream.proofs.Bounds.{most_few}
 use Rattle.peak_stream.proofs.Passing.{add_yes, add_no}
 use Rattle.peak_stream.proofs.add.Goals as goal
-use Rattle.peak_stream.proofs.add.Goals.{After-read-next, Start}
+use Rattle.peak_stream.proofs.add.Goals.{After-read-next}
 
 pub overflow_add-result : goal.overflow_add-result
 overflow_add-result c =

@@ -1,6 +1,6 @@
 -- `sheet_fault::put_fault` meets its contract: the word, the sheet's place, its line, and the reason. Assumes nothing.
 use Prim.Native.Nat.{ℕ}
-use mathlib.Core.Path.{◌≡◌, refl}
+use mathlib.Core.Path.{refl}
 use mathlib.Core.List.{List, ◌++◌}
 use native.Mathlib.Omega.{arith}
 use Rattle.decimal.specs.Field.{tab, field_text}
@@ -12,7 +12,7 @@ use Rattle.sheet_fault.specs.Fault.{number_then, refused_sheet, sheet_fault}
 use Rattle.sheet_fault.proofs.Few.{fault_few}
 use borrow.Author.Rules.{rules}
 use Rattle.sheet_fault.proofs.put_fault.Goals as goal
-use Rattle.sheet_fault.proofs.put_fault.Goals.{After-write_field-third, Start}
+use Rattle.sheet_fault.proofs.put_fault.Goals.{After-write_field-third}
 
 abbrev Why : After-write_field-third → List ℕ
 Why c = let a = c.args in number_then a.number a.told a.value

@@ -7,9 +7,8 @@ use Rattle.decimal.specs.Field.{tab, line_feed, field_text}
 use Rattle.text.proofs.Laws.{laid_none}
 use Rattle.text.proofs.Parts.{Left, left_next, left_last}
 use Rattle.sheet_fault.specs.Fault.{number_then}
-use borrow.Author.Rules.{rules}
 use Rattle.sheet_fault.proofs.put_why.Goals as goal
-use Rattle.sheet_fault.proofs.put_why.Goals.{After-write_field-next, Else-told, Start}
+use Rattle.sheet_fault.proofs.put_why.Goals.{After-write_field-next, Else-told}
 
 abbrev Text : After-write_field-next → List ℕ
 Text c = number_then c.args.number c.args.told c.args.value

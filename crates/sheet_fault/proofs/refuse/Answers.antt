@@ -1,7 +1,6 @@
 -- `sheet_fault::refuse` meets its contract: there is room for any line or not. Assumes nothing.
 use Rattle.desk_line.proofs.Put.{finished, without}
 use Rattle.sheet_fault.specs.Fault.{refused_sheet}
-use borrow.Author.Rules.{rules}
 use Rattle.sheet_fault.proofs.refuse.Goals as goal
 
 pub returns-then-out-lt-LONGEST_LINE : goal.returns-then-out-lt-LONGEST_LINE

@@ -3,7 +3,6 @@
 use native.Mathlib.Omega.{arith}
 use Rattle.truth.proofs.Laws.{holds}
 use Rattle.campaign_state.proofs.Relations.{kept_from}
-use borrow.Author.Rules.{rules}
 use Rattle.sheet_line.proofs.bad_record.Goals as goal
 
 pub overflow_add-line : goal.overflow_add-line

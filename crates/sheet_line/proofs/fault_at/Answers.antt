@@ -2,9 +2,6 @@
 use mathlib.Core.Path.{◌≡◌, sym, ◌∙◌}
 use mathlib.Core.Bool.{true, false}
 use lib.ListN.{drop}
-use borrow.Author.Rules.{rules}
-use borrow.Author.Tests.{eqb-false, eqb-true}
-use Rattle.truth.proofs.Laws.{said_no, said_yes}
 use Rattle.sheet_line.specs.Field.{ends_here}
 use Rattle.sheet_line.proofs.Faults.{inside, is_empty, is_strange, is_leading_zero, is_too_long}
 use Rattle.sheet_line.proofs.fault_at.Goals as goal

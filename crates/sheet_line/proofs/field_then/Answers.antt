@@ -8,7 +8,6 @@ use lib.ListN.{drop_of_length-le}
 use lib.Seq.{drop-cons}
 use Rattle.sheet_line.specs.Field.{field_at}
 use Rattle.sheet_line.specs.Line.{starts_with, ended_by, field_then}
-use borrow.Author.Rules.{rules}
 use Rattle.sheet_line.proofs.field_then.Goals as goal
 use Rattle.sheet_line.proofs.field_then.Goals.{After-number_at-field}
 

@@ -7,7 +7,6 @@ use lib.ListN.{length}
 use Rattle.sheet_line.specs.Field.{field_at}
 use Rattle.sheet_line.proofs.Back.{read_only}
 use Rattle.sheet_line.proofs.Faults.{strange_place, strange_within}
-use borrow.Author.Rules.{rules}
 use Rattle.sheet_line.proofs.look_at.Goals as goal
 use Rattle.sheet_line.proofs.look_at.Goals.{After-number_at-f, In-Number}
 

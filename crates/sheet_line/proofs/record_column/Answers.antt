@@ -1,9 +1,6 @@
 -- `sheet_line::record_column` meets its contract: the line as a whole goes first. Assumes nothing.
 use mathlib.Core.Path.{◌∙◌}
-use Rattle.truth.proofs.Laws.{said_no, said_yes}
 use Rattle.sheet_line.specs.Column.{record_column}
-use Rattle.sheet_line.proofs.Columns.{line_short}
-use borrow.Author.Rules.{rules}
 use Rattle.sheet_line.proofs.record_column.Goals as goal
 use mathlib.Core.Path.{sym}
 

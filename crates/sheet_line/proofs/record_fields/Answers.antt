@@ -1,6 +1,5 @@
 -- `sheet_line::record_fields` meets its contract: field by field from the left (`Columns`). Assumes nothing.
 use Rattle.sheet_line.proofs.Columns.{by_number, by_flag, by_exposure}
-use borrow.Author.Rules.{rules}
 use Rattle.sheet_line.proofs.record_fields.Goals as goal
 
 pub returns-then-number-ne0 : goal.returns-then-number-ne0

@@ -6,14 +6,13 @@ use mathlib.Core.Path.{◌≡◌, sym, ap, ◌∙◌}
 use mathlib.Core.Bool.{true}
 use mathlib.Core.List.{List}
 use native.Mathlib.Omega.{arith}
-use Rattle.truth.proofs.Laws.{holds, said_no, said_yes}
+use Rattle.truth.proofs.Laws.{holds}
 use Rattle.campaign_state.proofs.Relations.{kept_from}
 use Rattle.decimal.specs.Field.{tab, line_feed}
 use Rattle.sheet_line.specs.declared.Field.TheVariants.{Number}
 use Rattle.sheet_line.specs.Form.{is_sheet_line}
 use Rattle.sheet_line.specs.Line.{field_then, is_record, line_after, outcome, record_line}
 use Rattle.sheet_line.proofs.Fields.{other_field}
-use borrow.Author.Rules.{rules}
 use Rattle.sheet_line.proofs.record_line.Goals as goal
 use Rattle.sheet_line.proofs.record_line.Goals.{After-both-2, Else-not-is_line, In-Number, In-Number-field_then, In-Number-field_then-2}
 

@@ -1,7 +1,5 @@
 -- `sheet_line::standard_fields` meets its contract: the word, then the number. Assumes nothing.
-use Rattle.truth.proofs.Laws.{said_no, said_yes}
 use Rattle.sheet_line.specs.Column.{standard_fields}
-use borrow.Author.Rules.{rules}
 use Rattle.sheet_line.proofs.standard_fields.Goals as goal
 use mathlib.Core.Path.{sym}
 use mathlib.Core.Path.{◌∙◌}

@@ -6,11 +6,9 @@ use borrow.Author.Tests.{eq-eqb, ne_eqb}
 use lib.ListN.{length}
 use Rattle.decimal.specs.Field.{line_feed}
 use Rattle.sheet_line.specs.declared.Field.TheVariants.{Number}
-use Rattle.truth.proofs.Laws.{said_no, said_yes}
 use Rattle.sheet_line.specs.Form.{standard_start, begins, is_sheet_line}
 use Rattle.sheet_line.specs.Line.{field_then, outcome, standard_line}
 use Rattle.sheet_line.proofs.Fields.{other_field}
-use borrow.Author.Rules.{rules}
 use Rattle.sheet_line.proofs.standard_line.Goals as goal
 use Rattle.sheet_line.proofs.standard_line.Goals.{Else-not-begins, Else-not-is_line, In-Number}
 

@@ -1,7 +1,6 @@
 -- `sheet_line::tell` meets its contract: each answer follows from the tests that led to it. Assumes nothing.
 use borrow.Author.Tests.{eq-eqb, le-ltb, lt-ltb, ne_eqb}
 use Rattle.sheet_line.specs.Line.{telling}
-use borrow.Author.Rules.{rules}
 use Rattle.sheet_line.proofs.tell.Goals as goal
 
 pub returns-then-exposure-eq0 : goal.returns-then-exposure-eq0

@@ -2,10 +2,9 @@
 use borrow.Author.Tests.{leb-true}
 use lib.Dec.{leb}
 use Rattle.sample_items.specs.Limits.{longest_time}
-use Rattle.truth.proofs.Laws.{and-true, holds, said_no, said_yes}
+use Rattle.truth.proofs.Laws.{and-true, holds}
 use Rattle.campaign_state.specs.Answers.{entering}
 use Rattle.campaign_state.proofs.Relations.{kept_from}
-use borrow.Author.Rules.{rules}
 use Rattle.campaign_state.proofs.Campaign.enter.Goals as goal
 use mathlib.Core.Path.{sym}
 use mathlib.Core.Path.{◌∙◌}

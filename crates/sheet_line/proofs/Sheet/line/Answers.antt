@@ -1,7 +1,5 @@
 -- `Sheet::line` meets its contract: line 1 or a later one, by where the reading stands. Assumes nothing.
-use Rattle.truth.proofs.Laws.{said_no, said_yes}
 use Rattle.sheet_line.specs.Line.{stepping}
-use borrow.Author.Rules.{rules}
 use Rattle.sheet_line.proofs.Sheet.line.Goals as goal
 use mathlib.Core.Path.{sym}
 use mathlib.Core.Path.{◌∙◌}

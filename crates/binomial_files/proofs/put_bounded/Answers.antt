@@ -1,0 +1,11 @@
+-- `binomial_files::put_bounded` meets its contract, by its two cases. Assumes nothing.
+use mathlib.Core.Path.{sym, ap}
+use Rattle.desk_line.proofs.Put.{puts_same, with_room}
+use Rattle.binomial_files.specs.Files.{refused_in}
+use Rattle.binomial_files.specs.Adding.{said_bounded}
+use Rattle.binomial_files.proofs.put_bounded.Goals as goal
+
+pub returns-in-Refused : goal.returns-in-Refused
+returns-in-Refused c =
+    puts_same (sym (ap (said_bounded c.args.s) c.in-Refused.is))
+    (with_room (refused_in 0 0 _) c.requires c.refuse_in.ensures.value c.refuse_in.ensures.out_after)

@@ -6,11 +6,11 @@ use Rattle.campaign_verdict.specs.declared.Rates.{Rates}
 use Rattle.binomial_bounds.specs.declared.Bounds.{Bounds}
 use Rattle.binomial_bounds.specs.HalfWidth.{half_width}
 
--- a sum's half_width_lem m
+-- a sum's half-width m
 abbrev pub width : Sum → ℕ
 width s = half_width s.failures s.samples
 
--- 1,000·N, 1,000·N - m, which is 0 where that falls below, 1,000·N + m; and P-as-D
+-- 1,000·N, 1,000·N - m, which is 0 where that falls below, 1,000·N + m; and P·D
 abbrev pub bounds_of : Sum → Bounds
 bounds_of s =
     record {
@@ -20,7 +20,7 @@ bounds_of s =
       time = s.samples * s.step;
     }
 
--- each over P-as-D, one rounded division, is its rate: thousandths in ms are failures in s
+-- each over P·D, one rounded division, is its rate: thousandths in ms are failures in s
 abbrev pub three : Sum → Rates
 three s =
     record {

@@ -1,4 +1,4 @@
--- Document 02, [7]: the half_width_lem of N failures among P samples, in thousandths of a failure, by 1.960. Assumes nothing.
+-- Document 02, [7]: the half-width of N failures among P samples, in thousandths of a failure, by 1.960. Assumes nothing.
 use Rattle.std.specs.Prelude.{ℕ}
 use Rattle.root.specs.HalfWidth as root
 

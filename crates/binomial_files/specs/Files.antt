@@ -16,7 +16,7 @@ use Rattle.comma_line.specs.Text.{samples_of}
 use Rattle.desk_line.specs.Said.{Said, read_digit, refused}
 use Rattle.comma_count.specs.Line.{one_channel, file_then}
 
--- N, P, the estimate, its lower and its upper bound in thousandths of a failure, and P-as-D in ms
+-- N, P, the estimate, its lower and its upper bound in thousandths of a failure, and P·D in ms
 unfoldable pub sum_line : Sum → Bounds → List ℕ
 sum_line s b =
     field_text s.failures tab

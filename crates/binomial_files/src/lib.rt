@@ -128,7 +128,7 @@ fn put_added(a: Added, out: &mut [u8]) -> Finished
 }
 
 // Writes the line of the files to the start of `out`: N, P, the estimate, its lower and its upper bound in thousandths
-// of a failure, and P.D in ms; or refused, the number of the file at fault or 0, its line or 0, the refusal's number,
+// of a failure, and P·D in ms; or refused, the number of the file at fault or 0, its line or 0, the refusal's number,
 // and after 1 the item. Without room for any line nothing is written, and the program ends as failed.
 pub fn finish(a: Added, out: &mut [u8]) -> Finished
     ensures value { result ≡ putting (added_said a) out.old }

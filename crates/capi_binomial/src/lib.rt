@@ -89,7 +89,7 @@ pub fn chim_sum_add(state: &mut [u64], added: &[u64], carried: &mut u64) -> u64
     keep_sum(s.add(r), state, carried)
 }
 
-// The bounds in thousandths of a failure and P.D in `bounds`, and 1 in `carried`; 0 and bounds of 0 while there is no
+// The bounds in thousandths of a failure and P·D in `bounds`, and 1 in `carried`; 0 and bounds of 0 while there is no
 // record; or refusal 8.
 #[tactic(auto, unfolding(crate::specs::Told::sum_bounded, crate::specs::Told::bounds_told))]
 pub fn chim_sum_bounds(state: &[u64], bounds: &mut [u64], carried: &mut u64) -> u64

@@ -23,7 +23,7 @@ pub extern "C" fn chim_sum_add(state: &mut [u64], added: &[u64], carried: &mut u
     capi_binomial::chim_sum_add(state, added, carried)
 }
 
-// The bounds in thousandths of a failure and P.D in `bounds`, and 1 in `carried`; 0 and bounds of 0 while there is no
+// The bounds in thousandths of a failure and P·D in `bounds`, and 1 in `carried`; 0 and bounds of 0 while there is no
 // record; or refusal 8.
 #[unsafe(no_mangle)]
 pub extern "C" fn chim_sum_bounds(state: &[u64], bounds: &mut [u64], carried: &mut u64) -> u64

@@ -239,7 +239,7 @@ highest_items_taken : Taken (1000000 ∷ 500000 ∷ []) 2 1000000 10000 2 100000
 unfolding extrapolated reached item_outside first_out_after figures our_figure doublings squarings
 highest_items_taken = refl
 
--- ---- with 10 samples each of them has a peak and the half_width_lem is 0; with 11 it is 2.132 failures
+-- ---- with 10 samples each of them has a peak and the half-width is 0; with 11 it is 2.132 failures
 count_of_all : count_width 10 10 ≡ 0
 count_of_all = all_failures 2236 10
 

@@ -174,6 +174,7 @@ decide refused (t ∷ ts) x = cond t.holds (refused t.gives) (decide refused ts 
 module _ {A : Type 0} (refused : Refusal → A) (proper : A) (own : (r s : Refusal) → refused r ≡ refused s → r ≡ s) (apart : (r : Refusal) → ¬ (proper ≡ refused r)) where
   refuses : (ts : List Test) (r : Refusal) → First ts r → decide refused ts proper ≡ refused r
   unfolding decide
+  refuses [] r x' = elim x' [ ]
   refuses (t ∷ ts) r (here h) = rw h
   refuses (t ∷ ts) r (later h f) = rw h (refuses ts r f)
 

@@ -289,10 +289,12 @@ small r = ¬ (number_of r ≡ 9) × ¬ (number_of r ≡ 8)
 
 says_small : {s : Sheet} {line : List ℕ} {ts : List Test} {t : Sheet} → Says s line ts t → (r : Refusal) → First ts r → small r
 says_small (standard q few) r (here h) = (λ e. omega arith, λ e. omega arith)
+says_small (standard q few) r (later a x) = elim x [ ]
 says_small (record_of_lem c flag exposure f few) r (here h) = (λ e. omega arith, λ e. omega arith)
 says_small (record_of_lem c flag exposure f few) r (later a (here h)) = (λ e. omega arith, λ e. omega arith)
 says_small (record_of_lem c flag exposure f few) r (later a (later b (here h))) = (λ e. omega arith, λ e. omega arith)
 says_small (record_of_lem c flag exposure f few) r (later a (later b (later d (here h)))) = (λ e. omega arith, λ e. omega arith)
+says_small (record_of_lem c flag exposure f few) r (later a (later b (later d (later _ x)))) = elim x [ ]
 
 same_stop : {n k m j : ℕ} {r q : Refusal} → Stopped n k r ≡ Stopped m j q → (n ≡ m) × (r ≡ q)
 same_stop e = (cc, cc)

@@ -1,5 +1,5 @@
 -- Document 02, [4], [5], [7] and [8]: records, results and sums, computed of the definitions: each figure of a result,
--- the gap that parts two groups, each relation for 8 just kept and just broken, the half_width_lem, the bounds and which
+-- the gap that parts two groups, each relation for 8 just kept and just broken, the half-width, the bounds and which
 -- rate is which, and either channel. Each declaration has the name of its sentence. Assumes nothing.
 use mathlib.Core.Path.{◌≡◌, refl}
 use mathlib.Core.Bool.{Bool, false, true}
@@ -227,7 +227,7 @@ half_width_figures :
 unfolding root.half_width first_from
 half_width_figures = refl
 
--- 1,000·N, lower, upper, P-as-D; lower is 0 where 1,000·N - m falls below
+-- 1,000·N, lower, upper, P·D; lower is 0 where 1,000·N - m falls below
 bounds_figures :
     map bounds_of (sum 500 1 100 ∷ sum 7 9 1000 ∷ [])
     ≡ record { estimate = 1000; lower = 0; upper = 2951; time = 50000 }
@@ -236,7 +236,7 @@ bounds_figures :
 unfolding root.half_width first_from
 bounds_figures = refl
 
--- each over P-as-D is its rate; without a record 0
+-- each over P·D is its rate; without a record 0
 rates_figures :
     map rates_of (sum 7 9 1000 ∷ sum 7 0 0 ∷ [])
     ≡ record { estimate = quotient 9000 7000; lower = quotient 3146 7000; upper = quotient 14854 7000 }

@@ -150,7 +150,7 @@ pub record Request14 : Type 0 where
   pub higher_peaks : (ys zs : List ℕ) (k c D P q p : ℕ) (t s : Times) (l m : Letter) → kth ys k ≡ kth zs k
       → ((i : ℕ) → i < k → get_or ys i 0 ≤ get_or zs i 0)
       → extrapolated ys k c D P q ≡ Found t l → extrapolated zs k c D P p ≡ Found s m → NoShorter s t
-  -- more samples: E and B grow, and A where the half_width_lem is the same; A alone need not
+  -- more samples: E and B grow, and A where the half-width is the same; A alone need not
   pub more_samples : (ys : List ℕ) (k c D P Q q p : ℕ) (t s : Times) (l m : Letter) → P ≤ Q
       → extrapolated ys k c D P q ≡ Found t l → extrapolated ys k c D Q p ≡ Found s m
       → (t.estimate ≤ s.estimate) × (1 ≤ s.rejected → (1 ≤ t.rejected) × (t.rejected ≤ s.rejected))

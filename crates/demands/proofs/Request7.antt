@@ -2,7 +2,7 @@
 -- 02's order (demand 1); a sum goes in by value and a refusal hands none out, so nothing is added. N is the counted
 -- groups and P the timed samples of the records that were added, in whatever order, and a record in pieces, cut
 -- anywhere, adds what the whole one does: the groups of its joined samples, and how many of them stand at the ramp's
--- end or after it. The half_width_lem is the least whole number whose square times P is at least 1,960² · N · (P - N), and
+-- end or after it. The half-width is the least whole number whose square times P is at least 1,960² · N · (P - N), and
 -- there is one. "No record" is answered exactly while nothing was added.  D is the step, R the ramp, a the levels and τ
 -- the decorrelation time. Assumes nothing.
 use mathlib.Core.Path.{◌≡◌, ap, refl}
@@ -79,7 +79,7 @@ pub record Request7 : Type 0 where
       → records.opened items ≡ read.Taken s → AllTaken s ps t → adding x t ≡ adding x (state_of items (samples_of (joined ps)))
   pub adds : (items : Items) (xs : List Moment) (x y : Sum) → adding x (state_of items xs) ≡ Taken y
       → y ≡ grown x (length (groups items xs)) (length xs - items.ramp)
-  -- the half_width_lem is the least such number, and the only one; it is 0 without a failure and where every sample failed
+  -- the half-width is the least such number, and the only one; it is 0 without a failure and where every sample failed
   pub least : (N P : ℕ) → HalfWidth N P (half_width N P)
   pub only : (N P m n : ℕ) → HalfWidth N P m → HalfWidth N P n → m ≡ n
   -- 1,960² by cases: 1 failure in 2 samples, 1 in 10,000, 4 in 100

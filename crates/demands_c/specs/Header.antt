@@ -1,4 +1,4 @@
--- The numbers of include/chimenickel.h, by its names (a hyphen for each underscore), in its order. tests/header holds
+-- The numbers of include/chimenickel.h, by its names, in its order. tests/header holds
 -- this table and the header to each other; what the numbers mean here is in proofs/Header. Assumes nothing.
 use Rattle.std.specs.Prelude.{ℕ}
 

@@ -1,42 +1,37 @@
 -- WHAT IS WRITTEN OF A FILE that is read twice, however either reading is cut, is what is said of its text
 -- (`file_anywhere`), and of several files, one after the other, what is said of theirs (`files_anywhere`). Assumes
 -- nothing.
-use Prim.Native.Nat.{ℕ, ◌+◌, ◌*◌, ◌-◌, ◌^◌, ◌≤◌, ◌<◌}
+use Prim.Native.Nat.{ℕ, ◌+◌, ◌-◌, ◌≤◌}
 use mathlib.Core.Path.{◌≡◌, refl, sym, ap, subst, ◌∙◌}
 use mathlib.Core.Logic.{◌⊎◌, inl, inr}
-use mathlib.Core.Bool.{Bool, true, false, cond, not, ◌&&◌}
+use mathlib.Core.Bool.{Bool, true, false, cond, not}
 use mathlib.Core.List.{List, [], ◌∷◌, ◌++◌, map, foldl, append-nil}
 use native.Mathlib.Omega.{arith}
 use lib.Dec.{eqb}
 use lib.IntN.{ℤ}
-use lib.ListN.{length, take, drop, replicate, length-replicate, length-append, length-drop, length-map}
+use lib.ListN.{length, drop, replicate, length-replicate, length-append, length-drop, length-map}
 use lib.Seq.{take_all}
 use borrow.Author.Tests.{eq-eqb, eqb-true}
 use Rattle.truth.proofs.Cases.{by_test}
-use Rattle.truth.proofs.Laws.{both_true, impossible, past}
-use Rattle.refusal.specs.declared.Refusal.{Refusal}
+use Rattle.truth.proofs.Laws.{both_true, impossible}
 use Rattle.crossing_sets.specs.Parting.{together}
 use Rattle.sample_items.specs.Limits.{step_in_range, ramp_in_range, level_in_range, decorrelation_in_range, item_outside, most_in_range}
 use Rattle.sample_items.proofs.Ranges.{low}
-use Rattle.decimal.specs.Decimal.{longest}
 use Rattle.decimal.specs.Lines.{lines_of}
 use Rattle.text.specs.Pieces.{joined}
 use Rattle.sample_range.specs.Range.{first_bad}
 use Rattle.sample_range.proofs.Bad.{bad_within}
 use Rattle.degrees.specs.Degrees.{sample_of}
 use Rattle.comma_line.specs.Line.{roll}
-use Rattle.comma_line.specs.Text.{first_wrong, samples_of}
+use Rattle.comma_line.specs.Text.{samples_of}
 use Rattle.comma_count.proofs.Joining.{held_same}
 use Rattle.comma_stream.specs.declared.Follow.{Follow}
 use Rattle.comma_stream.specs.Follow.{held, after_lines}
-use Rattle.comma_stream.specs.Pieces as stream
 use Rattle.comma_stream.proofs.Pieces.{Rights, Left}
 use Rattle.comma_stream.proofs.Whole.{lines_few, all_right, one_wrong}
-use Rattle.peak_groups.specs.declared.Peak.{Peak}
 use Rattle.peak_groups.specs.Peaks.{handed, short}
 use Rattle.peak_lines.specs.Lines.{peaks_text}
 use Rattle.peak_stream.specs.declared.Surveying.{Surveying}
-use Rattle.peak_stream.specs.declared.Surveyed.{Surveyed}
 use Rattle.peak_stream.specs.declared.Surveyed.TheVariants as survey
 use Rattle.peak_stream.specs.declared.Handing.{Handing}
 use Rattle.peak_stream.specs.declared.Handed.{Handed}
@@ -53,14 +48,14 @@ use Rattle.comma_peaks.specs.Judged.{comes_to, judging, alike}
 use Rattle.comma_peaks.proofs.Judges.{right_judged, wrong_judged}
 use Rattle.comma_peaks.proofs.Blocks.{drop_join, counted_anywhere}
 use Rattle.comma_peaks.proofs.Handed.{handed_anywhere}
-use Rattle.comma_peaks.proofs.Peaks.{Fine, fine, samples_are, samples_small, samples_few}
+use Rattle.comma_peaks.proofs.Peaks.{Fine, fine, samples_small, samples_few}
 use Rattle.desk_line.specs.Said.{Said, read_digit}
 use Rattle.peak_files.specs.declared.Pass.{Pass}
 use Rattle.peak_files.specs.Said.{peaks_read, nothing, judged_said, file_said, then_said, files_from, items_said, searched, peaks_said, files_said}
-use Rattle.peak_files.specs.Passing.{fresh, opening, again, begins, begun_by, given_by, handed_on, last_by, unless_refused, hands_out, hands_over, judged, alike_by, same_file, finishing}
-use Rattle.peak_files.specs.Reading.{Run, starting, running, Way, finished_by, wrote, Twice, one_of, two_of, both_wrote, ReadTwice, files_wrote, AllTwice}
-use Rattle.peak_files.proofs.Front.{At, Done, at_start}
-use Rattle.peak_files.proofs.Runs.{Ran, RanOf, ran, on_blocks, given_all}
+use Rattle.peak_files.specs.Passing.{fresh, opening, again, begins, begun_by, last_by, unless_refused, judged, alike_by, same_file, finishing}
+use Rattle.peak_files.specs.Reading.{Run, starting, running, finished_by, wrote, Twice, one_of, two_of, both_wrote, ReadTwice, files_wrote, AllTwice}
+use Rattle.peak_files.proofs.Front.{Done, at_start}
+use Rattle.peak_files.proofs.Runs.{Ran, ran, on_blocks, given_all}
 
 -- ---- a second reading hands out what `handing_blocks` says, since nothing is refused
 module _ (R : ℕ) where

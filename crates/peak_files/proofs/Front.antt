@@ -1,30 +1,27 @@
 -- The lines of a reading, call by call: where it stands is after a front of the right lines of the text so far (`At`),
 -- until it is over, after all of them (`Done`). A call keeps this (`call`), however the text is cut. Assumes nothing.
-use Prim.Native.Nat.{ℕ, zero, suc, ◌+◌, ◌*◌, ◌-◌, ◌≤◌, ◌<◌}
+use Prim.Native.Nat.{ℕ, zero, suc, ◌+◌, ◌*◌, ◌≤◌, ◌<◌}
 use mathlib.Core.Path.{◌≡◌, refl, sym, ap, subst, ◌∙◌}
 use mathlib.Core.Logic.{◌⊎◌, inl, inr}
 use mathlib.Core.Bool.{Bool, true, false, cond, ◌&&◌}
-use mathlib.Core.List.{List, [], ◌∷◌, ◌++◌, map, append-nil, append_assoc}
+use mathlib.Core.List.{List, [], ◌∷◌, ◌++◌, append-nil}
 use native.Mathlib.Nat.{zero-add}
 use native.Mathlib.Omega.{arith}
 use lib.Dec.{eqb, ltb}
 use lib.ListN.{length, take, drop, length-append, length-take}
-use lib.Seq.{take_all, take_at, drop-drop, drop_at, length-take-le}
-use borrow.Author.Tests.{eq-eqb, ne_eqb, eqb-true, eqb-false, lt-ltb, le-ltb, ltb-true, ltb-false}
-use Rattle.truth.proofs.Cases.{by_test, by_order}
+use lib.Seq.{take_all, drop-drop}
+use borrow.Author.Tests.{ne_eqb, eqb-false, ltb-true}
+use Rattle.truth.proofs.Cases.{by_test}
 use Rattle.truth.proofs.Laws.{impossible}
 use Rattle.sample_items.specs.Limits.{step_in_range}
 use Rattle.sample_range.specs.Range.{first_bad}
-use Rattle.decimal.specs.Lines.{lines_of}
-use Rattle.comma_line.specs.Text.{samples_of}
-use Rattle.comma_stream.specs.declared.Follow.{Follow}
 use Rattle.comma_stream.specs.declared.Rest.{Rest}
 use Rattle.comma_stream.specs.declared.Rest.TheVariants.{Waits, Over, Wrong}
-use Rattle.comma_stream.specs.Follow.{bytes_of, held, right_lines, after_lines, may_begin, resting}
+use Rattle.comma_stream.specs.Follow.{bytes_of, right_lines, after_lines, may_begin, resting}
 use Rattle.comma_stream.proofs.Pieces.{Rights, Left, joins, after_join}
 use Rattle.comma_stream.proofs.Whole.{Parts, part, stays}
 use Rattle.peak_files.specs.declared.Pass.{Pass}
-use Rattle.peak_files.specs.Passing.{fresh, with_samples, given_text, Called, rested, lines_in, samples_in, rest_of, calling, room_asked, most_lines}
+use Rattle.peak_files.specs.Passing.{fresh, with_samples, given_text, Called, rested, lines_in, samples_in, rest_of, calling, room_asked}
 use Rattle.peak_files.proofs.Laws.{going_on}
 
 -- ---- lists

@@ -3,7 +3,7 @@
 use Prim.Native.Nat.{ℕ, ◌+◌, ◌*◌, ◌-◌, ◌≤◌, ◌<◌}
 use mathlib.Core.Path.{◌≡◌, refl, sym, ap, subst, ◌∙◌}
 use mathlib.Core.Bool.{Bool, true, false, cond, not}
-use mathlib.Core.List.{List, [], ◌∷◌, ◌++◌, map, foldl}
+use mathlib.Core.List.{List, [], ◌++◌, map, foldl}
 use native.Mathlib.Nat.{zero-add}
 use native.Mathlib.Omega.{arith}
 use lib.Dec.{ltb}
@@ -12,14 +12,14 @@ use lib.ListN.{length, take, drop, replicate, length-take, length-drop, length-m
 use lib.Seq.{take_at, length-take-le}
 use borrow.Author.Tests.{lt-ltb, le-ltb, le-leb}
 use Rattle.truth.proofs.Cases.{by_test}
-use Rattle.truth.proofs.Laws.{impossible, past}
+use Rattle.truth.proofs.Laws.{impossible}
 use Rattle.refusal.specs.declared.Refusal.{Refusal}
 use Rattle.sample_items.specs.Limits.{step_in_range, most_in_range}
 use Rattle.text.specs.Write.{laid}
 use Rattle.text.proofs.Laws.{laid_none, after_fits, written_fits}
 use Rattle.peak_groups.specs.declared.Peak.{Peak}
 use Rattle.peak_machine.specs.Step.{size_of, moment_of}
-use Rattle.peak_lines.specs.Lines.{peak_line, peak_lines, peaks_text, lines_place, lines_left, roomy, room_for}
+use Rattle.peak_lines.specs.Lines.{peak_lines, peaks_text, lines_place, lines_left, roomy}
 use Rattle.peak_lines.proofs.Laws.{lines_few, lines_of, lines_none, all_room}
 use Rattle.peak_stream.specs.declared.Handing.{Handing}
 use Rattle.peak_stream.specs.declared.Handed.{Handed}
@@ -36,13 +36,10 @@ use Rattle.comma_stream.specs.declared.Followed.TheVariants as followed
 use Rattle.comma_stream.specs.Follow.{bytes_of, held, right_lines, after_lines, resting, taking, leaving}
 use Rattle.comma_count.proofs.Way.{took, never_refused}
 use Rattle.comma_peaks.specs.Timed.{timed_of}
-use Rattle.desk_line.specs.declared.Finished.{Finished}
-use Rattle.desk_line.specs.Said.{Puts, read_digit, failed_digit, longest_said}
 use Rattle.peak_files.specs.declared.Pass.{Pass}
 use Rattle.peak_files.specs.declared.Took.{Took}
-use Rattle.peak_files.specs.Said.{peaks_read}
 use Rattle.peak_files.specs.Passing.{hands_over, hands_out, unless_refused, number_of, Gives, Passes, with_samples, given_text, ended_as}
-use Rattle.peak_files.specs.Passing.{Called, rested, took_by, lines_in, samples_in, rest_of, calling, Calls, most_lines, room_asked}
+use Rattle.peak_files.specs.Passing.{Called, rested, took_by, lines_in, samples_in, rest_of, calling, Calls}
 
 -- ---- lines written from the start, with room for each
 module _ (file : ℕ) (sizes times out : List ℕ) (same : length sizes ≡ length times) (room : length sizes * 48 ≤ length out) (small : file < 18446744073709551616) where

@@ -1,18 +1,16 @@
 -- Lines put into lent bytes: none, and one peak's. Assumes nothing.
-use Prim.Native.Nat.{ℕ, ◌+◌, ◌*◌, ◌≤◌, ◌<◌}
+use Prim.Native.Nat.{ℕ, ◌≤◌, ◌<◌}
 use mathlib.Core.Path.{◌≡◌, refl, sym, ap, ◌∙◌}
-use mathlib.Core.Bool.{Bool, true, false, cond}
-use mathlib.Core.List.{List, [], ◌∷◌, ◌++◌}
+use mathlib.Core.List.{List, [], ◌∷◌}
 use native.Mathlib.Omega.{arith}
 use lib.Dec.{ltb}
 use lib.ListN.{length}
 use Rattle.truth.proofs.Cases.{by_test}
 use Rattle.text.proofs.Laws.{laid_none, written_fits}
 use Rattle.peak_groups.specs.declared.Peak.{Peak}
-use Rattle.peak_lines.specs.Lines.{peak_line, peak_lines, peaks_text, lines_place, lines_left}
+use Rattle.peak_lines.specs.Lines.{peak_lines, peaks_text, lines_place, lines_left}
 use Rattle.peak_stream.specs.declared.Handing.{Handing}
 use Rattle.peak_stream.specs.Hands.{last_of, at_end}
-use Rattle.desk_line.specs.declared.Finished.{Finished}
 use Rattle.desk_line.specs.Said.{Said, Puts, read_digit, longest_said}
 use Rattle.peak_files.specs.Said.{peaks_read}
 use Rattle.peak_files.specs.Passing.{peak_in}

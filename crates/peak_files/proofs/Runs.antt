@@ -7,7 +7,7 @@ use mathlib.Core.Bool.{Bool, true, false}
 use mathlib.Core.List.{List, [], ◌∷◌, ◌++◌, map, append-nil, append_assoc, map-append}
 use native.Mathlib.Omega.{arith}
 use lib.IntN.{ℤ}
-use lib.ListN.{length, take, drop, length-map, length-take}
+use lib.ListN.{length, drop, length-map, length-take}
 use Rattle.truth.proofs.Laws.{true≢false}
 use Rattle.crossing_sets.specs.Parting.{together}
 use Rattle.sample_items.specs.Limits.{step_in_range}

@@ -1,6 +1,6 @@
 -- What the functions answer: where a reading stands, from its opening over the pieces of a text to what is written of
 -- it. Assumes nothing.
-use Rattle.std.specs.Prelude.{ℕ, ◌≤◌, ◌≡◌, Bool, true, false, cond, not, ◌&&◌, List, [], ◌∷◌, map, eqb, ltb, ℤ, length, take, drop}
+use Rattle.std.specs.Prelude.{ℕ, ◌≤◌, ◌≡◌, Bool, true, false, cond, not, ◌&&◌, List, [], ◌∷◌, map, ltb, ℤ, length, take, drop}
 use Rattle.refusal.specs.declared.Refusal.TheVariants.{BrokenState}
 use Rattle.sample_items.specs.Limits.{step_in_range}
 use Rattle.text.specs.Write.{laid}

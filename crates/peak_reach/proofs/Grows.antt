@@ -1,5 +1,5 @@
 -- How our three times move: they grow with the level's logarithm and with the time, and fall as the Hill sum grows; of
--- a time that is none, 0, nothing shorter is said. The half_width_lem of the count grows with the samples, so that the
+-- a time that is none, 0, nothing shorter is said. The half-width of the count grows with the samples, so that the
 -- longest accepted standard grows with them where it is the same. Assumes nothing.
 use mathlib.Core.Path.{◌≡◌, refl, sym, ◌∙◌}
 use mathlib.Core.Bool.{Bool, true, false, ◌||◌}
@@ -126,7 +126,7 @@ figures_grow ys zs y (suc n) some all =
       figure_grows (get_or ys n 0) y (get_or zs n 0) y some some (omega arith) (omega arith) (mul-le-mul_right y l),
     )
 
--- the half_width_lem grows with the samples: (P - k) / P does
+-- the half-width grows with the samples: (P - k) / P does
 pub width_grows : (k P Q : ℕ) → 1 ≤ k → k ≤ P → P ≤ Q → count_width k P ≤ count_width k Q
 width_grows k P Q one some l =
     let h = count_width k Q in

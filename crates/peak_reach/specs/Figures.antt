@@ -60,7 +60,7 @@ unfoldable pub shortest_above : ℕ → ℕ → ℕ → ℕ → ℕ → ℕ
 shortest_above kg H w n r =
     cond (leb past (exponent_up kg H w)) 0 (shortest_after (longest_within (r * up_times (exponent_up kg H w)) n))
 
--- there is no lower end: the half_width_lem of the shape, or of the count, is as much as that itself or more
+-- there is no lower end: the half-width of the shape, or of the count, is as much as that itself or more
 abbrev pub no_lower_end : ℕ → ℕ → ℕ → Bool
 no_lower_end k h w = leb million w || leb (1000 * k) h
 

@@ -28,7 +28,7 @@ ExponentReached ys k c f X Z = PowersAtMost (product ys k) (kth ys k ^ k) (X * f
 abbrev pub ExponentNotPassed : List ℕ → ℕ → ℕ → ℕ → ℕ → ℕ → Type 0
 ExponentNotPassed ys k c f X Z = PowersAtMost c (kth ys k) (Z * (million * k)) (product ys k) (kth ys k ^ k) (X * f)
 
--- (16) to (20): the half_width_lem of the count k among P samples, in thousandths, and of the shape, in millionths of it,
+-- (16) to (20): the half-width of the count k among P samples, in thousandths, and of the shape, in millionths of it,
 -- both by 2.236 and rounded up
 pub record HalfWidths (k P h w : ℕ) : Type 0 where
   pub count : HalfWidth 2236 k P h

@@ -29,7 +29,7 @@ pub record Division (i a d x rest : ℕ) : Type 0 where
   pub small : x < 64 * 2 ^ i
 
 -- what a standard is found from: k times the level's logarithm, the Hill sum with all that it may lack, a shape's
--- half_width_lem w, n thousandths of a peak, and r = 1,000 T
+-- half-width w, n thousandths of a peak, and r = 1,000 T
 pub record Given (kg sum w n r : ℕ) : Type 0 where
   pub level : kg ≤ 8589946880
   pub some : 1 ≤ sum

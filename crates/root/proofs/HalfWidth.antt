@@ -1,4 +1,4 @@
--- The half_width_lem: it is the least such number, that of at most 10,000 failures is at most 100 factors, and without a
+-- The half-width: it is the least such number, that of at most 10,000 failures is at most 100 factors, and without a
 -- failure, and where every sample failed, it is 0. Assumes nothing.
 use mathlib.Core.Path.{◌≡◌, sym}
 use mathlib.Core.Bool.{true}

@@ -1,4 +1,4 @@
--- Document 02, [7], and document 001, (18) to (20): the half_width_lem of N failures among P samples, in thousandths of a
+-- Document 02, [7], and document 001, (18) to (20): the half-width of N failures among P samples, in thousandths of a
 -- failure, by a factor of f thousandths. Assumes nothing.
 use Rattle.std.specs.Prelude.{Bool, cond, ◌&&◌, ℕ, ◌-◌, ◌*◌, leb}
 use Rattle.root.specs.Root.{Least, first_from}
@@ -7,7 +7,7 @@ use Rattle.root.specs.Root.{Least, first_from}
 abbrev pub scatter : ℕ → ℕ → ℕ → ℕ
 scatter f N P = f * f * N * (P - N)
 
--- the half_width_lem: the least whole number whose square times P is at least that
+-- the half-width: the least whole number whose square times P is at least that
 abbrev pub HalfWidth : ℕ → ℕ → ℕ → ℕ → Type 0
 HalfWidth f N P m = Least (scatter f N P) P m
 

@@ -1,7 +1,8 @@
 -- `comma_pair::finish` meets its contract: without room nothing is written, and with it the line of what the files came to. Assumes nothing.
-use mathlib.Core.Path.{ap}
+use mathlib.Core.Path.{◌≡◌, ap}
 use Rattle.desk_line.proofs.Put.{puts_same, finished, without}
 use Rattle.comma_pair.specs.Taking.{said_end, saying}
+use borrow.Author.Rules.{rules}
 use Rattle.comma_pair.proofs.finish.Goals as goal
 
 pub returns-then-out-lt-LONGEST_LINE : goal.returns-then-out-lt-LONGEST_LINE

@@ -13,20 +13,40 @@ use Rattle.comma_pair.specs.Line.{channel_line, refused_of}
 use Rattle.comma_pair.proofs.Few.{channel_few}
 use borrow.Author.Rules.{rules}
 use Rattle.comma_pair.proofs.put_channel.Goals as goal
+use Rattle.comma_pair.proofs.put_channel.Goals.{After-write_field-which}
+
+abbrev Whole : After-write_field-which → List ℕ
+Whole c = channel_line c.args.line c.args.r c.args.channel
+
+-- of the refused line so much is left, and the lent bytes are these
+abbrev Stands : After-write_field-which → List ℕ → List ℕ → ℕ → Type 0
+Stands c rest out at = Left c.args.out.now 0 (Whole c) rest out at
+
+room : (c : After-write_field-which) → Stands c (Whole c) c.args.out.now 0
+room c =
+    let line : Small c.args.line = search rules in
+    let channel : Small c.args.channel = search rules in
+    left_all _ 0 _ (omega (arith, c.requires, channel_few c.args.line c.args.r c.args.channel line channel))
+
+abbrev Number : After-write_field-which → ℕ → List ℕ
+Number c n = field_text n tab ++ field_text c.args.channel line_feed
+
+left2 : (c : After-write_field-which) → Stands c (Number c (number_of c.args.r)) c.write_field-number.new.out c.write_field-number.result
+unfolding channel_line
+left2 c =
+    left_next (field_text c.args.line tab) _
+    (left_next refused_word _ (room c) (c.write_bytes-place.ensures.value, c.write_bytes-place.ensures.out_after))
+    (c.write_field-number.ensures.value, c.write_field-number.ensures.out_after)
+
+-- by the number that was asked for
+asked : (c : After-write_field-which) {n : ℕ} → n ≡ number_of c.args.r → Stands c (Number c n) c.write_field-number.new.out c.write_field-number.result
+asked c e = rw e (left2 c)
+
+left3 : (c : After-write_field-which) → Stands c (field_text c.args.channel line_feed) c.write_field-which.new.out c.write_field-which.result
+left3 c = left_next (field_text c.number.result tab) _ (asked c c.number.ensures) (c.write_field-which.ensures.value, c.write_field-which.ensures.out_after)
 
 pub returns : goal.returns
-unfolding channel_line
 returns c =
-    let Whole : List ℕ = channel_line c.args.line c.args.r c.args.channel in
-    let Stands : List ℕ → List ℕ → ℕ → Type 0 = λ rest out at. Left c.args.out.now 0 (Whole) rest out at in
-    let room : Stands (Whole) c.args.out.now 0 = let line : Small c.args.line = search rules in
-    let channel : Small c.args.channel = search rules in
-    left_all _ 0 _ (omega (arith, c.requires, channel_few c.args.line c.args.r c.args.channel line channel)) in
-    let Number : ℕ → List ℕ = λ n. field_text n tab ++ field_text c.args.channel line_feed in
-    let left2 : Stands (Number (number_of c.args.r)) c.write_field-number.new.out c.write_field-number.result = left_next (field_text c.args.line tab) _
-    (left_next refused_word _ (room) (c.write_bytes-place.ensures.value, c.write_bytes-place.ensures.out_after))
-    (c.write_field-number.ensures.value, c.write_field-number.ensures.out_after) in
-    let asked : {n : ℕ} → n ≡ number_of c.args.r → Stands (Number n) c.write_field-number.new.out c.write_field-number.result = λ e. rw e (left2) in
-    let left3 : Stands (field_text c.args.channel line_feed) c.write_field-which.new.out c.write_field-which.result = left_next (field_text c.number.result tab) _ (asked c.number.ensures) (c.write_field-which.ensures.value, c.write_field-which.ensures.out_after) in
+    let d = (goal.at.returns c).After-write_field-which in
     let a = c.args in
-    puts (refused_of a.line a.r a.channel) (room) refl (left_last (left3) (c.write_field-end.ensures.value, c.write_field-end.ensures.out_after))
+    puts (refused_of a.line a.r a.channel) (room d) refl (left_last (left3 d) (c.write_field-end.ensures.value, c.write_field-end.ensures.out_after))

@@ -1,10 +1,11 @@
 -- `comma_pair::put_end` meets its contract, by its three cases. Assumes nothing.
-use mathlib.Core.Path.{sym, ap}
+use mathlib.Core.Path.{◌≡◌, sym, ap}
 use Rattle.desk_line.proofs.Put.{puts_same, with_room}
 use Rattle.comma_count.specs.Line.{refused_at}
 use Rattle.comma_pair.specs.Taking.{said_end}
+use borrow.Author.Rules.{rules}
 use Rattle.comma_pair.proofs.put_end.Goals as goal
 
 pub returns-in-Refused : goal.returns-in-Refused
 returns-in-Refused c =
-    puts_same (sym (ap said_end c.in-Refused.is)) (with_room (refused_at 0 _) c.requires c.refuse.ensures.value c.refuse.ensures.out_after)
+    puts_same (sym (ap said_end c.in-Refused.is)) (with_room (refused_at 0 c.in-Refused.q) c.requires c.refuse.ensures.value c.refuse.ensures.out_after)

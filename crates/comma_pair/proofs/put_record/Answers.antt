@@ -1,8 +1,10 @@
 -- `comma_pair::put_record` meets its contract: a count of one file with this record has the same line. Assumes nothing.
+use mathlib.Core.Path.{refl}
 use Rattle.desk_line.proofs.Put.{with_room}
 use Rattle.comma_count.specs.Taking as count
 use Rattle.comma_pair.specs.declared.PairEnd.TheVariants as end
 use Rattle.comma_pair.specs.Taking.{said_end}
+use borrow.Author.Rules.{rules}
 use Rattle.comma_pair.proofs.put_record.Goals as goal
 
 pub returns : goal.returns

@@ -2,6 +2,7 @@
 use mathlib.Core.Path.{refl}
 use Rattle.comma_count.proofs.Way.{never_refused}
 use Rattle.comma_pair.proofs.Way.{told}
+use borrow.Author.Rules.{rules}
 use Rattle.comma_pair.proofs.some.Goals as goal
 
 pub returns-in-Taken : goal.returns-in-Taken

@@ -18,8 +18,13 @@ overflow_add-count c =
 pub loop-power-preserved : goal.loop-power-preserved
 loop-power-preserved c =
     let l = c.loop-power in
-    let v = c.args.v in
-    (omega arith, (omega arith, (rw (add-one, pow-suc, l.invariant.1.1.0), omega (arith, digits_above l.count v (omega arith)))))
+    let v = c.args.v in (
+      omega arith,
+      (
+        omega arith,
+        (rw (add-one, pow-suc, l.invariant.1.1.0), omega (arith, digits_above l.count v (omega arith))),
+      ),
+    )
 
 pub returns : goal.returns
 returns c =

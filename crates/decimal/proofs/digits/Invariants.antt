@@ -9,7 +9,8 @@ use Rattle.decimal.specs.Decimal.{digits_of}
 use Rattle.decimal.proofs.digits.Given as goal
 
 abbrev pub invariant-loop-power : goal.invariant-loop-power
-invariant-loop-power l = (1 ≤ l.power) × ((1 ≤ l.count) × ((l.power * 10 ≡ 10 ^ l.count) × (l.count ≤ length (digits_of l.v))))
+invariant-loop-power l = (1 ≤ l.power) ×
+    ((1 ≤ l.count) × ((l.power * 10 ≡ 10 ^ l.count) × (l.count ≤ length (digits_of l.v))))
 
 abbrev pub decreases-loop-power : goal.decreases-loop-power
 decreases-loop-power l = l.tens + 1 - l.power

@@ -39,7 +39,9 @@ module _ (c : Else-digit_at) where
   end : End ≡ At + length (run S At)
   end = c.run_at-run.ensures.end_value
 
-  by-run : leading_at S At ≡ cond (leb 1 (length (run S At)) && not (ltb 1 (length (run S At)) && eqb (get_or S At 0) zero_byte)) (Number Value End) Nothing
+  by-run : leading_at S At
+      ≡ cond (leb 1 (length (run S At)) && not (ltb 1 (length (run S At)) && eqb (get_or S At 0) zero_byte))
+      (Number Value End) Nothing
   by-run =
       leads_read S At End end (sym c.digit_at.ensures ∙ c.if-digit_at.false) Value c.run_at-run.ensures.value_value
 
@@ -47,10 +49,18 @@ module _ (c : Else-digit_at) where
   none h = rw (by-run, lt-leb 1 (length (run S At)) (omega (arith, end)))
 
   one : End ≡ At + 1 → Number Value End ≡ leading_at S At
-  one h = rw (by-run, le-leb 1 (length (run S At)) (omega (arith, end)), le-ltb 1 (length (run S At)) (omega (arith, end)))
+  one h = rw (
+    by-run,
+    le-leb 1 (length (run S At)) (omega (arith, end)),
+    le-ltb 1 (length (run S At)) (omega (arith, end)),
+  )
 
   more : At + 1 < End → leading_at S At ≡ cond (not (eqb (get_or S At 0) zero_byte)) (Number Value End) Nothing
-  more h = rw (by-run, le-leb 1 (length (run S At)) (omega (arith, end)), lt-ltb 1 (length (run S At)) (omega (arith, end)))
+  more h = rw (
+    by-run,
+    le-leb 1 (length (run S At)) (omega (arith, end)),
+    lt-ltb 1 (length (run S At)) (omega (arith, end)),
+  )
 
 pub returns-then-end-at : goal.returns-then-end-at
 returns-then-end-at c = none (goal.at.returns-then-end-at c).Else-digit_at c.if-end-at.true

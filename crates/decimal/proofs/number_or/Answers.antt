@@ -15,7 +15,8 @@ use Rattle.decimal.proofs.number_or.Goals as goal
 use Rattle.decimal.proofs.number_or.Goals.{In-Number}
 
 -- a text whose leading digits are no number, or not all of it, is none
-other-than : (s : List ℕ) (other : ℕ) → (is_number s ≡ true → leading s ≡ s → true ≡ false) → other ≡ cond (is_number s) (value_of s) other
+other-than : (s : List ℕ) (other : ℕ) → (is_number s ≡ true → leading s ≡ s → true ≡ false)
+    → other ≡ cond (is_number s) (value_of s) other
 other-than s other never = by_test (is_number s) (λ n. absurd (true≢false (never n (all_lead s n)))) (λ n. rw n)
 
 pub returns-in_default : goal.returns-in_default

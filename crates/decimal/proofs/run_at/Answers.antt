@@ -31,7 +31,9 @@ returns-then-not-is_digit c =
     let a = c.args in
     let l = c.loop-i in
     let other = sym c.is_digit.ensures ∙ c.if-not-is_digit.true in
-    let whole = stopped a.s.now a.at l.i l.value l.invariant.1.1 (left_other a.s.now a.at l.i (omega arith) (omega arith) other) in record { value_value = whole.0; end_value = whole.1 }
+    let whole = stopped a.s.now a.at l.i l.value l.invariant.1.1
+    (left_other a.s.now a.at l.i (omega arith) (omega arith) other) in
+    record { value_value = whole.0; end_value = whole.1 }
 
 abbrev S : Else-not-is_digit → List ℕ
 S c = c.args.s.now
@@ -51,7 +53,8 @@ below c =
     rw e (push_below c.loop-i.value (B c) (c.loop-i.i - At c) c.loop-i.invariant.1.0 (digit c))
 
 small : (c : Else-not-is_digit) → push c.loop-i.value (B c) < 10 ^ longest
-small c = lt_of_lt_of_le (below c) (pow-le-pow_right {n = 10} (omega arith) {i = c.loop-i.i + 1 - At c} {j = longest} (omega arith))
+small c = lt_of_lt_of_le (below c)
+    (pow-le-pow_right {n = 10} (omega arith) {i = c.loop-i.i + 1 - At c} {j = longest} (omega arith))
 
 pub overflow_mul-value : goal.overflow_mul-value
 overflow_mul-value c = omega (arith, small c)
@@ -62,11 +65,13 @@ overflow_add-value c = omega (arith, small c)
 pub loop-i-preserved : goal.loop-i-preserved
 loop-i-preserved c =
     let l = c.loop-i in
-    let turn : left (S c) (At c) l.i ≡ B c ∷ left (S c) (At c) (l.i + 1) = left_digit (S c) (At c) l.i (omega arith) (omega arith) (digit c) in
+    let turn : left (S c) (At c) l.i ≡ B c ∷ left (S c) (At c) (l.i + 1) = left_digit (S c) (At c) l.i (omega arith)
+    (omega arith) (digit c) in
     (omega arith, (below c, (rw turn at l.invariant.1.1.0, omega (arith, rw turn at l.invariant.1.1.1))))
 
 pub returns : goal.returns
 returns c =
     let a = c.args in
     let l = c.loop-i in
-    let whole = stopped a.s.now a.at l.i l.value l.invariant.1.1 (left_none a.s.now a.at l.i (omega arith)) in record { value_value = whole.0; end_value = whole.1 }
+    let whole = stopped a.s.now a.at l.i l.value l.invariant.1.1 (left_none a.s.now a.at l.i (omega arith)) in
+    record { value_value = whole.0; end_value = whole.1 }

@@ -21,7 +21,8 @@ unfolding field_text
 returns-then-not-has_room c =
     let a = c.args in
     let no_room = leb-false _ (length a.out.now) (sym c.has_room.ensures ∙ c.if-not-has_room.true) in
-    let whole = wrote_short a.out.now a.at (field_text a.v a.end) (omega (arith, length-append (digits_of a.v) (a.end ∷ []))) in record { value = whole.0; out_after = whole.1 }
+    let whole = wrote_short a.out.now a.at (field_text a.v a.end)
+    (omega (arith, length-append (digits_of a.v) (a.end ∷ []))) in record { value = whole.0; out_after = whole.1 }
 
 room : (c : Else-not-has_room) → let a = c.args in a.at + length (field_text a.v a.end) ≤ length a.out.now
 unfolding field_text
@@ -36,4 +37,5 @@ returns c =
     let else1 = (goal.at.returns c).Else-not-has_room in
     let a = c.args in
     let whole = left_last (left_next (digits_of a.v) (a.end ∷ []) (left_all a.out.now a.at (field_text a.v
-    a.end) (room else1)) (c.write_number-next.ensures.value, c.write_number-next.ensures.out_after)) (c.write_byte.ensures.value, c.write_byte.ensures.out_after) in record { value = whole.0; out_after = whole.1 }
+    a.end) (room else1)) (c.write_number-next.ensures.value, c.write_number-next.ensures.out_after))
+    (c.write_byte.ensures.value, c.write_byte.ensures.out_after) in record { value = whole.0; out_after = whole.1 }

@@ -16,14 +16,16 @@ abbrev start : After-has_room → Start
 start c = c.before.before.before.before
 
 -- a turn's store, and the last store
-turn : (out : List ℕ) (at rest i b : ℕ) → 10 ≤ rest → i ≡ at + length (digits_of rest) → i ≤ length out → b ≡ zero_byte + rest % 10
+turn : (out : List ℕ) (at rest i b : ℕ) → 10 ≤ rest → i ≡ at + length (digits_of rest) → i ≤ length out
+    → b ≡ zero_byte + rest % 10
     → laid (set out (i - 1) b) at (digits_of (rest / 10)) ≡ laid out at (digits_of rest)
 turn out at rest i b more e room byte =
     let n = length_more rest more in
     let place : i - 1 ≡ at + length (digits_of (rest / 10)) = omega arith in
     rw (digits_more rest more, ← byte, laid_last out at (digits_of (rest / 10)) b (omega arith), place)
 
-last : (out : List ℕ) (at rest b : ℕ) → rest < 10 → at < length out → b ≡ zero_byte + rest % 10 → set out at b ≡ laid out at (digits_of rest)
+last : (out : List ℕ) (at rest b : ℕ) → rest < 10 → at < length out → b ≡ zero_byte + rest % 10
+    → set out at b ≡ laid out at (digits_of rest)
 last out at rest b one room byte = rw (digits_one rest one, ← byte, laid_one out at b room)
 
 pub returns-then-not-has_room : goal.returns-then-not-has_room
@@ -31,7 +33,8 @@ returns-then-not-has_room c =
     let a = c.args in
     let n = a.at + c.digits-count.result in
     let no_room = leb-false n (length a.out.now) (sym c.has_room.ensures ∙ c.if-not-has_room.true) in
-    let whole = wrote_short a.out.now a.at (digits_of a.v) (omega arith) in record { value = whole.0; out_after = whole.1 }
+    let whole = wrote_short a.out.now a.at (digits_of a.v) (omega arith) in
+    record { value = whole.0; out_after = whole.1 }
 
 room : (c : Else-not-has_room) →
     let a = c.args in
@@ -59,7 +62,8 @@ loop-rest-preserved c =
           omega arith,
           (
             rw length-set (omega arith),
-            turn l.out a.at l.rest l.i c.last_digit.result (omega arith) l.invariant.1.0 (omega arith) c.last_digit.ensures ∙ l.invariant.1.1.1.1,
+            turn l.out a.at l.rest l.i c.last_digit.result (omega arith) l.invariant.1.0 (omega arith)
+                c.last_digit.ensures ∙ l.invariant.1.1.1.1,
           ),
         ),
       ),
@@ -75,6 +79,8 @@ returns c =
     let l = c.loop-rest in
     let count = c.digits-count in
     let some = digits_some a.v in
-    let whole = wrote_laid a.out.now a.at (digits_of a.v) (set l.out a.at c.last_digit-2.result) (a.at + count.result) l.invariant.0
-    (last l.out a.at l.rest c.last_digit-2.result (omega arith) (omega arith) c.last_digit-2.ensures ∙ l.invariant.1.1.1.1)
+    let whole = wrote_laid a.out.now a.at (digits_of a.v) (set l.out a.at c.last_digit-2.result) (a.at + count.result)
+    l.invariant.0
+    (last l.out a.at l.rest c.last_digit-2.result (omega arith) (omega arith) c.last_digit-2.ensures
+    ∙ l.invariant.1.1.1.1)
     (omega arith) in record { value = whole.0; out_after = whole.1 }

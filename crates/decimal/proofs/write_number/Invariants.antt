@@ -10,7 +10,10 @@ use Rattle.decimal.proofs.write_number.Given as goal
 
 abbrev pub invariant-loop-rest : goal.invariant-loop-rest
 invariant-loop-rest l = (l.at + length (digits_of l.v) ≤ length l.initial.out)
-    × ((l.i ≡ l.at + length (digits_of l.rest)) × ((l.i ≤ l.at + length (digits_of l.v)) × ((length l.out ≡ length l.initial.out) × (laid l.out l.at (digits_of l.rest) ≡ laid l.initial.out l.at (digits_of l.v)))))
+    × ((l.i ≡ l.at + length (digits_of l.rest)) ×
+    ((l.i ≤ l.at + length (digits_of l.v)) ×
+    ((length l.out ≡ length l.initial.out) ×
+    (laid l.out l.at (digits_of l.rest) ≡ laid l.initial.out l.at (digits_of l.v)))))
 
 abbrev pub decreases-loop-rest : goal.decreases-loop-rest
 decreases-loop-rest l = l.rest

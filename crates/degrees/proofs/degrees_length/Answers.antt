@@ -26,9 +26,17 @@ few c =
 pub returns-then-x-lt0 : goal.returns-then-x-lt0
 returns-then-x-lt0 c =
     let after-digits = (goal.at.returns-then-x-lt0 c).After-digits-whole in
-    record { value = rw (text_length, sign_below c.args.x (rw (to_z-of_z c.ranges.x) at c.if-x-lt0.true)) (omega (arith, whole after-digits)); upper_bound = omega (arith, few after-digits) }
+    record {
+      value = rw (text_length, sign_below c.args.x (rw (to_z-of_z c.ranges.x) at c.if-x-lt0.true))
+          (omega (arith, whole after-digits));
+      upper_bound = omega (arith, few after-digits);
+    }
 
 pub returns : goal.returns
 returns c =
     let after-digits = (goal.at.returns c).After-digits-whole in
-    record { value = rw (text_length, sign_other c.args.x (rw (to_z-of_z c.ranges.x) at c.if-x-lt0.false)) (omega (arith, whole after-digits)); upper_bound = omega (arith, few after-digits) }
+    record {
+      value = rw (text_length, sign_other c.args.x (rw (to_z-of_z c.ranges.x) at c.if-x-lt0.false))
+          (omega (arith, whole after-digits));
+      upper_bound = omega (arith, few after-digits);
+    }

@@ -6,4 +6,5 @@ use Rattle.degrees.proofs.put_sign.Goals as goal
 
 pub returns : goal.returns
 returns c =
-    rw (sign_other c.args.x (rw (to_z-of_z c.ranges.x) at c.if-x-lt0.false)) (let whole = wrote_none c.args.out.now c.args.at c.requires in record { value = whole.0; out_after = whole.1 })
+    rw (sign_other c.args.x (rw (to_z-of_z c.ranges.x) at c.if-x-lt0.false))
+    (let whole = wrote_none c.args.out.now c.args.at c.requires in record { value = whole.0; out_after = whole.1 })

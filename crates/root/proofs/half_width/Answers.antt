@@ -1,4 +1,4 @@
--- `root::half_width` meets its contract: the square fits, and the least number that was found is the half_width_lem.
+-- `root::half_width` meets its contract: the square fits, and the least number that was found is the half-width.
 -- Assumes nothing.
 use mathlib.Core.Path.{◌∙◌, sym}
 use native.Mathlib.Omega.{arith}

@@ -1,0 +1,17 @@
+-- `peak_files::put_last` meets its contract: by its two cases. Assumes nothing.
+use mathlib.Core.Path.{sym, ap, ◌∙◌}
+use Rattle.desk_line.proofs.Put.{puts_same}
+use Rattle.peak_files.specs.Passing.{peak_in, last_by}
+use Rattle.peak_files.specs.Said.{peaks_read}
+use Rattle.peak_files.proofs.Put.{puts_no_peak, last-is}
+use Rattle.peak_files.proofs.put_last.Goals as goal
+
+pub returns-in-Taken : goal.returns-in-Taken
+returns-in-Taken c =
+    puts_same
+    (ap (λ l. peaks_read c.args.file (peak_in l)) c.finish.ensures ∙ ap (peaks_read c.args.file) (last-is c.in-Taken.h) ∙ sym (ap (λ x. peaks_read c.args.file (last_by x)) c.in-Taken.is))
+    c.put_peak.ensures
+
+pub returns-in-Refused : goal.returns-in-Refused
+returns-in-Refused c =
+    puts_same (sym (ap (λ x. peaks_read c.args.file (last_by x)) c.in-Refused.is)) (puts_no_peak c.args.file c.args.out.now)

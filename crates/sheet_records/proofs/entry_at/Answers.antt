@@ -1,0 +1,166 @@
+-- `sheet_records::entry_at` meets its contract: number, flag and exposure with the bytes after them make up the line,
+-- and where one fails none stands there. Assumes nothing.
+use mathlib.Core.Path.{◌≡◌, subst, sym, ◌∙◌}
+use mathlib.Core.Bool.{Bool, true, cond}
+use mathlib.Core.List.{List}
+use Prim.Native.Nat.{ℕ, ◌+◌, ◌<◌}
+use native.Mathlib.Omega.{arith}
+use lib.ListN.{length}
+use borrow.Author.Tests.{not-false, not-true}
+use Rattle.truth.proofs.Laws.{neither, said_no, said_yes}
+use Rattle.decimal.specs.declared.Lead.TheVariants.{Number}
+use Rattle.decimal.specs.Decimal.{zero_byte}
+use Rattle.decimal.specs.Field.{tab}
+use Rattle.decimal.specs.Leading.{leading_at, stands_at}
+use Rattle.sheet_records.specs.Pass.{EntryAt, ExposureAt, ExposureHere}
+use Rattle.sheet_records.proofs.At.{entry_here, flag_stands, no_exposure, no_feed, no_flag, no_number, no_second, no_tab, other_number, stand_bytes}
+use borrow.Author.Rules.{rules}
+use Rattle.sheet_records.proofs.entry_at.Goals as goal
+use Rattle.sheet_records.proofs.entry_at.Goals.{Else-not-stands, Else-not-stands-2, In-Number, In-Upto}
+
+-- the record number that was read
+module _ (c : In-Number) where
+  abbrev Text : List ℕ
+  Text = c.args.text.now
+
+  abbrev N : ℕ
+  N = c.in-Number.number
+
+  abbrev End : ℕ
+  End = c.in-Number.end
+
+  number : leading_at Text c.args.at ≡ Number N End
+  number =
+      sym c.leading_at.ensures ∙ c.in-Number.is
+
+module _ (c : Else-not-stands) where
+  abbrev Text₂ : List ℕ
+  Text₂ = c.args.text.now
+
+  abbrev N₂ : ℕ
+  N₂ = c.in-Number.number
+
+  abbrev End₂ : ℕ
+  End₂ = c.in-Number.end
+
+  number₂ : leading_at Text₂ c.args.at ≡ Number N₂ End₂
+  number₂ =
+      sym c.leading_at.ensures ∙ c.in-Number.is
+
+module _ (c : Else-not-stands-2) where
+  abbrev Text₃ : List ℕ
+  Text₃ = c.args.text.now
+
+  abbrev N₃ : ℕ
+  N₃ = c.in-Number.number
+
+  abbrev End₃ : ℕ
+  End₃ = c.in-Number.end
+
+  number₃ : leading_at Text₃ c.args.at ≡ Number N₃ End₃
+  number₃ =
+      sym c.leading_at.ensures ∙ c.in-Number.is
+
+module _ (c : In-Upto) where
+  abbrev Text₄ : List ℕ
+  Text₄ = c.args.text.now
+
+  abbrev N₄ : ℕ
+  N₄ = c.in-Number.number
+
+  abbrev End₄ : ℕ
+  End₄ = c.in-Number.end
+
+  number₄ : leading_at Text₄ c.args.at ≡ Number N₄ End₄
+  number₄ =
+      sym c.leading_at.ensures ∙ c.in-Number.is
+
+-- the tab after it
+module _ (c : Else-not-stands) where
+  due : N₂ c ≡ c.args.due
+  due = c.if-number-due.false
+
+  first : stands_at (Text₂ c) (End₂ c) tab ≡ true
+  first = (sym c.stands.ensures ∙ c.if-not-stands.false)
+
+  inside : End₂ c < length (Text₂ c)
+  inside = (stand_bytes (Text₂ c) (End₂ c) tab first).1
+
+-- the flag and its tab
+module _ (c : Else-not-stands-2) where
+  abbrev Failed : Bool
+  Failed = c.stands-failed.result
+
+  flag : stands_at (Text₃ c) (End₃ c + 1) (zero_byte + cond Failed 1 0) ≡ true
+  flag =
+      flag_stands (Text₃ c) (End₃ c + 1)
+      c.stands-failed.ensures
+      (sym c.either.ensures ∙ c.if-not-either.false)
+      c.stands-2.ensures
+
+  second : stands_at (Text₃ c) (End₃ c + 2) tab ≡ true
+  second = (sym c.stands-3.ensures ∙ c.if-not-stands-2.false)
+
+-- the exposure that was read
+module _ (c : In-Upto) where
+  abbrev Feed : ℕ
+  Feed = c.in-Upto.feed
+
+  exposure : ExposureHere (Text₄ c) (End₄ c + 3) Feed
+  unfolding ExposureAt
+  exposure =
+      subst (ExposureAt (Text₄ c) (End₄ c + 3)) c.in-Upto.is c.exposure_at.ensures
+
+pub returns-in_default : goal.returns-in_default
+unfolding EntryAt
+returns-in_default c =
+    no_number c.args.text.now c.args.at c.args.due (sym c.leading_at.ensures ∙ c.in_default.is)
+
+pub returns-then-number-due : goal.returns-then-number-due
+unfolding EntryAt
+returns-then-number-due c =
+    let k = (goal.at.returns-then-number-due c).In-Number in
+    other_number (Text k) c.args.at c.args.due (N k) (End k) (number k) c.if-number-due.true
+
+pub returns-then-not-stands : goal.returns-then-not-stands
+unfolding EntryAt
+returns-then-not-stands c =
+    let k = (goal.at.returns-then-not-stands c).In-Number in
+    no_tab (Text k) c.args.at c.args.due (N k) (End k) (number k) (sym c.stands.ensures ∙ c.if-not-stands.true)
+
+pub returns-then-not-either : goal.returns-then-not-either
+unfolding EntryAt
+returns-then-not-either c =
+    let k = (goal.at.returns-then-not-either c).In-Number in
+    let (one, zero) = neither _ _ (sym c.either.ensures ∙ c.if-not-either.true) in
+    no_flag (Text k) c.args.at c.args.due (N k) (End k) (number k) (sym c.stands-failed.ensures ∙ one) (sym c.stands-2.ensures ∙ zero)
+
+pub returns-then-not-stands-2 : goal.returns-then-not-stands-2
+unfolding EntryAt
+returns-then-not-stands-2 c =
+    let k = (goal.at.returns-then-not-stands-2 c).In-Number in
+    no_second (Text k) c.args.at c.args.due (N k) (End k) (number k) (sym c.stands-3.ensures ∙ c.if-not-stands-2.true)
+
+pub returns-in_default-exposure_at : goal.returns-in_default-exposure_at
+unfolding EntryAt
+returns-in_default-exposure_at c =
+    let k = (goal.at.returns-in_default-exposure_at c).In-Number in
+    no_exposure (Text k) c.args.at c.args.due (N k) (End k) (number k) (subst (ExposureAt (Text k) (End k + 3)) c.in_default-exposure_at.is c.exposure_at.ensures)
+
+pub returns-then-not-stands-3 : goal.returns-then-not-stands-3
+unfolding EntryAt
+returns-then-not-stands-3 c =
+    let k = (goal.at.returns-then-not-stands-3 c).In-Number in
+    let t = (goal.at.returns-then-not-stands-3 c).In-Upto in
+    no_feed (Text k) c.args.at c.args.due (N k) (End k) (number k) (Feed t) (exposure t) (sym c.stands-4.ensures ∙ c.if-not-stands-3.true)
+
+pub returns : goal.returns
+unfolding EntryAt
+returns c =
+    let k = (goal.at.returns c).In-Number in
+    let t = (goal.at.returns c).In-Upto in
+    let at3 = (goal.at.returns c).Else-not-stands-2 in
+    let e = (goal.at.returns c).Else-not-stands in
+    entry_here (Text k) c.args.at c.args.due (N k) (End k) (number k) (Feed t) (exposure t)
+    (Failed at3) (due e) (first e) (flag at3) (second at3)
+    (sym c.stands-4.ensures ∙ c.if-not-stands-3.false)

@@ -1,0 +1,66 @@
+-- `sheet_records::records` meets its contract: the first pass tells whether the sheet reads cleanly; then there is room
+-- or not, and the second pass puts the records. Of any other sheet its own reader tells. Assumes nothing.
+use mathlib.Core.Path.{refl, sym, ap, subst, ◌∙◌}
+use mathlib.Core.List.{List}
+use Prim.Native.Nat.{ℕ}
+use lib.IntN.{ℤ}
+use lib.ListN.{length}
+use Rattle.sheet_text.specs.Sheet.{meaning, reading_end}
+use Rattle.sheet_records.specs.declared.Resumed.{Resumed}
+use Rattle.sheet_records.specs.Pass.{CleanPass, Passes, stopped_from}
+use Rattle.sheet_records.specs.Records.{filled_by, records_of}
+use Rattle.sheet_records.proofs.Answered.{all_read, no_room, put_front, stopped_kept, unclean}
+use borrow.Author.Rules.{rules}
+use Rattle.sheet_records.proofs.records.Goals as goal
+use Rattle.sheet_records.proofs.records.Goals.{After-pass, In-Clean}
+
+-- what the first pass found
+module _ (c : After-pass) where
+  abbrev Text : List ℕ
+  Text = c.args.text.now
+
+  abbrev Places : List ℤ
+  Places = c.args.places.now
+
+module _ (c : In-Clean) where
+  abbrev Text₂ : List ℕ
+  Text₂ = c.args.text.now
+
+  abbrev Places₂ : List ℤ
+  Places₂ = c.args.places.now
+
+module _ (c : In-Clean) where
+  abbrev Q : ℕ
+  Q = c.in-Clean.q
+
+  abbrev Count : ℕ
+  Count = c.in-Clean.count
+
+  abbrev Begin : ℕ
+  Begin = c.in-Clean.begin
+
+  clean : CleanPass (Text₂ c) Q Count Begin
+  unfolding Passes
+  clean = subst (Passes (Text₂ c)) c.in-Clean.is c.pass.ensures
+
+pub returns-then-places-count : goal.returns-then-places-count
+unfolding filled_by
+returns-then-places-count c =
+    record { value = no_room (clean (goal.at.returns-then-places-count c).In-Clean) (length (Places (goal.at.returns-then-places-count c).After-pass)) c.if-places-count.true; places_after = refl }
+
+pub put_all-requires : goal.put_all-requires
+put_all-requires c = (clean (goal.at.put_all-requires c).In-Clean).from
+
+pub returns-in-Unclean : goal.returns-in-Unclean
+unfolding Passes reading_end meaning
+returns-in-Unclean c =
+    let p = (goal.at.returns-in-Unclean c).After-pass in
+    let never = subst (Passes (Text p)) c.in-Unclean.is c.pass.ensures in
+    let is = c.stopped.ensures ∙ ap stopped_from c.read.ensures ∙ unclean (Text p) (length (Places p)) never in
+    record { value = is; places_after = sym (ap (λ (r : Resumed). filled_by r (records_of (Text p)) (Places p)) c.stopped.ensures ∙ stopped_kept c.read.result (records_of (Text p)) (Places p)) }
+
+pub returns-else-places-count : goal.returns-else-places-count
+returns-else-places-count c =
+    let k = (goal.at.returns-else-places-count c).In-Clean in
+    let p = (goal.at.returns-else-places-count c).After-pass in
+    record { value = all_read (clean k) (length (Places p)) c.if-places-count.false; places_after = c.put_all.ensures ∙ put_front (records_of (Text p)) (Places p) (Q k) (Count k) (clean k).number c.if-places-count.false }

@@ -371,8 +371,8 @@ finds() {
     program=$root/crates/$1/out/$1
 }
 
-# opens_again: whether descriptor 4, where there is one, can be opened once more by its name. A socket cannot, and a named
-# pipe that may only be read would be waited for where its writer is gone.
+# opens_again: whether descriptor 4, where there is one, can be opened once more by its name. A socket cannot, and a
+# named pipe that may only be read would be waited for where its writer is gone.
 opens_again() {
     [ ! -e /dev/fd/4 ] || { [ ! -S /dev/fd/4 ] && [ -r /dev/fd/4 ] && { [ ! -p /dev/fd/4 ] || [ -w /dev/fd/4 ]; }; }
 }

@@ -63,7 +63,8 @@ fn how(a: After) -> u8 {
     }
 }
 
-// File after file, up to the first that is refused. The turns are counted as in `prog_desk::serve`, by the file's number.
+// File after file, up to the first that is refused. The turns are counted as in `prog_desk::serve`, by the file's
+// number.
 fn each(desk: &Desk, items: Items, names: &mut [u8], text: &mut [u8]) -> u8 {
     let mut added = binomial_files::open(items);
     let mut at = 0;

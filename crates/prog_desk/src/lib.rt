@@ -29,8 +29,8 @@ const SECOND: &str = "/dev/fd/4";
 // Where Linux tells how far it is read.
 const SECOND_PLACE: &str = "/proc/self/fdinfo/4";
 
-// What a program is given: the runtime, the descriptor where it says how it ended, and the other one that it reads from.
-// Both are opened before anything else is, since a file would take the number of one that is not there.
+// What a program is given: the runtime, the descriptor where it says how it ended, and the other one that it reads
+// from. Both are opened before anything else is, since a file would take the number of one that is not there.
 #[derive(Drop)]
 pub struct Desk {
     rt: HostRuntime,

@@ -1,5 +1,5 @@
--- The bytes of the sheet that are still to come fall; the buffer keeps its length, and a line begun is less than a line,
--- so there is room to read after it.
+-- The bytes of the sheet that are still to come fall; the buffer keeps its length, and a line begun is less than a
+-- line, so there is room to read after it.
 use Rattle.std.proofs.Common.{◌≡◌, ◌<◌, length}
 use Rattle.sheet_line.specs.Form.{longest_sheet_line}
 use Rattle.prog_condition.proofs.one.Given as goal

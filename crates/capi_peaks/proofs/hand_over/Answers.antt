@@ -24,7 +24,7 @@ returns c =
     let o = c.hand_over in
     let y = sym c.ready.ensures ∙ c.if-not-ready.false in
     let e =
-        subst (λ (l : List ℤ). HandsOver a.h l a.sizes.now a.times.now o.result o.new.sizes o.new.times)
-        (timed_is a.left a.samples.now c.ramp_end-from.result c.ramp_end-from.ensures)
-        o.ensures in
+    subst (λ (l : List ℤ). HandsOver a.h l a.sizes.now a.times.now o.result o.new.sizes o.new.times)
+    (timed_is a.left a.samples.now c.ramp_end-from.result c.ramp_end-from.ensures)
+    o.ensures in
     (rw (y, ← c.first_bad-bad.ensures, le-ltb _ _ c.if-bad-samples.false) e.answers, e.sizes_left, e.times_left)

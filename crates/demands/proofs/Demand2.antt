@@ -157,31 +157,27 @@ lists items xs ys before after k l = (
   l.leaves,
 )
 
-whole : (items : Items) (s t : Record) (ps : List Piece) → opened items ≡ Taken s → AllTaken s ps t
-    → ReadsWhole items s t (joined ps) (samples_of (joined ps))
-whole items s t ps e f =
-    let figures = pieces_whole items s e f in
-    record {
-      figures = figures;
-      grouped = groups_parted items (samples_of (joined ps));
-      only = groups_only (near (time_of items) items.decorrelation) (crossings_of items (samples_of (joined ps)));
-      number = number items (samples_of (joined ps)) figures;
-      largest = set_largest items (samples_of (joined ps));
-      set = set items (samples_of (joined ps)) figures;
-      fewer =
-          rw (number items (samples_of (joined ps)) figures, set items (samples_of (joined ps)) figures)
-          (groups_fewer items (samples_of (joined ps)));
-      full_time_lem = full_time_lem items (samples_of (joined ps)) figures;
-      exposed = exposed items (samples_of (joined ps)) figures;
-      unfailing = unfailing items (samples_of (joined ps)) figures;
-      cuttings = λ qs v j. every_cutting s qs t v (rw j (join_taken (opened_sound items s e) f));
-      unbroken = never_broken items s e f;
-    }
-
 pub demand_2 : Demand2
 demand_2 =
     record {
-      pieces = whole;
+      pieces = λ items s t ps e f.
+          let figures = pieces_whole items s e f in
+          record {
+            figures = figures;
+            grouped = groups_parted items (samples_of (joined ps));
+            only = groups_only (near (time_of items) items.decorrelation) (crossings_of items (samples_of (joined ps)));
+            number = number items (samples_of (joined ps)) figures;
+            largest = set_largest items (samples_of (joined ps));
+            set = set items (samples_of (joined ps)) figures;
+            fewer =
+                rw (number items (samples_of (joined ps)) figures, set items (samples_of (joined ps)) figures)
+                (groups_fewer items (samples_of (joined ps)));
+            full_time_lem = full_time_lem items (samples_of (joined ps)) figures;
+            exposed = exposed items (samples_of (joined ps)) figures;
+            unfailing = unfailing items (samples_of (joined ps)) figures;
+            cuttings = λ qs v j. every_cutting s qs t v (rw j (join_taken (opened_sound items s e) f));
+            unbroken = never_broken items s e f;
+          };
       nothing = empty_taken;
       resumed = resumed;
       listed = lists;

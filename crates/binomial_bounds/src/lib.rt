@@ -9,7 +9,7 @@ ghost use Rattle.binomial_bounds.specs.Answers.{bounding, rating};
 ghost use Rattle.binomial_bounds.specs.Bounds.{bounds_of, three};
 
 use binomial_sum::Sum;
-use campaign_verdict::{Rated, Rates};
+use campaign_verdict::Rates;
 use refusal::Refusal;
 
 // Thousandths of a failure in `time` ms.
@@ -19,13 +19,6 @@ pub struct Bounds {
     pub lower: u64,
     pub upper: u64,
     pub time: u64,
-}
-
-// Whether there is a record, and the bounds; without one they are 0.
-#[derive(Clone, Copy)]
-pub enum Bounded {
-    Given(bool, Bounds),
-    Refused(Refusal),
 }
 
 // x - y, or 0 where that falls below.
@@ -71,31 +64,24 @@ fn three(s: Sum) -> Rates
 }
 
 // The bounds and whether there is a record; or refusal 8.
-pub fn bound(s: Sum) -> Bounded
+pub fn bound(s: Sum) -> Result<(bool, Bounds), Refusal>
     ensures { result ≡ bounding s }
 {
     if !binomial_sum::sound(s) {
-        return Bounded::Refused(Refusal::BrokenState);
+        return Err(Refusal::BrokenState);
     }
-    Bounded::Given(s.samples != 0, bounds_of(s))
+    Ok((s.samples != 0, bounds_of(s)))
 }
 
 // The rates and whether there is a record; or refusal 8.
-pub fn rate(s: Sum) -> Rated
+pub fn rate(s: Sum) -> Result<Option<Rates>, Refusal>
     ensures { result ≡ rating s }
 {
     if !binomial_sum::sound(s) {
-        return Rated::Refused(Refusal::BrokenState);
+        return Err(Refusal::BrokenState);
     }
     if s.samples == 0 {
-        return Rated::Given(
-            false,
-            Rates {
-                estimate: 0.0,
-                lower: 0.0,
-                upper: 0.0,
-            },
-        );
+        return Ok(None);
     }
-    Rated::Given(true, three(s))
+    Ok(Some(three(s)))
 }

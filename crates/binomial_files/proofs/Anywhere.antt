@@ -20,8 +20,6 @@ use Rattle.record_state.specs.declared.Record.{Record}
 use Rattle.record_state.specs.State as reading
 use Rattle.record_state.specs.State.{state_of}
 use Rattle.binomial_sum.specs.declared.Sum.{Sum}
-use Rattle.binomial_sum.specs.declared.SumAnswer.{SumAnswer}
-use Rattle.binomial_sum.specs.declared.SumAnswer.TheVariants as answer
 use Rattle.binomial_sum.specs.State.{empty, grown, sound, timed, would_pass}
 use Rattle.binomial_sum.specs.Answers.{adding, opened}
 use Rattle.binomial_sum.proofs.Answered.{adding_sound, opened_sound}
@@ -31,34 +29,31 @@ use Rattle.text.specs.Pieces.{joined}
 use Rattle.decimal.specs.Lines.{lines_of}
 use Rattle.comma_line.specs.Text.{samples_of}
 use Rattle.desk_line.specs.Said.{Said}
-use Rattle.comma_count.specs.declared.End.{End}
-use Rattle.comma_count.specs.declared.End.TheVariants as end
 use Rattle.comma_count.specs.Line.{one_channel, end_of_text, file_then}
 use Rattle.comma_count.specs.Taking.{end_of, on_end, opening}
 use Rattle.comma_count.specs.Pieces.{carrying}
 use Rattle.comma_count.proofs.Cut.{end_anywhere}
 use Rattle.comma_count.proofs.Whole.{end_then, step_ok}
-use Rattle.binomial_files.specs.declared.Added.{Added}
-use Rattle.binomial_files.specs.declared.Added.TheVariants as added
 use Rattle.binomial_files.specs.Files.{summed, groups_of, timed_of, refused_in, binomial_from, binomial_said}
 use Rattle.binomial_files.specs.Adding.{opened_files, added_as, added_to, added_by, added_in, added_said, files_after}
+use Rattle.std.specs.Prelude.{Result, Ok, Err}
 
 -- what was refused stays
-refused_stays : (i : Items) (file : ℕ) (first line : ℕ) (q : Refusal) (files : List (List (List ℕ))) → files_after i file (added.Refused first line q) files ≡ added.Refused first line q
+refused_stays : (i : Items) (file : ℕ) (first line : ℕ) (q : Refusal) (files : List (List (List ℕ))) → files_after i file (Err (first, line, q)) files ≡ Err (first, line, q)
 unfolding files_after
 refused_stays i file first line q [] = refl
 refused_stays i file first line q (pieces ∷ files) = refused_stays i (file + 1) first line q files
 
 -- what a sound sum says
-said_sum : (s : Sum) → sound s ≡ true → added_said (added.Sum s) ≡ summed s (bounds_of s)
+said_sum : (s : Sum) → sound s ≡ true → added_said (Ok s) ≡ summed s (bounds_of s)
 unfolding bounding
 said_sum s k = rw k
 
 -- adding a sound record of n samples at the sum's step
 adding_is : (s : Sum) (r : Record) (n : ℕ) → sound s ≡ true → reading.sound r ≡ true → r.items.step ≡ s.step → r.n ≡ n
     → adding s r
-    ≡ cond (too_few r.items.ramp n) (answer.Refused TooShort)
-    (cond (would_pass s r.groups (n - r.items.ramp)) (answer.Refused SumFull) (answer.Taken (grown s r.groups (n - r.items.ramp))))
+    ≡ cond (too_few r.items.ramp n) (Err TooShort)
+    (cond (would_pass s r.groups (n - r.items.ramp)) (Err SumFull) (Ok (grown s r.groups (n - r.items.ramp))))
 unfolding adding
 adding_is s r n k l e f = rw (k, l, eq-eqb r.items.step s.step e, f)
 
@@ -66,7 +61,7 @@ module _ (i : Items) (ok : item_outside i ≡ 0) where
   -- what is said of the files after this one, whatever the sum that is handed on
   abbrev Later : ℕ → List (List (List ℕ)) → Type 0
   Later file files =
-      (t : Sum) → sound t ≡ true → t.step ≡ i.step → added_said (files_after i file (added.Sum t) files) ≡ binomial_from i file t (map joined files)
+      (t : Sum) → sound t ≡ true → t.step ≡ i.step → added_said (files_after i file (Ok t) files) ≡ binomial_from i file t (map joined files)
 
   -- one file and those after it
   module _ (pieces : List (List ℕ)) (files : List (List (List ℕ))) (file : ℕ) (after : Later (file + 1) files)
@@ -77,7 +72,7 @@ module _ (i : Items) (ok : item_outside i ≡ 0) where
     abbrev whole : Record
     whole = state_of i (one_channel (samples_of lines))
 
-    abbrev later : Added → Said
+    abbrev later : Result Sum (ℕ × ℕ × Refusal) → Said
     later a = added_said (files_after i (file + 1) a files)
 
     abbrev next : Sum
@@ -92,22 +87,22 @@ module _ (i : Items) (ok : item_outside i ≡ 0) where
     abbrev proper : Said
     proper = cond full (refused_in file 0 SumFull) (binomial_from i (file + 1) next (map joined files))
 
-    stays : (line : ℕ) (q : Refusal) → later (added.Refused file line q) ≡ refused_in file line q
+    stays : (line : ℕ) (q : Refusal) → later (Err (file, line, q)) ≡ refused_in file line q
     stays line q = ap added_said (refused_stays i (file + 1) file line q files)
 
-    by_end : (e : End) → later (added_by file s e) ≡ on_end (refused_in file) (λ r. later (added_to file s r)) e
-    by_end (end.Counted r) = refl
-    by_end (end.Refused line q) = stays line q
+    by_end : (e : Result Record (ℕ × Refusal)) → later (added_by file s e) ≡ on_end (refused_in file) (λ r. later (added_to file s r)) e
+    by_end (Ok r) = refl
+    by_end (Err (line, q)) = stays line q
 
-    by_tests : (b c : Bool) (z : Said) → (b ≡ false → c ≡ false → later (added.Sum next) ≡ z)
-        → later (added_as file (cond b (answer.Refused TooShort) (cond c (answer.Refused SumFull) (answer.Taken next))))
+    by_tests : (b c : Bool) (z : Said) → (b ≡ false → c ≡ false → later (Ok next) ≡ z)
+        → later (added_as file (cond b (Err TooShort) (cond c (Err SumFull) (Ok next))))
         ≡ cond b (refused_in file 0 TooShort) (cond c (refused_in file 0 SumFull) z)
     by_tests true c z f = stays 0 TooShort
     by_tests false true z f = stays 0 SumFull
     by_tests false false z f = f refl refl
 
     module _ (l : reading.sound whole ≡ true) (n : whole.n ≡ length lines) where
-      is : adding s whole ≡ cond short (answer.Refused TooShort) (cond full (answer.Refused SumFull) (answer.Taken next))
+      is : adding s whole ≡ cond short (Err TooShort) (cond full (Err SumFull) (Ok next))
       unfolding state_of
       is = adding_is s whole (length lines) k l (sym d) n
 

@@ -11,9 +11,9 @@ ghost use Rattle.binomial_files.specs.Files.{summed};
 ghost use Rattle.binomial_files.specs.Adding.{opened_files, added_to, added_by, added_in, is_over, said_bounded};
 ghost use Rattle.binomial_files.specs.Adding.{added_said};
 
-use binomial_bounds::{Bounded, Bounds};
-use binomial_sum::{Sum, SumAnswer};
-use comma_count::{Counting, End};
+use binomial_bounds::Bounds;
+use binomial_sum::Sum;
+use comma_count::Counting;
 use desk_line::Finished;
 use record_state::Record;
 use refusal::Refusal;
@@ -23,71 +23,76 @@ const TAB: u8 = 9;
 
 const LF: u8 = 10;
 
-// The sum so far; or the number of the file at fault, its line or 0, and the refusal.
-#[derive(Clone, Copy)]
-pub enum Added {
-    Sum(Sum),
-    Refused(u64, u64, Refusal),
-}
-
 // The sum of no files; or refusal 1 with the lowest item outside its range, which is no file's.
-pub fn open(items: Items) -> Added
+pub fn open(items: Items) -> Result<Sum, (u64, u64, Refusal)>
     ensures { result ≡ opened_files items }
 {
     let item = sample_items::item_outside(items);
     if item == 0 {
-        Added::Sum(Sum {
+        Ok(Sum {
             step: items.step,
             failures: 0,
             samples: 0,
         })
     } else {
-        Added::Refused(0, 0, Refusal::Item(item))
+        Err((0, 0, Refusal::Item(item)))
     }
 }
 
-fn added_to(file: u64, s: Sum, r: Record) -> Added
+fn added_to(file: u64, s: Sum, r: Record) -> Result<Sum, (u64, u64, Refusal)>
     ensures { result ≡ added_to file s r }
 {
     match s.add(r) {
-        SumAnswer::Taken(t) => Added::Sum(t),
-        SumAnswer::Refused(q) => Added::Refused(file, 0, q),
+        Ok(t) => Ok(t),
+        Err(q) => Err((file, 0, q)),
     }
 }
 
-fn added_by(file: u64, s: Sum, e: End) -> Added
+fn added_by(
+    file: u64,
+    s: Sum,
+    e: Result<Record, (u64, Refusal)>,
+) -> Result<Sum, (u64, u64, Refusal)>
     ensures { result ≡ added_by file s e }
 {
     match e {
-        End::Counted(r) => added_to(file, s, r),
-        End::Refused(line, q) => Added::Refused(file, line, q),
+        Ok(r) => added_to(file, s, r),
+        Err((line, q)) => Err((file, line, q)),
     }
 }
 
-fn added_in(file: u64, a: Added, e: End) -> Added
+fn added_in(
+    file: u64,
+    a: Result<Sum, (u64, u64, Refusal)>,
+    e: Result<Record, (u64, Refusal)>,
+) -> Result<Sum, (u64, u64, Refusal)>
     ensures { result ≡ added_in file a e }
 {
     match a {
-        Added::Sum(s) => added_by(file, s, e),
-        Added::Refused(first, line, q) => Added::Refused(first, line, q),
+        Ok(s) => added_by(file, s, e),
+        Err((first, line, q)) => Err((first, line, q)),
     }
 }
 
 // The sum with the record of a file, the one of that number, which was counted to its end; or 10, 2, 3 with the line at
 // fault, then 4, 11. What was refused stays.
-pub fn add(file: u64, a: Added, c: Counting) -> Added
+pub fn add(
+    file: u64,
+    a: Result<Sum, (u64, u64, Refusal)>,
+    c: Counting,
+) -> Result<Sum, (u64, u64, Refusal)>
     ensures { result ≡ added_in file a (end_of c) }
 {
     added_in(file, a, comma_count::came_to(c))
 }
 
 // Whether a file was refused: nothing that follows changes it.
-pub fn is_over(a: Added) -> bool
+pub fn is_over(a: Result<Sum, (u64, u64, Refusal)>) -> bool
     ensures { result ≡ is_over a }
 {
     match a {
-        Added::Sum(_) => false,
-        Added::Refused(_, _, _) => true,
+        Ok(_) => false,
+        Err((_, _, _)) => true,
     }
 }
 
@@ -107,30 +112,30 @@ fn put_sum(s: Sum, b: Bounds, out: &mut [u8]) -> Finished
     }
 }
 
-fn put_bounded(s: Sum, b: Bounded, out: &mut [u8]) -> Finished
+fn put_bounded(s: Sum, b: Result<(bool, Bounds), Refusal>, out: &mut [u8]) -> Finished
     requires { longest_said ≤ length out.old }
     ensures { Puts (said_bounded s b) out.old result out.new }
 {
     match b {
-        Bounded::Given(_, x) => put_sum(s, x, out),
-        Bounded::Refused(q) => desk_line::refuse_in(0, 0, q, out),
+        Ok((_, x)) => put_sum(s, x, out),
+        Err(q) => desk_line::refuse_in(0, 0, q, out),
     }
 }
 
-fn put_added(a: Added, out: &mut [u8]) -> Finished
+fn put_added(a: Result<Sum, (u64, u64, Refusal)>, out: &mut [u8]) -> Finished
     requires { longest_said ≤ length out.old }
     ensures { Puts (added_said a) out.old result out.new }
 {
     match a {
-        Added::Sum(s) => put_bounded(s, binomial_bounds::bound(s), out),
-        Added::Refused(file, line, q) => desk_line::refuse_in(file, line, q, out),
+        Ok(s) => put_bounded(s, binomial_bounds::bound(s), out),
+        Err((file, line, q)) => desk_line::refuse_in(file, line, q, out),
     }
 }
 
 // Writes the line of the files to the start of `out`: N, P, the estimate, its lower and its upper bound in thousandths
 // of a failure, and P·D in ms; or refused, the number of the file at fault or 0, its line or 0, the refusal's number,
 // and after 1 the item. Without room for any line nothing is written, and the program ends as failed.
-pub fn finish(a: Added, out: &mut [u8]) -> Finished
+pub fn finish(a: Result<Sum, (u64, u64, Refusal)>, out: &mut [u8]) -> Finished
     ensures value { result ≡ putting (added_said a) out.old }
     ensures out_after { out.new ≡ put_left (added_said a) out.old }
 {

@@ -15,15 +15,15 @@ use Rattle.refusal.specs.declared.Refusal.TheVariants.{Item}
 use Rattle.record_state.specs.State as reading
 use Rattle.record_state.specs.State.{too_short}
 use Rattle.record_state.specs.declared.Record.{Record}
-use Rattle.binomial_sum.specs.declared.SumAnswer.TheVariants.{Refused, Taken}
 use Rattle.binomial_sum.specs.declared.Sum.{Sum}
 use Rattle.binomial_sum.specs.Answers.{adding, opened}
 use Rattle.binomial_sum.specs.Kept.{Kept}
 use Rattle.binomial_sum.specs.State.{empty, grown, most_failures, most_samples, sound, timed, would_pass}
 use Rattle.binomial_sum.proofs.Relations.{brings, kept_from, sound_from}
+use Rattle.std.specs.Prelude.{Ok, Err}
 
 -- a refusal is no answer
-never : {r : Refusal} {t : Sum} → ¬ (Refused r ≡ Taken t)
+never : {r : Refusal} {t : Sum} → ¬ (Err r ≡ Ok t)
 never e = impossible (cc)
 
 -- what adding a record that is taken has met, and what comes out
@@ -36,7 +36,7 @@ pub record Added (s : Sum) (r : Record) (t : Sum) : Type 0 where
   pub samples : s.samples + timed r ≤ most_samples
   pub after : t ≡ grown s r.groups (timed r)
 
-pub added_from : (s : Sum) (r : Record) (t : Sum) → adding s r ≡ Taken t → Added s r t
+pub added_from : (s : Sum) (r : Record) (t : Sum) → adding s r ≡ Ok t → Added s r t
 unfolding adding
 added_from s r t e =
     let o = past (not (sound s)) never e in
@@ -55,16 +55,16 @@ added_from s r t e =
       after = cc v.1;
     }
 
-pub added_back : (s : Sum) (r : Record) (t : Sum) → Added s r t → adding s r ≡ Taken t
+pub added_back : (s : Sum) (r : Record) (t : Sum) → Added s r t → adding s r ≡ Ok t
 unfolding adding
 added_back s r t a =
-    rw (is_true (sound s) a.sum, a.record_sound, a.long, eq-eqb _ _ a.step, le-ltb _ _ a.failures, le-ltb _ _ a.samples) (ap Taken (sym a.after))
+    rw (is_true (sound s) a.sum, a.record_sound, a.long, eq-eqb _ _ a.step, le-ltb _ _ a.failures, le-ltb _ _ a.samples) (ap Ok (sym a.after))
 
 -- ---- what is handed out keeps the relations
-pub opened_from : (D : ℕ) (t : Sum) → opened D ≡ Taken t → T (step_in_range D) × (t ≡ empty D)
+pub opened_from : (D : ℕ) (t : Sum) → opened D ≡ Ok t → T (step_in_range D) × (t ≡ empty D)
 opened_from D t e = go (step_in_range D) e
   where
-    go : (b : Bool) → cond b (Taken (empty D)) (Refused (Item 1)) ≡ Taken t → T b × (t ≡ empty D)
+    go : (b : Bool) → cond b (Ok (empty D)) (Err (Item 1)) ≡ Ok t → T b × (t ≡ empty D)
     go true e = (tt, cc)
     go false e = absurd (never e)
 
@@ -78,7 +78,7 @@ empty_kept D t =
       within = omega arith;
     }
 
-pub opened_sound : (D : ℕ) (t : Sum) → opened D ≡ Taken t → T (sound t)
+pub opened_sound : (D : ℕ) (t : Sum) → opened D ≡ Ok t → T (sound t)
 opened_sound D t e = let o = opened_from D t e in sound_from t (rw o.1 (empty_kept D o.0))
 
 pub added_sound : {s : Sum} {r : Record} {t : Sum} → Added s r t → T (sound t)
@@ -89,5 +89,5 @@ added_sound {s} {r} {t} a =
     record { step_low = k.step_low; step-high = k.step-high; failures = a.failures; samples = a.samples; within = omega (arith, k.within, b.groups) } in
     sound_from t (rw a.after g)
 
-pub adding_sound : (s : Sum) (r : Record) (t : Sum) → adding s r ≡ Taken t → T (sound t)
+pub adding_sound : (s : Sum) (r : Record) (t : Sum) → adding s r ≡ Ok t → T (sound t)
 adding_sound s r t e = added_sound (added_from s r t e)

@@ -6,13 +6,13 @@ use mathlib.Core.List.{List, [], ◌∷◌, ◌++◌}
 use Prim.Native.Nat.{ℕ, ◌+◌}
 use native.Mathlib.Omega.{arith}
 use Rattle.record_state.specs.declared.Record.{Record}
-use Rattle.binomial_sum.specs.declared.SumAnswer.TheVariants.{Taken}
 use Rattle.binomial_sum.specs.declared.Sum.{Sum}
 use Rattle.binomial_sum.specs.Answers.{opened}
 use Rattle.binomial_sum.specs.Records.{AllAdded, groups_in, none, one, sum_of, timed_in}
 use Rattle.binomial_sum.specs.State.{grown, timed}
 use Rattle.binomial_sum.proofs.Answered.{Added, added_back, added_from, added_sound, opened_from}
 use Rattle.binomial_sum.proofs.Relations.{brings}
+use Rattle.std.specs.Prelude.{Ok}
 
 -- sums are the same where their numbers are
 same : {s t : Sum} → s.step ≡ t.step → s.failures ≡ t.failures → s.samples ≡ t.samples → s ≡ t
@@ -31,7 +31,7 @@ over (one {s = s} {t = t} {r = r} {rs = rs} e a) =
     let p = ap (λ (x : Sum). x.samples) b.after in
     (o.0 ∙ d, omega (arith, o.1), omega (arith, o.2))
 
-pub grown_by_adding : (D : ℕ) (s t : Sum) (rs : List Record) → opened D ≡ Taken s → AllAdded s rs t → t ≡ sum_of D rs
+pub grown_by_adding : (D : ℕ) (s t : Sum) (rs : List Record) → opened D ≡ Ok s → AllAdded s rs t → t ≡ sum_of D rs
 unfolding sum_of
 grown_by_adding D s t rs e a =
     let f = (opened_from D s e).1 in

@@ -5,16 +5,17 @@ use mathlib.Core.Bool.{Bool}
 use Prim.Native.Nat.{ℕ}
 use Rattle.truth.proofs.Unique.{settled}
 use Rattle.record_state.specs.declared.Record.{Record}
-use Rattle.binomial_sum.specs.declared.SumAnswer.{SumAnswer}
 use Rattle.binomial_sum.specs.declared.Sum.{Sum}
 use Rattle.binomial_sum.specs.Answers.{adding, opened}
 use Rattle.binomial_sum.specs.State.{sound}
+use Rattle.refusal.specs.declared.Refusal.{Refusal}
+use Rattle.std.specs.Prelude.{Result}
 
-pub open_unique : (D : ℕ) (a b : SumAnswer) → a ≡ opened D → b ≡ opened D → a ≡ b
+pub open_unique : (D : ℕ) (a b : Result Sum Refusal) → a ≡ opened D → b ≡ opened D → a ≡ b
 open_unique D a b = settled
 
 pub sound_unique : (s : Sum) (a b : Bool) → a ≡ sound s → b ≡ sound s → a ≡ b
 sound_unique s a b = settled
 
-pub add_unique : (s : Sum) (r : Record) (a b : SumAnswer) → a ≡ adding s r → b ≡ adding s r → a ≡ b
+pub add_unique : (s : Sum) (r : Record) (a b : Result Sum Refusal) → a ≡ adding s r → b ≡ adding s r → a ≡ b
 add_unique s r a b = settled

@@ -1,8 +1,7 @@
 -- A sum over the whole list of its records: document 02, [7], "add up N, the counted groups, and P, the timed samples".
 -- Assumes nothing.
-use Rattle.std.specs.Prelude.{◌≡◌, List, [], ◌∷◌, ℕ, ◌+◌}
+use Rattle.std.specs.Prelude.{◌≡◌, List, [], ◌∷◌, ℕ, ◌+◌, Ok}
 use Rattle.record_state.specs.declared.Record.{Record}
-use Rattle.binomial_sum.specs.declared.SumAnswer.TheVariants.{Taken}
 use Rattle.binomial_sum.specs.declared.Sum.{Sum}
 use Rattle.binomial_sum.specs.Answers.{adding}
 use Rattle.binomial_sum.specs.State.{timed}
@@ -24,4 +23,4 @@ sum_of D rs = record { step = D; failures = groups_in rs; samples = timed_in rs 
 -- records added one after the other, all taken, lead from s to t
 pub data AllAdded : Sum → List Record → Sum → Type 0 where
   none : {s : Sum} → AllAdded s [] s
-  one : {s t u : Sum} {r : Record} {rs : List Record} → adding s r ≡ Taken t → AllAdded t rs u → AllAdded s (r ∷ rs) u
+  one : {s t u : Sum} {r : Record} {rs : List Record} → adding s r ≡ Ok t → AllAdded t rs u → AllAdded s (r ∷ rs) u

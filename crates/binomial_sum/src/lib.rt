@@ -23,24 +23,18 @@ pub struct Sum {
     pub samples: u64,
 }
 
-#[derive(Clone, Copy)]
-pub enum SumAnswer {
-    Taken(Sum),
-    Refused(Refusal),
-}
-
 // The sum of no records; or refusal 1 with item 1.
-pub fn open(step: u64) -> SumAnswer
+pub fn open(step: u64) -> Result<Sum, Refusal>
     ensures { result ≡ opened step }
 {
     if truth::both(1 <= step, step <= sample_items::LONGEST_STEP) {
-        SumAnswer::Taken(Sum {
+        Ok(Sum {
             step: step,
             failures: 0,
             samples: 0,
         })
     } else {
-        SumAnswer::Refused(Refusal::Item(1))
+        Err(Refusal::Item(1))
     }
 }
 
@@ -58,7 +52,7 @@ pub fn sound(s: Sum) -> bool
 }
 
 // The sum with a record of so many groups and timed samples; or refusal 11.
-fn take(s: Sum, groups: u64, timed: u64) -> SumAnswer
+fn take(s: Sum, groups: u64, timed: u64) -> Result<Sum, Refusal>
     requires { Kept s × (groups ≤ 11000001) × (timed ≤ 11000001) }
     ensures { result ≡ taken s groups timed }
 {
@@ -66,9 +60,9 @@ fn take(s: Sum, groups: u64, timed: u64) -> SumAnswer
         s.failures + groups > MOST_FAILURES,
         s.samples + timed > MOST_SAMPLES,
     ) {
-        return SumAnswer::Refused(Refusal::SumFull);
+        return Err(Refusal::SumFull);
     }
-    SumAnswer::Taken(Sum {
+    Ok(Sum {
         step: s.step,
         failures: s.failures + groups,
         samples: s.samples + timed,
@@ -78,20 +72,20 @@ fn take(s: Sum, groups: u64, timed: u64) -> SumAnswer
 impl Sum {
     // The sum with a record added; or refusal 8 for the sum or for the record, 4 for a record that is too short, 1
     // with item 1 for another step, 11.
-    pub fn add(self, r: Record) -> SumAnswer
+    pub fn add(self, r: Record) -> Result<Sum, Refusal>
         ensures { result ≡ adding self r }
     {
         if !sound(self) {
-            return SumAnswer::Refused(Refusal::BrokenState);
+            return Err(Refusal::BrokenState);
         }
         if !record_state::sound(r) {
-            return SumAnswer::Refused(Refusal::BrokenState);
+            return Err(Refusal::BrokenState);
         }
         if r.n < r.items.ramp + 2 {
-            return SumAnswer::Refused(Refusal::TooShort);
+            return Err(Refusal::TooShort);
         }
         if r.items.step != self.step {
-            return SumAnswer::Refused(Refusal::Item(1));
+            return Err(Refusal::Item(1));
         }
         take(self, r.groups, r.n - r.items.ramp)
     }

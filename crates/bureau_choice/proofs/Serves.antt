@@ -12,8 +12,6 @@ use borrow.Author.Tests.{le-ltb, leb-false, lt-ltb}
 use Rattle.truth.proofs.Cases.{by_test}
 use Rattle.refusal.specs.declared.Refusal.{Refusal}
 use Rattle.refusal.specs.declared.Refusal.TheVariants.{BrokenState, BureauFull, NoBureau, NotItsOwn}
-use Rattle.campaign_state.specs.declared.CampaignAnswer.{CampaignAnswer}
-use Rattle.campaign_state.specs.declared.CampaignAnswer.TheVariants as campaigned
 use Rattle.campaign_state.specs.Answers.{opened}
 use Rattle.bureau_table.specs.declared.Ask.{Ask}
 use Rattle.bureau_table.specs.declared.Ask.TheVariants.{On, Take}
@@ -26,6 +24,8 @@ use Rattle.bureau_table.proofs.Keeping.{place_found}
 use Rattle.bureau_survey.specs.Survey.{looked, unseen}
 use Rattle.bureau_survey.proofs.Found.{count, low, tested}
 use Rattle.bureau_choice.specs.Steps.{acted, choosing, chosen, opening, refusing, served, worked_on}
+use Rattle.campaign_state.specs.declared.Campaign.{Campaign}
+use Rattle.std.specs.Prelude.{Result, Ok, Err}
 
 -- ---- the choice and the work
 pick_yes : {A : Type 0} (b : Bool) (x y : A) → b ≡ true → cond b x y ≡ x
@@ -43,9 +43,9 @@ module _ (t : List Place) (b : ℕ) where
   unfolding acted
   takes q l = go (opened q) refl
     where
-      go : (o : CampaignAnswer) → opened q ≡ o → worked_on t (record { bureau = b; ask = Take q }) (opening (looked unseen 0 t) (length t) o) ≡ placed t b o
-      go (campaigned.Taken c) e = rw (low t l) (pick_yes (ltb (lowest_free t) (length t)) _ _ (lt-ltb (lowest_free t) (length t) l) ∙ rw e)
-      go (campaigned.Refused r) e = stops (Take q) r
+      go : (o : Result Campaign Refusal) → opened q ≡ o → worked_on t (record { bureau = b; ask = Take q }) (opening (looked unseen 0 t) (length t) o) ≡ placed t b o
+      go (Ok c) e = rw (low t l) (pick_yes (ltb (lowest_free t) (length t)) _ _ (lt-ltb (lowest_free t) (length t) l) ∙ rw e)
+      go (Err r) e = stops (Take q) r
 
   chooses : (a : Ask) → kept t ≡ true → is_bureau b ≡ true → worked_on t (record { bureau = b; ask = a }) (choosing (looked unseen 0 t) (length t) b a) ≡ asked t b a
   unfolding acted

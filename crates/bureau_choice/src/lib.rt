@@ -4,33 +4,34 @@
 // take (proofs/Serves.antt: they come to what the call is said to answer and leave).
 #![tactic(auto)]
 
-ghost use Rattle.std.specs.Prelude.{◌≡◌, cond, eqb};
-ghost use Rattle.bureau_table.specs.declared.TableAnswer.TheVariants.{Freed, Refused};
+ghost use Rattle.std.specs.Prelude.{◌≡◌, cond, eqb, Ok, Err};
 ghost use Rattle.bureau_table.specs.Table.{free, owned, is_bureau};
 ghost use Rattle.bureau_table.specs.Calls.{entry, rates_answer, verdict_answer, worked};
 ghost use Rattle.refusal.specs.declared.Refusal.TheVariants.{NotItsOwn};
 ghost use Rattle.bureau_table.specs.declared.Ask.TheVariants.{Take};
 ghost use Rattle.bureau_choice.specs.Steps.{acted, acting, choosing, chosen, fine, opening, own_count, refusing};
 ghost use Rattle.bureau_choice.specs.Steps.{taking};
+ghost use Rattle.bureau_table.specs.declared.Reply.TheVariants.{Freed};
 
 use bureau_survey::Seen;
-use bureau_table::{Ask, Call, Place, TableAnswer, Work, Worked};
+use bureau_table::{Ask, Call, Place, Reply, Work, Worked};
 use campaign_state::Campaign;
+use campaign_verdict::{Rates, Verdict};
 use refusal::Refusal;
 
-fn entry(b: u64, c: Campaign, a: campaign_state::CampaignAnswer) -> Worked
+fn entry(b: u64, c: Campaign, a: Result<Campaign, Refusal>) -> Worked
     ensures { result ≡ entry b c a }
 {
     match a {
-        campaign_state::CampaignAnswer::Taken(d) => Worked {
-            answer: TableAnswer::Entered,
+        Ok(d) => Worked {
+            answer: Ok(Reply::Entered),
             place: Place {
                 owner: b,
                 campaign: d,
             },
         },
-        campaign_state::CampaignAnswer::Refused(r) => Worked {
-            answer: TableAnswer::Refused(r),
+        Err(r) => Worked {
+            answer: Err(r),
             place: Place {
                 owner: b,
                 campaign: c,
@@ -39,25 +40,25 @@ fn entry(b: u64, c: Campaign, a: campaign_state::CampaignAnswer) -> Worked
     }
 }
 
-fn verdict_answer(a: campaign_verdict::Judged) -> TableAnswer
+fn verdict_answer(a: Result<Verdict, Refusal>) -> Result<Reply, Refusal>
     ensures { result ≡ verdict_answer a }
 {
     match a {
-        campaign_verdict::Judged::Given(v) => TableAnswer::Judged(v),
-        campaign_verdict::Judged::Refused(r) => TableAnswer::Refused(r),
+        Ok(v) => Ok(Reply::Judged(v)),
+        Err(r) => Err(r),
     }
 }
 
-fn rates_answer(a: campaign_verdict::Rated) -> TableAnswer
+fn rates_answer(a: Result<Option<Rates>, Refusal>) -> Result<Reply, Refusal>
     ensures { result ≡ rates_answer a }
 {
     match a {
-        campaign_verdict::Rated::Given(some, r) => TableAnswer::Rated(some, r),
-        campaign_verdict::Rated::Refused(r) => TableAnswer::Refused(r),
+        Ok(r) => Ok(Reply::Rated(r)),
+        Err(r) => Err(r),
     }
 }
 
-fn read(b: u64, c: Campaign, a: TableAnswer) -> Worked
+fn read(b: u64, c: Campaign, a: Result<Reply, Refusal>) -> Worked
     ensures { result ≡ record { answer = a; place = owned b c } }
 {
     Worked {
@@ -70,10 +71,10 @@ fn read(b: u64, c: Campaign, a: TableAnswer) -> Worked
 }
 
 fn given_back() -> Worked
-    ensures { result ≡ record { answer = Freed; place = free } }
+    ensures { result ≡ record { answer = (Ok Freed); place = free } }
 {
     Worked {
-        answer: TableAnswer::Freed,
+        answer: Ok(Reply::Freed),
         place: Place {
             owner: 0,
             campaign: Campaign {
@@ -104,7 +105,7 @@ pub fn work(b: u64, c: Campaign, w: Work) -> Worked
 #[derive(Clone, Copy)]
 pub struct Choice {
     pub at: usize,
-    pub answer: TableAnswer,
+    pub answer: Result<Reply, Refusal>,
 }
 
 fn is_bureau(b: u64) -> bool
@@ -119,7 +120,7 @@ fn refusing(n: usize, r: Refusal) -> Choice
 {
     Choice {
         at: n,
-        answer: TableAnswer::Refused(r),
+        answer: Err(r),
     }
 }
 
@@ -129,15 +130,15 @@ fn own_count(s: Seen, b: u64) -> u64
     truth::pick(b == 1, s.first, s.second)
 }
 
-fn opening(s: Seen, n: usize, a: campaign_state::CampaignAnswer) -> Choice
+fn opening(s: Seen, n: usize, a: Result<Campaign, Refusal>) -> Choice
     ensures { result ≡ opening s n a }
 {
     match a {
-        campaign_state::CampaignAnswer::Taken(_) => Choice {
+        Ok(_) => Choice {
             at: s.lowest as usize,
-            answer: TableAnswer::Placed(s.lowest),
+            answer: Ok(Reply::Placed(s.lowest)),
         },
-        campaign_state::CampaignAnswer::Refused(r) => refusing(n, r),
+        Err(r) => refusing(n, r),
     }
 }
 
@@ -157,7 +158,7 @@ fn choosing(s: Seen, n: usize, b: u64, ask: Ask) -> Choice
         Ask::Take(q) => taking(s, n, b, q),
         Ask::On(j, _) => Choice {
             at: j as usize,
-            answer: TableAnswer::Refused(Refusal::NotItsOwn),
+            answer: Err(Refusal::NotItsOwn),
         },
     }
 }
@@ -186,19 +187,19 @@ pub fn choose(c: Call, s: Seen, n: usize) -> Choice
     choosing(s, n, c.bureau, ask)
 }
 
-fn placing(b: u64, p: Place, answer: TableAnswer, a: campaign_state::CampaignAnswer) -> Worked
+fn placing(b: u64, p: Place, answer: Result<Reply, Refusal>, a: Result<Campaign, Refusal>) -> Worked
     ensures { result ≡ taking b p answer a }
 {
     match a {
-        campaign_state::CampaignAnswer::Taken(c) => Worked {
+        Ok(c) => Worked {
             answer: answer,
             place: Place {
                 owner: b,
                 campaign: c,
             },
         },
-        campaign_state::CampaignAnswer::Refused(r) => Worked {
-            answer: TableAnswer::Refused(r),
+        Err(r) => Worked {
+            answer: Err(r),
             place: p,
         },
     }
@@ -206,11 +207,11 @@ fn placing(b: u64, p: Place, answer: TableAnswer, a: campaign_state::CampaignAns
 
 fn working(b: u64, p: Place, w: Work) -> Worked
     ensures { result ≡ cond (eqb p.owner b) (worked b p.campaign w)
-        (record { answer = Refused NotItsOwn; place = p }) }
+        (record { answer = Err NotItsOwn; place = p }) }
 {
     if p.owner != b {
         return Worked {
-            answer: TableAnswer::Refused(Refusal::NotItsOwn),
+            answer: Err(Refusal::NotItsOwn),
             place: p,
         };
     }
@@ -218,7 +219,7 @@ fn working(b: u64, p: Place, w: Work) -> Worked
     work(b, c, w)
 }
 
-fn acting(b: u64, p: Place, answer: TableAnswer, ask: Ask) -> Worked
+fn acting(b: u64, p: Place, answer: Result<Reply, Refusal>, ask: Ask) -> Worked
     ensures { result ≡ acting b p answer ask }
 {
     match ask {

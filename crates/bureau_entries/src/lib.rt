@@ -7,11 +7,12 @@ ghost use Rattle.bureau_table.specs.declared.Ask.TheVariants.{On, Take};
 ghost use Rattle.bureau_table.specs.declared.Work.TheVariants.{Enter, GiveBack, Judge, Rate};
 ghost use Rattle.bureau_table.specs.Calls.{called};
 
-use bureau_table::{Ask, Call, Place, TableAnswer, Work};
+use bureau_table::{Ask, Call, Place, Reply, Work};
 use record_end::Outcome;
+use refusal::Refusal;
 
 // The call's answer; the table is as the call leaves it. Refusals 8, 13, 14 or 15, then document 01's.
-pub fn serve(t: &mut [Place], c: Call) -> TableAnswer
+pub fn serve(t: &mut [Place], c: Call) -> Result<Reply, Refusal>
     ensures { (result ≡ (called t.old c.bureau c.ask).answer)
         × (t.new ≡ (called t.old c.bureau c.ask).table) }
 {
@@ -77,7 +78,7 @@ fn for_entering(bureau: u64, place: u64, o: Outcome) -> Call
 }
 
 // A job: the lowest free place, with a fresh campaign at this standard in it. Refusals 8, 13, 14, 1 with item 5.
-pub fn take(t: &mut [Place], bureau: u64, standard: u64) -> TableAnswer
+pub fn take(t: &mut [Place], bureau: u64, standard: u64) -> Result<Reply, Refusal>
     ensures { (result ≡ (called t.old bureau (Take standard)).answer)
         × (t.new ≡ (called t.old bureau (Take standard)).table) }
 {
@@ -85,7 +86,7 @@ pub fn take(t: &mut [Place], bureau: u64, standard: u64) -> TableAnswer
 }
 
 // The verdict of the campaign in a place of the bureau. Refusals 8, 13, 15.
-pub fn verdict(t: &mut [Place], bureau: u64, place: u64) -> TableAnswer
+pub fn verdict(t: &mut [Place], bureau: u64, place: u64) -> Result<Reply, Refusal>
     ensures { (result ≡ (called t.old bureau (On place Judge)).answer)
         × (t.new ≡ (called t.old bureau (On place Judge)).table) }
 {
@@ -93,7 +94,7 @@ pub fn verdict(t: &mut [Place], bureau: u64, place: u64) -> TableAnswer
 }
 
 // The rates of the campaign in a place of the bureau. Refusals 8, 13, 15.
-pub fn rates(t: &mut [Place], bureau: u64, place: u64) -> TableAnswer
+pub fn rates(t: &mut [Place], bureau: u64, place: u64) -> Result<Reply, Refusal>
     ensures { (result ≡ (called t.old bureau (On place Rate)).answer)
         × (t.new ≡ (called t.old bureau (On place Rate)).table) }
 {
@@ -101,7 +102,7 @@ pub fn rates(t: &mut [Place], bureau: u64, place: u64) -> TableAnswer
 }
 
 // The place is free and all zeros again. Refusals 8, 13, 15.
-pub fn give_back(t: &mut [Place], bureau: u64, place: u64) -> TableAnswer
+pub fn give_back(t: &mut [Place], bureau: u64, place: u64) -> Result<Reply, Refusal>
     ensures { (result ≡ (called t.old bureau (On place GiveBack)).answer)
         × (t.new ≡ (called t.old bureau (On place GiveBack)).table) }
 {
@@ -110,7 +111,7 @@ pub fn give_back(t: &mut [Place], bureau: u64, place: u64) -> TableAnswer
 
 // What a campaign takes of a record's result, entered into the campaign in a place of the bureau. Refusals 8, 13, 15,
 // 8 for the result, 5, 6.
-pub fn enter(t: &mut [Place], bureau: u64, place: u64, o: Outcome) -> TableAnswer
+pub fn enter(t: &mut [Place], bureau: u64, place: u64, o: Outcome) -> Result<Reply, Refusal>
     ensures { (result ≡ (called t.old bureau (On place (Enter o))).answer)
         × (t.new ≡ (called t.old bureau (On place (Enter o))).table) }
 {
@@ -121,7 +122,7 @@ pub fn enter(t: &mut [Place], bureau: u64, place: u64, o: Outcome) -> TableAnswe
 #[derive(Clone, Copy)]
 pub struct Served {
     pub places: [Place; 32],
-    pub answer: TableAnswer,
+    pub answer: Result<Reply, Refusal>,
 }
 
 // The call served at a table by value, which is lent to `serve` and handed back: for callers that keep their table in

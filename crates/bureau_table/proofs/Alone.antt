@@ -13,17 +13,10 @@ use lib.ListN.{length, set}
 use borrow.Author.Tests.{eq-eqb, eqb-false, eqb-true, leb-false, lt-ltb, le-ltb, ne_eqb}
 use Rattle.refusal.specs.declared.Refusal.TheVariants.{NotItsOwn}
 use Rattle.truth.proofs.Cases.{by_order, by_test}
-use Rattle.campaign_state.specs.declared.CampaignAnswer.{CampaignAnswer}
-use Rattle.campaign_state.specs.declared.CampaignAnswer.TheVariants as campaigned
 use Rattle.campaign_state.specs.declared.Campaign.{Campaign}
-use Rattle.campaign_verdict.specs.declared.Judged.{Judged as CampaignJudged}
-use Rattle.campaign_verdict.specs.declared.Judged.TheVariants as judged
-use Rattle.campaign_verdict.specs.declared.Rated.{Rated as CampaignRated}
-use Rattle.campaign_verdict.specs.declared.Rated.TheVariants as rated
 use Rattle.campaign_state.specs.Answers.{entering}
 use Rattle.campaign_verdict.specs.Answers.{judging, rating}
 use Rattle.campaign_state.specs.State.{empty, standard_in_range}
-use Rattle.bureau_table.specs.declared.TableAnswer.TheVariants.{Refused}
 use Rattle.bureau_table.specs.declared.Ask.{Ask}
 use Rattle.bureau_table.specs.declared.Ask.TheVariants.{On, Take}
 use Rattle.bureau_table.specs.declared.Place.{Place}
@@ -40,6 +33,10 @@ use Rattle.bureau_table.proofs.Taking.{owner_called, room_placed}
 use Rattle.bureau_table.proofs.Books.{Booked, foreign, stores, takes}
 use Rattle.bureau_table.proofs.Books as books
 use Rattle.bureau_table.proofs.Start.{own_booked}
+use Rattle.refusal.specs.declared.Refusal.{Refusal}
+use Rattle.campaign_verdict.specs.declared.Verdict.{Verdict}
+use Rattle.campaign_verdict.specs.declared.Rates.{Rates}
+use Rattle.std.specs.Prelude.{Option, Some, None, Result, Ok, Err}
 
 module _ (b : ℕ) (bureau : is_bureau b ≡ true) where
   -- ---- the other's call
@@ -73,23 +70,23 @@ module _ (b : ℕ) (bureau : is_bureau b ≡ true) where
         → Agree book (On k w) (stored t (book_place book k) (worked b c w)) (stored v k (worked b c w))
     works k (Enter x) c l h = go (entering c x) h
       where
-        go : (a : CampaignAnswer) → kept (set t (book_place book k) (entry b c a).place) ≡ true → Agree book (On k (Enter x)) (stored t (book_place book k) (entry b c a)) (stored v k (entry b c a))
-        go (campaigned.Taken d) h = record { same = refl; booked = stores s k l (owned b d) refl h }
-        go (campaigned.Refused r) h = record { same = refl; booked = stores s k l (owned b c) refl h }
+        go : (a : Result Campaign Refusal) → kept (set t (book_place book k) (entry b c a).place) ≡ true → Agree book (On k (Enter x)) (stored t (book_place book k) (entry b c a)) (stored v k (entry b c a))
+        go (Ok d) h = record { same = refl; booked = stores s k l (owned b d) refl h }
+        go (Err r) h = record { same = refl; booked = stores s k l (owned b c) refl h }
     works k Judge c l h = go (judging c)
       where
-        go : (a : CampaignJudged) → Agree book (On k Judge) (stored t (book_place book k)
+        go : (a : Result Verdict Refusal) → Agree book (On k Judge) (stored t (book_place book k)
             (record { answer = verdict_answer a; place = owned b c }))
             (stored v k (record { answer = verdict_answer a; place = owned b c }))
-        go (judged.Given x) = record { same = refl; booked = stores s k l (owned b c) refl h }
-        go (judged.Refused r) = record { same = refl; booked = stores s k l (owned b c) refl h }
+        go (Ok x) = record { same = refl; booked = stores s k l (owned b c) refl h }
+        go (Err r) = record { same = refl; booked = stores s k l (owned b c) refl h }
     works k Rate c l h = go (rating c)
       where
-        go : (a : CampaignRated) → Agree book (On k Rate) (stored t (book_place book k)
+        go : (a : Result (Option Rates) Refusal) → Agree book (On k Rate) (stored t (book_place book k)
             (record { answer = rates_answer a; place = owned b c }))
             (stored v k (record { answer = rates_answer a; place = owned b c }))
-        go (rated.Given some x) = record { same = refl; booked = stores s k l (owned b c) refl h }
-        go (rated.Refused r) = record { same = refl; booked = stores s k l (owned b c) refl h }
+        go (Ok x) = record { same = refl; booked = stores s k l (owned b c) refl h }
+        go (Err r) = record { same = refl; booked = stores s k l (owned b c) refl h }
     works k GiveBack c l h = record { same = refl; booked = books.frees s k l h }
 
     on_job : (k : ℕ) (w : Work) → Agree book (On k w) (called t b (On (book_place book k) w)) (working v b k w)

@@ -13,20 +13,12 @@ use Rattle.refusal.specs.declared.Refusal.{Refusal}
 use Rattle.refusal.specs.declared.Refusal.TheVariants.{BrokenState, BureauFull, Item, NoBureau, NotItsOwn}
 use Rattle.truth.proofs.Cases.{by_test}
 use Rattle.record_end.specs.declared.Outcome.{Outcome}
-use Rattle.campaign_state.specs.declared.CampaignAnswer.{CampaignAnswer}
-use Rattle.campaign_state.specs.declared.CampaignAnswer.TheVariants as campaigned
 use Rattle.campaign_state.specs.declared.Campaign.{Campaign}
-use Rattle.campaign_verdict.specs.declared.Judged.{Judged as CampaignJudged}
-use Rattle.campaign_verdict.specs.declared.Judged.TheVariants as judged
-use Rattle.campaign_verdict.specs.declared.Rated.{Rated as CampaignRated}
-use Rattle.campaign_verdict.specs.declared.Rated.TheVariants as rated
 use Rattle.campaign_verdict.specs.declared.Rates.{Rates}
 use Rattle.campaign_verdict.specs.declared.Verdict.{Verdict}
 use Rattle.campaign_state.specs.Answers.{entering}
 use Rattle.campaign_verdict.specs.Answers.{judging, rating}
 use Rattle.campaign_state.specs.State.{empty, standard_in_range}
-use Rattle.bureau_table.specs.declared.TableAnswer.{TableAnswer}
-use Rattle.bureau_table.specs.declared.TableAnswer.TheVariants.{Entered, Freed, Judged, Placed, Rated, Refused}
 use Rattle.bureau_table.specs.declared.Ask.{Ask}
 use Rattle.bureau_table.specs.declared.Ask.TheVariants.{On, Take}
 use Rattle.bureau_table.specs.declared.Place.{Place}
@@ -35,11 +27,14 @@ use Rattle.bureau_table.specs.declared.Work.TheVariants.{Enter, GiveBack, Judge,
 use Rattle.bureau_table.specs.Table.{at, free, is_bureau, jobs, kept, lowest_free, owned}
 use Rattle.bureau_table.specs.Calls.{Done, asked, called, entry, rates_answer, refused, stored, verdict_answer, worked}
 use Rattle.bureau_table.specs.Taken.{Room}
+use Rattle.bureau_table.specs.declared.Reply.TheVariants.{Entered, Freed, Judged, Placed, Rated}
+use Rattle.bureau_table.specs.declared.Reply.{Reply}
+use Rattle.std.specs.Prelude.{Option, Some, None, Result, Ok, Err}
 
 -- a verdict or rates
-pub data Reading : TableAnswer → Type 0 where
-  verdict : (v : Verdict) → Reading (Judged v)
-  rates : (some : Bool) (r : Rates) → Reading (Rated some r)
+pub data Reading : Result Reply Refusal → Type 0 where
+  verdict : (v : Verdict) → Reading (Ok (Judged v))
+  rates : (r : Option Rates) → Reading (Ok (Rated r))
 
 -- no test before the place's own refused: the table keeps its relations, b is a bureau, place i is its own
 pub record Own (t : List Place) (b i : ℕ) : Type 0 where
@@ -50,14 +45,14 @@ pub record Own (t : List Place) (b i : ℕ) : Type 0 where
 
 pub data Made (t : List Place) (b : ℕ) : Ask → Done → Type 0 where
   refuses : (a : Ask) (r : Refusal) → Made t b a (refused t r)
-  places : (q : ℕ) → Room t b q → Made t b (Take q) (record { answer = Placed (lowest_free t); table = set t (lowest_free t) (owned b (empty q)) })
-  reads : (i : ℕ) (w : Work) (x : TableAnswer) → Reading x → Own t b i → Made t b (On i w) (record { answer = x; table = t })
+  places : (q : ℕ) → Room t b q → Made t b (Take q) (record { answer = Ok (Placed (lowest_free t)); table = set t (lowest_free t) (owned b (empty q)) })
+  reads : (i : ℕ) (w : Work) (x : Result Reply Refusal) → Reading x → Own t b i → Made t b (On i w) (record { answer = x; table = t })
   enters :
       (i : ℕ) (x : Outcome) (d : Campaign)
       → Own t b i
-      → entering (at t i).campaign x ≡ campaigned.Taken d
-      → Made t b (On i (Enter x)) (record { answer = Entered; table = set t i (owned b d) })
-  frees : (i : ℕ) → Own t b i → Made t b (On i GiveBack) (record { answer = Freed; table = set t i free })
+      → entering (at t i).campaign x ≡ Ok d
+      → Made t b (On i (Enter x)) (record { answer = (Ok Entered); table = set t i (owned b d) })
+  frees : (i : ℕ) → Own t b i → Made t b (On i GiveBack) (record { answer = (Ok Freed); table = set t i free })
 
 module _ (t : List Place) (b : ℕ) where
   -- its own place, stored as it was
@@ -67,19 +62,19 @@ module _ (t : List Place) (b : ℕ) where
   work_made : (i : ℕ) (w : Work) → Own t b i → Made t b (On i w) (stored t i (worked b (at t i).campaign w))
   work_made i (Enter x) o = go (entering (at t i).campaign x) refl
     where
-      go : (a : CampaignAnswer) → entering (at t i).campaign x ≡ a → Made t b (On i (Enter x)) (stored t i (entry b (at t i).campaign a))
-      go (campaigned.Taken d) e = enters i x d o e
-      go (campaigned.Refused r) e = rw (same i o) (refuses _ r)
+      go : (a : Result Campaign Refusal) → entering (at t i).campaign x ≡ a → Made t b (On i (Enter x)) (stored t i (entry b (at t i).campaign a))
+      go (Ok d) e = enters i x d o e
+      go (Err r) e = rw (same i o) (refuses _ r)
   work_made i Judge o = go (judging (at t i).campaign)
     where
-      go : (a : CampaignJudged) → Made t b (On i Judge) (record { answer = verdict_answer a; table = set t i (owned b (at t i).campaign) })
-      go (judged.Given v) = rw (same i o) (reads i Judge _ (verdict v) o)
-      go (judged.Refused r) = rw (same i o) (refuses _ r)
+      go : (a : Result Verdict Refusal) → Made t b (On i Judge) (record { answer = verdict_answer a; table = set t i (owned b (at t i).campaign) })
+      go (Ok v) = rw (same i o) (reads i Judge _ (verdict v) o)
+      go (Err r) = rw (same i o) (refuses _ r)
   work_made i Rate o = go (rating (at t i).campaign)
     where
-      go : (a : CampaignRated) → Made t b (On i Rate) (record { answer = rates_answer a; table = set t i (owned b (at t i).campaign) })
-      go (rated.Given some r) = rw (same i o) (reads i Rate _ (rates some r) o)
-      go (rated.Refused r) = rw (same i o) (refuses _ r)
+      go : (a : Result (Option Rates) Refusal) → Made t b (On i Rate) (record { answer = rates_answer a; table = set t i (owned b (at t i).campaign) })
+      go (Ok r) = rw (same i o) (reads i Rate _ (rates r) o)
+      go (Err r) = rw (same i o) (refuses _ r)
   work_made i GiveBack o = frees i o
 
   asked_made : (a : Ask) → kept t ≡ true → is_bureau b ≡ true → Made t b a (asked t b a)

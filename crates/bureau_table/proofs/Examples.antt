@@ -8,8 +8,6 @@ use Rattle.campaign_verdict.specs.declared.Verdict.TheVariants.{NoRecord}
 use Rattle.campaign_state.specs.Answers.{entering}
 use Rattle.campaign_verdict.specs.Answers.{judging}
 use Rattle.campaign_state.specs.State.{sound}
-use Rattle.bureau_table.specs.declared.TableAnswer.{TableAnswer}
-use Rattle.bureau_table.specs.declared.TableAnswer.TheVariants.{Entered, Freed, Judged, Placed, Refused}
 use Rattle.bureau_table.specs.declared.Ask.{Ask}
 use Rattle.bureau_table.specs.declared.Ask.TheVariants.{On, Take}
 use Rattle.bureau_table.specs.declared.Place.{Place}
@@ -17,9 +15,13 @@ use Rattle.bureau_table.specs.declared.Work.TheVariants.{Enter, GiveBack, Judge}
 use Rattle.bureau_table.specs.Table.{all_kept, bare, jobs, kept, lowest_free}
 use Rattle.bureau_table.specs.Calls.{called}
 use Rattle.bureau_table.specs.declared.Call.{Call}
+use Rattle.bureau_table.specs.declared.Reply.TheVariants.{Entered, Freed, Judged, Placed}
+use Rattle.refusal.specs.declared.Refusal.{Refusal}
+use Rattle.bureau_table.specs.declared.Reply.{Reply}
+use Rattle.std.specs.Prelude.{Result, Ok, Err}
 
 -- the answers to calls, one after the other
-told : List Place → List Call → List TableAnswer
+told : List Place → List Call → List (Result Reply Refusal)
 told t [] = []
 told t (c ∷ cs) = (called t c.bureau c.ask).answer ∷ told (called t c.bureau c.ask).table cs
 
@@ -28,7 +30,7 @@ abbrev ◌asks◌ : ℕ → Ask → Call
 b asks a = record { bureau = b; ask = a }
 
 -- 8 first of all, then 13
-broken : (called [] 3 (Take 0)).answer ≡ Refused BrokenState
+broken : (called [] 3 (Take 0)).answer ≡ Err BrokenState
 unfolding called kept
 broken = refl
 
@@ -48,18 +50,18 @@ in_turn :
     ∷ (1 asks On 0 GiveBack
     ∷ (2 asks Take 3000
     ∷ []))))))))))))
-    ≡ Placed 0
-    ∷ (Placed 1
-    ∷ (Refused NoBureau
-    ∷ (Refused (Item 5)
-    ∷ (Refused NotItsOwn
-    ∷ (Refused NotItsOwn
-    ∷ (Refused BrokenState
-    ∷ (Entered
-    ∷ (Judged NoRecord
-    ∷ (Freed
-    ∷ (Refused NotItsOwn
-    ∷ (Placed 0
+    ≡ Ok (Placed 0)
+    ∷ (Ok (Placed 1)
+    ∷ (Err NoBureau
+    ∷ (Err (Item 5)
+    ∷ (Err NotItsOwn
+    ∷ (Err NotItsOwn
+    ∷ (Err BrokenState
+    ∷ ((Ok Entered)
+    ∷ (Ok (Judged NoRecord)
+    ∷ ((Ok Freed)
+    ∷ (Err NotItsOwn
+    ∷ (Ok (Placed 0)
     ∷ [])))))))))))
 unfolding told called kept all_kept jobs lowest_free sound entering judging
 in_turn = refl

@@ -14,12 +14,10 @@ use borrow.Author.Tests.{eqb-true}
 use Rattle.refusal.specs.declared.Refusal.{Refusal}
 use Rattle.truth.proofs.Cases.{by_test}
 use Rattle.truth.proofs.Laws.{impossible, is_true}
-use Rattle.campaign_state.specs.declared.CampaignAnswer.TheVariants as campaigned
 use Rattle.campaign_state.specs.declared.Campaign.{Campaign}
 use Rattle.campaign_state.specs.Answers.{opened}
 use Rattle.campaign_state.specs.State.{empty, sound, standard_in_range}
 use Rattle.campaign_state.proofs.Keeping.{entering_sound, opened_sound}
-use Rattle.bureau_table.specs.declared.TableAnswer.TheVariants.{Refused}
 use Rattle.bureau_table.specs.declared.Ask.{Ask}
 use Rattle.bureau_table.specs.declared.Ask.TheVariants.{On}
 use Rattle.bureau_table.specs.declared.Place.{Place}
@@ -29,6 +27,7 @@ use Rattle.bureau_table.specs.Calls.{Done, called}
 use Rattle.bureau_table.proofs.Places.{counts, lowest_free_lem, lowest_is}
 use Rattle.bureau_table.proofs.Relations.{Kept, bureau_is, kept_from, kept_to, not_none, owned_kept, set_kept}
 use Rattle.bureau_table.proofs.Cases.{Made, called_made, enters, frees, places, reads, refuses}
+use Rattle.std.specs.Prelude.{Ok, Err}
 
 -- ---- a bureau under 16 jobs finds a free place
 pub place_found : (t : List Place) (b : ℕ) → Kept t → is_bureau b ≡ true → jobs b t < 16 → lowest_free t < length t
@@ -37,7 +36,7 @@ place_found t b k e u =
     (λ h. let u₁ : jobs 1 t < 16 = rw h at u in lowest_is t (omega (arith, counts t k.all)))
     (λ h. let u₂ : jobs 2 t < 16 = rw h at u in lowest_is t (omega (arith, counts t k.all)))
 
-pub opened_is : (q : ℕ) → standard_in_range q ≡ true → opened q ≡ campaigned.Taken (empty q)
+pub opened_is : (q : ℕ) → standard_in_range q ≡ true → opened q ≡ Ok (empty q)
 opened_is q s = rw s
 
 pub empty_sound : (q : ℕ) → standard_in_range q ≡ true → sound (empty q) ≡ true
@@ -72,7 +71,7 @@ module _ (t : List Place) (b : ℕ) where
       let g = kept_from t k in
       kept_to _ (set_kept t i free g o.inside refl (omega (arith, g.first)) (omega (arith, g.second)))
 
-leaves : {t : List Place} {b : ℕ} {a : Ask} {d : Done} (r : Refusal) → d.answer ≡ Refused r → Made t b a d → d.table ≡ t
+leaves : {t : List Place} {b : ℕ} {a : Ask} {d : Done} (r : Refusal) → d.answer ≡ Err r → Made t b a d → d.table ≡ t
 leaves r e (refuses a s) = refl
 leaves r e (places q m) = impossible (cc)
 leaves r e (reads i w x s o) = refl
@@ -95,7 +94,7 @@ bare_kept = refl
 pub calls_keep : (t : List Place) (b : ℕ) (a : Ask) → kept t ≡ true → kept (called t b a).table ≡ true
 calls_keep t b a k = keeps t b k (called_made t b a)
 
-pub refusal_leaves : (t : List Place) (b : ℕ) (a : Ask) (r : Refusal) → (called t b a).answer ≡ Refused r → (called t b a).table ≡ t
+pub refusal_leaves : (t : List Place) (b : ℕ) (a : Ask) (r : Refusal) → (called t b a).answer ≡ Err r → (called t b a).table ≡ t
 refusal_leaves t b a r e = leaves r e (called_made t b a)
 
 reading_leaves : {t : List Place} {b i : ℕ} {d : Done} → Made t b (On i Judge) d → d.table ≡ t

@@ -15,7 +15,6 @@ use Rattle.refusal.specs.declared.Refusal.{Refusal}
 use Rattle.truth.proofs.Cases.{by_test}
 use Rattle.truth.proofs.Laws.{neither, true≢false}
 use Rattle.record_end.specs.declared.Outcome.{Outcome}
-use Rattle.campaign_state.specs.declared.CampaignAnswer.TheVariants as campaigned
 use Rattle.campaign_state.specs.declared.Campaign.{Campaign}
 use Rattle.campaign_state.specs.Answers.{entering}
 use Rattle.campaign_verdict.specs.Answers.{judging, rating}
@@ -23,8 +22,6 @@ use Rattle.campaign_verdict.specs.Figures.{rates_of, verdict_of}
 use Rattle.campaign_state.specs.Records.{AllEntered, campaign_of, censored_in, none, one}
 use Rattle.campaign_state.specs.State.{censored, empty, sound, standard_in_range}
 use Rattle.campaign_state.proofs.Records.{censored_grown, grown_by_entering}
-use Rattle.bureau_table.specs.declared.TableAnswer.{TableAnswer}
-use Rattle.bureau_table.specs.declared.TableAnswer.TheVariants.{Judged, Placed, Rated, Refused}
 use Rattle.bureau_table.specs.declared.Ask.{Ask}
 use Rattle.bureau_table.specs.declared.Ask.TheVariants.{On, Take}
 use Rattle.bureau_table.specs.declared.Place.{Place}
@@ -40,6 +37,9 @@ use Rattle.bureau_table.proofs.Cases.{Made, Own, Reading, called_made, places, r
 use Rattle.bureau_table.proofs.Cases as cases
 use Rattle.bureau_table.proofs.Keeping.{calls_keep, opened_is}
 use Rattle.bureau_table.proofs.Taking.{owner_called, taken_at}
+use Rattle.bureau_table.specs.declared.Reply.TheVariants.{Judged, Placed, Rated}
+use Rattle.bureau_table.specs.declared.Reply.{Reply}
+use Rattle.std.specs.Prelude.{Some, None, Result, Ok, Err}
 
 -- ---- the statement
 -- place i of the table is bureau b's, its records at the standard q are os, and what it is told of them is document
@@ -47,25 +47,25 @@ use Rattle.bureau_table.proofs.Taking.{owner_called, taken_at}
 pub record Reads (t : List Place) (b q i : ℕ) (os : List Outcome) : Type 0 where
   pub stands : at t i ≡ owned b (campaign_of q os)
   pub censored : censored (at t i).campaign ≡ censored_in os
-  pub verdict : (called t b (On i Judge)).answer ≡ Judged (verdict_of (campaign_of q os))
-  pub rates : (called t b (On i Rate)).answer ≡ Rated (not (eqb (length os) 0)) (rates_of (campaign_of q os))
+  pub verdict : (called t b (On i Judge)).answer ≡ Ok (Judged (verdict_of (campaign_of q os)))
+  pub rates : (called t b (On i Rate)).answer ≡ Ok (Rated (cond (not (eqb (length os) 0)) (Some (rates_of (campaign_of q os))) None))
   pub sound : sound (campaign_of q os) ≡ true
 
 -- ---- the proof
 -- one more record, at the end
-one_later : {c d e : Campaign} {os : List Outcome} (x : Outcome) → AllEntered c os d → entering d x ≡ campaigned.Taken e → AllEntered c (os ++ (x ∷ [])) e
+one_later : {c d e : Campaign} {os : List Outcome} (x : Outcome) → AllEntered c os d → entering d x ≡ Ok e → AllEntered c (os ++ (x ∷ [])) e
 one_later x none e = one e none
 one_later x (one t a) e = one t (one_later x a e)
 
 -- what enters none
 
-work_refused : (w : Work) (r : Refusal) → work_enters w (Refused r) ≡ []
+work_refused : (w : Work) (r : Refusal) → work_enters w (Err r) ≡ []
 work_refused (Enter x) r = refl
 work_refused Judge r = refl
 work_refused Rate r = refl
 work_refused GiveBack r = refl
 
-work_read : (w : Work) {x : TableAnswer} → Reading x → work_enters w x ≡ []
+work_read : (w : Work) {x : (Result Reply Refusal)} → Reading x → work_enters w x ≡ []
 work_read (Enter y) (verdict v) = refl
 work_read (Enter y) (rates some r) = refl
 work_read Judge r = refl
@@ -79,12 +79,12 @@ module _ (i b q : ℕ) (bureau : is_bureau b ≡ true) where
     stands : at t i ≡ owned b campaign
     entered : AllEntered (empty q) os campaign
 
-  none_entered : (j : ℕ) (w : Work) (x : TableAnswer) → work_enters w x ≡ [] → enters i (On j w) x ≡ []
+  none_entered : (j : ℕ) (w : Work) (x : Result Reply Refusal) → work_enters w x ≡ [] → enters i (On j w) x ≡ []
   none_entered j w x e = by_test (eqb j i) (λ h. rw (h, e)) (λ h. rw h)
 
-  not_entered : (a : Ask) (r : Refusal) → enters i a (Refused r) ≡ []
+  not_entered : (a : Ask) (r : Refusal) → enters i a (Err r) ≡ []
   not_entered (Take q) r = refl
-  not_entered (On j w) r = none_entered j w (Refused r) (work_refused w r)
+  not_entered (On j w) r = none_entered j w (Err r) (work_refused w r)
 
   module _ {t : List Place} {os : List Outcome} (s : Holds t os) where
     owner : (at t i).owner ≡ b
@@ -139,11 +139,11 @@ module _ (i b q : ℕ) (bureau : is_bureau b ≡ true) where
     kept_campaign : sound (campaign_of q os) ≡ true
     kept_campaign = rw is at (owned_sound (at t i) b bureau (owner s) (all-at t i (kept_from t s.kept).all))
 
-    told_verdict : (called t b (On i Judge)).answer ≡ Judged (verdict_of (campaign_of q os))
+    told_verdict : (called t b (On i Judge)).answer ≡ Ok (Judged (verdict_of (campaign_of q os)))
     unfolding judging
     told_verdict = rw (owner_called t b i Judge own, is, kept_campaign)
 
-    told_rates : (called t b (On i Rate)).answer ≡ Rated (not (eqb (campaign_of q os).records 0)) (rates_of (campaign_of q os))
+    told_rates : (called t b (On i Rate)).answer ≡ Ok (Rated (cond (not (eqb (campaign_of q os).records 0)) (Some (rates_of (campaign_of q os))) None))
     unfolding rating
     told_rates = rw (owner_called t b i Rate own, is, kept_campaign)
 
@@ -161,7 +161,7 @@ module _ (i b q : ℕ) (bureau : is_bureau b ≡ true) where
 -- ---- the theorem
 pub from_taking_to_return :
     (t : List Place) (b q i : ℕ) (cs : List Call)
-    → (called t b (Take q)).answer ≡ Placed i
+    → (called t b (Take q)).answer ≡ Ok (Placed i)
     → freed_at i (called t b (Take q)).table cs ≡ false
     → Reads (after (called t b (Take q)).table cs) b q i (entries_at i (called t b (Take q)).table cs)
 from_taking_to_return t b q i cs e f =

@@ -1,18 +1,10 @@
 -- Request 9: what a call answers, and what it leaves in the table. Assumes nothing.
-use Rattle.std.specs.Prelude.{cond, not, ◌&&◌, List, ℕ, eqb, leb, ltb, length, set}
+use Rattle.std.specs.Prelude.{cond, not, ◌&&◌, List, ℕ, eqb, leb, ltb, length, set, Option, Some, None, Result, Ok, Err}
 use Rattle.refusal.specs.declared.Refusal.{Refusal}
 use Rattle.refusal.specs.declared.Refusal.TheVariants.{BrokenState, BureauFull, NoBureau, NotItsOwn}
-use Rattle.campaign_state.specs.declared.CampaignAnswer.{CampaignAnswer}
 use Rattle.campaign_state.specs.declared.Campaign.{Campaign}
-use Rattle.campaign_verdict.specs.declared.Judged.{Judged as CampaignJudged}
-use Rattle.campaign_verdict.specs.declared.Rated.{Rated as CampaignRated}
 use Rattle.campaign_state.specs.Answers.{entering, opened}
 use Rattle.campaign_verdict.specs.Answers.{judging, rating}
-use Rattle.campaign_state.specs.declared.CampaignAnswer.TheVariants as campaigned
-use Rattle.campaign_verdict.specs.declared.Judged.TheVariants as judged
-use Rattle.campaign_verdict.specs.declared.Rated.TheVariants as rated
-use Rattle.bureau_table.specs.declared.TableAnswer.{TableAnswer}
-use Rattle.bureau_table.specs.declared.TableAnswer.TheVariants.{Entered, Freed, Judged, Placed, Rated, Refused}
 use Rattle.bureau_table.specs.declared.Ask.{Ask}
 use Rattle.bureau_table.specs.declared.Ask.TheVariants.{On, Take}
 use Rattle.bureau_table.specs.declared.Place.{Place}
@@ -20,40 +12,44 @@ use Rattle.bureau_table.specs.declared.Work.{Work}
 use Rattle.bureau_table.specs.declared.Worked.{Worked}
 use Rattle.bureau_table.specs.declared.Work.TheVariants.{Enter, GiveBack, Judge, Rate}
 use Rattle.bureau_table.specs.Table.{at, free, is_bureau, jobs, kept, lowest_free, most_jobs, owned}
+use Rattle.bureau_table.specs.declared.Reply.TheVariants.{Entered, Freed, Judged, Placed, Rated}
+use Rattle.campaign_verdict.specs.declared.Verdict.{Verdict}
+use Rattle.campaign_verdict.specs.declared.Rates.{Rates}
+use Rattle.bureau_table.specs.declared.Reply.{Reply}
 
 -- ---- work on a campaign, by value: what is answered, and what stands in its place then
-abbrev pub entry : ℕ → Campaign → CampaignAnswer → Worked
-entry b c (campaigned.Taken d) = record { answer = Entered; place = owned b d }
-entry b c (campaigned.Refused r) = record { answer = Refused r; place = owned b c }
+abbrev pub entry : ℕ → Campaign → Result Campaign Refusal → Worked
+entry b c (Ok d) = record { answer = (Ok Entered); place = owned b d }
+entry b c (Err r) = record { answer = Err r; place = owned b c }
 
-abbrev pub verdict_answer : CampaignJudged → TableAnswer
-verdict_answer (judged.Given v) = Judged v
-verdict_answer (judged.Refused r) = Refused r
+abbrev pub verdict_answer : Result Verdict Refusal → Result Reply Refusal
+verdict_answer (Ok v) = Ok (Judged v)
+verdict_answer (Err r) = Err r
 
-abbrev pub rates_answer : CampaignRated → TableAnswer
-rates_answer (rated.Given some r) = Rated some r
-rates_answer (rated.Refused r) = Refused r
+abbrev pub rates_answer : Result (Option Rates) Refusal → Result Reply Refusal
+rates_answer (Ok r) = Ok (Rated r)
+rates_answer (Err r) = Err r
 
 -- entering, verdict and rates are document 01's, with [4]; "giving it back frees the place"
 abbrev pub worked : ℕ → Campaign → Work → Worked
 worked b c (Enter o) = entry b c (entering c o)
 worked b c Judge = record { answer = verdict_answer (judging c); place = owned b c }
 worked b c Rate = record { answer = rates_answer (rating c); place = owned b c }
-worked b c GiveBack = record { answer = Freed; place = free }
+worked b c GiveBack = record { answer = (Ok Freed); place = free }
 
 -- ---- a call
 pub record Done : Type 0 where
-  pub answer : TableAnswer
+  pub answer : Result Reply Refusal
   pub table : List Place
 
 -- a refusal leaves the table as it was
 abbrev pub refused : List Place → Refusal → Done
-refused t r = record { answer = Refused r; table = t }
+refused t r = record { answer = Err r; table = t }
 
 -- "taking a job gives the lowest free place and a fresh campaign", or document 01's refusal of its standard
-abbrev pub placed : List Place → ℕ → CampaignAnswer → Done
-placed t b (campaigned.Taken c) = record { answer = Placed (lowest_free t); table = set t (lowest_free t) (owned b c) }
-placed t b (campaigned.Refused r) = refused t r
+abbrev pub placed : List Place → ℕ → Result Campaign Refusal → Done
+placed t b (Ok c) = record { answer = Ok (Placed (lowest_free t)); table = set t (lowest_free t) (owned b c) }
+placed t b (Err r) = refused t r
 
 -- 14 for a bureau that has 16 already
 abbrev pub taking : List Place → ℕ → ℕ → Done

@@ -1,13 +1,9 @@
 -- Request 9: calls of two bureaus one after the other, "each call finding the table as the last one left it". Assumes
 -- nothing.
-use Rattle.std.specs.Prelude.{◌≡◌, Bool, cond, false, true, ◌||◌, List, [], ◌∷◌, ◌++◌, ℕ, suc, eqb, leb, get_or, set}
-use Rattle.campaign_state.specs.declared.CampaignAnswer.{CampaignAnswer}
-use Rattle.campaign_state.specs.declared.CampaignAnswer.TheVariants as campaigned
+use Rattle.std.specs.Prelude.{◌≡◌, Bool, cond, false, true, ◌||◌, List, [], ◌∷◌, ◌++◌, ℕ, suc, eqb, leb, get_or, set, Result, Ok, Err}
 use Rattle.campaign_state.specs.Answers.{opened}
 use Rattle.record_end.specs.declared.Outcome.{Outcome}
 use Rattle.refusal.specs.declared.Refusal.TheVariants.{BureauFull}
-use Rattle.bureau_table.specs.declared.TableAnswer.{TableAnswer}
-use Rattle.bureau_table.specs.declared.TableAnswer.TheVariants.{Entered, Freed, Judged, Placed, Rated, Refused}
 use Rattle.bureau_table.specs.declared.Ask.{Ask}
 use Rattle.bureau_table.specs.declared.Ask.TheVariants.{On, Take}
 use Rattle.bureau_table.specs.declared.Call.{Call}
@@ -16,6 +12,10 @@ use Rattle.bureau_table.specs.declared.Work.{Work}
 use Rattle.bureau_table.specs.declared.Work.TheVariants.{Enter, GiveBack, Judge, Rate}
 use Rattle.bureau_table.specs.Table.{jobs, most_jobs, owned, places}
 use Rattle.bureau_table.specs.Calls.{Done, called, refused, working}
+use Rattle.bureau_table.specs.declared.Reply.TheVariants.{Entered, Freed, Judged, Placed, Rated}
+use Rattle.refusal.specs.declared.Refusal.{Refusal}
+use Rattle.campaign_state.specs.declared.Campaign.{Campaign}
+use Rattle.bureau_table.specs.declared.Reply.{Reply}
 
 -- ---- one bureau's script among the other's calls
 -- A script names no place, since which it gets depends on both: in it `On k w` is work on the k-th job that the bureau
@@ -44,13 +44,13 @@ struck book (Take q) = book
 struck book (On k w) = set book k places
 
 -- what it notes of the answer
-abbrev pub noted : List ℕ → Ask → TableAnswer → List ℕ
-noted book a (Placed i) = book ++ (i ∷ [])
-noted book a Freed = struck book a
-noted book a Entered = book
-noted book a (Judged v) = book
-noted book a (Rated some r) = book
-noted book a (Refused r) = book
+abbrev pub noted : List ℕ → Ask → Result Reply Refusal → List ℕ
+noted book a (Ok (Placed i)) = book ++ (i ∷ [])
+noted book a (Ok Freed) = struck book a
+noted book a (Ok Entered) = book
+noted book a (Ok (Judged v)) = book
+noted book a (Ok (Rated r)) = book
+noted book a (Err r) = book
 
 -- a move at the bench: a line of bureau b's script; or any call whatever of any other bureau
 pub data Move (b : ℕ) : Type 0 where
@@ -58,16 +58,16 @@ pub data Move (b : ℕ) : Type 0 where
   other : (c : ℕ) → ¬ (c ≡ b) → Ask → Move b
 
 -- an answer, the place number aside
-abbrev pub aside : TableAnswer → TableAnswer
-aside (Placed i) = Placed 0
-aside Entered = Entered
-aside (Judged v) = Judged v
-aside (Rated some r) = Rated some r
-aside Freed = Freed
-aside (Refused r) = Refused r
+abbrev pub aside : Result Reply Refusal → Result Reply Refusal
+aside (Ok (Placed i)) = Ok (Placed 0)
+aside (Ok Entered) = (Ok Entered)
+aside (Ok (Judged v)) = Ok (Judged v)
+aside (Ok (Rated r)) = Ok (Rated r)
+aside (Ok Freed) = (Ok Freed)
+aside (Err r) = Err r
 
 -- what bureau b's script is answered, place numbers aside, from a table and a book on
-unfoldable pub answers : (b : ℕ) → List Place → List ℕ → List (Move b) → List TableAnswer
+unfoldable pub answers : (b : ℕ) → List Place → List ℕ → List (Move b) → List (Result Reply Refusal)
 answers b t book [] = []
 answers b t book (mine a ∷ ms) =
     let d : Done = called t b (sent book a) in
@@ -75,7 +75,7 @@ answers b t book (mine a ∷ ms) =
 answers b t book (other c n a ∷ ms) = answers b (called t c a).table book ms
 
 -- from a table on
-abbrev pub answers_from : (b : ℕ) → List Place → List (Move b) → List TableAnswer
+abbrev pub answers_from : (b : ℕ) → List Place → List (Move b) → List (Result Reply Refusal)
 answers_from b t ms = answers b t (own_places b 0 t) ms
 
 -- the script
@@ -92,15 +92,15 @@ alone (other c n a ∷ ms) = alone ms
 
 -- ---- a desk of the bureau's own
 -- Its jobs stand in the order of taking, so the k-th is at place k; there is no end to its places and no other bureau.
-abbrev pub opened_at_desk : List Place → ℕ → CampaignAnswer → Done
-opened_at_desk v b (campaigned.Taken c) = record { answer = Placed 0; table = v ++ (owned b c ∷ []) }
-opened_at_desk v b (campaigned.Refused r) = refused v r
+abbrev pub opened_at_desk : List Place → ℕ → Result Campaign Refusal → Done
+opened_at_desk v b (Ok c) = record { answer = Ok (Placed 0); table = v ++ (owned b c ∷ []) }
+opened_at_desk v b (Err r) = refused v r
 
 abbrev pub at_desk : List Place → ℕ → Ask → Done
 at_desk v b (Take q) = cond (leb most_jobs (jobs b v)) (refused v BureauFull) (opened_at_desk v b (opened q))
 at_desk v b (On k w) = working v b k w
 
-unfoldable pub desk_answers : ℕ → List Place → List Ask → List TableAnswer
+unfoldable pub desk_answers : ℕ → List Place → List Ask → List (Result Reply Refusal)
 desk_answers b v [] = []
 desk_answers b v (a ∷ more) = (at_desk v b a).answer ∷ desk_answers b (at_desk v b a).table more
 
@@ -115,31 +115,31 @@ after t [] = t
 after t (c ∷ cs) = after (made t c).table cs
 
 -- the record that a call, answered so, enters in place i
-abbrev pub work_enters : Work → TableAnswer → List Outcome
-work_enters (Enter o) Entered = o ∷ []
-work_enters (Enter o) (Placed i) = []
-work_enters (Enter o) (Judged v) = []
-work_enters (Enter o) (Rated some r) = []
-work_enters (Enter o) Freed = []
-work_enters (Enter o) (Refused r) = []
+abbrev pub work_enters : Work → Result Reply Refusal → List Outcome
+work_enters (Enter o) (Ok Entered) = o ∷ []
+work_enters (Enter o) (Ok (Placed i)) = []
+work_enters (Enter o) (Ok (Judged v)) = []
+work_enters (Enter o) (Ok (Rated r)) = []
+work_enters (Enter o) (Ok Freed) = []
+work_enters (Enter o) (Err r) = []
 work_enters Judge x = []
 work_enters Rate x = []
 work_enters GiveBack x = []
 
-abbrev pub enters : ℕ → Ask → TableAnswer → List Outcome
+abbrev pub enters : ℕ → Ask → Result Reply Refusal → List Outcome
 enters i (Take q) x = []
 enters i (On j w) x = cond (eqb j i) (work_enters w x) []
 
 -- whether it gives place i back
-abbrev pub is_freed : TableAnswer → Bool
-is_freed Freed = true
-is_freed (Placed i) = false
-is_freed Entered = false
-is_freed (Judged v) = false
-is_freed (Rated some r) = false
-is_freed (Refused r) = false
+abbrev pub is_freed : Result Reply Refusal → Bool
+is_freed (Ok Freed) = true
+is_freed (Ok (Placed i)) = false
+is_freed (Ok Entered) = false
+is_freed (Ok (Judged v)) = false
+is_freed (Ok (Rated r)) = false
+is_freed (Err r) = false
 
-abbrev pub frees : ℕ → Ask → TableAnswer → Bool
+abbrev pub frees : ℕ → Ask → Result Reply Refusal → Bool
 frees i (Take q) x = false
 frees i (On j w) x = cond (eqb j i) (is_freed x) false
 

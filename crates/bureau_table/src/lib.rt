@@ -2,6 +2,7 @@
 // says what a call answers and leaves, proofs/ what follows from it.
 #![tactic(auto)]
 
+use bureau_table::Reply;
 use campaign_state::Campaign;
 use campaign_verdict::{Rates, Verdict};
 use record_end::Outcome;
@@ -38,19 +39,20 @@ pub struct Call {
     pub ask: Ask,
 }
 
+// What a bureau is told: the place of a new job; that an outcome is entered; the verdict; the rates, none without a
+// record; that the place is free again.
 #[derive(Clone, Copy)]
-pub enum TableAnswer {
+pub enum Reply {
     Placed(u64),
     Entered,
     Judged(Verdict),
-    Rated(bool, Rates),
+    Rated(Option<Rates>),
     Freed,
-    Refused(Refusal),
 }
 
 // What work on a campaign answers, and what stands in its place then.
 #[derive(Clone, Copy)]
 pub struct Worked {
-    pub answer: TableAnswer,
+    pub answer: Result<Reply, Refusal>,
     pub place: Place,
 }

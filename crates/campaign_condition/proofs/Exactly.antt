@@ -8,22 +8,23 @@ use Rattle.truth.proofs.Cases.{by_test}
 use Rattle.truth.proofs.Laws.{and-true, impossible, true≢false}
 use Rattle.campaign_state.specs.declared.Campaign.{Campaign}
 use Rattle.campaign_verdict.specs.Answers.{judging}
-use Rattle.campaign_verdict.specs.declared.Judged.{Judged}
-use Rattle.campaign_verdict.specs.declared.Judged.TheVariants as judged
 use Rattle.campaign_verdict.specs.declared.Verdict.TheVariants.{Accept, Continue, NoRecord, Reject}
 use Rattle.campaign_condition.specs.Standing.{All, One, accepted, acceptance, all_accepted, another, done, holds_in, next, one_rejected, rejected, rejection, standing, this}
 use Rattle.campaign_condition.specs.declared.Standing.TheVariants.{Accepted, Open, Rejected}
+use Rattle.refusal.specs.declared.Refusal.{Refusal}
+use Rattle.campaign_verdict.specs.declared.Verdict.{Verdict}
+use Rattle.std.specs.Prelude.{Result, Ok, Err}
 
 pub never_both : (c : Campaign) → accepted c ≡ true → rejected c ≡ true → ⊥
 unfolding accepted rejected
 never_both c a r = go (judging c) a r
   where
-    go : (j : Judged) → holds_in acceptance j ≡ true → holds_in rejection j ≡ true → ⊥
-    go (judged.Given (Accept y)) a r = true≢false (sym r)
-    go (judged.Given (Reject x)) a r = true≢false (sym a)
-    go (judged.Given (Continue x y)) a r = true≢false (sym a)
-    go (judged.Given NoRecord) a r = true≢false (sym a)
-    go (judged.Refused f) a r = true≢false (sym a)
+    go : (j : Result Verdict Refusal) → holds_in acceptance j ≡ true → holds_in rejection j ≡ true → ⊥
+    go (Ok (Accept y)) a r = true≢false (sym r)
+    go (Ok (Reject x)) a r = true≢false (sym a)
+    go (Ok (Continue x y)) a r = true≢false (sym a)
+    go (Ok NoRecord) a r = true≢false (sym a)
+    go (Err f) a r = true≢false (sym a)
 
 -- ---- the tests over a list, in words
 one_is : (cs : List Campaign) → one_rejected cs ≡ true → One rejected cs

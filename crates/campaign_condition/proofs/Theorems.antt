@@ -13,8 +13,6 @@ use Rattle.campaign_state.specs.declared.Campaign.{Campaign}
 use Rattle.campaign_state.specs.State.{sound}
 use Rattle.campaign_verdict.specs.Answers.{judging}
 use Rattle.campaign_verdict.specs.Figures.{accepts, lower_rate, rejects, upper_rate}
-use Rattle.campaign_verdict.specs.declared.Judged.{Judged}
-use Rattle.campaign_verdict.specs.declared.Judged.TheVariants as judged
 use Rattle.campaign_verdict.specs.declared.Verdict.{Verdict}
 use Rattle.campaign_verdict.specs.declared.Verdict.TheVariants.{Accept, Continue, NoRecord, Reject}
 use Rattle.campaign_verdict.proofs.Only.{given, gives}
@@ -22,6 +20,8 @@ use Rattle.campaign_condition.specs.Standing.{accepted, acceptance, all_accepted
 use Rattle.campaign_condition.specs.Answers.{broken_from, lowest_broken}
 use Rattle.campaign_condition.specs.declared.Standing.TheVariants.{Accepted, Open, Rejected}
 use Rattle.campaign_condition.proofs.Whole.{whole_next}
+use Rattle.refusal.specs.declared.Refusal.{Refusal}
+use Rattle.std.specs.Prelude.{Result, Ok, Err}
 
 -- ---- one campaign, by document 01's tests
 module _ (c : Campaign) where
@@ -42,23 +42,23 @@ module _ (c : Campaign) where
   unfolding rejected
   rejected_rejects h = let s = sound_given rejection h in let (some, r) = go s (judging c) refl h in (s, some, r)
     where
-      go : sound c ≡ true → (j : Judged) → judging c ≡ j → holds_in rejection j ≡ true → (1 ≤ c.records) × (rejects c ≡ true)
-      go s (judged.Given (Reject x)) e h = let (some, r, _) = given c s (Reject x) e in (some, r)
-      go s (judged.Given (Accept y)) e h = absurd (true≢false (sym h))
-      go s (judged.Given (Continue x y)) e h = absurd (true≢false (sym h))
-      go s (judged.Given NoRecord) e h = absurd (true≢false (sym h))
-      go s (judged.Refused r) e h = absurd (true≢false (sym h))
+      go : sound c ≡ true → (j : Result Verdict Refusal) → judging c ≡ j → holds_in rejection j ≡ true → (1 ≤ c.records) × (rejects c ≡ true)
+      go s (Ok (Reject x)) e h = let (some, r, _) = given c s (Reject x) e in (some, r)
+      go s (Ok (Accept y)) e h = absurd (true≢false (sym h))
+      go s (Ok (Continue x y)) e h = absurd (true≢false (sym h))
+      go s (Ok NoRecord) e h = absurd (true≢false (sym h))
+      go s (Err r) e h = absurd (true≢false (sym h))
 
   pub accepted_accepts : accepted c ≡ true → (sound c ≡ true) × (1 ≤ c.records) × (accepts c ≡ true)
   unfolding accepted
   accepted_accepts h = let s = sound_given acceptance h in let (some, a) = go s (judging c) refl h in (s, some, a)
     where
-      go : sound c ≡ true → (j : Judged) → judging c ≡ j → holds_in acceptance j ≡ true → (1 ≤ c.records) × (accepts c ≡ true)
-      go s (judged.Given (Accept y)) e h = let (some, a, _) = given c s (Accept y) e in (some, a)
-      go s (judged.Given (Reject x)) e h = absurd (true≢false (sym h))
-      go s (judged.Given (Continue x y)) e h = absurd (true≢false (sym h))
-      go s (judged.Given NoRecord) e h = absurd (true≢false (sym h))
-      go s (judged.Refused r) e h = absurd (true≢false (sym h))
+      go : sound c ≡ true → (j : Result Verdict Refusal) → judging c ≡ j → holds_in acceptance j ≡ true → (1 ≤ c.records) × (accepts c ≡ true)
+      go s (Ok (Accept y)) e h = let (some, a, _) = given c s (Accept y) e in (some, a)
+      go s (Ok (Reject x)) e h = absurd (true≢false (sym h))
+      go s (Ok (Continue x y)) e h = absurd (true≢false (sym h))
+      go s (Ok NoRecord) e h = absurd (true≢false (sym h))
+      go s (Err r) e h = absurd (true≢false (sym h))
 
 -- ---- a campaign among others
 one_among : (before : List Campaign) (rest : List Campaign) → one_rejected (before ++ rest) ≡ (one_rejected before || one_rejected rest)

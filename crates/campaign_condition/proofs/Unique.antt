@@ -5,8 +5,10 @@ use Prim.Native.Nat.{ℕ}
 use lib.ListN.{take}
 use Rattle.truth.proofs.Unique.{settled}
 use Rattle.campaign_state.specs.declared.Campaign.{Campaign}
-use Rattle.campaign_condition.specs.declared.ConditionAnswer.{ConditionAnswer}
 use Rattle.campaign_condition.specs.Answers.{judging}
+use Rattle.refusal.specs.declared.Refusal.{Refusal}
+use Rattle.campaign_condition.specs.declared.Standing.{Standing}
+use Rattle.std.specs.Prelude.{Result}
 
-pub judge_unique : (all : List Campaign) (number : ℕ) (r s : ConditionAnswer) → r ≡ judging number (take number all) → s ≡ judging number (take number all) → r ≡ s
+pub judge_unique : (all : List Campaign) (number : ℕ) (r s : Result Standing Refusal) → r ≡ judging number (take number all) → s ≡ judging number (take number all) → r ≡ s
 judge_unique all number r s = settled

@@ -1,14 +1,14 @@
 -- Document 02 [13]: what judging a loading condition answers, in its order of refusals. Assumes nothing.
-use Rattle.std.specs.Prelude.{ℕ, ◌+◌, Bool, cond, not, List, [], ◌∷◌, eqb}
+use Rattle.std.specs.Prelude.{ℕ, ◌+◌, Bool, cond, not, List, [], ◌∷◌, eqb, Result, Ok, Err}
 use Rattle.refusal.specs.declared.Refusal.TheVariants.{Situation, Situations}
 use Rattle.sample_items.specs.Limits.{within}
 use Rattle.campaign_state.specs.declared.Campaign.{Campaign}
 use Rattle.campaign_state.specs.State.{sound}
-use Rattle.campaign_condition.specs.declared.ConditionAnswer.{ConditionAnswer}
-use Rattle.campaign_condition.specs.declared.ConditionAnswer.TheVariants.{Given, Refused}
 use Rattle.campaign_condition.specs.declared.Told.{Told}
 use Rattle.campaign_condition.specs.declared.Seen.{Seen}
 use Rattle.campaign_condition.specs.Standing.{accepted, all_accepted, one_rejected, rejected, standing}
+use Rattle.refusal.specs.declared.Refusal.{Refusal}
+use Rattle.campaign_condition.specs.declared.Standing.{Standing}
 
 -- 1 to 64 campaigns
 abbrev pub most_situations : ℕ
@@ -27,11 +27,11 @@ abbrev pub lowest_broken : List Campaign → ℕ
 lowest_broken cs = broken_from 1 cs
 
 -- 18 for none or more than 64, then 8 with the lowest situation, else the standing
-unfoldable pub judging : ℕ → List Campaign → ConditionAnswer
+unfoldable pub judging : ℕ → List Campaign → Result Standing Refusal
 judging number cs =
-    cond (not (situations_in_range number)) (Refused Situations)
-    (cond (not (eqb (lowest_broken cs) 0)) (Refused (Situation (lowest_broken cs)))
-    (Given (standing cs)))
+    cond (not (situations_in_range number)) (Err Situations)
+    (cond (not (eqb (lowest_broken cs) 0)) (Err (Situation (lowest_broken cs)))
+    (Ok (standing cs)))
 
 -- ---- for those who look at one campaign after the other
 -- the lowest so far, 0 for none, after the campaign of one more situation

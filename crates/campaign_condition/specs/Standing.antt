@@ -1,14 +1,13 @@
 -- Document 02 [13]: where a loading condition stands, from the verdicts on its campaigns, one for each design
 -- situation. Assumes nothing.
-use Rattle.std.specs.Prelude.{◌≡◌, Bool, cond, false, true, ◌&&◌, ◌||◌, List, [], ◌∷◌}
+use Rattle.std.specs.Prelude.{◌≡◌, Bool, cond, false, true, ◌&&◌, ◌||◌, List, [], ◌∷◌, Result, Ok, Err}
 use Rattle.campaign_state.specs.declared.Campaign.{Campaign}
 use Rattle.campaign_verdict.specs.Answers.{judging}
-use Rattle.campaign_verdict.specs.declared.Judged.{Judged}
-use Rattle.campaign_verdict.specs.declared.Judged.TheVariants as judged
 use Rattle.campaign_verdict.specs.declared.Verdict.{Verdict}
 use Rattle.campaign_verdict.specs.declared.Verdict.TheVariants.{Accept, Continue, NoRecord, Reject}
 use Rattle.campaign_condition.specs.declared.Standing.{Standing}
 use Rattle.campaign_condition.specs.declared.Standing.TheVariants.{Accepted, Open, Rejected}
+use Rattle.refusal.specs.declared.Refusal.{Refusal}
 
 -- ---- one campaign: the verdict on it is reject, or accept. No record is neither
 abbrev pub rejection : Verdict → Bool
@@ -23,9 +22,9 @@ acceptance (Reject lower) = false
 acceptance (Continue lower upper) = false
 acceptance NoRecord = false
 
-abbrev pub holds_in : (Verdict → Bool) → Judged → Bool
-holds_in says (judged.Given v) = says v
-holds_in says (judged.Refused r) = false
+abbrev pub holds_in : (Verdict → Bool) → Result Verdict Refusal → Bool
+holds_in says (Ok v) = says v
+holds_in says (Err r) = false
 
 unfoldable pub rejected : Campaign → Bool
 rejected c = holds_in rejection (judging c)

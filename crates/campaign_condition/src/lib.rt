@@ -8,7 +8,7 @@ ghost use Rattle.campaign_condition.specs.Standing.{acceptance, rejection};
 ghost use Rattle.campaign_condition.specs.Answers.{judging, lower, said_of, seen_of};
 
 use campaign_state::Campaign;
-use campaign_verdict::{Judged, Verdict};
+use campaign_verdict::Verdict;
 use refusal::Refusal;
 
 // The most design situations of a loading condition.
@@ -19,12 +19,6 @@ pub enum Standing {
     Accepted,
     Rejected,
     Open,
-}
-
-#[derive(Clone, Copy)]
-pub enum ConditionAnswer {
-    Given(Standing),
-    Refused(Refusal),
 }
 
 // Whether a campaign is rejected, and whether it is accepted.
@@ -70,11 +64,11 @@ fn said(c: Campaign) -> Told
     ensures { result ≡ said_of c }
 {
     match campaign_verdict::judge(c) {
-        Judged::Given(v) => Told {
+        Ok(v) => Told {
             rejected: rejection(v),
             accepted: acceptance(v),
         },
-        Judged::Refused(_) => Told {
+        Err(_) => Told {
             rejected: false,
             accepted: false,
         },
@@ -120,21 +114,21 @@ fn look(campaigns: [Campaign; 64], number: usize) -> Seen
 
 // Where the loading condition stands: rejected if a campaign is, accepted if all are, else open. Or refusal 18 for no
 // campaign or more than 64, then 8 with the lowest situation whose campaign breaks a relation.
-pub fn judge(campaigns: [Campaign; 64], number: usize) -> ConditionAnswer
+pub fn judge(campaigns: [Campaign; 64], number: usize) -> Result<Standing, Refusal>
     ensures { result ≡ judging number (take number campaigns) }
 {
     if !truth::both(1 <= number, number <= MOST_SITUATIONS) {
-        return ConditionAnswer::Refused(Refusal::Situations);
+        return Err(Refusal::Situations);
     }
     let s = look(campaigns, number);
     if s.broken != 0 {
-        return ConditionAnswer::Refused(Refusal::Situation(s.broken));
+        return Err(Refusal::Situation(s.broken));
     }
     if s.rejected {
-        return ConditionAnswer::Given(Standing::Rejected);
+        return Ok(Standing::Rejected);
     }
     if s.accepted {
-        return ConditionAnswer::Given(Standing::Accepted);
+        return Ok(Standing::Accepted);
     }
-    ConditionAnswer::Given(Standing::Open)
+    Ok(Standing::Open)
 }

@@ -11,7 +11,6 @@ use lib.ListN.{length, length-append}
 use borrow.Author.Tests.{eqb-false}
 use Rattle.truth.proofs.Cases.{by_test}
 use Rattle.truth.proofs.Laws.{holds, impossible}
-use Rattle.text.specs.declared.Writing.TheVariants.{Bytes, Refused as Declined}
 use Rattle.decimal.proofs.Text.{digits_below}
 use Rattle.campaign_state.specs.declared.Campaign.{Campaign}
 use Rattle.campaign_state.specs.Kept.{Kept}
@@ -20,12 +19,12 @@ use Rattle.campaign_state.proofs.Relations.{censored_row, kept_from}
 use Rattle.refusal.specs.declared.Refusal.{Refusal}
 use Rattle.campaign_condition.specs.Answers.{broken_from, judging}
 use Rattle.campaign_condition.specs.Standing.{standing}
-use Rattle.campaign_condition.specs.declared.ConditionAnswer.{ConditionAnswer}
-use Rattle.campaign_condition.specs.declared.ConditionAnswer.TheVariants.{Given, Refused}
 use Rattle.campaign_condition.proofs.Whole.{stood, whole_next}
 use Rattle.campaign_report.specs.Report.{blocks, situation_text, lines_from, report_text, standing_letter, sum_of, total_of, total_text}
 use Rattle.campaign_report.specs.Answers.{after_judging, writing_report}
 use Rattle.campaign_report.proofs.Texts.{line_bytes, next_bytes, total_bytes}
+use Rattle.campaign_condition.specs.declared.Standing.{Standing}
+use Rattle.std.specs.Prelude.{Result, Ok, Err}
 
 censored_few : (c : Campaign) → Kept c → censored c < 100
 unfolding censored
@@ -78,21 +77,21 @@ total_few cs letter h w =
       digits_below 2 (total_of cs).blocks (omega arith),
     )
 
-pub enough : (number : ℕ) (cs : List Campaign) (out : List ℕ) (n : ℕ) → length cs ≡ number → writing_report number cs out ≡ Bytes n → n ≤ 40 + 28 * number
+pub enough : (number : ℕ) (cs : List Campaign) (out : List ℕ) (n : ℕ) → length cs ≡ number → writing_report number cs out ≡ Ok n → n ≤ 40 + 28 * number
 unfolding writing_report report_text
 enough number cs out n all e = go (judging number cs) refl e
   where
-    never : {r : Refusal} → ¬ (Declined r ≡ Bytes n)
+    never : {r : Refusal} → ¬ (Err r ≡ Ok n)
     never f = impossible (cc)
 
-    go : (a : ConditionAnswer) → judging number cs ≡ a → after_judging a (length (report_text cs)) (length out) ≡ Bytes n → n ≤ 40 + 28 * number
-    go (Refused r) is e = absurd (never e)
-    go (Given s) is e =
+    go : (a : Result Standing Refusal) → judging number cs ≡ a → after_judging a (length (report_text cs)) (length out) ≡ Ok n → n ≤ 40 + 28 * number
+    go (Err r) is e = absurd (never e)
+    go (Ok s) is e =
         let st = stood number cs s is in
         by_test (ltb (length out) (length (report_text cs)))
         (λ t. absurd (never (rw t at e)))
         (λ t.
-        let f : Bytes (length (report_text cs)) ≡ Bytes n = rw t at e in
+        let f : Ok (length (report_text cs)) ≡ Ok n = rw t at e in
         let same : n ≡ length (report_text cs) = cc (f) in
         let letter = standing_letter (standing cs) in
         omega (

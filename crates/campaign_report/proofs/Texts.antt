@@ -7,18 +7,17 @@ use lib.ListN.{length, length-append}
 use borrow.Author.Tests.{le-ltb, lt-ltb}
 use Rattle.refusal.specs.declared.Refusal.{Refusal}
 use Rattle.refusal.specs.declared.Refusal.TheVariants.{Room}
-use Rattle.text.specs.declared.Writing.TheVariants.{Bytes, Refused as Declined}
 use Rattle.decimal.specs.Decimal.{digits_of}
 use Rattle.decimal.specs.Field.{field_text, line_feed, tab}
 use Rattle.campaign_state.specs.declared.Campaign.{Campaign}
 use Rattle.campaign_state.specs.State.{censored}
 use Rattle.campaign_condition.specs.Answers.{judging}
 use Rattle.campaign_condition.specs.Standing.{standing}
-use Rattle.campaign_condition.specs.declared.ConditionAnswer.TheVariants.{Given, Refused}
 use Rattle.campaign_condition.specs.declared.Standing.{Standing}
 use Rattle.campaign_report.specs.Report.{blocks, four_text, letter_for, situation_text, lines_from, report_text, standing_letter, total_of, total_text}
 use Rattle.campaign_report.specs.Answers.{writing_report}
 use Rattle.campaign_report.specs.declared.Total.{Total}
+use Rattle.std.specs.Prelude.{Ok, Err}
 
 four_bytes : (a b c d : ℕ) → length (four_text a b c d) ≡ length (digits_of a) + length (digits_of b) + length (digits_of c) + length (digits_of d) + 4
 unfolding four_text field_text
@@ -60,15 +59,15 @@ report_parts cs t s letter e f g = rw (e, g, f)
 
 -- ---- what writing answers
 module _ (number : ℕ) (cs : List Campaign) (out : List ℕ) where
-  pub at_fault : {r : Refusal} → judging number cs ≡ Refused r → Declined r ≡ writing_report number cs out
+  pub at_fault : {r : Refusal} → judging number cs ≡ Err r → Err r ≡ writing_report number cs out
   unfolding writing_report
   at_fault e = rw e
 
-  module _ {s : Standing} (given : judging number cs ≡ Given s) where
-    pub no_room : length out < length (report_text cs) → Declined (Room (length (report_text cs))) ≡ writing_report number cs out
+  module _ {s : Standing} (given : judging number cs ≡ Ok s) where
+    pub no_room : length out < length (report_text cs) → Err (Room (length (report_text cs))) ≡ writing_report number cs out
     unfolding writing_report
     no_room h = rw (given, lt-ltb _ _ h)
 
-    pub all_written : length (report_text cs) ≤ length out → Bytes (length (report_text cs)) ≡ writing_report number cs out
+    pub all_written : length (report_text cs) ≤ length out → Ok (length (report_text cs)) ≡ writing_report number cs out
     unfolding writing_report
     all_written h = rw (given, le-ltb _ _ h)

@@ -10,11 +10,10 @@ ghost use Rattle.campaign_report.specs.Report.{blocks, four_text, letter_for, si
 ghost use Rattle.campaign_report.specs.Report.{standing_letter, total_of, total_text, verdict_letter};
 ghost use Rattle.campaign_report.specs.Answers.{writing_report};
 
-use campaign_condition::{ConditionAnswer, Standing};
+use campaign_condition::Standing;
 use campaign_state::Campaign;
-use campaign_verdict::{Counted, Judged, Verdict};
+use campaign_verdict::Verdict;
 use refusal::Refusal;
-use text::Writing;
 
 const TAB: u8 = 9;
 
@@ -67,8 +66,8 @@ fn letter(c: Campaign) -> u8
     ensures { result ≡ letter_for c }
 {
     match campaign_verdict::judge(c) {
-        Judged::Given(v) => verdict_letter(v),
-        Judged::Refused(_) => 0,
+        Ok(v) => verdict_letter(v),
+        Err(_) => 0,
     }
 }
 
@@ -78,8 +77,8 @@ fn censored(c: Campaign) -> u64
     ensures { result ≡ censored c }
 {
     match campaign_verdict::censored(c) {
-        Counted::Count(n) => n,
-        Counted::Refused(_) => 0,
+        Ok(n) => n,
+        Err(_) => 0,
     }
 }
 
@@ -206,22 +205,22 @@ fn put_total(t: Total, letter: u8, out: &mut [u8], at: usize) -> usize
 
 // Writes the report on a loading condition into `out`, whose rest stays, and answers its bytes; or refusal 18, 8 with
 // the lowest situation, then 7 with the bytes needed, and `out` as it stood.
-pub fn write(campaigns: [Campaign; 64], number: usize, out: &mut [u8]) -> Writing
+pub fn write(campaigns: [Campaign; 64], number: usize, out: &mut [u8]) -> Result<u64, Refusal>
     ensures value { result ≡ writing_report number (take number campaigns) out.old }
     ensures out_after { out.new ≡ laid_by result (report_text (take number campaigns)) out.old }
 {
     match campaign_condition::judge(campaigns, number) {
-        ConditionAnswer::Refused(r) => Writing::Refused(r),
-        ConditionAnswer::Given(s) => {
+        Err(r) => Err(r),
+        Ok(s) => {
             let t = sum(campaigns, number);
             let mark = standing_letter(s);
             let needed = lines_length(campaigns, number) + (total_length(t, mark) as u64);
             if (out.len() as u64) < needed {
-                return Writing::Refused(Refusal::Room(needed));
+                return Err(Refusal::Room(needed));
             }
             let last = put_lines(campaigns, number, out);
             put_total(t, mark, out, last);
-            Writing::Bytes(needed)
+            Ok(needed)
         }
     }
 }

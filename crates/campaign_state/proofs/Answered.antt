@@ -9,14 +9,13 @@ use Rattle.refusal.specs.declared.Refusal.TheVariants.{BrokenState, CampaignFull
 use Rattle.sample_items.specs.Limits.{longest_time}
 use Rattle.truth.proofs.Laws.{and-true, holds, impossible, past}
 use Rattle.record_end.specs.declared.Outcome.{Outcome}
-use Rattle.campaign_state.specs.declared.CampaignAnswer.{CampaignAnswer}
-use Rattle.campaign_state.specs.declared.CampaignAnswer.TheVariants.{Refused, Taken}
 use Rattle.campaign_state.specs.declared.Campaign.{Campaign}
 use Rattle.campaign_state.specs.Answers.{entering, opened, outcome_kept, taken}
 use Rattle.campaign_state.specs.State.{empty, entered, most_records, sound, standard_in_range}
+use Rattle.std.specs.Prelude.{Ok, Err}
 
 -- a refusal is no answer
-never : {r : Refusal} {d : Campaign} → ¬ (Refused r ≡ Taken d)
+never : {r : Refusal} {d : Campaign} → ¬ (Err r ≡ Ok d)
 never e = impossible (cc)
 
 -- 5 and 6 were not given
@@ -25,7 +24,7 @@ pub record Room (c : Campaign) (f : Bool) (t : ℕ) (d : Campaign) : Type 0 wher
   pub failures : ¬ (c.failures ≡ 64)
   pub after : d ≡ entered c f t
 
-pub taken_room : (c : Campaign) (f : Bool) (t : ℕ) (d : Campaign) → taken c f t ≡ Taken d → Room c f t d
+pub taken_room : (c : Campaign) (f : Bool) (t : ℕ) (d : Campaign) → taken c f t ≡ Ok d → Room c f t d
 taken_room c f t d e =
     let p = past (eqb c.records most_records) never e in
     let q = past (eqb c.failures 64) never p.1 in
@@ -37,7 +36,7 @@ pub record Entered (c : Campaign) (o : Outcome) (d : Campaign) : Type 0 where
   pub high : o.exposure ≤ longest_time
   pub room : Room c o.failed o.exposure d
 
-pub entered_from : (c : Campaign) (o : Outcome) (d : Campaign) → entering c o ≡ Taken d → Entered c o d
+pub entered_from : (c : Campaign) (o : Outcome) (d : Campaign) → entering c o ≡ Ok d → Entered c o d
 unfolding entering
 entered_from c o d e =
     let p = past (not (sound c)) never e in
@@ -50,9 +49,9 @@ entered_from c o d e =
       room = taken_room c o.failed o.exposure d q.1;
     }
 
-pub opened_from : (q : ℕ) (d : Campaign) → opened q ≡ Taken d → T (standard_in_range q) × (d ≡ empty q)
+pub opened_from : (q : ℕ) (d : Campaign) → opened q ≡ Ok d → T (standard_in_range q) × (d ≡ empty q)
 opened_from q d e = go (standard_in_range q) e
   where
-    go : (b : Bool) → cond b (Taken (empty q)) (Refused (Item 5)) ≡ Taken d → T b × (d ≡ empty q)
+    go : (b : Bool) → cond b (Ok (empty q)) (Err (Item 5)) ≡ Ok d → T b × (d ≡ empty q)
     go true e = (tt, cc)
     go false e = absurd (never e)

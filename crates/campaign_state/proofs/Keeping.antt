@@ -8,13 +8,13 @@ use lib.Dec.{T, leb→le}
 use lib.Ieee.Fits.{and_l, and_r}
 use Rattle.sample_items.specs.Limits.{longest_time}
 use Rattle.record_end.specs.declared.Outcome.{Outcome}
-use Rattle.campaign_state.specs.declared.CampaignAnswer.TheVariants.{Taken}
 use Rattle.campaign_state.specs.declared.Campaign.{Campaign}
 use Rattle.campaign_state.specs.Answers.{entering, opened}
 use Rattle.campaign_state.specs.Kept.{Kept}
 use Rattle.campaign_state.specs.State.{empty, entered, sound, standard_in_range}
 use Rattle.campaign_state.proofs.Answered.{Room, entered_from, opened_from}
 use Rattle.campaign_state.proofs.Relations.{kept_from, sound_from}
+use Rattle.std.specs.Prelude.{Ok}
 
 empty_kept : (q : ℕ) → T (standard_in_range q) → Kept (empty q)
 empty_kept q t =
@@ -67,8 +67,8 @@ room_kept : {c : Campaign} {f : Bool} {t : ℕ} {d : Campaign} → T (sound c) �
 room_kept {c} {f} {t} {d} s o low high =
     sound_from d (rw o.after (entered_kept c f t (kept_from c s) o.records o.failures low high))
 
-pub opened_sound : (q : ℕ) (d : Campaign) → opened q ≡ Taken d → T (sound d)
+pub opened_sound : (q : ℕ) (d : Campaign) → opened q ≡ Ok d → T (sound d)
 opened_sound q d e = let o = opened_from q d e in sound_from d (rw o.1 (empty_kept q o.0))
 
-pub entering_sound : (c : Campaign) (o : Outcome) (d : Campaign) → entering c o ≡ Taken d → T (sound d)
+pub entering_sound : (c : Campaign) (o : Outcome) (d : Campaign) → entering c o ≡ Ok d → T (sound d)
 entering_sound c o d e = let a = entered_from c o d e in room_kept a.sound a.room a.low a.high

@@ -11,12 +11,12 @@ use borrow.Author.Tests.{ne_eqb}
 use Rattle.record_state.specs.declared.Record.{Record}
 use Rattle.record_end.specs.declared.Outcome.{Outcome}
 use Rattle.record_end.proofs.Given.{given}
-use Rattle.campaign_state.specs.declared.CampaignAnswer.TheVariants.{Taken}
 use Rattle.campaign_state.specs.declared.Campaign.{Campaign}
 use Rattle.campaign_state.specs.Answers.{opened}
 use Rattle.campaign_state.specs.Records.{AllEnded, AllEntered, but_last, campaign_of, censored_in, exposure_in, failures_in, last_failed, none, one, outcome}
 use Rattle.campaign_state.specs.State.{censored, entered}
 use Rattle.campaign_state.proofs.Answered.{entered_from, opened_from}
+use Rattle.std.specs.Prelude.{Ok}
 
 counted : (b : Bool) (n : ℕ) → n + cond b 1 0 ≡ cond b (n + 1) n
 counted true n = refl
@@ -62,11 +62,11 @@ ended_entered none = none
 ended_entered (one {c = c} {r = r} {x = x} g e a) = one (rw (given r x g).is at e) (ended_entered a)
 
 -- ---- the theorems
-pub grown_by_entering : (q : ℕ) (c d : Campaign) (os : List Outcome) → opened q ≡ Taken c → AllEntered c os d → d ≡ campaign_of q os
+pub grown_by_entering : (q : ℕ) (c d : Campaign) (os : List Outcome) → opened q ≡ Ok c → AllEntered c os d → d ≡ campaign_of q os
 unfolding campaign_of failures_in exposure_in last_failed
 grown_by_entering q c d os e a = entered_all q [] c (opened_from q c e).1 a
 
-pub grown_by_results : (q : ℕ) (c d : Campaign) (rs : List Record) → opened q ≡ Taken c → AllEnded c rs d → d ≡ campaign_of q (map outcome rs)
+pub grown_by_results : (q : ℕ) (c d : Campaign) (rs : List Record) → opened q ≡ Ok c → AllEnded c rs d → d ≡ campaign_of q (map outcome rs)
 grown_by_results q c d rs e a = grown_by_entering q c d (map outcome rs) e (ended_entered a)
 
 -- n counts the last record, n* before it

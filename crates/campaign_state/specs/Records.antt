@@ -1,12 +1,10 @@
 -- A campaign's figures over the whole list of its records, oldest first: document 000, section 4.2, with document 01
 -- deciding. Assumes nothing.
-use Rattle.std.specs.Prelude.{◌≡◌, Bool, cond, false, List, [], ◌∷◌, ℕ, ◌+◌, length}
+use Rattle.std.specs.Prelude.{◌≡◌, Bool, cond, false, List, [], ◌∷◌, ℕ, ◌+◌, length, Ok}
 use Rattle.record_state.specs.declared.Record.{Record}
 use Rattle.record_end.specs.Result.{ending, outcome_of, result_of}
-use Rattle.record_end.specs.declared.Ended.TheVariants.{Given}
 use Rattle.record_end.specs.declared.Outcome.{Outcome}
-use Rattle.record_end.specs.declared.Result.{Result}
-use Rattle.campaign_state.specs.declared.CampaignAnswer.TheVariants.{Taken}
+use Rattle.record_end.specs.declared.RecordResult.{RecordResult}
 use Rattle.campaign_state.specs.declared.Campaign.{Campaign}
 use Rattle.campaign_state.specs.Answers.{entering}
 
@@ -54,14 +52,14 @@ campaign_of q os =
 -- outcomes entered one after the other, all taken, lead from c to d
 pub data AllEntered : Campaign → List Outcome → Campaign → Type 0 where
   none : {c : Campaign} → AllEntered c [] c
-  one : {c d e : Campaign} {o : Outcome} {os : List Outcome} → entering c o ≡ Taken d → AllEntered d os e → AllEntered c (o ∷ os) e
+  one : {c d e : Campaign} {o : Outcome} {os : List Outcome} → entering c o ≡ Ok d → AllEntered d os e → AllEntered c (o ∷ os) e
 
 -- records ended and their results entered one after the other, all taken, lead from c to d
 pub data AllEnded : Campaign → List Record → Campaign → Type 0 where
   none : {c : Campaign} → AllEnded c [] c
   one :
-      {c d e : Campaign} {r : Record} {x : Result} {rs : List Record}
-      → ending r ≡ Given x
-      → entering c (outcome_of x) ≡ Taken d
+      {c d e : Campaign} {r : Record} {x : RecordResult} {rs : List Record}
+      → ending r ≡ Ok x
+      → entering c (outcome_of x) ≡ Ok d
       → AllEnded d rs e
       → AllEnded c (r ∷ rs) e

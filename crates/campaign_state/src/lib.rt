@@ -29,18 +29,12 @@ pub struct Campaign {
     pub failed: bool,
 }
 
-#[derive(Clone, Copy)]
-pub enum CampaignAnswer {
-    Taken(Campaign),
-    Refused(Refusal),
-}
-
 // The campaign without a record; or refusal 1 with item 5.
-pub fn open(q: u64) -> CampaignAnswer
+pub fn open(q: u64) -> Result<Campaign, Refusal>
     ensures { result ≡ opened q }
 {
     if truth::both(1 <= q, q <= LONGEST_STANDARD) {
-        CampaignAnswer::Taken(Campaign {
+        Ok(Campaign {
             standard: q,
             records: 0,
             failures: 0,
@@ -48,7 +42,7 @@ pub fn open(q: u64) -> CampaignAnswer
             failed: false,
         })
     } else {
-        CampaignAnswer::Refused(Refusal::Item(5))
+        Err(Refusal::Item(5))
     }
 }
 
@@ -99,17 +93,17 @@ pub fn sound(c: Campaign) -> bool
 }
 
 // The campaign with a record entered; or refusal 5, then 6.
-fn take(c: Campaign, failed: bool, exposure: u64) -> CampaignAnswer
+fn take(c: Campaign, failed: bool, exposure: u64) -> Result<Campaign, Refusal>
     requires { Kept c × (exposure ≤ longest_time) }
     ensures { result ≡ taken c failed exposure }
 {
     if c.records == MOST_RECORDS {
-        return CampaignAnswer::Refused(Refusal::CampaignFull);
+        return Err(Refusal::CampaignFull);
     }
     if c.failures == ROWS {
-        return CampaignAnswer::Refused(Refusal::RowsUsedUp);
+        return Err(Refusal::RowsUsedUp);
     }
-    CampaignAnswer::Taken(Campaign {
+    Ok(Campaign {
         standard: c.standard,
         records: c.records + 1,
         failures: truth::pick(failed, c.failures + 1, c.failures),
@@ -121,14 +115,14 @@ fn take(c: Campaign, failed: bool, exposure: u64) -> CampaignAnswer
 impl Campaign {
     // The campaign with a record's outcome entered; or refusal 8 for the campaign, or for an exposure that is not
     // from 1 to 10,000,000 ms, 5, 6.
-    pub fn enter(self, o: Outcome) -> CampaignAnswer
+    pub fn enter(self, o: Outcome) -> Result<Campaign, Refusal>
         ensures { result ≡ entering self o }
     {
         if !sound(self) {
-            return CampaignAnswer::Refused(Refusal::BrokenState);
+            return Err(Refusal::BrokenState);
         }
         if !truth::both(1 <= o.exposure, o.exposure <= sample_items::LONGEST_TIME) {
-            return CampaignAnswer::Refused(Refusal::BrokenState);
+            return Err(Refusal::BrokenState);
         }
         take(self, o.failed, o.exposure)
     }

@@ -11,14 +11,14 @@ use Rattle.truth.proofs.Laws.{holds, is_true, no}
 use Rattle.campaign_state.specs.declared.Campaign.{Campaign}
 use Rattle.campaign_state.specs.State.{censored, sound}
 use Rattle.campaign_state.proofs.Relations.{censored_row, kept_from}
-use Rattle.campaign_verdict.specs.declared.Judged.{Judged}
-use Rattle.campaign_verdict.specs.declared.Judged.TheVariants.{Given, Refused}
 use Rattle.campaign_verdict.specs.declared.Verdict.{Verdict}
 use Rattle.campaign_verdict.specs.declared.Verdict.TheVariants.{Accept, Continue, NoRecord, Reject}
 use Rattle.campaign_verdict.specs.Answers.{Judges, judging}
 use Rattle.campaign_verdict.specs.Figures.{IsVerdict, accepts, lower_rate, rejects, upper_rate, verdict_of, weighed}
+use Rattle.refusal.specs.declared.Refusal.{Refusal}
+use Rattle.std.specs.Prelude.{Result, Ok, Err}
 
-same : {v w : Verdict} → Given v ≡ Given w → v ≡ w
+same : {v w : Verdict} → Ok v ≡ Ok w → v ≡ w
 same e = cc
 
 module _ (c : Campaign) (kept : sound c ≡ true) where
@@ -48,15 +48,15 @@ module _ (c : Campaign) (kept : sound c ≡ true) where
   is_verdict true e = eqb-true _ _ e
   is_verdict false e = let some : ¬ (c.records ≡ 0) = eqb-false _ _ e in weighs (omega arith) (rejects c) (accepts c) refl refl
 
-  pub given : (v : Verdict) → judging c ≡ Given v → IsVerdict c v
+  pub given : (v : Verdict) → judging c ≡ Ok v → IsVerdict c v
   unfolding judging
   given v e = let f : verdict_of c ≡ v = same (rw kept at e) in rw (← f) (is_verdict (eqb c.records 0) refl)
 
-  pub gives : (v : Verdict) → IsVerdict c v → judging c ≡ Given v
+  pub gives : (v : Verdict) → IsVerdict c v → judging c ≡ Ok v
   unfolding judging
-  gives v is = rw kept (ap Given (sym (only_verdict v is)))
+  gives v is = rw kept (ap Ok (sym (only_verdict v is)))
 
-pub only : (c : Campaign) (a : Judged) → Judges c a → a ≡ judging c
+pub only : (c : Campaign) (a : Result Verdict Refusal) → Judges c a → a ≡ judging c
 unfolding judging
-only c (Given v) (kept, is) = rw kept (ap Given (only_verdict c kept v is))
-only c (Refused r) (broken, e) = rw (broken, e)
+only c (Ok v) (kept, is) = rw kept (ap Ok (only_verdict c kept v is))
+only c (Err r) (broken, e) = rw (broken, e)

@@ -21,31 +21,12 @@ pub enum Verdict {
     NoRecord,
 }
 
-#[derive(Clone, Copy)]
-pub enum Judged {
-    Given(Verdict),
-    Refused(Refusal),
-}
-
 // Failures in a second.
 #[derive(Clone, Copy)]
 pub struct Rates {
     pub estimate: f64,
     pub lower: f64,
     pub upper: f64,
-}
-
-// Whether there is a record, and the rates; without one they are 0.
-#[derive(Clone, Copy)]
-pub enum Rated {
-    Given(bool, Rates),
-    Refused(Refusal),
-}
-
-#[derive(Clone, Copy)]
-pub enum Counted {
-    Count(u64),
-    Refused(Refusal),
 }
 
 // N*, of a state that keeps the relations.
@@ -134,44 +115,37 @@ fn three(c: Campaign) -> Rates
 }
 
 // The censored count N*; or refusal 8.
-pub fn censored(c: Campaign) -> Counted
+pub fn censored(c: Campaign) -> Result<u64, Refusal>
     ensures { result ≡ counting c }
 {
     if !campaign_state::sound(c) {
-        return Counted::Refused(Refusal::BrokenState);
+        return Err(Refusal::BrokenState);
     }
-    Counted::Count(censored_of(c))
+    Ok(censored_of(c))
 }
 
 // The verdict; or refusal 8.
-pub fn judge(c: Campaign) -> Judged
+pub fn judge(c: Campaign) -> Result<Verdict, Refusal>
     ensures { Judges c result }
 {
     if !campaign_state::sound(c) {
-        return Judged::Refused(Refusal::BrokenState);
+        return Err(Refusal::BrokenState);
     }
     if c.records == 0 {
-        return Judged::Given(Verdict::NoRecord);
+        return Ok(Verdict::NoRecord);
     }
-    Judged::Given(weigh(c))
+    Ok(weigh(c))
 }
 
 // The rates and whether there is a record; or refusal 8.
-pub fn rate(c: Campaign) -> Rated
+pub fn rate(c: Campaign) -> Result<Option<Rates>, Refusal>
     ensures { result ≡ rating c }
 {
     if !campaign_state::sound(c) {
-        return Rated::Refused(Refusal::BrokenState);
+        return Err(Refusal::BrokenState);
     }
     if c.records == 0 {
-        return Rated::Given(
-            false,
-            Rates {
-                estimate: 0.0,
-                lower: 0.0,
-                upper: 0.0,
-            },
-        );
+        return Ok(None);
     }
-    Rated::Given(true, three(c))
+    Ok(Some(three(c)))
 }

@@ -12,19 +12,17 @@ use Rattle.sample_range.specs.Range.{sample_in_range}
 use Rattle.record_state.proofs.Relations.{kept_from}
 use Rattle.sample_items.specs.Limits.{item_outside}
 use Rattle.record_state.specs.State as state
-use Rattle.record_state.specs.declared.RecordAnswer.{RecordAnswer}
-use Rattle.record_state.specs.declared.RecordAnswer.TheVariants as read
 use Rattle.record_state.specs.declared.Record.{Record}
-use Rattle.record_end.specs.declared.Result.{Result}
+use Rattle.record_end.specs.declared.RecordResult.{RecordResult}
 use Rattle.campaign_state.specs.State.{sound}
-use Rattle.campaign_state.specs.declared.CampaignAnswer.{CampaignAnswer}
-use Rattle.campaign_state.specs.declared.CampaignAnswer.TheVariants.{Taken}
 use Rattle.campaign_state.specs.declared.Campaign.{Campaign}
 use Rattle.capi.specs.Numbers.{campaign_at, campaign_numbers, campaign_of, code_of, flag, highest_code, is_campaign}
 use Rattle.capi.specs.Numbers.{is_record, no_campaign, of_campaign, of_record, of_result, record_numbers, record_of}
 use Rattle.capi.specs.Numbers.{result_of}
 use Rattle.capi.specs.Told.{campaign_kept, campaign_told, record_kept, record_told}
 use Rattle.capi.proofs.Codes.{code_high, read_back}
+use Rattle.refusal.specs.declared.Refusal.{Refusal}
+use Rattle.std.specs.Prelude.{Result, Ok}
 
 -- ---- other numbers are refused by 8
 pub other_record : (s : List ℕ) → is_record s ≡ false → state.sound (record_of s) ≡ false
@@ -59,15 +57,15 @@ campaign_back c = go c c.failed refl
     go c false e = rw e refl
 
 -- and that of any result the result
-pub result_back : (x : Result) → result_of (of_result x) ≡ x
+pub result_back : (x : RecordResult) → result_of (of_result x) ≡ x
 unfolding result_of
 result_back x = refl
 
 -- so what an entry leaves in an array is the state that it answers
-pub record_left_lem : (a : RecordAnswer) (s : List ℕ) (r : Record) → length s ≡ record_numbers → a ≡ read.Taken r → state.sound r ≡ true → record_of (record_kept a s).lent ≡ r
+pub record_left_lem : (a : Result Record Refusal) (s : List ℕ) (r : Record) → length s ≡ record_numbers → a ≡ Ok r → state.sound r ≡ true → record_of (record_kept a s).lent ≡ r
 unfolding record_kept record_told
 record_left_lem a s r l e h = rw (eq-eqb (length s) record_numbers l, e) (record_back r h)
 
-pub campaign_left : (a : CampaignAnswer) (s : List ℕ) (c : Campaign) → length s ≡ campaign_numbers → a ≡ Taken c → campaign_of (campaign_kept a s).lent ≡ c
+pub campaign_left : (a : Result Campaign Refusal) (s : List ℕ) (c : Campaign) → length s ≡ campaign_numbers → a ≡ Ok c → campaign_of (campaign_kept a s).lent ≡ c
 unfolding campaign_kept campaign_told
 campaign_left a s c l e = rw (eq-eqb (length s) campaign_numbers l, e) (campaign_back c)

@@ -10,14 +10,12 @@ use Rattle.truth.proofs.Unique.{settled}
 use Rattle.refusal.specs.Numbers.{number_of, value_of}
 use Rattle.refusal.specs.declared.Refusal.{Refusal}
 use Rattle.refusal.specs.declared.Refusal.TheVariants.{BrokenState}
-use Rattle.record_state.specs.declared.RecordAnswer.{RecordAnswer}
 use Rattle.record_state.specs.declared.Record.{Record}
-use Rattle.record_end.specs.declared.Ended.{Ended}
-use Rattle.campaign_state.specs.declared.CampaignAnswer.{CampaignAnswer}
 use Rattle.campaign_state.specs.declared.Campaign.{Campaign}
-use Rattle.text.specs.declared.Writing.{Writing}
 use Rattle.capi.specs.Numbers.{campaign_of, flag, record_of}
 use Rattle.capi.specs.Told.{Told, campaign_kept, channel_in, in_places, placed, record_kept, result_kept, told, write_told}
+use Rattle.record_end.specs.declared.RecordResult.{RecordResult}
+use Rattle.std.specs.Prelude.{Result}
 
 pub record_of_unique : (s : List ℕ) (x y : Record) → x ≡ record_of s → y ≡ record_of s → x ≡ y
 record_of_unique s x y = settled
@@ -37,10 +35,10 @@ give_unique k n m c d p q = (settled p.0 q.0, settled p.1 q.1)
 pub refuse_unique : (f : Refusal) (n m c d : ℕ) → (n ≡ number_of f) × (c ≡ value_of f) → (m ≡ number_of f) × (d ≡ value_of f) → (n ≡ m) × (c ≡ d)
 refuse_unique f n m c d p q = (settled p.0 q.0, settled p.1 q.1)
 
-pub tell_writing_unique : (w : Writing) (x y : Told) → x ≡ write_told w [] → y ≡ write_told w [] → x ≡ y
+pub tell_writing_unique : (w : Result ℕ Refusal) (x y : Told) → x ≡ write_told w [] → y ≡ write_told w [] → x ≡ y
 tell_writing_unique w x y = settled
 
-pub channel_in_unique : (a : RecordAnswer) (x y : ℕ) → x ≡ channel_in a → y ≡ channel_in a → x ≡ y
+pub channel_in_unique : (a : Result Record Refusal) (x y : ℕ) → x ≡ channel_in a → y ≡ channel_in a → x ≡ y
 channel_in_unique a x y = settled
 
 pub keep_unique : (numbers s : List ℕ) (x y : Told) → x ≡ in_places (length numbers) s (told 0 0 numbers)
@@ -51,13 +49,13 @@ pub for_places_unique : (f : Refusal) (places lent : ℕ) (x y : Refusal) → x 
     → y ≡ cond (eqb lent places) f BrokenState → x ≡ y
 for_places_unique f places lent x y = settled
 
-pub keep_record_unique : (a : RecordAnswer) (s : List ℕ) (x y : Told) → x ≡ record_kept a s → y ≡ record_kept a s → x ≡ y
+pub keep_record_unique : (a : Result Record Refusal) (s : List ℕ) (x y : Told) → x ≡ record_kept a s → y ≡ record_kept a s → x ≡ y
 keep_record_unique a s x y = settled
 
-pub keep_result_unique : (a : Ended) (s : List ℕ) (x y : Told) → x ≡ result_kept a s → y ≡ result_kept a s → x ≡ y
+pub keep_result_unique : (a : Result RecordResult Refusal) (s : List ℕ) (x y : Told) → x ≡ result_kept a s → y ≡ result_kept a s → x ≡ y
 keep_result_unique a s x y = settled
 
-pub keep_campaign_unique : (a : CampaignAnswer) (s : List ℕ) (x y : Told) → x ≡ campaign_kept a s → y ≡ campaign_kept a s → x ≡ y
+pub keep_campaign_unique : (a : Result Campaign Refusal) (s : List ℕ) (x y : Told) → x ≡ campaign_kept a s → y ≡ campaign_kept a s → x ≡ y
 keep_campaign_unique a s x y = settled
 
 -- where they are the same together, each part is

@@ -5,7 +5,7 @@ use Rattle.std.specs.Prelude.{ℕ, ◌+◌, ◌/◌, ◌%◌, Bool, cond, false,
 use Rattle.campaign_state.specs.declared.Campaign.{Campaign}
 use Rattle.sample_channels.specs.Channels.{moment, still}
 use Rattle.record_state.specs.declared.Record.{Record}
-use Rattle.record_end.specs.declared.Result.{Result}
+use Rattle.record_end.specs.declared.RecordResult.{RecordResult}
 
 abbrev pub number_at : List ℕ → ℕ → ℕ
 number_at s i = get_or s i 0
@@ -76,14 +76,14 @@ record_of s = cond (is_record s) (record_at s) no_record
 abbrev pub result_numbers : ℕ
 result_numbers = 5
 
-abbrev pub of_result : Result → List ℕ
+abbrev pub of_result : RecordResult → List ℕ
 of_result x = x.crossings ∷ x.counted ∷ x.first ∷ x.exposure ∷ x.largest ∷ []
 
 -- exposure 0, which no result has
-abbrev pub no_result : Result
+abbrev pub no_result : RecordResult
 no_result = record { crossings = 0; counted = 0; first = 0; exposure = 0; largest = 0 }
 
-abbrev pub result_at : List ℕ → Result
+abbrev pub result_at : List ℕ → RecordResult
 result_at s =
     record {
       crossings = number_at s 0;
@@ -93,7 +93,7 @@ result_at s =
       largest = number_at s 4;
     }
 
-unfoldable pub result_of : List ℕ → Result
+unfoldable pub result_of : List ℕ → RecordResult
 result_of s = cond (eqb (length s) result_numbers) (result_at s) no_result
 
 -- ---- a campaign: five numbers, of which number 4 is 1 if the last record failed, else 0

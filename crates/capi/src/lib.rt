@@ -13,12 +13,11 @@ ghost use Rattle.capi.specs.Told.{told, placed, in_places, channel_in, record_ke
 ghost use Rattle.capi.specs.Told.{campaign_kept, write_told};
 
 use campaign_state::Campaign;
-use record_end::{Ended, Result};
+use record_end::RecordResult;
 use record_state::Record;
 use refusal::Refusal;
 use sample_channels::{Levels, Moment};
 use sample_items::Items;
-use text::Writing;
 
 // How many numbers a state has.
 pub const RECORD_NUMBERS: usize = 14;
@@ -141,7 +140,7 @@ fn of_record(r: Record) -> [u64; 14]
     ]
 }
 
-fn of_result(x: Result) -> [u64; 5]
+fn of_result(x: RecordResult) -> [u64; 5]
     ensures { result ≡ of_result x }
 {
     [x.crossings, x.counted, x.first, x.exposure, x.largest]
@@ -232,12 +231,12 @@ pub fn refuse(f: Refusal, carried: &mut u64) -> u64
 
 // What writing a text came to: 0 and its bytes, or the refusal.
 #[tactic(auto, unfolding(crate::specs::Told::write_told))]
-pub fn tell_writing(w: Writing, carried: &mut u64) -> u64
+pub fn tell_writing(w: Result<u64, Refusal>, carried: &mut u64) -> u64
     ensures { told result carried.new [] ≡ write_told w [] }
 {
     match w {
-        Writing::Bytes(n) => give(n, carried),
-        Writing::Refused(f) => refuse(f, carried),
+        Ok(n) => give(n, carried),
+        Err(f) => refuse(f, carried),
     }
 }
 
@@ -267,59 +266,53 @@ pub fn for_places(f: Refusal, places: usize, lent: usize) -> Refusal
 
 // The record of an answer in `state`; or refusal 8 for an array of another length, else the answer's.
 #[tactic(auto, unfolding(crate::specs::Told::record_kept, crate::specs::Told::record_told))]
-pub fn keep_record(a: record_state::RecordAnswer, state: &mut [u64], carried: &mut u64) -> u64
+pub fn keep_record(a: Result<Record, Refusal>, state: &mut [u64], carried: &mut u64) -> u64
     ensures { told result carried.new state.new ≡ record_kept a state.old }
 {
     match a {
-        record_state::RecordAnswer::Taken(s) => {
+        Ok(s) => {
             let numbers = of_record(s);
             keep(&numbers, state, carried)
         }
-        record_state::RecordAnswer::Refused(f) => refuse(
-            for_places(f, RECORD_NUMBERS, state.len()),
-            carried,
-        ),
+        Err(f) => refuse(for_places(f, RECORD_NUMBERS, state.len()), carried),
     }
 }
 
 // The channel that an answer names.
 #[tactic(auto, unfolding(crate::specs::Told::channel_in))]
-pub fn channel_in(a: record_state::RecordAnswer) -> u64
+pub fn channel_in(a: Result<Record, Refusal>) -> u64
     ensures { result ≡ channel_in a }
 {
     match a {
-        record_state::RecordAnswer::Taken(_) => 0,
-        record_state::RecordAnswer::Refused(f) => refusal::channel(f),
+        Ok(_) => 0,
+        Err(f) => refusal::channel(f),
     }
 }
 
 // The result of an answer in `result`; or refusal 8 for an array of another length, else the answer's.
 #[tactic(auto, unfolding(crate::specs::Told::result_kept, crate::specs::Told::result_told))]
-pub fn keep_result(a: Ended, res: &mut [u64], carried: &mut u64) -> u64
+pub fn keep_result(a: Result<RecordResult, Refusal>, res: &mut [u64], carried: &mut u64) -> u64
     ensures { told result carried.new res.new ≡ result_kept a res.old }
 {
     match a {
-        Ended::Given(x) => {
+        Ok(x) => {
             let numbers = of_result(x);
             keep(&numbers, res, carried)
         }
-        Ended::Refused(f) => refuse(for_places(f, RESULT_NUMBERS, res.len()), carried),
+        Err(f) => refuse(for_places(f, RESULT_NUMBERS, res.len()), carried),
     }
 }
 
 // The campaign of an answer in `state`; or refusal 8 for an array of another length, else the answer's.
 #[tactic(auto, unfolding(crate::specs::Told::campaign_kept, crate::specs::Told::campaign_told))]
-pub fn keep_campaign(a: campaign_state::CampaignAnswer, state: &mut [u64], carried: &mut u64) -> u64
+pub fn keep_campaign(a: Result<Campaign, Refusal>, state: &mut [u64], carried: &mut u64) -> u64
     ensures { told result carried.new state.new ≡ campaign_kept a state.old }
 {
     match a {
-        campaign_state::CampaignAnswer::Taken(s) => {
+        Ok(s) => {
             let numbers = of_campaign(s);
             keep(&numbers, state, carried)
         }
-        campaign_state::CampaignAnswer::Refused(f) => refuse(
-            for_places(f, CAMPAIGN_NUMBERS, state.len()),
-            carried,
-        ),
+        Err(f) => refuse(for_places(f, CAMPAIGN_NUMBERS, state.len()), carried),
     }
 }

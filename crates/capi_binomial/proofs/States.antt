@@ -8,10 +8,10 @@ use borrow.Author.Tests.{eq-eqb}
 use lib.Dec.{eqb}
 use lib.ListN.{length}
 use Rattle.binomial_sum.specs.State.{sound}
-use Rattle.binomial_sum.specs.declared.SumAnswer.{SumAnswer}
-use Rattle.binomial_sum.specs.declared.SumAnswer.TheVariants.{Taken}
 use Rattle.binomial_sum.specs.declared.Sum.{Sum}
 use Rattle.capi_binomial.specs.Told.{of_sum, sum_kept, sum_numbers, sum_of, sum_told}
+use Rattle.refusal.specs.declared.Refusal.{Refusal}
+use Rattle.std.specs.Prelude.{Result, Ok}
 
 pub other_sum : (s : List ℕ) → eqb (length s) sum_numbers ≡ false → sound (sum_of s) ≡ false
 unfolding sum_of sound
@@ -22,6 +22,6 @@ unfolding sum_of
 sum_back s = refl
 
 -- so what an entry leaves in an array is the sum that it answers
-pub sum_left : (a : SumAnswer) (s : List ℕ) (t : Sum) → length s ≡ sum_numbers → a ≡ Taken t → sum_of (sum_kept a s).lent ≡ t
+pub sum_left : (a : Result Sum Refusal) (s : List ℕ) (t : Sum) → length s ≡ sum_numbers → a ≡ Ok t → sum_of (sum_kept a s).lent ≡ t
 unfolding sum_kept sum_told
 sum_left a s t l e = rw (eq-eqb (length s) sum_numbers l, e) (sum_back t)

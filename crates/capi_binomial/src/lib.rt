@@ -57,18 +57,15 @@ fn of_bounds(b: Bounds) -> [u64; 4]
 
 // The sum of an answer in `state`; or refusal 8 for an array of another length, else the answer's.
 #[tactic(auto, unfolding(crate::specs::Told::sum_kept, crate::specs::Told::sum_told))]
-fn keep_sum(a: binomial_sum::SumAnswer, state: &mut [u64], carried: &mut u64) -> u64
+fn keep_sum(a: Result<Sum, Refusal>, state: &mut [u64], carried: &mut u64) -> u64
     ensures { told result carried.new state.new ≡ sum_kept a state.old }
 {
     match a {
-        binomial_sum::SumAnswer::Taken(s) => {
+        Ok(s) => {
             let numbers = of_sum(s);
             capi::keep(&numbers, state, carried)
         }
-        binomial_sum::SumAnswer::Refused(f) => capi::refuse(
-            capi::for_places(f, SUM_NUMBERS, state.len()),
-            carried,
-        ),
+        Err(f) => capi::refuse(capi::for_places(f, SUM_NUMBERS, state.len()), carried),
     }
 }
 
@@ -101,12 +98,12 @@ pub fn chim_sum_bounds(state: &[u64], bounds: &mut [u64], carried: &mut u64) -> 
     }
     let a = binomial_bounds::bound(sum_of(state));
     match a {
-        binomial_bounds::Bounded::Given(b, x) => {
+        Ok((b, x)) => {
             let numbers = of_bounds(x);
             capi::put(&numbers, bounds);
             capi::give(capi::flag(b), carried)
         }
-        binomial_bounds::Bounded::Refused(f) => capi::refuse(f, carried),
+        Err(f) => capi::refuse(f, carried),
     }
 }
 
@@ -125,12 +122,18 @@ pub fn chim_sum_rates(
 {
     let a = binomial_bounds::rate(sum_of(state));
     match a {
-        campaign_verdict::Rated::Given(b, r) => {
+        Ok(Some(r)) => {
             *estimate = r.estimate;
             *lower = r.lower;
             *upper = r.upper;
-            capi::give(capi::flag(b), carried)
+            capi::give(1, carried)
         }
-        campaign_verdict::Rated::Refused(f) => capi::refuse(f, carried),
+        Ok(None) => {
+            *estimate = 0.0;
+            *lower = 0.0;
+            *upper = 0.0;
+            capi::give(0, carried)
+        }
+        Err(f) => capi::refuse(f, carried),
     }
 }

@@ -11,7 +11,6 @@ use lib.ListN.{drop, get_or, length, set}
 use borrow.Author.Tests.{eq-eqb, eqb-true, le-ltb, lt-ltb}
 use Rattle.truth.proofs.Cases.{by_test}
 use Rattle.truth.proofs.Laws.{and-true, both_true}
-use Rattle.bureau_table.specs.declared.TableAnswer.{TableAnswer}
 use Rattle.bureau_table.specs.declared.Call.{Call}
 use Rattle.bureau_table.specs.declared.Place.{Place}
 use Rattle.bureau_table.specs.declared.Worked.{Worked}
@@ -25,6 +24,9 @@ use Rattle.bureau_survey.proofs.Looking.{look_end, look_on}
 use Rattle.bureau_choice.proofs.Serves.{serves}
 use Rattle.capi.specs.Numbers.{flag}
 use Rattle.capi_bureau.specs.Rows.{of_place, place_of, places_of, rows_left, same_place}
+use Rattle.refusal.specs.declared.Refusal.{Refusal}
+use Rattle.bureau_table.specs.declared.Reply.{Reply}
+use Rattle.std.specs.Prelude.{Result}
 
 same_self : (p : Place) → same_place p p ≡ true
 same_self p =
@@ -131,7 +133,7 @@ module _ (rows : List (List ℕ)) (c : Call) (s : Seen) (d : Choice) (es : s ≡
       ap (worked_on (places_of rows) c) (ed ∙ ap (λ (u : Seen). chosen c u (length rows)) es ∙ ap (chosen c (looked unseen 0 (places_of rows))) (sym (rows_length rows)))
       ∙ serves (places_of rows) c
 
-  abbrev pub Says : TableAnswer → List (List ℕ) → Type 0
+  abbrev pub Says : Result Reply Refusal → List (List ℕ) → Type 0
   Says x left = (x ≡ (called (places_of rows) c.bureau c.ask).answer) × (left ≡ rows_left rows (called (places_of rows) c.bureau c.ask).table)
 
   pub none_chosen : length rows ≤ d.at → Says d.answer rows

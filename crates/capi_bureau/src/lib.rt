@@ -15,9 +15,10 @@ ghost use Rattle.capi_bureau.specs.Rows.{same_place};
 ghost use Rattle.capi_bureau.specs.Told.{judged, plain, rated};
 
 use bureau_survey::Seen;
-use bureau_table::{Ask, Call, Place, TableAnswer, Work};
+use bureau_table::{Ask, Call, Place, Reply, Work};
 use campaign_state::Campaign;
 use record_end::Outcome;
+use refusal::Refusal;
 
 fn place_of(r: [u64; 6]) -> Place
     ensures { result ≡ place_of r }
@@ -100,7 +101,7 @@ fn put(table: &mut [[u64; 6]], i: usize, p: Place, q: Place)
     table[i] = row_of(q);
 }
 
-fn serve(table: &mut [[u64; 6]], c: Call) -> TableAnswer
+fn serve(table: &mut [[u64; 6]], c: Call) -> Result<Reply, Refusal>
     ensures { (result ≡ (called (places_of table.old) c.bureau c.ask).answer)
         × (table.new
         ≡ rows_left table.old (called (places_of table.old) c.bureau c.ask).table) }
@@ -121,37 +122,42 @@ fn serve(table: &mut [[u64; 6]], c: Call) -> TableAnswer
 
 // What an answer without rates tells: the place where a job was taken, else nothing.
 #[tactic(auto, unfolding(crate::specs::Told::plain))]
-fn tell(a: TableAnswer, carried: &mut u64) -> u64
+fn tell(a: Result<Reply, Refusal>, carried: &mut u64) -> u64
     ensures { count result carried.new ≡ plain a }
 {
     match a {
-        TableAnswer::Placed(i) => capi::give(i, carried),
-        TableAnswer::Entered => capi::give(0, carried),
-        TableAnswer::Judged(_) => capi::give(0, carried),
-        TableAnswer::Rated(_, _) => capi::give(0, carried),
-        TableAnswer::Freed => capi::give(0, carried),
-        TableAnswer::Refused(f) => capi::refuse(f, carried),
+        Ok(Reply::Placed(i)) => capi::give(i, carried),
+        Ok(Reply::Entered) => capi::give(0, carried),
+        Ok(Reply::Judged(_)) => capi::give(0, carried),
+        Ok(Reply::Rated(_)) => capi::give(0, carried),
+        Ok(Reply::Freed) => capi::give(0, carried),
+        Err(f) => capi::refuse(f, carried),
     }
 }
 
 #[tactic(auto, unfolding(crate::specs::Told::judged))]
-fn tell_verdict(a: TableAnswer, lower: &mut f64, upper: &mut f64, carried: &mut u64) -> u64
+fn tell_verdict(
+    a: Result<Reply, Refusal>,
+    lower: &mut f64,
+    upper: &mut f64,
+    carried: &mut u64,
+) -> u64
     ensures { judgement result carried.new lower.new upper.new
         ≡ judged a lower.old upper.old }
 {
     match a {
-        TableAnswer::Judged(v) => capi_verdict::tell(v, lower, upper, carried),
-        TableAnswer::Refused(f) => capi::refuse(f, carried),
-        TableAnswer::Placed(_) => capi::give(0, carried),
-        TableAnswer::Entered => capi::give(0, carried),
-        TableAnswer::Rated(_, _) => capi::give(0, carried),
-        TableAnswer::Freed => capi::give(0, carried),
+        Ok(Reply::Judged(v)) => capi_verdict::tell(v, lower, upper, carried),
+        Err(f) => capi::refuse(f, carried),
+        Ok(Reply::Placed(_)) => capi::give(0, carried),
+        Ok(Reply::Entered) => capi::give(0, carried),
+        Ok(Reply::Rated(_)) => capi::give(0, carried),
+        Ok(Reply::Freed) => capi::give(0, carried),
     }
 }
 
 #[tactic(auto, unfolding(crate::specs::Told::rated))]
 fn tell_rates(
-    a: TableAnswer,
+    a: Result<Reply, Refusal>,
     estimate: &mut f64,
     lower: &mut f64,
     upper: &mut f64,
@@ -162,17 +168,23 @@ fn tell_rates(
         ≡ rated a (rates estimate.old lower.old upper.old) }
 {
     match a {
-        TableAnswer::Rated(b, r) => {
+        Ok(Reply::Rated(Some(r))) => {
             *estimate = r.estimate;
             *lower = r.lower;
             *upper = r.upper;
-            capi::give(capi::flag(b), carried)
+            capi::give(1, carried)
         }
-        TableAnswer::Refused(f) => capi::refuse(f, carried),
-        TableAnswer::Placed(_) => capi::give(0, carried),
-        TableAnswer::Entered => capi::give(0, carried),
-        TableAnswer::Judged(_) => capi::give(0, carried),
-        TableAnswer::Freed => capi::give(0, carried),
+        Ok(Reply::Rated(None)) => {
+            *estimate = 0.0;
+            *lower = 0.0;
+            *upper = 0.0;
+            capi::give(0, carried)
+        }
+        Err(f) => capi::refuse(f, carried),
+        Ok(Reply::Placed(_)) => capi::give(0, carried),
+        Ok(Reply::Entered) => capi::give(0, carried),
+        Ok(Reply::Judged(_)) => capi::give(0, carried),
+        Ok(Reply::Freed) => capi::give(0, carried),
     }
 }
 

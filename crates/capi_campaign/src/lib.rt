@@ -8,7 +8,7 @@ ghost use Rattle.capi.specs.Told.{told};
 ghost use Rattle.capi.specs.Numbers.{no_result, result_of};
 ghost use Rattle.capi_campaign.specs.Told.{campaign_entered, campaign_opened, campaign_result_entered};
 
-use record_end::{Outcome, Result};
+use record_end::{Outcome, RecordResult};
 use refusal::Refusal;
 
 // A campaign without a record in `state`; or refusal 8 for an array of another length, 1 with item 5.
@@ -37,10 +37,10 @@ pub fn chim_campaign_enter(state: &mut [u64], failed: u64, exposure: u64, carrie
 }
 
 // A result that no record has.
-fn no_result() -> Result
+fn no_result() -> RecordResult
     ensures { result ≡ no_result }
 {
-    Result {
+    RecordResult {
         crossings: 0,
         counted: 0,
         first: 0,
@@ -51,13 +51,13 @@ fn no_result() -> Result
 
 // The result that an array holds.
 #[tactic(auto, unfolding(capi::specs::Numbers::result_of))]
-fn result_of(s: &[u64]) -> Result
+fn result_of(s: &[u64]) -> RecordResult
     ensures { result ≡ result_of s.now }
 {
     if s.len() != capi::RESULT_NUMBERS {
         return no_result();
     }
-    Result {
+    RecordResult {
         crossings: s[0],
         counted: s[1],
         first: s[2],

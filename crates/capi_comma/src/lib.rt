@@ -14,8 +14,8 @@ pub fn chim_comma_read(text: &[u8], step: u64, samples: &mut [i32], carried: &mu
     ensures samples_after { samples.new ≡ comma_samples step text.now samples.old }
 {
     match comma_read::read(text, step, samples) {
-        comma_read::Reading::Samples(n) => capi::give(n, carried),
-        comma_read::Reading::Refused(f) => capi::refuse(f, carried),
+        Ok(n) => capi::give(n, carried),
+        Err(f) => capi::refuse(f, carried),
     }
 }
 

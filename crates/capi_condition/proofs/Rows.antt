@@ -12,11 +12,10 @@ use Rattle.truth.proofs.Cases.{by_test}
 use Rattle.refusal.specs.declared.Refusal.TheVariants.{Situations}
 use Rattle.campaign_state.specs.declared.Campaign.{Campaign}
 use Rattle.campaign_condition.specs.Answers.{judging}
-use Rattle.campaign_condition.specs.declared.ConditionAnswer.TheVariants.{Refused}
 use Rattle.campaign_report.specs.Answers.{writing_report}
-use Rattle.text.specs.declared.Writing.TheVariants.{Refused as Declined}
 use Rattle.capi.specs.Numbers.{campaign_of}
 use Rattle.capi_condition.specs.Told.{campaigns_of}
+use Rattle.std.specs.Prelude.{Err}
 
 map_join : (xs ys : List (List ℕ)) → campaigns_of (xs ++ ys) ≡ campaigns_of xs ++ campaigns_of ys
 map_join [] ys = refl
@@ -30,13 +29,13 @@ row_more rows all i d h k e =
 
 -- ---- more than 64
 module _ (n : ℕ) (cs : List Campaign) (many : 64 < n) where
-  pub many_refused : judging n cs ≡ Refused Situations
+  pub many_refused : judging n cs ≡ Err Situations
   unfolding judging
   many_refused = rw (lt-leb n 64 many, below n)
     where
       below : (k : ℕ) → (leb 1 k && false) ≡ false
       below k = by_test (leb 1 k) (λ e. rw e) (λ e. rw e)
 
-  pub many_declined : (out : List ℕ) → writing_report n cs out ≡ Declined Situations
+  pub many_declined : (out : List ℕ) → writing_report n cs out ≡ Err Situations
   unfolding writing_report
   many_declined out = rw many_refused

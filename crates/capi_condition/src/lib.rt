@@ -9,7 +9,7 @@ ghost use Rattle.capi.specs.Numbers.{campaign_of};
 ghost use Rattle.capi.specs.Told.{told};
 ghost use Rattle.capi_condition.specs.Told.{campaigns_of, condition_judged, condition_reported, standing_code};
 
-use campaign_condition::{ConditionAnswer, Standing};
+use campaign_condition::Standing;
 use campaign_state::Campaign;
 use refusal::Refusal;
 
@@ -61,8 +61,8 @@ pub fn chim_condition_judge(campaigns: &[[u64; 5]], carried: &mut u64) -> u64
         return capi::refuse(Refusal::Situations, carried);
     }
     match campaign_condition::judge(campaigns_of(campaigns), campaigns.len()) {
-        ConditionAnswer::Given(s) => capi::give(standing_code(s), carried),
-        ConditionAnswer::Refused(f) => capi::refuse(f, carried),
+        Ok(s) => capi::give(standing_code(s), carried),
+        Err(f) => capi::refuse(f, carried),
     }
 }
 

@@ -25,7 +25,7 @@ pub fn chim_envelope_find(
 {
     let a = peak_envelope::find(step, ramp, decorrelation, samples, sizes, times);
     match a {
-        peak_envelope::PeaksFound::Peaks(k) => capi::give(k, carried),
-        peak_envelope::PeaksFound::Refused(f) => capi::refuse(f, carried),
+        Ok(k) => capi::give(k, carried),
+        Err(f) => capi::refuse(f, carried),
     }
 }

@@ -17,13 +17,12 @@ use Rattle.sample_items.specs.Limits.{decorrelation_in_range, longest_time, most
 use Rattle.peak_groups.proofs.Due.{from_place}
 use Rattle.peak_stream.proofs.Pieces.{fits}
 use Rattle.peak_stream.specs.declared.Surveying.{Surveying}
-use Rattle.peak_stream.specs.declared.Surveyed.TheVariants as survey
-use Rattle.peak_stream.specs.declared.Handed.TheVariants.{Taken}
 use Rattle.peak_stream.specs.Survey.{none, sound, started}
 use Rattle.peak_stream.specs.Hands.{begun, waiting}
 use Rattle.capi.specs.Numbers.{number_at}
 use Rattle.capi_peaks.specs.Numbers.{group_fits, handing_fits, left_fits, most32, peak_fits, reading_fits}
 use Rattle.capi_peaks.specs.Numbers.{survey_fits}
+use Rattle.std.specs.Prelude.{Ok}
 
 pub peak_small : (s : List ℕ) (i : ℕ) → peak_fits s i ≡ true
     → (number_at s (i + 1) ≤ sample_limit) × (number_at s (i + 2) ≤ longest_time)
@@ -103,12 +102,12 @@ most_step : (D n : ℕ) → 1 ≤ n → n ≤ most_in_range D 0 → step_in_rang
 unfolding most_in_range
 most_step D n h l = by_test (step_in_range D) (λ e. e) (λ e. absurd (omega (arith, rw e at l)))
 
-pub started_there : (D : ℕ) → step_in_range D ≡ true → started D ≡ survey.Taken (none D)
+pub started_there : (D : ℕ) → step_in_range D ≡ true → started D ≡ Ok (none D)
 unfolding started
 started_there D e = rw e
 
 pub begun_there : (s : Surveying) (τ : ℕ) → sound s ≡ true → decorrelation_in_range τ ≡ true → 2 ≤ s.reading.n
-    → begun s.reading.step τ s.number s.sum ≡ Taken (waiting s.reading.step τ s.number s.sum) 0
+    → begun s.reading.step τ s.number s.sum ≡ Ok (waiting s.reading.step τ s.number s.sum, 0)
 unfolding begun
 begun_there s τ k t n = rw (most_step s.reading.step s.reading.n (omega arith) (fits s k), t)
 

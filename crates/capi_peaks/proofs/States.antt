@@ -23,10 +23,8 @@ use Rattle.peak_stream.proofs.Over.{no_refusal}
 use Rattle.peak_stream.proofs.Passing.{good}
 use Rattle.peak_stream.proofs.Pieces.{fits, goes, none_sound, sound_good, taken_all}
 use Rattle.peak_stream.specs.declared.Handing.{Handing}
-use Rattle.peak_stream.specs.declared.Handed.TheVariants as handing
 use Rattle.peak_stream.specs.declared.Reading.{Reading}
 use Rattle.peak_stream.specs.declared.Surveying.{Surveying}
-use Rattle.peak_stream.specs.declared.Surveyed.TheVariants as survey
 use Rattle.peak_stream.specs.Hands.{closed_by, moved, ready, waiting}
 use Rattle.peak_stream.specs.Reading.{readable}
 use Rattle.peak_stream.specs.Survey.{none, sound, surveyed}
@@ -40,6 +38,7 @@ use Rattle.capi_peaks.specs.Told.{survey_told, taken_in}
 use Rattle.capi_peaks.proofs.Fits.{group_small, handing_small, peak_small, reading_small, survey_small}
 use Rattle.capi_peaks.proofs.Bounds.{Held, InRange, Within, handing_reads, hands_same, hands_within}
 use Rattle.capi_peaks.proofs.Bounds.{not_bad, range_drop, range_small, reads, survey_reads}
+use Rattle.std.specs.Prelude.{Ok}
 
 -- ---- other numbers are refused by 8
 pub other_survey : (s : List ℕ) → is_survey s ≡ false → sound (survey_of s) ≡ false
@@ -195,7 +194,7 @@ module _ (t : Surveying) (R L : ℕ) (p : List ℤ) (k : SurveyOk t R L) (g : In
   abbrev timed : List ℤ
   timed = drop L p
 
-  taken_in_lem : taken_in t L p ≡ survey.Taken (foldl surveyed t timed)
+  taken_in_lem : taken_in t L p ≡ Ok (foldl surveyed t timed)
   unfolding taken_in
   taken_in_lem = rw (k.keeps, not_bad p g) (sym (taken_all t timed k.keeps room))
 
@@ -234,7 +233,7 @@ module _ (sizes times : List ℕ) (h : Handing) (L : ℕ) (p : List ℤ) (k : Ha
   after = drop L p
 
   handed_in_lem : handed_in h L p (length sizes) (length times)
-      ≡ handing.Taken (foldl moved h after) (length (closed_by h after))
+      ≡ Ok (foldl moved h after, length (closed_by h after))
   unfolding handed_in
   handed_in_lem = rw (k.keeps, not_bad p g) (sym (no_refusal h after sizes times k.keeps room long))
 

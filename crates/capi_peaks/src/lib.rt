@@ -20,7 +20,7 @@ ghost use Rattle.capi_peaks.specs.Told.{peak_times, peak_last};
 
 use peak_groups::{Group, Peak};
 use peak_machine::Envelope;
-use peak_stream::{Handed, Handing, Last, Reading, Surveyed, Surveying};
+use peak_stream::{Handing, Reading, Surveying};
 use refusal::Refusal;
 
 const SURVEY_NUMBERS: usize = 10;
@@ -316,38 +316,46 @@ fn of_handing(h: Handing, left: u64) -> [u64; 24]
 // The first pass of an answer in `state`, with the ramp and what is left of it; or refusal 8 for an array of another
 // length, else the answer's.
 #[tactic(auto, unfolding(crate::specs::Told::survey_kept, crate::specs::Told::survey_told))]
-fn keep_survey(a: Surveyed, ramp: u64, left: u64, state: &mut [u64], carried: &mut u64) -> u64
+fn keep_survey(
+    a: Result<Surveying, Refusal>,
+    ramp: u64,
+    left: u64,
+    state: &mut [u64],
+    carried: &mut u64,
+) -> u64
     ensures { told result carried.new state.new
         ≡ survey_kept a ramp left state.old }
 {
     match a {
-        Surveyed::Taken(s) => {
+        Ok(s) => {
             let numbers = of_survey(s, ramp, left);
             capi::keep(&numbers, state, carried)
         }
-        Surveyed::Refused(f) => capi::refuse(
-            capi::for_places(f, SURVEY_NUMBERS, state.len()),
-            carried,
-        ),
+        Err(f) => capi::refuse(capi::for_places(f, SURVEY_NUMBERS, state.len()), carried),
     }
 }
 
 // The second pass of an answer in `state`, with what is left of the ramp, and how many peaks it closed; or refusal 8
 // for an array of another length, else the answer's.
 #[tactic(auto, unfolding(crate::specs::Told::handing_kept, crate::specs::Told::handing_told))]
-fn keep_handing(a: Handed, left: u64, state: &mut [u64], carried: &mut u64) -> u64
+fn keep_handing(
+    a: Result<(Handing, u64), Refusal>,
+    left: u64,
+    state: &mut [u64],
+    carried: &mut u64,
+) -> u64
     ensures { told result carried.new state.new ≡ handing_kept a left state.old }
 {
     if state.len() != HANDING_NUMBERS {
         return capi::refuse(Refusal::BrokenState, carried);
     }
     match a {
-        Handed::Taken(h, k) => {
+        Ok((h, k)) => {
             let numbers = of_handing(h, left);
             capi::put(&numbers, state);
             capi::give(k, carried)
         }
-        Handed::Refused(f) => capi::refuse(f, carried),
+        Err(f) => capi::refuse(f, carried),
     }
 }
 
@@ -374,14 +382,14 @@ fn left_after(left: u64, len: usize) -> u64
 
 // The first pass before its first sample; or refusal 1 with item 1 or 2.
 #[tactic(auto, unfolding(crate::specs::Told::opened_at))]
-fn open(step: u64, ramp: u64) -> Surveyed
+fn open(step: u64, ramp: u64) -> Result<Surveying, Refusal>
     ensures { result ≡ opened_at step ramp }
 {
     if !truth::both(1 <= step, step <= sample_items::LONGEST_STEP) {
-        return Surveyed::Refused(Refusal::Item(1));
+        return Err(Refusal::Item(1));
     }
     if !truth::both(0 <= ramp, ramp <= sample_items::LONGEST_RAMP) {
-        return Surveyed::Refused(Refusal::Item(2));
+        return Err(Refusal::Item(2));
     }
     peak_stream::survey(step)
 }
@@ -389,15 +397,15 @@ fn open(step: u64, ramp: u64) -> Surveyed
 // The first pass with a piece more, of which what is left of the ramp is left out; or refusal 8, 2 with the first
 // place out of range, 3.
 #[tactic(auto, unfolding(crate::specs::Told::taken_in))]
-fn take(s: Surveying, left: u64, samples: &[i32]) -> Surveyed
+fn take(s: Surveying, left: u64, samples: &[i32]) -> Result<Surveying, Refusal>
     ensures { result ≡ taken_in s left samples.now }
 {
     if !peak_stream::sound(s) {
-        return Surveyed::Refused(Refusal::BrokenState);
+        return Err(Refusal::BrokenState);
     }
     let bad = sample_range::first_bad(samples);
     if bad < samples.len() {
-        return Surveyed::Refused(Refusal::Sample(bad as u64));
+        return Err(Refusal::Sample(bad as u64));
     }
     let from = ramp_end(left, samples.len());
     peak_stream::take(s, &samples[from..])
@@ -405,21 +413,21 @@ fn take(s: Surveying, left: u64, samples: &[i32]) -> Surveyed
 
 // The second pass before its first sample; or refusal 8, 1 with item 4, 4.
 #[tactic(auto, unfolding(crate::specs::Told::begun_from))]
-fn begin(s: Surveying, decorrelation: u64) -> Handed
+fn begin(s: Surveying, decorrelation: u64) -> Result<(Handing, u64), Refusal>
     ensures { result ≡ begun_from s decorrelation }
 {
     if !peak_stream::sound(s) {
-        return Handed::Refused(Refusal::BrokenState);
+        return Err(Refusal::BrokenState);
     }
     if !truth::both(
         0 <= decorrelation,
         decorrelation <= sample_items::LONGEST_DECORRELATION,
     ) {
-        return Handed::Refused(Refusal::Item(4));
+        return Err(Refusal::Item(4));
     }
     let r = s.reading;
     if r.n < 2 {
-        return Handed::Refused(Refusal::TooShort);
+        return Err(Refusal::TooShort);
     }
     peak_stream::begin(r.step as u64, decorrelation, s.number, s.sum)
 }
@@ -427,7 +435,13 @@ fn begin(s: Surveying, decorrelation: u64) -> Handed
 // The second pass with a piece more, of which what is left of the ramp is left out, and how many peaks it closed; or
 // refusal 8, 2 with the first place out of range, 3, 7 with the places needed.
 #[tactic(auto, unfolding(crate::specs::Told::handed_in))]
-fn hand_over(h: Handing, left: u64, samples: &[i32], sizes: &mut [u32], times: &mut [u32]) -> Handed
+fn hand_over(
+    h: Handing,
+    left: u64,
+    samples: &[i32],
+    sizes: &mut [u32],
+    times: &mut [u32],
+) -> Result<(Handing, u64), Refusal>
     ensures { (result ≡ handed_in h left samples.now (length sizes.old)
         (length times.old))
         × (sizes.new
@@ -436,11 +450,11 @@ fn hand_over(h: Handing, left: u64, samples: &[i32], sizes: &mut [u32], times: &
         ≡ noted result (map moment_of (closed_by h (drop left samples.now))) times.old) }
 {
     if !peak_stream::ready(h) {
-        return Handed::Refused(Refusal::BrokenState);
+        return Err(Refusal::BrokenState);
     }
     let bad = sample_range::first_bad(samples);
     if bad < samples.len() {
-        return Handed::Refused(Refusal::Sample(bad as u64));
+        return Err(Refusal::Sample(bad as u64));
     }
     let from = ramp_end(left, samples.len());
     peak_stream::hand_over(h, &samples[from..], sizes, times)
@@ -520,12 +534,12 @@ pub fn chim_peaks_last(state: &[u64], size: &mut u32, time: &mut u32, carried: &
     }
     let a = peak_stream::finish(h);
     match a {
-        Last::One(p) => {
+        Some(p) => {
             *size = p.size;
             *time = p.time;
             capi::give(1, carried)
         }
-        Last::None => {
+        None => {
             *size = 0;
             *time = 0;
             capi::give(0, carried)

@@ -49,11 +49,11 @@ pub fn chim_extrapolate(
     }
     let a = peak_reach::extrapolate(peaks, k, level, step, samples, standard);
     match a {
-        peak_reach::Extrapolated::Found(t, l) => {
+        Ok((t, l)) => {
             let numbers = of_times(t);
             capi::put(&numbers, times);
             capi::give(letter_code(l), carried)
         }
-        peak_reach::Extrapolated::Refused(f) => capi::refuse(f, carried),
+        Err(f) => capi::refuse(f, carried),
     }
 }

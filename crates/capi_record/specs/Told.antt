@@ -1,6 +1,6 @@
 -- What each C function of a record leaves, from the answers that the crates below give to the record that the array
 -- holds. Assumes nothing.
-use Rattle.std.specs.Prelude.{ℕ, List, ℤ, length}
+use Rattle.std.specs.Prelude.{ℕ, List, ℤ, length, Result, Ok, Err}
 use Rattle.refusal.specs.Numbers.{channel_of}
 use Rattle.sample_channels.specs.declared.Levels.{Levels}
 use Rattle.sample_items.specs.declared.Items.{Items}
@@ -9,11 +9,10 @@ use Rattle.record_list.specs.Answers.{listed, written}
 use Rattle.record_state.specs.Answers.{opened}
 use Rattle.record_feed.specs.Answers.{fed}
 use Rattle.crossing_places.specs.Reading.{counted_times}
-use Rattle.record_list.specs.declared.Listed.{Listed}
-use Rattle.record_list.specs.declared.Listed.TheVariants.{Refused, Times}
 use Rattle.record_end.specs.Result.{ending}
 use Rattle.capi.specs.Numbers.{record_of}
 use Rattle.capi.specs.Told.{Told, channel_in, record_kept, refused, result_kept, told}
+use Rattle.refusal.specs.declared.Refusal.{Refusal}
 
 -- items 3 and 6
 abbrev pub levels_of : ℕ → ℕ → Levels
@@ -38,18 +37,18 @@ abbrev pub record_ended : List ℕ → List ℕ → Told
 record_ended s x = result_kept (ending (record_of s)) x
 
 -- the number of times is carried, and the lent array is that of the times
-unfoldable pub list_told : Listed → List ℕ → Told
-list_told (Times k) s = told 0 k s
-list_told (Refused f) s = refused f s
+unfoldable pub list_told : Result ℕ Refusal → List ℕ → Told
+list_told (Ok k) s = told 0 k s
+list_told (Err f) s = refused f s
 
 abbrev pub record_listed : Items → List ℤ → List ℤ → List ℕ → Told
 record_listed items xs ys s =
     list_told (listed items xs ys (length s))
     (written (listed items xs ys (length s)) (counted_times items (moments xs ys)) s)
 
-unfoldable pub list_channel : Listed → ℕ
-list_channel (Times k) = 0
-list_channel (Refused f) = channel_of f
+unfoldable pub list_channel : Result ℕ Refusal → ℕ
+list_channel (Ok k) = 0
+list_channel (Err f) = channel_of f
 
 abbrev pub channel_listed : Items → List ℤ → List ℤ → List ℕ → ℕ
 channel_listed items xs ys s = list_channel (listed items xs ys (length s))

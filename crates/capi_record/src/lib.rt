@@ -119,11 +119,11 @@ pub fn chim_record_list(
     };
     let a = record_list::list(items, roll, acceleration, times);
     match a {
-        record_list::Listed::Times(k) => {
+        Ok(k) => {
             *channel = 0;
             capi::give(k, carried)
         }
-        record_list::Listed::Refused(f) => {
+        Err(f) => {
             *channel = refusal::channel(f);
             capi::refuse(f, carried)
         }

@@ -1,20 +1,20 @@
 -- What reading a whole sheet leaves: the campaign that its meaning ends in, in the lent array, or the number of its
 -- first refusal, the line that it stands on and its column. Assumes nothing.
-use Rattle.std.specs.Prelude.{ℕ, cond, List, eqb, length}
+use Rattle.std.specs.Prelude.{ℕ, cond, List, eqb, length, Result, Ok, Err}
 use Rattle.refusal.specs.declared.Refusal.TheVariants.{BrokenState}
-use Rattle.campaign_state.specs.declared.CampaignAnswer.{CampaignAnswer}
-use Rattle.campaign_state.specs.declared.CampaignAnswer.TheVariants.{Refused, Taken}
 use Rattle.sheet_text.specs.declared.Reading.{Reading}
 use Rattle.sheet_text.specs.declared.Reading.TheVariants.{Read, Stopped, Waiting}
 use Rattle.sheet_text.specs.Sheet.{meaning}
 use Rattle.capi.specs.Numbers.{campaign_numbers}
 use Rattle.capi.specs.Told.{Told, campaign_kept}
+use Rattle.refusal.specs.declared.Refusal.{Refusal}
+use Rattle.campaign_state.specs.declared.Campaign.{Campaign}
 
 -- what a reading ends in; a whole text never waits for more
-abbrev pub answer_of : Reading → CampaignAnswer
-answer_of (Read c) = Taken c
-answer_of (Stopped line column r) = Refused r
-answer_of (Waiting s left) = Refused BrokenState
+abbrev pub answer_of : Reading → Result Campaign Refusal
+answer_of (Read c) = Ok c
+answer_of (Stopped line column r) = Err r
+answer_of (Waiting s left) = Err BrokenState
 
 -- the line of the first refusal, 0 where there is none
 abbrev pub line_of : Reading → ℕ

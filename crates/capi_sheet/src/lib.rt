@@ -5,18 +5,19 @@ ghost use Rattle.std.specs.Prelude.{◌≡◌};
 ghost use Rattle.capi.specs.Told.{told};
 ghost use Rattle.capi_sheet.specs.Told.{answer_of, column_of, line_of, sheet_column, sheet_line, sheet_read};
 
+use campaign_state::Campaign;
 use refusal::Refusal;
 use sheet_line::Sheet;
 use sheet_text::Reading;
 
 // What the reading of a whole sheet answers.
-fn ended(end: Reading) -> campaign_state::CampaignAnswer
+fn ended(end: Reading) -> Result<Campaign, Refusal>
     ensures { result ≡ answer_of end }
 {
     match end {
-        Reading::Read(c) => campaign_state::CampaignAnswer::Taken(c),
-        Reading::Stopped(_, _, f) => campaign_state::CampaignAnswer::Refused(f),
-        Reading::Waiting(_, _) => campaign_state::CampaignAnswer::Refused(Refusal::BrokenState),
+        Reading::Read(c) => Ok(c),
+        Reading::Stopped(_, _, f) => Err(f),
+        Reading::Waiting(_, _) => Err(Refusal::BrokenState),
     }
 }
 

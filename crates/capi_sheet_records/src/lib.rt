@@ -36,13 +36,13 @@ pub fn chim_sheet_records(
     ensures column_after { column.new ≡ records_column text.now records.old }
 {
     match sheet_records::records(text, records) {
-        sheet_records::Resumed::Records(q, n) => {
+        Ok((q, n)) => {
             *standard = q;
             *line = 0;
             *column = 0;
             capi::give(n, carried)
         }
-        sheet_records::Resumed::Stopped(l, k, f) => {
+        Err((l, k, f)) => {
             *standard = 0;
             *line = l;
             *column = k;

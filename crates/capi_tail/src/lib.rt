@@ -11,7 +11,7 @@ pub fn chim_tail_fit(peaks: &[u32], k: u64, sorted: &mut [u32], carried: &mut u6
 {
     let a = peak_tail::fit(peaks, k, sorted);
     match a {
-        peak_tail::Fitted::Sum(s) => capi::give(s, carried),
-        peak_tail::Fitted::Refused(f) => capi::refuse(f, carried),
+        Ok(s) => capi::give(s, carried),
+        Err(f) => capi::refuse(f, carried),
     }
 }

@@ -1,19 +1,14 @@
 -- What each C function leaves that reads figures off the campaign that an array holds: the number that it answers, what
 -- it carries, and the lent rates afterwards, which a refusal leaves as they stood. Assumes nothing.
-use Rattle.std.specs.Prelude.{ℕ, List, Float}
+use Rattle.std.specs.Prelude.{ℕ, List, Float, Option, Some, None, Result, Ok, Err}
 use Rattle.refusal.specs.Numbers.{number_of, value_of}
 use Rattle.campaign_verdict.specs.Answers.{counting, judging, rating}
 use Rattle.campaign_verdict.specs.Figures.{zero64}
-use Rattle.campaign_verdict.specs.declared.Counted.{Counted}
-use Rattle.campaign_verdict.specs.declared.Counted.TheVariants as counted
-use Rattle.campaign_verdict.specs.declared.Judged.{Judged}
-use Rattle.campaign_verdict.specs.declared.Judged.TheVariants as judged
-use Rattle.campaign_verdict.specs.declared.Rated.{Rated}
-use Rattle.campaign_verdict.specs.declared.Rated.TheVariants as rated
 use Rattle.campaign_verdict.specs.declared.Rates.{Rates}
 use Rattle.campaign_verdict.specs.declared.Verdict.{Verdict}
 use Rattle.campaign_verdict.specs.declared.Verdict.TheVariants.{Accept, Continue, NoRecord, Reject}
-use Rattle.capi.specs.Numbers.{campaign_of, flag}
+use Rattle.capi.specs.Numbers.{campaign_of}
+use Rattle.refusal.specs.declared.Refusal.{Refusal}
 
 -- the censored count
 pub record Count : Type 0 where
@@ -23,9 +18,9 @@ pub record Count : Type 0 where
 abbrev pub count : ℕ → ℕ → Count
 count n v = record { number = n; carried = v }
 
-unfoldable pub count_told : Counted → Count
-count_told (counted.Count k) = count 0 k
-count_told (counted.Refused f) = count (number_of f) (value_of f)
+unfoldable pub count_told : Result ℕ Refusal → Count
+count_told (Ok k) = count 0 k
+count_told (Err f) = count (number_of f) (value_of f)
 
 abbrev pub campaign_censored : List ℕ → Count
 campaign_censored s = count_told (counting (campaign_of s))
@@ -48,9 +43,9 @@ verdict_told (Accept y) = judgement 0 1 zero64 y
 verdict_told (Reject x) = judgement 0 2 x zero64
 verdict_told (Continue x y) = judgement 0 3 x y
 
-unfoldable pub judged_told : Judged → Float → Float → Judgement
-judged_told (judged.Given v) x y = verdict_told v
-judged_told (judged.Refused f) x y = judgement (number_of f) (value_of f) x y
+unfoldable pub judged_told : Result Verdict Refusal → Float → Float → Judgement
+judged_told (Ok v) x y = verdict_told v
+judged_told (Err f) x y = judgement (number_of f) (value_of f) x y
 
 abbrev pub campaign_judged : List ℕ → Float → Float → Judgement
 campaign_judged s x y = judged_told (judging (campaign_of s)) x y
@@ -68,9 +63,10 @@ ratings n v x = record { number = n; carried = v; rates = x }
 abbrev pub rates : Float → Float → Float → Rates
 rates e x y = record { estimate = e; lower = x; upper = y }
 
-unfoldable pub rated_told : Rated → Rates → Rating
-rated_told (rated.Given b x) y = ratings 0 (flag b) x
-rated_told (rated.Refused f) y = ratings (number_of f) (value_of f) y
+unfoldable pub rated_told : Result (Option Rates) Refusal → Rates → Rating
+rated_told (Ok (Some x)) y = ratings 0 1 x
+rated_told (Ok None) y = ratings 0 0 (rates zero64 zero64 zero64)
+rated_told (Err f) y = ratings (number_of f) (value_of f) y
 
 abbrev pub campaign_rated : List ℕ → Rates → Rating
 campaign_rated s y = rated_told (rating (campaign_of s)) y

@@ -17,8 +17,8 @@ pub fn chim_campaign_censored(state: &[u64], carried: &mut u64) -> u64
 {
     let a = campaign_verdict::censored(capi::campaign_of(state));
     match a {
-        campaign_verdict::Counted::Count(n) => capi::give(n, carried),
-        campaign_verdict::Counted::Refused(f) => capi::refuse(f, carried),
+        Ok(n) => capi::give(n, carried),
+        Err(f) => capi::refuse(f, carried),
     }
 }
 
@@ -64,8 +64,8 @@ pub fn chim_campaign_verdict(
 {
     let a = campaign_verdict::judge(capi::campaign_of(state));
     match a {
-        campaign_verdict::Judged::Given(v) => tell(v, lower, upper, carried),
-        campaign_verdict::Judged::Refused(f) => capi::refuse(f, carried),
+        Ok(v) => tell(v, lower, upper, carried),
+        Err(f) => capi::refuse(f, carried),
     }
 }
 
@@ -84,13 +84,19 @@ pub fn chim_campaign_rates(
 {
     let a = campaign_verdict::rate(capi::campaign_of(state));
     match a {
-        campaign_verdict::Rated::Given(b, r) => {
+        Ok(Some(r)) => {
             *estimate = r.estimate;
             *lower = r.lower;
             *upper = r.upper;
-            capi::give(capi::flag(b), carried)
+            capi::give(1, carried)
         }
-        campaign_verdict::Rated::Refused(f) => capi::refuse(f, carried),
+        Ok(None) => {
+            *estimate = 0.0;
+            *lower = 0.0;
+            *upper = 0.0;
+            capi::give(0, carried)
+        }
+        Err(f) => capi::refuse(f, carried),
     }
 }
 

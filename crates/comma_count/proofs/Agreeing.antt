@@ -25,8 +25,6 @@ use Rattle.sample_items.specs.Limits.{step_in_range, item_outside, most_samples}
 use Rattle.sample_items.proofs.Ranges.{low}
 use Rattle.sample_range.specs.Range.{first_bad}
 use Rattle.record_state.specs.declared.Record.{Record}
-use Rattle.record_state.specs.declared.RecordAnswer.{RecordAnswer}
-use Rattle.record_state.specs.declared.RecordAnswer.TheVariants.{Taken, Refused}
 use Rattle.record_state.specs.State.{state_of, sound}
 use Rattle.record_state.specs.Answers.{opened}
 use Rattle.record_state.proofs.Relations.{kept_from}
@@ -52,6 +50,8 @@ use Rattle.comma_count.proofs.Zeros.{zeros_length, zeros_good}
 use Rattle.comma_count.proofs.Joining.{none_outside}
 use Rattle.comma_count.proofs.Piece.{sound_step, sound_lines, sound_noted}
 use Rattle.comma_count.proofs.Whole.{start, standing, opens, start_sound, step_ok}
+use Rattle.refusal.specs.declared.Refusal.{Refusal}
+use Rattle.std.specs.Prelude.{Result, Ok, Err}
 
 -- ---- where a reading stands after right lines: their times have 12 digits, and a line that is noted is one of them
 pub fresh_stands : (D : ℕ) → step_in_range D ≡ true → sound_follow (fresh D) ≡ true
@@ -114,9 +114,9 @@ record_stands f r o =
     both_true (ap step_in_range (sym o.step) ∙ step_ok r.items k.outside)
     (both_true (le-leb f.lines 1000000000000 (omega (arith, o.number, k.length, small k))) (le-leb f.outside f.lines (omega (arith, o.none))))
 
-pub stands : (f : Follow) (a : RecordAnswer) → agrees f a ≡ true → sound_follow f ≡ true
-stands f (Taken r) e = record_stands f r (of_lines_lem f r e)
-stands f (Refused q) e = e
+pub stands : (f : Follow) (a : Result Record Refusal) → agrees f a ≡ true → sound_follow f ≡ true
+stands f (Ok r) e = record_stands f r (of_lines_lem f r e)
+stands f (Err q) e = e
 
 -- ---- FEEDING keeps the step and counts the samples
 stepped_step : (r : Record) (x : Moment) → (stepped r x).items.step ≡ r.items.step
@@ -135,7 +135,7 @@ module _ (f : Follow) (r : Record) (ok : of_lines f r ≡ true) (xs ys : List �
   many : length (moments xs ys) ≡ length xs
   many = moments_length xs ys equal
 
-  fed_many : most_samples r.items.step r.items.ramp < r.n + length xs → fed r xs ys ≡ Refused TooLong
+  fed_many : most_samples r.items.step r.items.ramp < r.n + length xs → fed r xs ys ≡ Err TooLong
   fed_many h = fed_full r xs ys o.whole equal h ∙ rw (all_good xs ys good good₂)
 
   pub fed_agrees : (g : Follow) → g.step ≡ f.step → g.lines ≡ f.lines + length xs → g.outside ≡ 0 → sound_follow g ≡ true → agrees g (fed r xs ys) ≡ true
@@ -165,13 +165,13 @@ module _ (f : Follow) (text : List ℕ) where
   xs_many : length xs ≡ length lines
   xs_many = length-map lines (λ line. sample_of (roll line))
 
-  onward_agrees : (a : RecordAnswer) → agrees f a ≡ true → sound_follow g ≡ true → g.outside ≡ 0 → agrees g (onward a xs) ≡ true
+  onward_agrees : (a : Result Record Refusal) → agrees f a ≡ true → sound_follow g ≡ true → g.outside ≡ 0 → agrees g (onward a xs) ≡ true
   unfolding after_lines
-  onward_agrees (Taken r) e well none =
+  onward_agrees (Ok r) e well none =
       fed_agrees f r e xs (zeros xs) (sym (zeros_length xs)) (none_outside f lines none).1 (zeros_good xs) g refl (omega (arith, xs_many)) none well
-  onward_agrees (Refused q) e well none = well
+  onward_agrees (Err q) e well none = well
 
-  pub lines_agree : (a : RecordAnswer) → agrees f a ≡ true → agrees g (answering g a xs) ≡ true
+  pub lines_agree : (a : Result Record Refusal) → agrees f a ≡ true → agrees g (answering g a xs) ≡ true
   unfolding answering
   lines_agree a e =
       let well = stands_on f (stands f a e) text in
@@ -198,12 +198,12 @@ opening_agrees i =
     (λ e. let ok = eqb-true (item_outside i) 0 e in inr (ap (agrees (fresh i.step)) (opens i ok) ∙ start_of i ok))
     (λ e. inl (refused_item i e))
 
-rested_agrees : (q : Rest) (f : Follow) (a : RecordAnswer) (at all : ℕ) → agrees f a ≡ true → Agrees (rested q (going f a) at all).counting
+rested_agrees : (q : Rest) (f : Follow) (a : Result Record Refusal) (at all : ℕ) → agrees f a ≡ true → Agrees (rested q (going f a) at all).counting
 rested_agrees (Waits n) f a at all e = inr e
 rested_agrees Over f a at all e = inr e
 rested_agrees Wrong f a at all e = inl refl
 
-pub taking_agrees : (f : Follow) (a : RecordAnswer) (text : List ℕ) (more : Bool) → agrees f a ≡ true → Agrees (taking (going f a) text more).counting
+pub taking_agrees : (f : Follow) (a : Result Record Refusal) (text : List ℕ) (more : Bool) → agrees f a ≡ true → Agrees (taking (going f a) text more).counting
 unfolding taking
 taking_agrees f a text more e =
     let lines = right_lines f text in
@@ -217,27 +217,27 @@ right_are D text = let z : 0 * D ≡ 0 = omega arith in rw z
 pub standing_agrees : (i : Items) → item_outside i ≡ 0 → (text : List ℕ) → let c = standing i (Rights i.step 0 text) in agrees c.follow c.answer ≡ true
 standing_agrees i ok text =
     subst (λ us. agrees (standing i us).follow (standing i us).answer ≡ true) (right_are i.step text)
-    (lines_agree (fresh i.step) text (Taken (start i)) (start_of i ok))
+    (lines_agree (fresh i.step) text (Ok (start i)) (start_of i ok))
 
 -- ---- what agrees is not answered by 8: a wrong line and a sample out of range are refused otherwise
-onward_not : (f : Follow) (a : RecordAnswer) → agrees f a ≡ true → (a ≡ Refused BrokenState → ⊥) → (xs : List ℤ) → onward a xs ≡ Refused BrokenState → ⊥
-onward_not f (Taken r) ok other xs e = not_broken r xs (zeros xs) (and-true (sound r) _ ok).0 e
-onward_not f (Refused q) ok other xs e = other e
+onward_not : (f : Follow) (a : Result Record Refusal) → agrees f a ≡ true → (a ≡ Err BrokenState → ⊥) → (xs : List ℤ) → onward a xs ≡ Err BrokenState → ⊥
+onward_not f (Ok r) ok other xs e = not_broken r xs (zeros xs) (and-true (sound r) _ ok).0 e
+onward_not f (Err q) ok other xs e = other e
 
-module _ (f : Follow) (a : RecordAnswer) (ok : agrees f a ≡ true) (other : a ≡ Refused BrokenState → ⊥) where
-  answer_not : (g : Follow) (xs : List ℤ) → answering g a xs ≡ Refused BrokenState → ⊥
+module _ (f : Follow) (a : Result Record Refusal) (ok : agrees f a ≡ true) (other : a ≡ Err BrokenState → ⊥) where
+  answer_not : (g : Follow) (xs : List ℤ) → answering g a xs ≡ Err BrokenState → ⊥
   unfolding answering
   answer_not g xs e =
       by_test (eqb g.outside 0)
       (λ o. onward_not f a ok other xs (rw o at e))
       (λ o. impossible (cc (sym (rw o at e))))
 
-  rested_not : (q : Rest) (lines : List (List ℕ)) (at all : ℕ) → (rested q (with_lines (going f a) lines) at all).counting.answer ≡ Refused BrokenState → ⊥
+  rested_not : (q : Rest) (lines : List (List ℕ)) (at all : ℕ) → (rested q (with_lines (going f a) lines) at all).counting.answer ≡ Err BrokenState → ⊥
   rested_not (Waits n) lines at all e = answer_not (after_lines f lines) (samples_of lines) e
   rested_not Over lines at all e = answer_not (after_lines f lines) (samples_of lines) e
   rested_not Wrong lines at all e = impossible (cc)
 
-  pub never_eight : (text : List ℕ) (more : Bool) → (taking (going f a) text more).counting.answer ≡ Refused BrokenState → ⊥
+  pub never_eight : (text : List ℕ) (more : Bool) → (taking (going f a) text more).counting.answer ≡ Err BrokenState → ⊥
   unfolding taking
   never_eight text more e =
       let lines = right_lines f text in

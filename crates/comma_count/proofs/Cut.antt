@@ -14,7 +14,6 @@ use Rattle.truth.proofs.Cases.{by_test}
 use Rattle.truth.proofs.Laws.{impossible}
 use Rattle.refusal.specs.declared.Refusal.TheVariants.{Item}
 use Rattle.sample_items.specs.Limits.{item_outside}
-use Rattle.record_state.specs.declared.RecordAnswer.TheVariants.{Taken, Refused}
 use Rattle.record_state.specs.Answers.{opened}
 use Rattle.record_feed.specs.Answers.{fed}
 use Rattle.record_feed.proofs.Theorems.{empty_taken}
@@ -40,6 +39,7 @@ use Rattle.comma_count.proofs.Joining.{answering_join}
 use Rattle.comma_count.proofs.Piece.{taking_over}
 use Rattle.comma_count.proofs.Whole.{start, standing, wrong_after, opens, start_sound, end_wrong, end_right, said_end_lem}
 use Rattle.comma_count.proofs.Agreeing.{standing_agrees}
+use Rattle.std.specs.Prelude.{Ok}
 
 -- ---- what is over stays
 over_stays : (c : Counting) (kept : List ℕ) (pieces : List (List ℕ)) → c.over ≡ true → carrying c kept pieces ≡ c
@@ -100,9 +100,9 @@ module _ (i : Items) (ok : item_outside i ≡ 0) where
 
     lines_on : with_lines (standing i us) more_lines ≡ standing i (Rights D 0 (text ++ piece))
     lines_on =
-        ap (going (after_lines stand more_lines)) (answering_join (fresh D) (Taken (start i)) us more_lines)
-        ∙ ap (λ f. going f (answering f (Taken (start i)) (samples_of us ++ samples_of more_lines))) level.stands
-        ∙ ap (λ xs. going (after_lines (fresh D) (Rights D 0 (text ++ piece))) (answering (after_lines (fresh D) (Rights D 0 (text ++ piece))) (Taken (start i)) xs)) level.samples
+        ap (going (after_lines stand more_lines)) (answering_join (fresh D) (Ok (start i)) us more_lines)
+        ∙ ap (λ f. going f (answering f (Ok (start i)) (samples_of us ++ samples_of more_lines))) level.stands
+        ∙ ap (λ xs. going (after_lines (fresh D) (Rights D 0 (text ++ piece))) (answering (after_lines (fresh D) (Rights D 0 (text ++ piece))) (Ok (start i)) xs)) level.samples
 
     stands_well : agrees (standing i us).follow (standing i us).answer ≡ true
     stands_well = standing_agrees i ok text

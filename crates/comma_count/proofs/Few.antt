@@ -7,7 +7,7 @@ use lib.Dec.{eqb}
 use lib.ListN.{length, length-append}
 use Rattle.truth.proofs.Cases.{by_test}
 use Rattle.decimal.specs.Field.{tab, line_feed}
-use Rattle.record_end.specs.declared.Result.{Result}
+use Rattle.record_end.specs.declared.RecordResult.{RecordResult}
 use Rattle.desk_line.specs.Said.{longest_said}
 use Rattle.desk_line.proofs.Few.{Small, field_small}
 use Rattle.comma_count.specs.Line.{first_text, figures_line}
@@ -16,7 +16,7 @@ first_few : (first time : ℕ) → Small time → length (first_text first time)
 unfolding first_text
 first_few first time h = by_test (eqb first 0) (λ e. rw e (omega arith)) (λ e. rw e (field_small time tab h))
 
-pub figures_few : (n : ℕ) (x : Result) → Small n → Small x.crossings → Small x.counted → Small x.largest → Small x.exposure → length (figures_line n x) ≤ longest_said
+pub figures_few : (n : ℕ) (x : RecordResult) → Small n → Small x.crossings → Small x.counted → Small x.largest → Small x.exposure → length (figures_line n x) ≤ longest_said
 unfolding figures_line
 figures_few n x a b c d e =
     simp length-append

@@ -19,8 +19,6 @@ use Rattle.sample_items.specs.Limits.{most_samples}
 use Rattle.sample_range.specs.Range.{sample_in_range, first_bad}
 use Rattle.sample_range.proofs.Bad.{good_head, bad_append, bad_within}
 use Rattle.record_state.specs.declared.Record.{Record}
-use Rattle.record_state.specs.declared.RecordAnswer.{RecordAnswer}
-use Rattle.record_state.specs.declared.RecordAnswer.TheVariants.{Taken, Refused}
 use Rattle.record_state.specs.State.{sound}
 use Rattle.record_step.specs.Step.{stepped}
 use Rattle.record_feed.specs.Answers.{fed}
@@ -34,14 +32,16 @@ use Rattle.comma_stream.specs.Follow.{after_lines, held}
 use Rattle.comma_count.specs.Line.{zeros, one_channel}
 use Rattle.comma_count.specs.Taking.{onward, answering}
 use Rattle.comma_count.proofs.Zeros.{zeros_length, zeros_good, zeros_append}
+use Rattle.refusal.specs.declared.Refusal.{Refusal}
+use Rattle.std.specs.Prelude.{Result, Ok, Err}
 
 -- ---- samples in range are taken, or are too many
 
 module _ (r : Record) (xs : List ℤ) (s : sound r ≡ true) (g : first_bad xs ≡ length xs) where
-  pub fed_long : most_samples r.items.step r.items.ramp < r.n + length xs → fed r xs (zeros xs) ≡ Refused TooLong
+  pub fed_long : most_samples r.items.step r.items.ramp < r.n + length xs → fed r xs (zeros xs) ≡ Err TooLong
   fed_long h = fed_full r xs (zeros xs) s (sym (zeros_length xs)) h ∙ rw (all_good xs (zeros xs) g (zeros_good xs))
 
-  pub fed_some : r.n + length xs ≤ most_samples r.items.step r.items.ramp → fed r xs (zeros xs) ≡ Taken (foldl stepped r (one_channel xs))
+  pub fed_some : r.n + length xs ≤ most_samples r.items.step r.items.ramp → fed r xs (zeros xs) ≡ Ok (foldl stepped r (one_channel xs))
   fed_some h = fed_taken r xs (zeros xs) s (sym (zeros_length xs)) g (zeros_good xs) h
 
   pub many : length (one_channel xs) ≡ length xs
@@ -80,7 +80,7 @@ module _ (r : Record) (xs ys : List ℤ) (g : first_bad xs ≡ length xs) (h : f
         ∙ sym (fed_long r (xs ++ ys) s both_good k))
         (λ k.
         fed_some t ys (still_sound r xs s g l) h (omega (arith, places, most, length-append xs ys))
-        ∙ ap Taken (sym (foldl-append stepped r (one_channel xs) (one_channel ys)) ∙ ap (foldl stepped r) (sym (channel_append xs ys)))
+        ∙ ap Ok (sym (foldl-append stepped r (one_channel xs) (one_channel ys)) ∙ ap (foldl stepped r) (sym (channel_append xs ys)))
         ∙ sym (fed_some r (xs ++ ys) s both_good k))
 
     long_second : onward (fed r xs (zeros xs)) ys ≡ fed r (xs ++ ys) (zeros (xs ++ ys))
@@ -92,9 +92,9 @@ module _ (r : Record) (xs ys : List ℤ) (g : first_bad xs ≡ length xs) (h : f
       (λ s. by_order (most_samples r.items.step r.items.ramp) (r.n + length xs) (long_first s) (long_second s))
       (λ s. ap (λ a. onward a ys) (fed_broken r xs (zeros xs) s) ∙ sym (fed_broken r (xs ++ ys) (zeros (xs ++ ys)) s))
 
-pub onward_join : (a : RecordAnswer) (xs ys : List ℤ) → first_bad xs ≡ length xs → first_bad ys ≡ length ys → onward (onward a xs) ys ≡ onward a (xs ++ ys)
-onward_join (Taken r) xs ys g h = joined_taken r xs ys g h
-onward_join (Refused q) xs ys g h = refl
+pub onward_join : (a : Result Record Refusal) (xs ys : List ℤ) → first_bad xs ≡ length xs → first_bad ys ≡ length ys → onward (onward a xs) ys ≡ onward a (xs ++ ys)
+onward_join (Ok r) xs ys g h = joined_taken r xs ys g h
+onward_join (Err q) xs ys g h = refl
 
 -- ---- what the line of the first sample out of range says of the samples
 module _ (f : Follow) (lines : List (List ℕ)) where
@@ -121,7 +121,7 @@ held_same [] g = refl
 held_same (x ∷ xs) g = let h = good_head x xs g in rw h.0 (ap (λ l. x ∷ l) (held_same xs h.1))
 
 -- ---- the answer after lines
-module _ (f : Follow) (a : RecordAnswer) where
+module _ (f : Follow) (a : Result Record Refusal) where
   pub answering_held : (lines : List (List ℕ)) → answering (after_lines f lines) a (map held (samples_of lines)) ≡ answering (after_lines f lines) a (samples_of lines)
   unfolding answering
   answering_held lines =

@@ -15,7 +15,6 @@ use Rattle.truth.proofs.Cases.{by_test, by_order}
 use Rattle.truth.proofs.Laws.{and-true, impossible}
 use Rattle.refusal.specs.declared.Refusal.TheVariants.{BrokenState}
 use Rattle.sample_items.specs.Limits.{step_in_range}
-use Rattle.record_state.specs.declared.RecordAnswer.{RecordAnswer}
 use Rattle.text.specs.Front.{kept}
 use Rattle.comma_stream.specs.declared.Follow.{Follow}
 use Rattle.comma_stream.specs.declared.Rest.{Rest}
@@ -24,6 +23,9 @@ use Rattle.comma_stream.specs.Follow.{longest_comma_line, unended, may_begin, re
 use Rattle.comma_count.specs.declared.Counting.{Counting}
 use Rattle.comma_count.specs.declared.Took.{Took}
 use Rattle.comma_count.specs.Taking.{Leads, going, over, rested, sound_follow, agrees, taking, turning, turn_left}
+use Rattle.refusal.specs.declared.Refusal.{Refusal}
+use Rattle.record_state.specs.declared.Record.{Record}
+use Rattle.std.specs.Prelude.{Result}
 
 -- where a reading may stand
 pub sound_step : (f : Follow) → sound_follow f ≡ true → step_in_range f.step ≡ true
@@ -73,7 +75,7 @@ module _ (c : Counting) (text : List ℕ) (more : Bool) where
     unfolding taking
     taking_broken s = rw (o, s)
 
-    pub taking_on : {g : Follow} {b : RecordAnswer} {at : ℕ} {rest : Rest} → agrees c.follow c.answer ≡ true → Leads c.follow c.answer text g b at → rest ≡ resting (drop at text) more
+    pub taking_on : {g : Follow} {b : (Result Record Refusal)} {at : ℕ} {rest : Rest} → agrees c.follow c.answer ≡ true → Leads c.follow c.answer text g b at → rest ≡ resting (drop at text) more
         → rested rest (going g b) at (length text) ≡ taking c text more
     unfolding taking
     taking_on s l r = rw (o, s, r, l.stands, l.says, l.place)

@@ -7,23 +7,24 @@ use Prim.Native.Nat.{ℕ}
 use lib.ListN.{take}
 use Rattle.truth.proofs.Unique.{settled}
 use Rattle.sample_items.specs.declared.Items.{Items}
-use Rattle.record_state.specs.declared.RecordAnswer.{RecordAnswer}
 use Rattle.comma_stream.specs.declared.Follow.{Follow}
 use Rattle.desk_line.specs.declared.Finished.{Finished}
 use Rattle.desk_line.specs.Said.{putting, put_left}
 use Rattle.comma_count.specs.declared.Counting.{Counting}
 use Rattle.comma_count.specs.declared.Took.{Took}
 use Rattle.comma_count.specs.declared.Turned.{Turned}
-use Rattle.comma_count.specs.declared.End.{End}
 use Rattle.comma_count.specs.Taking.{opening, agrees, taking, turning, turn_left, end_of, saying}
+use Rattle.refusal.specs.declared.Refusal.{Refusal}
+use Rattle.record_state.specs.declared.Record.{Record}
+use Rattle.std.specs.Prelude.{Result}
 
 pub open_unique : (i : Items) (c d : Counting) → c ≡ opening i → d ≡ opening i → c ≡ d
 open_unique i c d = settled
 
-pub agrees_unique : (f : Follow) (a : RecordAnswer) (b d : Bool) → b ≡ agrees f a → d ≡ agrees f a → b ≡ d
+pub agrees_unique : (f : Follow) (a : Result Record Refusal) (b d : Bool) → b ≡ agrees f a → d ≡ agrees f a → b ≡ d
 agrees_unique f a b d = settled
 
-pub came_to_unique : (c : Counting) (r q : End) → r ≡ end_of c → q ≡ end_of c → r ≡ q
+pub came_to_unique : (c : Counting) (r q : Result Record (ℕ × Refusal)) → r ≡ end_of c → q ≡ end_of c → r ≡ q
 came_to_unique c r q = settled
 
 module _ (c : Counting) (text : List ℕ) where

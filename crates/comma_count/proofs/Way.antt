@@ -17,15 +17,14 @@ use Rattle.degrees.specs.Degrees.{sample_of}
 use Rattle.comma_line.specs.Line.{roll}
 use Rattle.comma_line.specs.Text.{first_wrong, samples_of}
 use Rattle.refusal.specs.declared.Refusal.{Refusal}
-use Rattle.record_state.specs.declared.RecordAnswer.{RecordAnswer}
 use Rattle.comma_stream.specs.declared.Follow.{Follow}
-use Rattle.comma_stream.specs.declared.Followed.{Followed}
-use Rattle.comma_stream.specs.declared.Followed.TheVariants as followed
 use Rattle.comma_stream.specs.Follow.{bytes_of, right_lines, after_lines, taken_by, taking, held, number_of, leaving}
 use Rattle.comma_stream.proofs.Pieces.{Rights, after_join}
 use Rattle.comma_stream.proofs.Whole.{Parts, part}
 use Rattle.comma_count.specs.Taking.{answering, Leads}
 use Rattle.comma_count.proofs.Joining.{answering_held, answering_join}
+use Rattle.record_state.specs.declared.Record.{Record}
+use Rattle.std.specs.Prelude.{Result, Ok, Err}
 
 -- a text from a place on, by its bytes
 pub from : (text : List ℕ) (at : ℕ) → take (length text - at) (drop at text) ≡ drop at text
@@ -84,22 +83,22 @@ module _ (f : Follow) (text : List ℕ) (slice : List ℤ) (step : step_in_range
       rw same
       (take_at (map held (samples_of Here)) (drop n slice) n (length-map (samples_of Here) held ∙ length-map Here (λ line. sample_of (roll line)) ∙ sym e))
 
-  pub took : {part : List ℕ} {r : Followed} {g : Follow} {bytes n : ℕ} {later : List ℤ}
-      → part ≡ text → r ≡ taking f part (length slice) → later ≡ leaving r part slice → r ≡ followed.Taken g bytes n → Took g bytes n later
+  pub took : {part : List ℕ} {r : (Result (Follow × ℕ × ℕ) Refusal)} {g : Follow} {bytes n : ℕ} {later : List ℤ}
+      → part ≡ text → r ≡ taking f part (length slice) → later ≡ leaving r part slice → r ≡ Ok (g, bytes, n) → Took g bytes n later
   unfolding taken_by leaving number_of
   took {part} {r} {g} {bytes} {n} {later} same e l is =
-      let all : followed.Taken g bytes n ≡ taken_by f Here = sym is ∙ e ∙ ap (λ x. taking f x (length slice)) same ∙ took_all in
+      let all : Ok (g, bytes, n) ≡ taken_by f Here = sym is ∙ e ∙ ap (λ x. taking f x (length slice)) same ∙ took_all in
       let count : n ≡ length Here = cc in
       let at : bytes ≡ bytes_of Here = cc in
       let stand : g ≡ after_lines f Here = cc in
       record { stands = stand; place = at; number = count; samples = ap (take n) (l ∙ ap (λ x. leaving r x slice) same ∙ ap (λ x. leaving x text slice) is) ∙ left_front n count }
 
-  pub never_refused : {part : List ℕ} {r : Followed} {q : Refusal} → part ≡ text → r ≡ taking f part (length slice) → r ≡ followed.Refused q → ⊥
+  pub never_refused : {part : List ℕ} {r : (Result (Follow × ℕ × ℕ) Refusal)} {q : Refusal} → part ≡ text → r ≡ taking f part (length slice) → r ≡ Err q → ⊥
   unfolding taken_by
   never_refused same e is = impossible (cc (sym is ∙ e ∙ ap (λ x. taking f x (length slice)) same ∙ took_all))
 
 -- ---- on the way
-pub record Way (f : Follow) (a : RecordAnswer) (text : List ℕ) (g : Follow) (b : RecordAnswer) (at : ℕ) : Type 0 where
+pub record Way (f : Follow) (a : Result Record Refusal) (text : List ℕ) (g : Follow) (b : Result Record Refusal) (at : ℕ) : Type 0 where
   pub rest : List (List ℕ)
   pub is : rest ≡ right_lines g (drop at text)
   pub stands : after_lines g rest ≡ after_lines f (right_lines f text)
@@ -109,7 +108,7 @@ pub record Way (f : Follow) (a : RecordAnswer) (text : List ℕ) (g : Follow) (b
   pub few : g.lines ≤ f.lines + at
   pub step : g.step ≡ f.step
 
-pub way_start : (f : Follow) (a : RecordAnswer) (text : List ℕ) → Way f a text f a 0
+pub way_start : (f : Follow) (a : Result Record Refusal) (text : List ℕ) → Way f a text f a 0
 way_start f a text =
     record { rest = right_lines f text; is = refl; stands = refl; says = refl; place = omega arith; within = omega arith; few = omega arith; step = refl }
 
@@ -119,7 +118,7 @@ bytes_append [] vs = omega arith
 bytes_append (u ∷ us) vs = omega (arith, bytes_append us vs)
 
 -- lines more
-module _ {f : Follow} {a : RecordAnswer} {text : List ℕ} {g : Follow} {b : RecordAnswer} {at : ℕ} (w : Way f a text g b at) (places : ℕ) where
+module _ {f : Follow} {a : (Result Record Refusal)} {text : List ℕ} {g : Follow} {b : (Result Record Refusal)} {at : ℕ} (w : Way f a text g b at) (places : ℕ) where
   abbrev Us : List (List ℕ)
   Us = Some g (drop at text) places
 
@@ -172,7 +171,7 @@ module _ {f : Follow} {a : RecordAnswer} {text : List ℕ} {g : Follow} {b : Rec
       }
 
 -- the same by what a turn was told
-module _ {f : Follow} {a : RecordAnswer} {text : List ℕ} {g : Follow} {b : RecordAnswer} {at : ℕ} (w : Way f a text g b at) {slice : List ℤ} {step : step_in_range g.step ≡ true}
+module _ {f : Follow} {a : (Result Record Refusal)} {text : List ℕ} {g : Follow} {b : (Result Record Refusal)} {at : ℕ} (w : Way f a text g b at) {slice : List ℤ} {step : step_in_range g.step ≡ true}
     {h : Follow} {bytes n : ℕ} {later : List ℤ} (t : Took g (drop at text) slice step h bytes n later) where
   abbrev Lines : List (List ℕ)
   Lines = Some g (drop at text) (length slice)
@@ -186,7 +185,7 @@ module _ {f : Follow} {a : RecordAnswer} {text : List ℕ} {g : Follow} {b : Rec
   pub turn_falls : 1 ≤ n → length text - (at + bytes) < length text - at
   turn_falls some = omega (arith, turn_within, t.number, t.place, (some_parts g (drop at text) (length slice)).some)
 
-  module _ {b' : RecordAnswer} (said : b' ≡ answering h b (take n later)) where
+  module _ {b' : (Result Record Refusal)} (said : b' ≡ answering h b (take n later)) where
     says_is : b' ≡ answering (after_lines g Lines) b (samples_of Lines)
     says_is = said ∙ ap (answering h b) t.samples ∙ ap (λ x. answering x b (map held (samples_of Lines))) t.stands ∙ answering_held g b Lines
 

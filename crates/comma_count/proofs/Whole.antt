@@ -22,16 +22,13 @@ use Rattle.sample_range.specs.Range.{first_bad}
 use Rattle.sample_range.proofs.Bad.{bad_within}
 use Rattle.crossing_places.specs.Reading.{too_few}
 use Rattle.record_state.specs.declared.Record.{Record}
-use Rattle.record_state.specs.declared.RecordAnswer.{RecordAnswer}
-use Rattle.record_state.specs.declared.RecordAnswer.TheVariants.{Taken, Refused}
 use Rattle.record_state.specs.State.{state_of, sound}
 use Rattle.record_state.specs.Answers.{opened}
 use Rattle.record_state.proofs.Opening.{opened_sound}
 use Rattle.record_step.specs.Step.{stepped}
 use Rattle.record_step.proofs.Whole.{state}
 use Rattle.record_feed.specs.Answers.{fed}
-use Rattle.record_end.specs.declared.Result.{Result}
-use Rattle.record_end.specs.declared.Ended.TheVariants as ended
+use Rattle.record_end.specs.declared.RecordResult.{RecordResult}
 use Rattle.record_end.specs.Result.{ending, result_of}
 use Rattle.degrees.specs.Degrees.{sample_of}
 use Rattle.comma_line.specs.Line.{roll}
@@ -40,19 +37,18 @@ use Rattle.comma_stream.specs.declared.Follow.{Follow}
 use Rattle.comma_stream.specs.Follow.{after_lines}
 use Rattle.sample_items.specs.declared.Items.{Items}
 use Rattle.comma_count.specs.declared.Counting.{Counting}
-use Rattle.comma_count.specs.declared.End.{End}
-use Rattle.comma_count.specs.declared.End.TheVariants as end
 use Rattle.desk_line.specs.Said.{Said}
 use Rattle.comma_count.specs.Line.{zeros, one_channel, result_for, counted, refused_at, lines_then, file_then, count_said_of_lines, end_of_lines}
 use Rattle.comma_count.specs.Taking.{fresh, going, over, onward, answering, end_by, end_of, on_end, said_end, said_ended, saying}
 use Rattle.comma_count.proofs.Joining.{fed_long, fed_some, many, still_sound}
+use Rattle.std.specs.Prelude.{Result, Ok, Err}
 
 -- what is said of a sound record
-ended_is : (r : Record) (R n : ℕ) (x : Result) → sound r ≡ true → r.items.ramp ≡ R → r.n ≡ n → result_of r ≡ x → said_ended r.n (ending r) ≡ cond (too_few R n) (refused_at 0 TooShort) (counted n x)
+ended_is : (r : Record) (R n : ℕ) (x : RecordResult) → sound r ≡ true → r.items.ramp ≡ R → r.n ≡ n → result_of r ≡ x → said_ended r.n (ending r) ≡ cond (too_few R n) (refused_at 0 TooShort) (counted n x)
 unfolding ending
 ended_is r R n x s e f g =
-    ap (λ y. said_ended r.n (cond (not y) (ended.Refused BrokenState) (cond (too_few r.items.ramp r.n) (ended.Refused TooShort) (ended.Given (result_of r))))) s
-    ∙ ap (λ y. said_ended r.n (cond (too_few r.items.ramp r.n) (ended.Refused TooShort) (ended.Given y))) g
+    ap (λ y. said_ended r.n (cond (not y) (Err BrokenState) (cond (too_few r.items.ramp r.n) (Err TooShort) (Ok (result_of r))))) s
+    ∙ ap (λ y. said_ended r.n (cond (too_few r.items.ramp r.n) (Err TooShort) (Ok y))) g
     ∙ by_test (too_few r.items.ramp r.n)
     (λ t. rw (t, ← e, ← f, t))
     (λ t. rw (t, ← e, ← f, t))
@@ -64,14 +60,14 @@ module _ (i : Items) where
 
   -- the count after lines
   abbrev pub standing : List (List ℕ) → Counting
-  standing us = going (after_lines (fresh i.step) us) (answering (after_lines (fresh i.step) us) (Taken start) (samples_of us))
+  standing us = going (after_lines (fresh i.step) us) (answering (after_lines (fresh i.step) us) (Ok start) (samples_of us))
 
   -- the count after which the next line is wrong
   abbrev pub wrong_after : List (List ℕ) → Counting
   wrong_after us = over (after_lines (fresh i.step) us) (CommaLine ((after_lines (fresh i.step) us).lines + 1))
 
 module _ (i : Items) (ok : item_outside i ≡ 0) where
-  pub opens : opened i ≡ Taken (start i)
+  pub opens : opened i ≡ Ok (start i)
   unfolding opened
   opens = rw (eq-eqb (item_outside i) 0 ok)
 
@@ -108,7 +104,7 @@ module _ (i : Items) (ok : item_outside i ≡ 0) where
     unfolding state_of
     most_is = refl
 
-    too_long : most_samples i.step i.ramp < length lines → fed (start i) xs (zeros xs) ≡ Refused TooLong
+    too_long : most_samples i.step i.ramp < length lines → fed (start i) xs (zeros xs) ≡ Err TooLong
     too_long h = fed_long (start i) xs start_sound all (omega (arith, none_yet, most_is, xs_many))
 
     module _ (h : length lines ≤ most_samples i.step i.ramp) where
@@ -118,8 +114,8 @@ module _ (i : Items) (ok : item_outside i ≡ 0) where
       room : (start i).n + length xs ≤ most_samples (start i).items.step (start i).items.ramp
       room = omega (arith, none_yet, most_is, xs_many)
 
-      taken : fed (start i) xs (zeros xs) ≡ Taken whole
-      taken = fed_some (start i) xs start_sound all room ∙ ap Taken (state i (one_channel xs))
+      taken : fed (start i) xs (zeros xs) ≡ Ok whole
+      taken = fed_some (start i) xs start_sound all room ∙ ap Ok (state i (one_channel xs))
 
       whole_sound : sound whole ≡ true
       whole_sound = ap sound (sym (state i (one_channel xs))) ∙ still_sound (start i) xs start_sound all room
@@ -136,7 +132,7 @@ module _ (i : Items) (ok : item_outside i ≡ 0) where
       unfolding state_of
       n-is = many (start i) xs start_sound all ∙ xs_many
 
-      whole_said : said_end (end.Counted whole) ≡ cond (too_few i.ramp (length lines)) (refused_at 0 TooShort) (counted (length lines) (result_for i (one_channel xs)))
+      whole_said : said_end (Ok whole) ≡ cond (too_few i.ramp (length lines)) (refused_at 0 TooShort) (counted (length lines) (result_for i (one_channel xs)))
       whole_said = ended_is whole i.ramp (length lines) (result_for i (one_channel xs)) whole_sound ramp_is n-is result-is
 
   -- ---- all lines right
@@ -151,10 +147,10 @@ module _ (i : Items) (ok : item_outside i ≡ 0) where
           lt-ltb (first_bad (samples_of lines)) (length lines) h,
           ne_eqb (0 + first_bad (samples_of lines) + 1) 0 (λ z. omega arith),
         )
-        (rw zero-add (ap (λ n. end.Refused (first_bad (samples_of lines) + 1) (Sample n)) (omega arith)))
+        (rw zero-add (ap (λ n. Err (first_bad (samples_of lines) + 1, Sample n)) (omega arith)))
 
     module _ (good : length lines ≤ first_bad (samples_of lines)) where
-      abbrev by_answer : RecordAnswer → End
+      abbrev by_answer : Result Record Refusal → Result Record (ℕ × Refusal)
       by_answer a = end_by (after_lines (fresh i.step) lines) a
 
       answer_is : end_of (standing i lines) ≡ by_answer (fed (start i) (samples_of lines) (zeros (samples_of lines)))
@@ -162,7 +158,7 @@ module _ (i : Items) (ok : item_outside i ≡ 0) where
       answer_is = rw (le-ltb (first_bad (samples_of lines)) (length lines) good)
 
       rest : end_of_lines i lines
-          ≡ cond (ltb (most_samples i.step i.ramp) (length lines)) (end.Refused 0 TooLong) (end.Counted (state_of i (one_channel (samples_of lines))))
+          ≡ cond (ltb (most_samples i.step i.ramp) (length lines)) (Err (0, TooLong)) (Ok (state_of i (one_channel (samples_of lines))))
       unfolding end_of_lines
       rest = rw (eq-eqb (item_outside i) 0 ok, right, le-ltb (length lines) (length lines) (omega arith), le-ltb (first_bad (samples_of lines)) (length lines) good)
 

@@ -1,6 +1,6 @@
 -- WHAT IS SAID OF A COMMA FILE (document 02, [1], [4], [5]; docs/CLERK.md, "From a simulator's file to the sheet"): one
 -- line and a digit, over the whole text. Each refusal is judged over the whole file: 1, 10, 2, 3, 4. Assumes nothing.
-use Rattle.std.specs.Prelude.{ℕ, ◌+◌, cond, not, List, [], ◌∷◌, ◌++◌, map, eqb, ltb, ℤ, pos, length}
+use Rattle.std.specs.Prelude.{ℕ, ◌+◌, cond, not, List, [], ◌∷◌, ◌++◌, map, eqb, ltb, ℤ, pos, length, Result, Err}
 use Rattle.refusal.specs.declared.Refusal.{Refusal}
 use Rattle.refusal.specs.declared.Refusal.TheVariants.{Item, Sample, TooLong, TooShort, CommaLine}
 use Rattle.sample_channels.specs.declared.Moment.{Moment}
@@ -13,10 +13,9 @@ use Rattle.decimal.specs.Field.{tab, line_feed, field_text}
 use Rattle.decimal.specs.Lines.{lines_of}
 use Rattle.comma_line.specs.Text.{first_wrong, samples_of}
 use Rattle.record_state.specs.State.{state_of}
-use Rattle.record_end.specs.declared.Result.{Result}
+use Rattle.record_end.specs.declared.RecordResult.{RecordResult}
 use Rattle.desk_line.specs.Said.{Said, read_digit, refused}
-use Rattle.comma_count.specs.declared.End.{End}
-use Rattle.comma_count.specs.declared.End.TheVariants.{Counted, Refused}
+use Rattle.record_state.specs.declared.Record.{Record}
 
 -- ---- a file has one channel
 -- [8]: "a one-channel job lends zeros for the other"
@@ -32,7 +31,7 @@ unfoldable pub first_text : ℕ → ℕ → List ℕ
 first_text first time = cond (eqb first 0) (45 ∷ tab ∷ []) (field_text time tab)
 
 -- samples, crossings, groups, largest set, time of the first failure, exposure, which for a failed record is that time
-unfoldable pub figures_line : ℕ → Result → List ℕ
+unfoldable pub figures_line : ℕ → RecordResult → List ℕ
 figures_line n x =
     field_text n tab
     ++ (field_text x.crossings tab
@@ -42,7 +41,7 @@ figures_line n x =
     ++ field_text x.exposure line_feed))))
 
 -- "Reading a record", figure by figure
-unfoldable pub result_for : Items → List Moment → Result
+unfoldable pub result_for : Items → List Moment → RecordResult
 result_for i xs =
     record {
       crossings = length (crossings i.ramp i.levels xs);
@@ -56,7 +55,7 @@ result_for i xs =
     }
 
 -- '0' goes with it
-abbrev pub counted : ℕ → Result → Said
+abbrev pub counted : ℕ → RecordResult → Said
 counted n x = record { line = figures_line n x; end = read_digit }
 
 -- the refused line of one file has one place, the line at fault
@@ -82,12 +81,12 @@ count_said_of_lines i lines =
 
 -- ---- what a text comes to, for programs that go on from its record: 1, 10, 2, 3 with the line at fault, or the
 -- record's state over all samples
-unfoldable pub end_of_lines : Items → List (List ℕ) → End
+unfoldable pub end_of_lines : Items → List (List ℕ) → Result Record (ℕ × Refusal)
 end_of_lines i lines =
-    cond (not (eqb (item_outside i) 0)) (Refused 0 (Item (item_outside i)))
-    (lines_then i Refused lines (Counted (state_of i (one_channel (samples_of lines)))))
+    cond (not (eqb (item_outside i) 0)) (Err (0, Item (item_outside i)))
+    (lines_then i Err (lines, Ok (state_of i (one_channel (samples_of lines)))))
 
-abbrev pub end_of_text : Items → List ℕ → End
+abbrev pub end_of_text : Items → List ℕ → Result Record (ℕ × Refusal)
 end_of_text i text = end_of_lines i (lines_of text)
 
 -- WHAT IS SAID OF A TEXT

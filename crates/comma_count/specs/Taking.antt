@@ -1,18 +1,14 @@
 -- What the counter's functions answer: where a count stands, from its opening over the pieces of a text to what is said
 -- of it. Assumes nothing.
-use Rattle.std.specs.Prelude.{ℕ, ◌+◌, ◌-◌, ◌≤◌, ◌≡◌, Bool, false, true, cond, not, ◌&&◌, List, [], ◌∷◌, eqb, leb, ltb, ℤ, length, take, drop}
+use Rattle.std.specs.Prelude.{ℕ, ◌+◌, ◌-◌, ◌≤◌, ◌≡◌, Bool, false, true, cond, not, ◌&&◌, List, [], ◌∷◌, eqb, leb, ltb, ℤ, length, take, drop, Result, Ok, Err}
 use Rattle.refusal.specs.declared.Refusal.{Refusal}
 use Rattle.refusal.specs.declared.Refusal.TheVariants.{Sample, BrokenState, CommaLine}
 use Rattle.refusal.specs.Numbers.{number_of, value_of}
 use Rattle.sample_items.specs.Limits.{step_in_range}
 use Rattle.record_state.specs.declared.Record.{Record}
-use Rattle.record_state.specs.declared.RecordAnswer.{RecordAnswer}
-use Rattle.record_state.specs.declared.RecordAnswer.TheVariants.{Taken, Refused}
 use Rattle.record_state.specs.State.{sound}
 use Rattle.record_state.specs.Answers.{opened}
 use Rattle.record_feed.specs.Answers.{fed}
-use Rattle.record_end.specs.declared.Ended.{Ended}
-use Rattle.record_end.specs.declared.Ended.TheVariants as ended
 use Rattle.record_end.specs.Result.{ending}
 use Rattle.text.specs.Front.{kept}
 use Rattle.comma_line.specs.Text.{samples_of}
@@ -25,14 +21,13 @@ use Rattle.desk_line.specs.Said.{Said}
 use Rattle.comma_count.specs.declared.Counting.{Counting}
 use Rattle.comma_count.specs.declared.Took.{Took}
 use Rattle.comma_count.specs.declared.Turned.{Turned}
-use Rattle.comma_count.specs.declared.End.{End}
-use Rattle.comma_count.specs.declared.End.TheVariants as end
 use Rattle.comma_count.specs.Line.{zeros, counted, refused_at}
+use Rattle.record_end.specs.declared.RecordResult.{RecordResult}
 
 -- ---- opening: 1 ends it
-abbrev pub is_refused : RecordAnswer → Bool
-is_refused (Taken r) = false
-is_refused (Refused q) = true
+abbrev pub is_refused : Result Record Refusal → Bool
+is_refused (Ok r) = false
+is_refused (Err q) = true
 
 abbrev pub fresh : ℕ → Follow
 fresh D = record { step = D; lines = 0; outside = 0 }
@@ -46,22 +41,22 @@ opening i =
     }
 
 -- ---- lines more: what is held against the lines so far stays, and a sample out of range goes before it
-abbrev pub onward : RecordAnswer → List ℤ → RecordAnswer
-onward (Taken r) xs = fed r xs (zeros xs)
-onward (Refused q) xs = Refused q
+abbrev pub onward : Result Record Refusal → List ℤ → Result Record Refusal
+onward (Ok r) xs = fed r xs (zeros xs)
+onward (Err q) xs = Err q
 
 -- f is where the reading stands after the lines of the samples xs
-unfoldable pub answering : Follow → RecordAnswer → List ℤ → RecordAnswer
-answering f a xs = cond (eqb f.outside 0) (onward a xs) (Refused (Sample (f.outside - 1)))
+unfoldable pub answering : Follow → Result Record Refusal → List ℤ → Result Record Refusal
+answering f a xs = cond (eqb f.outside 0) (onward a xs) (Err (Sample (f.outside - 1)))
 
-abbrev pub going : Follow → RecordAnswer → Counting
+abbrev pub going : Follow → Result Record Refusal → Counting
 going f a = record { follow = f; answer = a; over = false }
 
 abbrev pub with_lines : Counting → List (List ℕ) → Counting
 with_lines c lines = going (after_lines c.follow lines) (answering (after_lines c.follow lines) c.answer (samples_of lines))
 
 -- where the right lines lead that a text starts with
-pub record Leads (f : Follow) (a : RecordAnswer) (text : List ℕ) (g : Follow) (b : RecordAnswer) (at : ℕ) : Type 0 where
+pub record Leads (f : Follow) (a : Result Record Refusal) (text : List ℕ) (g : Follow) (b : Result Record Refusal) (at : ℕ) : Type 0 where
   pub stands : g ≡ after_lines f (right_lines f text)
   pub says : b ≡ answering (after_lines f (right_lines f text)) a (samples_of (right_lines f text))
   pub place : at ≡ bytes_of (right_lines f text)
@@ -71,7 +66,7 @@ pub record Leads (f : Follow) (a : RecordAnswer) (text : List ℕ) (g : Follow) 
 -- ---- a piece: its right lines, and what is left of it
 -- 10 with the number of the line after the right ones ends it
 abbrev pub over : Follow → Refusal → Counting
-over f r = record { follow = f; answer = Refused r; over = true }
+over f r = record { follow = f; answer = Err r; over = true }
 
 abbrev pub rested : Rest → Counting → ℕ → ℕ → Took
 rested (Waits n) c at all = record { counting = c; used = at }
@@ -88,9 +83,9 @@ abbrev pub of_lines : Follow → Record → Bool
 of_lines f r = sound r && (eqb r.items.step f.step && (eqb r.n f.lines && eqb f.outside 0))
 
 -- lines that lead to f can have been answered by a; after a refusal there is no record to ask about
-abbrev pub agrees : Follow → RecordAnswer → Bool
-agrees f (Taken r) = of_lines f r
-agrees f (Refused q) = sound_follow f
+abbrev pub agrees : Follow → Result Record Refusal → Bool
+agrees f (Ok r) = of_lines f r
+agrees f (Err q) = sound_follow f
 
 -- ---- what is over stays, and all of the text is used; 8 where lines and answer do not agree
 unfoldable pub taking : Counting → List ℕ → Bool → Took
@@ -111,25 +106,25 @@ turn_left c end more text = kept (taking c (take end text) more).used (length (t
 abbrev pub line_for : Follow → Refusal → ℕ
 line_for f r = cond (eqb (number_of r) 10) (value_of r) (cond (eqb (number_of r) 2) f.outside 0)
 
-abbrev pub end_by : Follow → RecordAnswer → End
-end_by f (Taken r) = end.Counted r
-end_by f (Refused q) = end.Refused (line_for f q) q
+abbrev pub end_by : Follow → Result Record Refusal → Result Record (ℕ × Refusal)
+end_by f (Ok r) = Ok r
+end_by f (Err q) = Err (line_for f q, q)
 
-abbrev pub end_of : Counting → End
+abbrev pub end_of : Counting → Result Record (ℕ × Refusal)
 end_of c = end_by c.follow c.answer
 
 -- for programs that go on: one thing to do with a refusal, another with a record
-abbrev pub on_end : {X : Type 0} → (ℕ → Refusal → X) → (Record → X) → End → X
-on_end refuse go (end.Counted r) = go r
-on_end refuse go (end.Refused line q) = refuse line q
+abbrev pub on_end : {X : Type 0} → (ℕ → Refusal → X) → (Record → X) → Result Record (ℕ × Refusal) → X
+on_end refuse go (Ok r) = go r
+on_end refuse go (Err (line, q)) = refuse line q
 
-abbrev pub said_ended : ℕ → Ended → Said
-said_ended n (ended.Given x) = counted n x
-said_ended n (ended.Refused r) = refused_at 0 r
+abbrev pub said_ended : ℕ → Result RecordResult Refusal → Said
+said_ended n (Ok x) = counted n x
+said_ended n (Err r) = refused_at 0 r
 
-abbrev pub said_end : End → Said
-said_end (end.Counted r) = said_ended r.n (ending r)
-said_end (end.Refused line q) = refused_at line q
+abbrev pub said_end : Result Record (ℕ × Refusal) → Said
+said_end (Ok r) = said_ended r.n (ending r)
+said_end (Err (line, q)) = refused_at line q
 
 unfoldable pub saying : Counting → Said
 saying c = said_end (end_of c)

@@ -14,10 +14,10 @@ ghost use Rattle.comma_count.specs.Taking.{is_refused, opening, onward, answerin
 ghost use Rattle.comma_count.specs.Taking.{taking, turning, turn_left, line_for, said_ended, end_by, end_of, said_end};
 ghost use Rattle.comma_count.specs.Taking.{Leads, over, going, rested, saying};
 
-use comma_stream::{Follow, Followed, Rest};
+use comma_stream::{Follow, Rest};
 use desk_line::Finished;
-use record_end::{Ended, Result};
-use record_state::{Record, RecordAnswer};
+use record_end::RecordResult;
+use record_state::Record;
 use refusal::Refusal;
 use sample_items::Items;
 
@@ -37,7 +37,7 @@ pub struct Counting {
     // Its lines so far.
     pub follow: Follow,
     // Their record, or what is held against them.
-    pub answer: RecordAnswer,
+    pub answer: Result<Record, Refusal>,
     // Nothing that follows changes the answer.
     pub over: bool,
 }
@@ -49,12 +49,12 @@ pub struct Took {
     pub used: usize,
 }
 
-fn is_refused(a: RecordAnswer) -> bool
+fn is_refused(a: Result<Record, Refusal>) -> bool
     ensures { result ≡ is_refused a }
 {
     match a {
-        RecordAnswer::Taken(_) => false,
-        RecordAnswer::Refused(_) => true,
+        Ok(_) => false,
+        Err(_) => true,
     }
 }
 
@@ -75,7 +75,7 @@ pub fn open(items: Items) -> Counting
 }
 
 // A record of one channel, fed a few samples.
-fn feed(r: Record, samples: &[i32]) -> RecordAnswer
+fn feed(r: Record, samples: &[i32]) -> Result<Record, Refusal>
     requires { length samples.now ≤ 1024 }
     ensures { result ≡ fed r samples.now (zeros samples.now) }
 {
@@ -84,37 +84,37 @@ fn feed(r: Record, samples: &[i32]) -> RecordAnswer
     record_feed::feed(r, samples, &zeros[..n])
 }
 
-fn onward(a: RecordAnswer, samples: &[i32]) -> RecordAnswer
+fn onward(a: Result<Record, Refusal>, samples: &[i32]) -> Result<Record, Refusal>
     requires { length samples.now ≤ 1024 }
     ensures { result ≡ onward a samples.now }
 {
     match a {
-        RecordAnswer::Taken(r) => feed(r, samples),
-        RecordAnswer::Refused(q) => RecordAnswer::Refused(q),
+        Ok(r) => feed(r, samples),
+        Err(q) => Err(q),
     }
 }
 
 // The answer after lines of these samples, up to `f`.
-fn answering(f: Follow, a: RecordAnswer, samples: &[i32]) -> RecordAnswer
+fn answering(f: Follow, a: Result<Record, Refusal>, samples: &[i32]) -> Result<Record, Refusal>
     requires { length samples.now ≤ 1024 }
     ensures { result ≡ answering f a samples.now }
 {
     if f.outside == 0 {
         return onward(a, samples);
     }
-    RecordAnswer::Refused(Refusal::Sample(f.outside - 1))
+    Err(Refusal::Sample(f.outside - 1))
 }
 
 // Where the right lines that a text starts with lead, and their bytes.
 #[derive(Clone, Copy)]
 struct Reached {
     follow: Follow,
-    answer: RecordAnswer,
+    answer: Result<Record, Refusal>,
     at: usize,
 }
 
 // The right lines that `text` starts with, some at a time.
-fn lines(start: Follow, before: RecordAnswer, text: &[u8]) -> Reached
+fn lines(start: Follow, before: Result<Record, Refusal>, text: &[u8]) -> Reached
     requires { step_in_range start.step ≡ true }
     ensures { Leads start before text.now result.follow result.answer result.at }
 {
@@ -123,8 +123,7 @@ fn lines(start: Follow, before: RecordAnswer, text: &[u8]) -> Reached
     let mut answer = before;
     let mut at = 0;
     loop {
-        let Followed::Taken(f, bytes, n) = comma_stream::take(follow, &text[at..], &mut samples)
-        else {
+        let Ok((f, bytes, n)) = comma_stream::take(follow, &text[at..], &mut samples) else {
             return Reached { follow, answer, at };
         };
         answer = answering(f, answer, &samples[..n]);
@@ -158,12 +157,12 @@ fn of_lines(f: Follow, r: Record) -> bool
 }
 
 // Whether lines that lead to `f` can have been answered so, as refusal 8 asks.
-pub fn agrees(f: Follow, a: RecordAnswer) -> bool
+pub fn agrees(f: Follow, a: Result<Record, Refusal>) -> bool
     ensures { result ≡ agrees f a }
 {
     match a {
-        RecordAnswer::Taken(r) => of_lines(f, r),
-        RecordAnswer::Refused(_) => sound(f),
+        Ok(r) => of_lines(f, r),
+        Err(_) => sound(f),
     }
 }
 
@@ -173,7 +172,7 @@ fn stopped(f: Follow, r: Refusal) -> Counting
 {
     Counting {
         follow: f,
-        answer: RecordAnswer::Refused(r),
+        answer: Err(r),
         over: true,
     }
 }
@@ -277,7 +276,7 @@ fn put_first(first: u64, time: u64, out: &mut [u8], at: usize) -> usize
     decimal::write_field(time, TAB, out, at)
 }
 
-fn put_figures(n: u64, x: Result, out: &mut [u8]) -> Finished
+fn put_figures(n: u64, x: RecordResult, out: &mut [u8]) -> Finished
     requires { longest_said ≤ length out.old }
     ensures { Puts (counted n x) out.old result out.new }
 {
@@ -293,13 +292,13 @@ fn put_figures(n: u64, x: Result, out: &mut [u8]) -> Finished
     }
 }
 
-fn put_ended(n: u64, e: Ended, out: &mut [u8]) -> Finished
+fn put_ended(n: u64, e: Result<RecordResult, Refusal>, out: &mut [u8]) -> Finished
     requires { longest_said ≤ length out.old }
     ensures { Puts (said_ended n e) out.old result out.new }
 {
     match e {
-        Ended::Given(x) => put_figures(n, x, out),
-        Ended::Refused(r) => desk_line::refuse(0, r, out),
+        Ok(x) => put_figures(n, x, out),
+        Err(r) => desk_line::refuse(0, r, out),
     }
 }
 
@@ -315,37 +314,30 @@ fn line_for(f: Follow, r: Refusal) -> u64
     )
 }
 
-// What a file came to: its record, or the line at fault, 0 where none is, and the refusal.
-#[derive(Clone, Copy)]
-pub enum End {
-    Counted(Record),
-    Refused(u64, Refusal),
-}
-
-fn by_answer(f: Follow, a: RecordAnswer) -> End
+fn by_answer(f: Follow, a: Result<Record, Refusal>) -> Result<Record, (u64, Refusal)>
     ensures { result ≡ end_by f a }
 {
     match a {
-        RecordAnswer::Taken(r) => End::Counted(r),
-        RecordAnswer::Refused(q) => End::Refused(line_for(f, q), q),
+        Ok(r) => Ok(r),
+        Err(q) => Err((line_for(f, q), q)),
     }
 }
 
 // What the file came to, for a program that goes on from its record.
-pub fn came_to(c: Counting) -> End
+pub fn came_to(c: Counting) -> Result<Record, (u64, Refusal)>
     ensures { result ≡ end_of c }
 {
     let a = c.answer;
     by_answer(c.follow, a)
 }
 
-fn put_end(e: End, out: &mut [u8]) -> Finished
+fn put_end(e: Result<Record, (u64, Refusal)>, out: &mut [u8]) -> Finished
     requires { longest_said ≤ length out.old }
     ensures { Puts (said_end e) out.old result out.new }
 {
     match e {
-        End::Counted(r) => put_ended(r.n, record_end::end(r), out),
-        End::Refused(line, q) => desk_line::refuse(line, q, out),
+        Ok(r) => put_ended(r.n, record_end::end(r), out),
+        Err((line, q)) => desk_line::refuse(line, q, out),
     }
 }
 

@@ -18,16 +18,16 @@ use Rattle.decimal.specs.Leading.{leading, after_leading}
 use Rattle.decimal.proofs.Leading.{LeadsTo}
 use Rattle.degrees.specs.Degrees.{first, below, unsigned, size, is_degrees, degrees_length}
 use Rattle.degrees.proofs.Signs.{ReadsAs}
-use Rattle.comma_line.specs.declared.Line.TheVariants.{Says, Wrong}
 use Rattle.comma_line.specs.Line.{comma, roll, is_comma_line, right, line_length, line_at}
+use Rattle.std.specs.Prelude.{Some, None}
 
 module _ (s : List ℕ) (at time : ℕ) where
-  pub no_number : is_number (leading (drop at s)) ≡ false → line_at s at time ≡ Wrong
+  pub no_number : is_number (leading (drop at s)) ≡ false → line_at s at time ≡ None
   unfolding line_at right is_comma_line
   no_number n = rw n
 
   module _ (v end : ℕ) (l : LeadsTo s at v end) where
-    pub other_time : ¬ (v ≡ time) → line_at s at time ≡ Wrong
+    pub other_time : ¬ (v ≡ time) → line_at s at time ≡ None
     unfolding line_at right
     other_time e = rw (← l.value, ne_eqb v time e, and-false)
 
@@ -40,11 +40,11 @@ module _ (s : List ℕ) (at time : ℕ) where
     roll_is : roll (drop at s) ≡ drop (end + 1) s
     roll_is = rw (after_is, drop-drop)
 
-    pub no_comma : eqb (get_or s end 0) comma ≡ false → line_at s at time ≡ Wrong
+    pub no_comma : eqb (get_or s end 0) comma ≡ false → line_at s at time ≡ None
     unfolding line_at right is_comma_line
     no_comma e = rw (mark, e, l.number)
 
-    pub no_degrees : is_degrees (drop (end + 1) s) ≡ false → line_at s at time ≡ Wrong
+    pub no_degrees : is_degrees (drop (end + 1) s) ≡ false → line_at s at time ≡ None
     unfolding line_at right is_comma_line
     no_degrees e = rw (roll_is, e, and-false, and-false)
 
@@ -52,15 +52,15 @@ module _ (s : List ℕ) (at time : ℕ) where
       last_byte : first (drop (degrees_length (roll (drop at s))) (roll (drop at s))) ≡ get_or s next 0
       last_byte = rw (roll_is, drop-drop, ← d.place, get_or-drop, add-zero)
 
-      pub no_feed : eqb (get_or s next 0) line_feed ≡ false → line_at s at time ≡ Wrong
+      pub no_feed : eqb (get_or s next 0) line_feed ≡ false → line_at s at time ≡ None
       unfolding line_at right is_comma_line
       no_feed e = rw (last_byte, e, and-false, and-false, and-false)
 
-      pub whole_line : v ≡ time → eqb (get_or s end 0) comma ≡ true → eqb (get_or s next 0) line_feed ≡ true → Says b n (next + 1) ≡ line_at s at time
+      pub whole_line : v ≡ time → eqb (get_or s end 0) comma ≡ true → eqb (get_or s next 0) line_feed ≡ true → Some (b, n, next + 1) ≡ line_at s at time
       unfolding line_at right is_comma_line line_length
       whole_line t c f =
           let place : next + 1 ≡ at + (length (leading (drop at s)) + (1 + (degrees_length (drop (end + 1) s) + 1))) = omega (arith, d.place, l.place) in
-          rw (last_byte, f, mark, c, l.number, roll_is, d.right, ← l.value, eq-eqb v time t, d.value, ← place) (ap (λ x. Says x n (next + 1)) (sym d.sign))
+          rw (last_byte, f, mark, c, l.number, roll_is, d.right, ← l.value, eq-eqb v time t, d.value, ← place) (ap (λ x. Some (x, n, next + 1)) (sym d.sign))
 
 -- what an answer of the reader says
 pub record LineRead (s : List ℕ) (at time : ℕ) (b : Bool) (n next : ℕ) : Type 0 where
@@ -70,18 +70,18 @@ pub record LineRead (s : List ℕ) (at time : ℕ) (b : Bool) (n next : ℕ) : T
   pub place : next ≡ at + line_length (drop at s)
 
 module _ (s : List ℕ) (at time : ℕ) where
-  never : {b : Bool} {n next : ℕ} → ¬ (Wrong ≡ Says b n next)
+  never : {b : Bool} {n next : ℕ} → ¬ (None ≡ Some (b, n, next))
   never e = impossible (cc)
 
-  pub line_read : (b : Bool) (n next : ℕ) → line_at s at time ≡ Says b n next → LineRead s at time b n next
+  pub line_read : (b : Bool) (n next : ℕ) → line_at s at time ≡ Some (b, n, next) → LineRead s at time b n next
   unfolding line_at
   line_read b n next r =
       by_test (right time (drop at s))
       (λ h.
-      let e : Says (below (roll (drop at s))) (size (unsigned (roll (drop at s)))) (at + line_length (drop at s)) ≡ Says b n next = rw h at r in
+      let e : Some (below (roll (drop at s)), size (unsigned (roll (drop at s))), at + line_length (drop at s)) ≡ Some (b, n, next) = rw h at r in
       record { is = h; sign = cc (e); value = cc (e); place = cc (e) })
       (λ h. absurd (never (rw h at r)))
 
-  pub line_wrong : line_at s at time ≡ Wrong → right time (drop at s) ≡ false
+  pub line_wrong : line_at s at time ≡ None → right time (drop at s) ≡ false
   unfolding line_at
   line_wrong r = by_test (right time (drop at s)) (λ h. absurd (never (sym (rw h at r)))) (λ h. h)

@@ -1,12 +1,10 @@
 -- Document 02 [1]: one line of a comma file, one sample: time in ms, comma, roll in degrees, LF. A line is its bytes,
 -- the LF with them. Assumes nothing.
-use Rattle.std.specs.Prelude.{ℕ, ◌+◌, Bool, cond, ◌&&◌, List, [], ◌∷◌, ◌++◌, length, drop, eqb, ℤ}
+use Rattle.std.specs.Prelude.{ℕ, ◌+◌, Bool, cond, ◌&&◌, List, [], ◌∷◌, ◌++◌, length, drop, eqb, ℤ, Option, Some, None}
 use Rattle.decimal.specs.Decimal.{is_number, value_of, digits_of}
 use Rattle.decimal.specs.Field.{line_feed}
 use Rattle.decimal.specs.Leading.{leading, after_leading}
 use Rattle.degrees.specs.Degrees.{first, below, unsigned, size, is_degrees, degrees_length, degrees_text}
-use Rattle.comma_line.specs.declared.Line.{Line}
-use Rattle.comma_line.specs.declared.Line.TheVariants.{Says, Wrong}
 
 abbrev pub comma : ℕ
 comma = 44
@@ -37,11 +35,11 @@ line_length line = length (leading line) + (1 + (degrees_length (roll line) + 1)
 
 -- what stands at a place of a text, read as the line of a time: the sign and the thousandths of its sample, and the
 -- place after it
-unfoldable pub line_at : List ℕ → ℕ → ℕ → Line
+unfoldable pub line_at : List ℕ → ℕ → ℕ → Option (Bool × ℕ × ℕ)
 line_at text at time =
     cond (right time (drop at text))
-    (Says (below (roll (drop at text))) (size (unsigned (roll (drop at text)))) (at + line_length (drop at text)))
-    Wrong
+    (Some (below (roll (drop at text)), size (unsigned (roll (drop at text))), at + line_length (drop at text)))
+    None
 
 -- a line as it is written
 unfoldable pub sample_text : ℕ → ℤ → List ℕ

@@ -7,24 +7,12 @@ ghost use Rattle.sample_items.specs.Limits.{step_in_range};
 ghost use Rattle.degrees.specs.Degrees.{degrees_at};
 ghost use Rattle.comma_line.specs.Line.{line_at};
 
-use decimal::Lead;
-use degrees::Degrees;
-
 // The largest sample without its sign (document 01, "Numbers a job may carry").
 pub const SAMPLE_LIMIT: u32 = 1_000_000;
 
 pub const COMMA: u8 = 44;
 
 const LF: u8 = 10;
-
-// What a line says.
-#[derive(Clone, Copy)]
-pub enum Line {
-    // Whether a minus stands before the degrees, their thousandths, and the place after the line.
-    Says(bool, u64, usize),
-    // The line is malformed or has another time.
-    Wrong,
-}
 
 // Whether times may grow by this step.
 pub fn step_in_range(step: u64) -> bool
@@ -34,29 +22,29 @@ pub fn step_in_range(step: u64) -> bool
 }
 
 // Reads the line of `s` that starts at `at`, the line of the time `time`.
-pub fn line_at(s: &[u8], at: usize, time: u64) -> Line
+pub fn line_at(s: &[u8], at: usize, time: u64) -> Option<(bool, u64, usize)>
     ensures { result ≡ line_at s.now at time }
 {
-    let Lead::Number(t, end) = decimal::leading_at(s, at) else {
-        return Line::Wrong;
+    let Some((t, end)) = decimal::leading_at(s, at) else {
+        return None;
     };
     if t != time {
-        return Line::Wrong;
+        return None;
     }
     if !decimal::stands(s, end, COMMA) {
-        return Line::Wrong;
+        return None;
     }
-    let Degrees::Says(minus, size, next) = roll_at(s, end + 1) else {
-        return Line::Wrong;
+    let Some((minus, size, next)) = roll_at(s, end + 1) else {
+        return None;
     };
     if !decimal::stands(s, next, LF) {
-        return Line::Wrong;
+        return None;
     }
-    Line::Says(minus, size, next + 1)
+    Some((minus, size, next + 1))
 }
 
 // Reads the degrees of `s` that start at `at`, plain ones first.
-fn roll_at(s: &[u8], at: usize) -> Degrees
+fn roll_at(s: &[u8], at: usize) -> Option<(bool, u64, usize)>
     ensures { result ≡ degrees_at s.now at }
 {
     let from = degrees::past_minus(s, at);
@@ -64,9 +52,9 @@ fn roll_at(s: &[u8], at: usize) -> Degrees
     if bytes == 0 {
         return degrees::degrees_at(s, at);
     }
-    Degrees::Says(
+    Some((
         from != at,
         comma_word::size_at(s, from, bytes),
         from + bytes,
-    )
+    ))
 }

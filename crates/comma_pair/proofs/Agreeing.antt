@@ -8,8 +8,6 @@ use lib.IntN.{ℤ}
 use lib.ListN.{length, drop}
 use Rattle.truth.proofs.Laws.{and-true, impossible}
 use Rattle.refusal.specs.declared.Refusal.TheVariants.{BrokenState, Unequal}
-use Rattle.record_state.specs.declared.RecordAnswer.{RecordAnswer}
-use Rattle.record_state.specs.declared.RecordAnswer.TheVariants.{Taken, Refused}
 use Rattle.record_state.specs.State.{sound}
 use Rattle.record_feed.proofs.Fed.{not_broken}
 use Rattle.comma_stream.specs.declared.Follow.{Follow}
@@ -25,21 +23,24 @@ use Rattle.comma_pair.specs.declared.Abreast.{Abreast}
 use Rattle.comma_pair.specs.declared.Took.{Took}
 use Rattle.comma_pair.specs.Taking.{onward, pairs_of, side_by_side, shared, agreeing, watched, alone, roll_alone, acceleration_alone, acceleration_behind, roll_behind, judged, taking}
 use Rattle.comma_pair.proofs.Piece.{both_stand, either_way}
+use Rattle.refusal.specs.declared.Refusal.{Refusal}
+use Rattle.record_state.specs.declared.Record.{Record}
+use Rattle.std.specs.Prelude.{Result, Ok, Err}
 
-abbrev Eight : RecordAnswer → Type 0
-Eight a = a ≡ Refused BrokenState
+abbrev Eight : Result Record Refusal → Type 0
+Eight a = a ≡ Err BrokenState
 
 abbrev NotEight : Took → Type 0
 NotEight t = Eight t.watching.answer → ⊥
 
 -- ---- the record
-onward_not : (f : Follow) (a : RecordAnswer) → agrees f a ≡ true → (Eight a → ⊥) → (xs ys : List ℤ) → Eight (onward a xs ys) → ⊥
-onward_not f (Taken r) ok other xs ys e = not_broken r xs ys (and-true (sound r) _ ok).0 e
-onward_not f (Refused q) ok other xs ys e = other e
+onward_not : (f : Follow) (a : Result Record Refusal) → agrees f a ≡ true → (Eight a → ⊥) → (xs ys : List ℤ) → Eight (onward a xs ys) → ⊥
+onward_not f (Ok r) ok other xs ys e = not_broken r xs ys (and-true (sound r) _ ok).0 e
+onward_not f (Err q) ok other xs ys e = other e
 
 -- ---- a file alone
 alone_not : (f : Follow) (text : List ℕ) (more : Bool) → sound_follow f ≡ true → Eight (count.taking (alone f) text more).counting.answer → ⊥
-alone_not f text more s = one-file.never_eight f (Refused Unequal) s (λ e. impossible (cc)) text more
+alone_not f text more s = one-file.never_eight f (Err Unequal) s (λ e. impossible (cc)) text more
 
 -- ---- both, after the lines side by side
 module _ (s : Abreast) (other : Eight s.answer → ⊥) where
@@ -69,7 +70,7 @@ module _ (s : Abreast) (other : Eight s.answer → ⊥) where
       (roll_behind_not well-b (resting (drop s.at x) xMore) (length x) y yMore)
 
 -- ---- A CALL
-module _ (f g : Follow) (a : RecordAnswer) (ok : agreeing f g a ≡ true) (other : Eight a → ⊥) where
+module _ (f g : Follow) (a : Result Record Refusal) (ok : agreeing f g a ≡ true) (other : Eight a → ⊥) where
   abbrev both : (sound_follow f ≡ true) × (sound_follow g ≡ true)
   both = both_stand f g a ok
 
@@ -79,6 +80,6 @@ module _ (f g : Follow) (a : RecordAnswer) (ok : agreeing f g a ≡ true) (other
       judged_not (side_by_side f g a x y) (onward_not (shared f g) a (and-true (agrees (shared f g) a) _ ok).0 other _ _)
       (stands_after f both.0 x (pairs_of f g x y)) (stands_after g both.1 y (pairs_of f g x y)) x xMore y yMore
 
-  pub never_eight : (x : List ℕ) (xMore : Bool) (y : List ℕ) (yMore : Bool) → (taking (watched f g a) x xMore y yMore).watching.answer ≡ Refused BrokenState → ⊥
+  pub never_eight : (x : List ℕ) (xMore : Bool) (y : List ℕ) (yMore : Bool) → (taking (watched f g a) x xMore y yMore).watching.answer ≡ Err BrokenState → ⊥
   unfolding taking
   never_eight x xMore y yMore e = side_not x xMore y yMore (rw ok at e)

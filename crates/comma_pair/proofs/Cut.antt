@@ -17,7 +17,6 @@ use Rattle.refusal.specs.declared.Refusal.TheVariants.{CommaLine}
 use Rattle.sample_items.specs.declared.Items.{Items}
 use Rattle.sample_items.specs.Limits.{item_outside}
 use Rattle.sample_range.specs.Range.{first_bad}
-use Rattle.record_state.specs.declared.RecordAnswer.TheVariants.{Taken, Refused}
 use Rattle.record_state.specs.Answers.{opened}
 use Rattle.record_feed.proofs.Theorems.{empty_taken}
 use Rattle.text.specs.Pieces.{joined}
@@ -30,7 +29,6 @@ use Rattle.comma_count.specs.Taking.{fresh}
 use Rattle.comma_count.proofs.Whole.{start, start_sound, opens}
 use Rattle.comma_pair.specs.declared.Watching.{Watching}
 use Rattle.comma_pair.specs.declared.Took.{Took}
-use Rattle.comma_pair.specs.declared.PairEnd.{PairEnd}
 use Rattle.comma_pair.specs.Line.{any_wrong, wrong_roll, end_of_both, end_of_texts, pair_said}
 use Rattle.comma_pair.specs.Taking.{opening, onward, held_of, watched, stopped, taking, end_of, said_end, saying}
 use Rattle.comma_pair.specs.Pieces.{Turn, Rest, roll_goes_on, acceleration_goes_on, roll_text, acceleration_text, roll_goes, acceleration_goes, carrying}
@@ -39,6 +37,9 @@ use Rattle.comma_pair.proofs.Piece.{taking_over}
 use Rattle.comma_pair.proofs.Text.{R, after, unread, more_long, more_lines, more_unread, first_wrong_lem, wrong_later, right_all, WrongHere}
 use Rattle.comma_pair.proofs.Whole.{end_wrong_roll, end_wrong_acceleration, end_right, said_end_lem}
 use Rattle.comma_pair.proofs.Stands.{answer_at, Ended, Stands, Out, goes, wrong_roll_lem, wrong_acceleration, step}
+use Rattle.record_state.specs.declared.Record.{Record}
+use Rattle.comma_pair.specs.declared.PairFault.{PairFault}
+use Rattle.std.specs.Prelude.{Result, Ok, Err}
 
 -- ---- what is over stays
 module _ (w : Watching) (o : w.over ≡ true) where
@@ -74,7 +75,7 @@ module _ (i : Items) (ok : item_outside i ≡ 0) where
   abbrev At : List ℕ → Bool → List ℕ → Bool → Watching → List ℕ → List ℕ → Type 0
   At = Stands i ok
 
-  abbrev Q : List ℕ → List ℕ → PairEnd
+  abbrev Q : List ℕ → List ℕ → Result Record PairFault
   Q A B = end_of_texts i A B
 
   -- ---- more text, and flags that only fall
@@ -99,8 +100,8 @@ module _ (i : Items) (ok : item_outside i ≡ 0) where
             s.is
             ∙ ap (λ l. watched (after_lines (fresh D) l) (after D B s.b) (answer_at i ok A B k)) (sym la)
             ∙ ap (λ l. watched (after D (A ++ p) s.a) (after_lines (fresh D) l) (answer_at i ok A B k)) (sym lb)
-            ∙ ap (λ l. watched (after D (A ++ p) s.a) (after D (B ++ q) s.b) (onward (Taken (start i)) (held_of l) (held_of (take k (R D B))))) (sym ka)
-            ∙ ap (λ l. watched (after D (A ++ p) s.a) (after D (B ++ q) s.b) (onward (Taken (start i)) (held_of (take k (R D (A ++ p)))) (held_of l))) (sym kb);
+            ∙ ap (λ l. watched (after D (A ++ p) s.a) (after D (B ++ q) s.b) (onward (Ok (start i)) (held_of l) (held_of (take k (R D B))))) (sym ka)
+            ∙ ap (λ l. watched (after D (A ++ p) s.a) (after D (B ++ q) s.b) (onward (Ok (start i)) (held_of (take k (R D (A ++ p)))) (held_of l))) (sym kb);
         left_a = ap (λ l. l ++ p) s.left_a ∙ more_unread D A p s.a s.few_a;
         left_b = ap (λ l. l ++ q) s.left_b ∙ more_unread D B q s.b s.few_b;
         roll_less = λ h. ended_later p noneA fallsA (s.roll_less h);
@@ -125,7 +126,7 @@ module _ (i : Items) (ok : item_outside i ≡ 0) where
     or_right false c e = e
 
     roll_wrong : (f g : Follow) → WrongHere (Left D 0 A) mA → (length (R D A) ≤ length (R D B)) ⊎ Ended i ok B mB (length (R D B))
-        → end_of (stopped f g (Refused (CommaLine (length (R D A) + 1))) 1) ≡ Q (A ++ p) (B ++ q)
+        → end_of (stopped f g (Err (CommaLine (length (R D A) + 1))) 1) ≡ Q (A ++ p) (B ++ q)
     roll_wrong f g w first =
         let l = wrong_later D A mA w p noneA in
         end_wrong_roll i ok f g (lines_of (A ++ p)) (lines_of (B ++ q)) (length (R D A)) l.0 l.1 (lower first)
@@ -136,7 +137,7 @@ module _ (i : Items) (ok : item_outside i ≡ 0) where
         lower (inr e) = rw (never_b e)
 
     acceleration_wrong : (f g : Follow) → WrongHere (Left D 0 B) mB → (length (R D B) < length (R D A)) ⊎ Ended i ok A mA (length (R D A))
-        → end_of (stopped f g (Refused (CommaLine (length (R D B) + 1))) 2) ≡ Q (A ++ p) (B ++ q)
+        → end_of (stopped f g (Err (CommaLine (length (R D B) + 1))) 2) ≡ Q (A ++ p) (B ++ q)
     acceleration_wrong f g w first =
         let l = wrong_later D B mB w q noneB in
         end_wrong_acceleration i ok f g (lines_of (A ++ p)) (lines_of (B ++ q)) (length (R D B)) l.0 l.1 (lower l.0 l.1 first)
@@ -173,10 +174,10 @@ module _ (i : Items) (ok : item_outside i ≡ 0) where
         (λ e.
         let ma : min t.a t.b ≡ t.a = omega (arith, e, long-a, long-b) in
         let mb : min t.a t.b ≡ t.b = omega (arith, e, long-a, long-b) in
-        ap (λ n. onward (Taken (start i)) (held_of (take n (R D A))) (held_of (take (min t.a t.b) (R D B)))) ma
-        ∙ ap (λ n. onward (Taken (start i)) (held_of (take t.a (R D A))) (held_of (take n (R D B)))) mb
-        ∙ ap (λ l. onward (Taken (start i)) (held_of l) (held_of (take t.b (R D B)))) la
-        ∙ ap (λ l. onward (Taken (start i)) (held_of (lines_of A)) (held_of l)) lb)
+        ap (λ n. onward (Ok (start i)) (held_of (take n (R D A))) (held_of (take (min t.a t.b) (R D B)))) ma
+        ∙ ap (λ n. onward (Ok (start i)) (held_of (take t.a (R D A))) (held_of (take n (R D B)))) mb
+        ∙ ap (λ l. onward (Ok (start i)) (held_of l) (held_of (take t.b (R D B)))) la
+        ∙ ap (λ l. onward (Ok (start i)) (held_of (lines_of A)) (held_of l)) lb)
 
     by_out : Out i ok A false B false x y (taking w x false y false) → end_of (taking w x false y false).watching ≡ Q A B
     by_out (goes t (inl z)) = absurd (true≢false (sym z))
@@ -296,8 +297,8 @@ module _ (i : Items) (ok : item_outside i ≡ 0) where
         is =
             rw (opens i ok)
             (ap (watched (fresh D) (fresh D)) (sym (empty_taken (start i) (start_sound i ok)))
-            ∙ ap (λ f. watched f (fresh D) (onward (Taken (start i)) [] [])) (sym (after_none (fresh D)))
-            ∙ ap (λ f. watched (after_lines (fresh D) []) f (onward (Taken (start i)) [] [])) (sym (after_none (fresh D))));
+            ∙ ap (λ f. watched f (fresh D) (onward (Ok (start i)) [] [])) (sym (after_none (fresh D)))
+            ∙ ap (λ f. watched (after_lines (fresh D) []) f (onward (Ok (start i)) [] [])) (sym (after_none (fresh D))));
         left_a = refl;
         left_b = refl;
         roll_less = λ h. absurd (omega (arith, h));

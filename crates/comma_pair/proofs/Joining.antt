@@ -16,8 +16,6 @@ use Rattle.sample_items.specs.Limits.{most_samples}
 use Rattle.sample_range.specs.Range.{sample_in_range, first_bad}
 use Rattle.sample_range.proofs.Bad.{good_head, bad_append}
 use Rattle.record_state.specs.declared.Record.{Record}
-use Rattle.record_state.specs.declared.RecordAnswer.{RecordAnswer}
-use Rattle.record_state.specs.declared.RecordAnswer.TheVariants.{Taken, Refused}
 use Rattle.record_state.specs.State.{sound}
 use Rattle.record_step.specs.Step.{stepped}
 use Rattle.record_feed.specs.Answers.{fed}
@@ -25,6 +23,8 @@ use Rattle.record_feed.proofs.Fed.{fed_broken, fed_full, fed_taken}
 use Rattle.record_feed.proofs.Cutting.{run_n, run_most, run_sound}
 use Rattle.comma_stream.specs.Follow.{held}
 use Rattle.comma_pair.specs.Taking.{onward, held_of}
+use Rattle.refusal.specs.declared.Refusal.{Refusal}
+use Rattle.std.specs.Prelude.{Result, Ok, Err}
 
 -- ---- what is held is in range
 pub held_good : (xs : List ℤ) → first_bad (map held xs) ≡ length (map held xs)
@@ -40,10 +40,10 @@ pub record Good (xs ys : List ℤ) : Type 0 where
 
 -- ---- they are taken, or are too many
 module _ (r : Record) (xs ys : List ℤ) (g : Good xs ys) (s : sound r ≡ true) where
-  pub fed_long : most_samples r.items.step r.items.ramp < r.n + length xs → fed r xs ys ≡ Refused TooLong
+  pub fed_long : most_samples r.items.step r.items.ramp < r.n + length xs → fed r xs ys ≡ Err TooLong
   fed_long h = fed_full r xs ys s g.equal h ∙ rw (all_good xs ys g.roll g.acceleration)
 
-  pub fed_some : r.n + length xs ≤ most_samples r.items.step r.items.ramp → fed r xs ys ≡ Taken (foldl stepped r (moments xs ys))
+  pub fed_some : r.n + length xs ≤ most_samples r.items.step r.items.ramp → fed r xs ys ≡ Ok (foldl stepped r (moments xs ys))
   fed_some h = fed_taken r xs ys s g.equal g.roll g.acceleration h
 
   pub many : length (moments xs ys) ≡ length xs
@@ -86,7 +86,7 @@ module _ (r : Record) (xs ys us vs : List ℤ) (g : Good xs ys) (h : Good us vs)
         ∙ sym (fed_long r (xs ++ us) (ys ++ vs) both s k))
         (λ k.
         fed_some t us vs h (still_sound r xs ys g s l) (omega (arith, places, most, length-append xs us))
-        ∙ ap Taken (sym (foldl-append stepped r (moments xs ys) (moments us vs)) ∙ ap (foldl stepped r) (sym (moments_append xs ys us vs g.equal)))
+        ∙ ap Ok (sym (foldl-append stepped r (moments xs ys) (moments us vs)) ∙ ap (foldl stepped r) (sym (moments_append xs ys us vs g.equal)))
         ∙ sym (fed_some r (xs ++ us) (ys ++ vs) both s k))
 
     long_second : onward (fed r xs ys) us vs ≡ fed r (xs ++ us) (ys ++ vs)
@@ -98,6 +98,6 @@ module _ (r : Record) (xs ys us vs : List ℤ) (g : Good xs ys) (h : Good us vs)
       (λ s. by_order (most_samples r.items.step r.items.ramp) (r.n + length xs) (long_first s) (long_second s))
       (λ s. ap (λ a. onward a us vs) (fed_broken r xs ys s) ∙ sym (fed_broken r (xs ++ us) (ys ++ vs) s))
 
-pub onward_join : (a : RecordAnswer) (xs ys us vs : List ℤ) → Good xs ys → Good us vs → onward (onward a xs ys) us vs ≡ onward a (xs ++ us) (ys ++ vs)
-onward_join (Taken r) xs ys us vs g h = joined_taken r xs ys us vs g h
-onward_join (Refused q) xs ys us vs g h = refl
+pub onward_join : (a : Result Record Refusal) (xs ys us vs : List ℤ) → Good xs ys → Good us vs → onward (onward a xs ys) us vs ≡ onward a (xs ++ us) (ys ++ vs)
+onward_join (Ok r) xs ys us vs g h = joined_taken r xs ys us vs g h
+onward_join (Err q) xs ys us vs g h = refl

@@ -11,8 +11,6 @@ use borrow.Author.Tests.{eqb-true, le-leb, ltb-true}
 use Rattle.truth.proofs.Cases.{by_test}
 use Rattle.truth.proofs.Laws.{and-true, both_true, impossible}
 use Rattle.refusal.specs.declared.Refusal.TheVariants.{BrokenState}
-use Rattle.record_state.specs.declared.RecordAnswer.{RecordAnswer}
-use Rattle.record_state.specs.declared.RecordAnswer.TheVariants.{Refused}
 use Rattle.comma_stream.specs.declared.Follow.{Follow}
 use Rattle.comma_stream.specs.declared.Rest.{Rest}
 use Rattle.comma_stream.specs.declared.Rest.TheVariants.{Waits, Over, Wrong}
@@ -27,6 +25,9 @@ use Rattle.comma_pair.specs.declared.Abreast.{Abreast}
 use Rattle.comma_pair.specs.declared.Took.{Took}
 use Rattle.comma_pair.specs.Taking.{pairs_of, side_by_side, shared, agreeing, stopped, ended, alone, roll_alone, acceleration_alone, acceleration_behind, roll_behind, judged, taking, left_over}
 use Rattle.comma_pair.proofs.Front.{within, some, all_within}
+use Rattle.refusal.specs.declared.Refusal.{Refusal}
+use Rattle.record_state.specs.declared.Record.{Record}
+use Rattle.std.specs.Prelude.{Result, Err}
 
 -- ---- what is left after right lines and waits is less than a line
 pub waits_few : (text : List ℕ) (more : Bool) {n : ℕ} → resting text more ≡ Waits n → length text < 31
@@ -91,7 +92,7 @@ module _ (x y : List ℕ) (s : Abreast) (h : s.at ≤ length x) (k : s.beside �
   roll_spare Wrong e = spare_ended x y
 
 -- ---- where lines and answer agree, both files stand where one may, and so does one with the lines that both have
-pub both_stand : (f g : Follow) (a : RecordAnswer) → agreeing f g a ≡ true → (sound_follow f ≡ true) × (sound_follow g ≡ true)
+pub both_stand : (f g : Follow) (a : Result Record Refusal) → agreeing f g a ≡ true → (sound_follow f ≡ true) × (sound_follow g ≡ true)
 both_stand f g a e = and-true (sound_follow f) (sound_follow g) (and-true (eqb f.step g.step) _ (and-true (agrees (shared f g) a) _ e).1).1
 
 pub shared_stands : (f g : Follow) → sound_follow f ≡ true → sound_follow (shared f g) ≡ true
@@ -107,7 +108,7 @@ module _ (w : Watching) (x : List ℕ) (xMore : Bool) (y : List ℕ) (yMore : Bo
 
   module _ (o : w.over ≡ false) where
     pub taking_broken : agreeing w.roll w.acceleration w.answer ≡ false
-        → ended (stopped w.roll w.acceleration (Refused BrokenState) 0) (length x) (length y) ≡ taking w x xMore y yMore
+        → ended (stopped w.roll w.acceleration (Err BrokenState) 0) (length x) (length y) ≡ taking w x xMore y yMore
     unfolding taking
     taking_broken s = rw (o, s)
 
@@ -129,12 +130,12 @@ lines_few : (f : Follow) (text : List ℕ) (k : ℕ) → (after_lines f (take k 
 unfolding after_lines
 lines_few f text k = omega (arith, within f text k, some f text k)
 
-pub few_lines : (f g : Follow) (a : RecordAnswer) (x y : List ℕ) {s : Abreast} → s ≡ side_by_side f g a x y → (s.roll.lines ≤ f.lines + length x) × (s.acceleration.lines ≤ g.lines + length y)
+pub few_lines : (f g : Follow) (a : Result Record Refusal) (x y : List ℕ) {s : Abreast} → s ≡ side_by_side f g a x y → (s.roll.lines ≤ f.lines + length x) × (s.acceleration.lines ≤ g.lines + length y)
 unfolding side_by_side
 few_lines f g a x y e = rw e (lines_few f x (pairs_of f g x y), lines_few g y (pairs_of f g x y))
 
 -- ---- and so of every call
-side_within : (f g : Follow) (a : RecordAnswer) (x y : List ℕ) → ((side_by_side f g a x y).at ≤ length x) × ((side_by_side f g a x y).beside ≤ length y)
+side_within : (f g : Follow) (a : Result Record Refusal) (x y : List ℕ) → ((side_by_side f g a x y).at ≤ length x) × ((side_by_side f g a x y).beside ≤ length y)
 unfolding side_by_side
 side_within f g a x y = (within f x (pairs_of f g x y), within g y (pairs_of f g x y))
 

@@ -16,8 +16,6 @@ use Rattle.truth.proofs.Laws.{both_true, impossible, true≢false}
 use Rattle.refusal.specs.declared.Refusal.TheVariants.{CommaLine, Unequal}
 use Rattle.sample_items.specs.declared.Items.{Items}
 use Rattle.sample_items.specs.Limits.{item_outside}
-use Rattle.record_state.specs.declared.RecordAnswer.{RecordAnswer}
-use Rattle.record_state.specs.declared.RecordAnswer.TheVariants.{Taken, Refused}
 use Rattle.comma_stream.specs.declared.Follow.{Follow}
 use Rattle.comma_stream.specs.declared.Rest.{Rest}
 use Rattle.comma_stream.specs.declared.Rest.TheVariants.{Waits, Over, Wrong}
@@ -39,14 +37,17 @@ use Rattle.comma_pair.proofs.Joining.{Good, held_good, onward_join}
 use Rattle.comma_pair.proofs.Way.{good}
 use Rattle.comma_pair.proofs.Piece.{shared_stands}
 use Rattle.comma_pair.proofs.Text.{R, after, unread, unread_all, unread_on, lines_at, step_after, stands_well, rest_waits, rest_over, rest_wrong, WrongHere}
+use Rattle.refusal.specs.declared.Refusal.{Refusal}
+use Rattle.record_state.specs.declared.Record.{Record}
+use Rattle.std.specs.Prelude.{Result, Ok, Err}
 
 module _ (i : Items) (ok : item_outside i ≡ 0) where
   abbrev D : ℕ
   D = i.step
 
   -- the answer to the first k lines of both
-  abbrev pub answer_at : List ℕ → List ℕ → ℕ → RecordAnswer
-  answer_at A B k = onward (Taken (start i)) (held_of (take k (R D A))) (held_of (take k (R D B)))
+  abbrev pub answer_at : List ℕ → List ℕ → ℕ → Result Record Refusal
+  answer_at A B k = onward (Ok (start i)) (held_of (take k (R D A))) (held_of (take k (R D B)))
 
   -- a file has ended, and all its lines are taken
   pub record Ended (text : List ℕ) (more : Bool) (k : ℕ) : Type 0 where
@@ -69,9 +70,9 @@ module _ (i : Items) (ok : item_outside i ≡ 0) where
   pub data Out (A : List ℕ) (mA : Bool) (B : List ℕ) (mB : Bool) (x y : List ℕ) : Took → Type 0 where
     goes : {t : Took} (s : Stands A mA B mB t.watching (drop t.roll x) (drop t.acceleration y))
         → ((mA ≡ true) ⊎ ((mB ≡ true) ⊎ (Ended A mA s.a × Ended B mB s.b))) → Out A mA B mB x y t
-    wrong_roll_lem : {t : Took} (f g : Follow) → t.watching ≡ stopped f g (Refused (CommaLine (length (R D A) + 1))) 1 → WrongHere (Left D 0 A) mA
+    wrong_roll_lem : {t : Took} (f g : Follow) → t.watching ≡ stopped f g (Err (CommaLine (length (R D A) + 1))) 1 → WrongHere (Left D 0 A) mA
         → (length (R D A) ≤ length (R D B)) ⊎ Ended B mB (length (R D B)) → Out A mA B mB x y t
-    wrong_acceleration : {t : Took} (f g : Follow) → t.watching ≡ stopped f g (Refused (CommaLine (length (R D B) + 1))) 2 → WrongHere (Left D 0 B) mB
+    wrong_acceleration : {t : Took} (f g : Follow) → t.watching ≡ stopped f g (Err (CommaLine (length (R D B) + 1))) 2 → WrongHere (Left D 0 B) mB
         → (length (R D B) < length (R D A)) ⊎ Ended A mA (length (R D A)) → Out A mA B mB x y t
 
   min_on : (m n k : ℕ) → min m n + k ≡ min (m + k) (n + k)
@@ -153,13 +154,13 @@ module _ (i : Items) (ok : item_outside i ≡ 0) where
         record { on = ap (λ q. q.counting.over) t; stands = ap (λ q. q.counting.follow) t ∙ follow_end; left = ap (λ q. drop q.used (unread D text k)) t ∙ bytes_end }
 
     -- or a line is wrong
-    pub goes_wrong : resting (Left D 0 text) more ≡ Wrong → (T.counting.over ≡ true) × (T.counting.answer ≡ Refused (CommaLine (length (R D text) + 1)))
+    pub goes_wrong : resting (Left D 0 text) more ≡ Wrong → (T.counting.over ≡ true) × (T.counting.answer ≡ Err (CommaLine (length (R D text) + 1)))
     goes_wrong e =
         let t : T ≡ by_rest Wrong = goes_alone ∙ ap by_rest e in (
           ap (λ q. q.counting.over) t,
           ap (λ q. q.counting.answer) t
-              ∙ ap (λ f. Refused (CommaLine (f.lines + 1))) follow_end
-              ∙ ap (λ n. Refused (CommaLine (n + 1))) (lines_at D text (length (R D text)) (omega arith)),
+              ∙ ap (λ f. Err (CommaLine (f.lines + 1))) follow_end
+              ∙ ap (λ n. Err (CommaLine (n + 1))) (lines_at D text (length (R D text)) (omega arith)),
         )
 
   -- ---- a call from a lines of the roll and b of the acceleration
@@ -194,9 +195,9 @@ module _ (i : Items) (ok : item_outside i ≡ 0) where
     answer_none : (k : ℕ) → k ≤ U → k ≤ N → onward (answer_at A B k) [] [] ≡ answer_at A B k
     answer_none k h l =
         let g = good (take k (R D A)) (take k (R D B)) (length-take-le k (R D A) h ∙ sym (length-take-le k (R D B) l)) in
-        onward_join (Taken (start i)) (held_of (take k (R D A))) (held_of (take k (R D B))) [] [] g (good [] [] refl)
-        ∙ ap (λ z. onward (Taken (start i)) z (held_of (take k (R D B)) ++ [])) (append-nil (held_of (take k (R D A))))
-        ∙ ap (onward (Taken (start i)) (held_of (take k (R D A)))) (append-nil (held_of (take k (R D B))))
+        onward_join (Ok (start i)) (held_of (take k (R D A))) (held_of (take k (R D B))) [] [] g (good [] [] refl)
+        ∙ ap (λ z. onward (Ok (start i)) z (held_of (take k (R D B)) ++ [])) (append-nil (held_of (take k (R D A))))
+        ∙ ap (onward (Ok (start i)) (held_of (take k (R D A)))) (append-nil (held_of (take k (R D B))))
 
     -- one file has ended before the other
     answer_apart : p ≡ 0 → onward (answer_at A B (min a b)) (held_of us) (held_of vs) ≡ answer_at A B (min a b + p)
@@ -217,9 +218,9 @@ module _ (i : Items) (ok : item_outside i ≡ 0) where
         let h = good us (take p (drop a (R D B))) (us-long ∙ sym vs-long) in
         ap (λ z. onward (answer_at A B (min a b)) (held_of us) (held_of z)) vs-are
         ∙ ap (λ n. onward (answer_at A B n) (held_of us) (held_of (take p (drop a (R D B))))) m
-        ∙ onward_join (Taken (start i)) (held_of (take a (R D A))) (held_of (take a (R D B))) (held_of us) (held_of (take p (drop a (R D B)))) g h
-        ∙ ap (λ z. onward (Taken (start i)) z (held_of (take a (R D B)) ++ held_of (take p (drop a (R D B))))) (held_on (count.fresh D) A a p)
-        ∙ ap (onward (Taken (start i)) (held_of (take (a + p) (R D A)))) (held_on (count.fresh D) B a p)
+        ∙ onward_join (Ok (start i)) (held_of (take a (R D A))) (held_of (take a (R D B))) (held_of us) (held_of (take p (drop a (R D B)))) g h
+        ∙ ap (λ z. onward (Ok (start i)) z (held_of (take a (R D B)) ++ held_of (take p (drop a (R D B))))) (held_on (count.fresh D) A a p)
+        ∙ ap (onward (Ok (start i)) (held_of (take (a + p) (R D A)))) (held_on (count.fresh D) B a p)
         ∙ ap (λ n. answer_at A B (n + p)) (sym m)
 
     answer_on : onward (answer_at A B (min a b)) (held_of us) (held_of vs) ≡ answer_at A B (min a b + p)
@@ -329,7 +330,7 @@ module _ (i : Items) (ok : item_outside i ≡ 0) where
           let w = rest_wrong (Left D 0 B) mB e in
           let number : (after D B (b + p)).lines ≡ N = ap (λ n. (after D B n).lines) b_end ∙ lines_at D B N (omega arith) in
           wrong_acceleration (after D A (a + p)) (after D B (b + p))
-          (ap (λ n. stopped (after D A (a + p)) (after D B (b + p)) (Refused (CommaLine (n + 1))) 2) number)
+          (ap (λ n. stopped (after D A (a + p)) (after D B (b + p)) (Err (CommaLine (n + 1))) 2) number)
           w
           (by_order b a
           (λ h. absurd (none-some (acceleration_less h).none w.0))
@@ -439,7 +440,7 @@ module _ (i : Items) (ok : item_outside i ≡ 0) where
           let w = rest_wrong (Left D 0 A) mA e in
           let number : (after D A (a + p)).lines ≡ U = ap (λ n. (after D A n).lines) a_end ∙ lines_at D A U (omega arith) in
           wrong_roll_lem (after D A (a + p)) (after D B (b + p))
-          (ap (λ n. stopped (after D A (a + p)) (after D B (b + p)) (Refused (CommaLine (n + 1))) 1) number)
+          (ap (λ n. stopped (after D A (a + p)) (after D B (b + p)) (Err (CommaLine (n + 1))) 1) number)
           w
           (by_order a b
           (λ h. absurd (none-some (roll_less h).none w.0))

@@ -10,8 +10,10 @@ use Rattle.desk_line.specs.declared.Finished.{Finished}
 use Rattle.desk_line.specs.Said.{putting, put_left}
 use Rattle.comma_pair.specs.declared.Watching.{Watching}
 use Rattle.comma_pair.specs.declared.Took.{Took}
-use Rattle.comma_pair.specs.declared.PairEnd.{PairEnd}
 use Rattle.comma_pair.specs.Taking.{opening, taking, end_of, saying}
+use Rattle.record_state.specs.declared.Record.{Record}
+use Rattle.comma_pair.specs.declared.PairFault.{PairFault}
+use Rattle.std.specs.Prelude.{Result}
 
 pub open_unique : (i : Items) (v w : Watching) → v ≡ opening i → w ≡ opening i → v ≡ w
 open_unique i v w = settled
@@ -19,7 +21,7 @@ open_unique i v w = settled
 pub take_unique : (w : Watching) (x : List ℕ) (xMore : Bool) (y : List ℕ) (yMore : Bool) (t u : Took) → t ≡ taking w x xMore y yMore → u ≡ taking w x xMore y yMore → t ≡ u
 take_unique w x xMore y yMore t u = settled
 
-pub came_to_unique : (w : Watching) (r q : PairEnd) → r ≡ end_of w → q ≡ end_of w → r ≡ q
+pub came_to_unique : (w : Watching) (r q : Result Record PairFault) → r ≡ end_of w → q ≡ end_of w → r ≡ q
 came_to_unique w r q = settled
 
 module _ (w : Watching) (out : List ℕ) where

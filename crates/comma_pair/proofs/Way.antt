@@ -15,11 +15,8 @@ use borrow.Author.Tests.{lt-ltb, le-ltb}
 use Rattle.truth.proofs.Cases.{by_test, by_order}
 use Rattle.sample_items.specs.Limits.{step_in_range}
 use Rattle.sample_range.specs.Range.{first_bad}
-use Rattle.record_state.specs.declared.RecordAnswer.{RecordAnswer}
 use Rattle.comma_line.specs.Text.{samples_of}
 use Rattle.comma_stream.specs.declared.Follow.{Follow}
-use Rattle.comma_stream.specs.declared.Followed.{Followed}
-use Rattle.comma_stream.specs.declared.Followed.TheVariants as followed
 use Rattle.comma_stream.specs.Follow.{bytes_of, right_lines, after_lines, held, taking, leaving}
 use Rattle.comma_count.proofs.Way as one
 use Rattle.comma_pair.specs.declared.Abreast.{Abreast}
@@ -27,11 +24,14 @@ use Rattle.comma_pair.specs.Taking.{onward, held_of, pairs_of, side_by_side}
 use Rattle.comma_pair.specs.Step.{Some, Both}
 use Rattle.comma_pair.proofs.Front.{by_length, held_many, within, some, after_them, lines_on, bytes_on, held_on}
 use Rattle.comma_pair.proofs.Joining.{Good, held_good, good_join, onward_join}
+use Rattle.refusal.specs.declared.Refusal.{Refusal}
+use Rattle.record_state.specs.declared.Record.{Record}
+use Rattle.std.specs.Prelude.{Result, Ok}
 
 -- ---- some lines of one file
 module _ (f : Follow) (text : List ℕ) (slice : List ℤ) (step : step_in_range f.step ≡ true) where
-  pub told : {r : Followed} {g : Follow} {bytes n : ℕ} {later : List ℤ}
-      → r ≡ taking f text (length slice) → later ≡ leaving r text slice → r ≡ followed.Taken g bytes n → Some f text slice g bytes n later
+  pub told : {r : (Result (Follow × ℕ × ℕ) Refusal)} {g : Follow} {bytes n : ℕ} {later : List ℤ}
+      → r ≡ taking f text (length slice) → later ≡ leaving r text slice → r ≡ Ok (g, bytes, n) → Some f text slice g bytes n later
   told {r} {g} {bytes} {n} {later} e l is =
       let t = one.took f text slice step refl e l is in
       let same : take n (right_lines f text) ≡ take (length slice) (right_lines f text) = ap (λ k. take k (right_lines f text)) t.number ∙ by_length (length slice) (right_lines f text) in
@@ -55,7 +55,7 @@ module _ {f g : Follow} {x y : List ℕ} {rolls accelerations : List ℤ} {f₁ 
   m_is = omega (arith, second.number, places, first.number, full)
 
   -- the acceleration has fewer
-  pub short : {slice : List ℤ} {f₂ : Follow} {b₃ k : ℕ} {later₃ : List ℤ} {a b : RecordAnswer} {xs ys : List ℤ} → length slice ≡ m → m < n → Some f x slice f₂ b₃ k later₃
+  pub short : {slice : List ℤ} {f₂ : Follow} {b₃ k : ℕ} {later₃ : List ℤ} {a b : (Result Record Refusal)} {xs ys : List ℤ} → length slice ≡ m → m < n → Some f x slice f₂ b₃ k later₃
       → b ≡ onward a xs ys → xs ≡ take m later₃ → ys ≡ take m later₂ → Both f g a x y f₂ g₁ b b₃ b₂ m true
   short {k = k} {later₃ = later₃} {a = a} {ys = ys} size less again says e e₂ =
       let same : k ≡ m = omega (arith, again.number, size, first.number) in
@@ -73,7 +73,7 @@ module _ {f g : Follow} {x y : List ℕ} {rolls accelerations : List ℤ} {f₁ 
       }
 
   -- both have as many
-  pub even : {a b : RecordAnswer} {xs ys : List ℤ} → n ≤ m → b ≡ onward a xs ys → xs ≡ take m later₁ → ys ≡ take m later₂ → Both f g a x y f₁ g₁ b b₁ b₂ m false
+  pub even : {a b : (Result Record Refusal)} {xs ys : List ℤ} → n ≤ m → b ≡ onward a xs ys → xs ≡ take m later₁ → ys ≡ take m later₂ → Both f g a x y f₁ g₁ b b₁ b₂ m false
   even {a = a} {ys = ys} least says e e₂ =
       let same : n ≡ m = omega (arith, m_few) in
       record {
@@ -91,7 +91,7 @@ module _ {f g : Follow} {x y : List ℕ} {rolls accelerations : List ℤ} {f₁ 
 
 -- ---- all of them, some at a time
 -- after k lines of each; what is fed then is fed after these
-pub record Way (f g : Follow) (a : RecordAnswer) (x y : List ℕ) (r s : Follow) (b : RecordAnswer) (at beside : ℕ) : Type 0 where
+pub record Way (f g : Follow) (a : Result Record Refusal) (x y : List ℕ) (r s : Follow) (b : Result Record Refusal) (at beside : ℕ) : Type 0 where
   pub k : ℕ
   pub roll_few : k ≤ length (right_lines f x)
   pub acceleration_few : k ≤ length (right_lines g y)
@@ -118,8 +118,8 @@ after_none f =
 pub good : (us vs : List (List ℕ)) → length us ≡ length vs → Good (held_of us) (held_of vs)
 good us vs e = record { equal = held_many us ∙ e ∙ sym (held_many vs); roll = held_good (samples_of us); acceleration = held_good (samples_of vs) }
 
-module _ {f g : Follow} {a : RecordAnswer} {x y : List ℕ} {r s : Follow} {b : RecordAnswer} {at beside : ℕ} (w : Way f g a x y r s b at beside)
-    {r' s' : Follow} {b' : RecordAnswer} {at' beside' n : ℕ} {ahead : Bool} (t : Both r s b (drop at x) (drop beside y) r' s' b' at' beside' n ahead) where
+module _ {f g : Follow} {a : (Result Record Refusal)} {x y : List ℕ} {r s : Follow} {b : (Result Record Refusal)} {at beside : ℕ} (w : Way f g a x y r s b at beside)
+    {r' s' : Follow} {b' : (Result Record Refusal)} {at' beside' n : ℕ} {ahead : Bool} (t : Both r s b (drop at x) (drop beside y) r' s' b' at' beside' n ahead) where
   abbrev us : List (List ℕ)
   us = right_lines f x
 
@@ -217,7 +217,7 @@ module _ {f g : Follow} {a : RecordAnswer} {x y : List ℕ} {r s : Follow} {b : 
       (λ l. le-ltb n (min 1024 (length (right_lines r (drop at x)))) (omega (arith, number_is, U-left)) ∙ sym (le-ltb (length vs) (length us) l)) in
       rw (← all) (λ j. record { roll = roll_on j; acceleration = acceleration_on j; answer = says_all j; at = place_on j; beside = other_on j; ahead = more j })
 
-pub way_start : (f g : Follow) (a : RecordAnswer) (x y : List ℕ) → Way f g a x y f g a 0 0
+pub way_start : (f g : Follow) (a : Result Record Refusal) (x y : List ℕ) → Way f g a x y f g a 0 0
 unfolding bytes_of
 way_start f g a x y =
     record {

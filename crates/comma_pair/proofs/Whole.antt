@@ -21,13 +21,10 @@ use Rattle.sample_range.specs.Range.{first_bad}
 use Rattle.sample_range.proofs.Bad.{bad_within}
 use Rattle.crossing_places.specs.Reading.{too_few}
 use Rattle.record_state.specs.declared.Record.{Record}
-use Rattle.record_state.specs.declared.RecordAnswer.{RecordAnswer}
-use Rattle.record_state.specs.declared.RecordAnswer.TheVariants.{Taken, Refused}
 use Rattle.record_state.specs.State.{state_of, sound}
 use Rattle.record_step.proofs.Whole.{state}
 use Rattle.record_feed.specs.Answers.{fed}
-use Rattle.record_end.specs.declared.Result.{Result}
-use Rattle.record_end.specs.declared.Ended.TheVariants as ended
+use Rattle.record_end.specs.declared.RecordResult.{RecordResult}
 use Rattle.record_end.specs.Result.{ending, result_of}
 use Rattle.comma_line.specs.Text.{first_wrong, samples_of}
 use Rattle.comma_stream.specs.declared.Follow.{Follow}
@@ -36,19 +33,21 @@ use Rattle.comma_count.specs.Line.{counted, refused_at, result_for}
 use Rattle.comma_count.specs.Taking.{fresh, said_ended}
 use Rattle.comma_count.proofs.Joining.{held_same}
 use Rattle.comma_count.proofs.Whole.{start, start_sound}
-use Rattle.comma_pair.specs.declared.PairEnd.{PairEnd}
-use Rattle.comma_pair.specs.declared.PairEnd.TheVariants as end
 use Rattle.comma_pair.specs.Line.{any_wrong, wrong_roll, bad_roll, both_channels, end_of_both, pair_said_of_lines}
 use Rattle.comma_pair.specs.Taking.{onward, held_of, watched, stopped, roll_outside, end_by, end_of, said_end}
 use Rattle.comma_pair.proofs.Front.{samples_many}
 use Rattle.comma_pair.proofs.Joining.{Good, fed_long, fed_some, many, still_sound}
+use Rattle.comma_pair.specs.declared.PairFault.TheVariants.{Plain, AtLine}
+use Rattle.refusal.specs.declared.Refusal.{Refusal}
+use Rattle.comma_pair.specs.declared.PairFault.{PairFault}
+use Rattle.std.specs.Prelude.{Result, Ok, Err}
 
 -- what is said of a sound record
-ended_is : (r : Record) (R n : ℕ) (x : Result) → sound r ≡ true → r.items.ramp ≡ R → r.n ≡ n → result_of r ≡ x → said_ended r.n (ending r) ≡ cond (too_few R n) (refused_at 0 TooShort) (counted n x)
+ended_is : (r : Record) (R n : ℕ) (x : RecordResult) → sound r ≡ true → r.items.ramp ≡ R → r.n ≡ n → result_of r ≡ x → said_ended r.n (ending r) ≡ cond (too_few R n) (refused_at 0 TooShort) (counted n x)
 unfolding ending
 ended_is r R n x s e f g =
-    ap (λ y. said_ended r.n (cond (not y) (ended.Refused BrokenState) (cond (too_few r.items.ramp r.n) (ended.Refused TooShort) (ended.Given (result_of r))))) s
-    ∙ ap (λ y. said_ended r.n (cond (too_few r.items.ramp r.n) (ended.Refused TooShort) (ended.Given y))) g
+    ap (λ y. said_ended r.n (cond (not y) (Err BrokenState) (cond (too_few r.items.ramp r.n) (Err TooShort) (Ok (result_of r))))) s
+    ∙ ap (λ y. said_ended r.n (cond (too_few r.items.ramp r.n) (Err TooShort) (Ok y))) g
     ∙ by_test (too_few r.items.ramp r.n)
     (λ t. rw (t, ← e, ← f, t))
     (λ t. rw (t, ← e, ← f, t))
@@ -69,12 +68,12 @@ module _ (i : Items) (ok : item_outside i ≡ 0) where
   -- ---- a wrong line
   module _ (f g : Follow) (ls ms : List (List ℕ)) (k : ℕ) where
     pub end_wrong_roll : first_wrong i.step 0 ls ≡ k → k < length ls → (not (any_wrong i.step ms) || leb k (first_wrong i.step 0 ms)) ≡ true
-        → end_of (stopped f g (Refused (CommaLine (k + 1))) 1) ≡ end_of_both i ls ms
+        → end_of (stopped f g (Err (CommaLine (k + 1))) 1) ≡ end_of_both i ls ms
     unfolding end_of end_of_both
     end_wrong_roll e h l = rw (item_ok, e, lt-ltb k (length ls) h, l)
 
     pub end_wrong_acceleration : first_wrong i.step 0 ms ≡ k → k < length ms → wrong_roll i.step ls ms ≡ false
-        → end_of (stopped f g (Refused (CommaLine (k + 1))) 2) ≡ end_of_both i ls ms
+        → end_of (stopped f g (Err (CommaLine (k + 1))) 2) ≡ end_of_both i ls ms
     unfolding end_of end_of_both
     end_wrong_acceleration e h l = rw (item_ok, l, e, lt-ltb k (length ms) h)
 
@@ -103,10 +102,10 @@ module _ (i : Items) (ok : item_outside i ≡ 0) where
     most_is = refl
 
     -- what was held is what was there
-    fed_is : onward (Taken (start i)) (held_of ls) (held_of ms) ≡ fed (start i) xs ys
+    fed_is : onward (Ok (start i)) (held_of ls) (held_of ms) ≡ fed (start i) xs ys
     fed_is = ap (λ l. fed (start i) l (held_of ms)) (held_same xs all.roll) ∙ ap (fed (start i) xs) (held_same ys all.acceleration)
 
-    too_long : most_samples i.step i.ramp < length ls → fed (start i) xs ys ≡ Refused TooLong
+    too_long : most_samples i.step i.ramp < length ls → fed (start i) xs ys ≡ Err TooLong
     too_long h = fed_long (start i) xs ys all (start_sound i ok) (omega (arith, none_yet, most_is, samples_many ls))
 
     module _ (h : length ls ≤ most_samples i.step i.ramp) where
@@ -116,8 +115,8 @@ module _ (i : Items) (ok : item_outside i ≡ 0) where
       room : (start i).n + length xs ≤ most_samples (start i).items.step (start i).items.ramp
       room = omega (arith, none_yet, most_is, samples_many ls)
 
-      taken : fed (start i) xs ys ≡ Taken whole
-      taken = fed_some (start i) xs ys all (start_sound i ok) room ∙ ap Taken (state i (both_channels ls ms))
+      taken : fed (start i) xs ys ≡ Ok whole
+      taken = fed_some (start i) xs ys all (start_sound i ok) room ∙ ap Ok (state i (both_channels ls ms))
 
       whole_sound : sound whole ≡ true
       whole_sound = ap sound (sym (state i (both_channels ls ms))) ∙ still_sound (start i) xs ys all (start_sound i ok) room
@@ -134,40 +133,40 @@ module _ (i : Items) (ok : item_outside i ≡ 0) where
       unfolding state_of result_for
       result-is = refl
 
-      whole_said : said_end (end.Counted whole) ≡ cond (too_few i.ramp (length ls)) (refused_at 0 TooShort) (counted (length ls) (result_for i (both_channels ls ms)))
+      whole_said : said_end (Ok whole) ≡ cond (too_few i.ramp (length ls)) (refused_at 0 TooShort) (counted (length ls) (result_for i (both_channels ls ms)))
       whole_said = ended_is whole i.ramp (length ls) (result_for i (both_channels ls ms)) whole_sound ramp_is n-is result-is
 
   -- ---- all lines right
-  module _ (ls ms : List (List ℕ)) (right : first_wrong i.step 0 ls ≡ length ls) (right₂ : first_wrong i.step 0 ms ≡ length ms) (a : RecordAnswer)
-      (says : length ls ≡ length ms → a ≡ onward (Taken (start i)) (held_of ls) (held_of ms)) where
+  module _ (ls ms : List (List ℕ)) (right : first_wrong i.step 0 ls ≡ length ls) (right₂ : first_wrong i.step 0 ms ≡ length ms) (a : Result Record Refusal)
+      (says : length ls ≡ length ms → a ≡ onward (Ok (start i)) (held_of ls) (held_of ms)) where
     abbrev fx : ℕ
     fx = first_bad (samples_of ls)
 
     abbrev fy : ℕ
     fy = first_bad (samples_of ms)
 
-    abbrev W : PairEnd
+    abbrev W : Result Record PairFault
     W = end_of (watched (after_lines (fresh i.step) ls) (after_lines (fresh i.step) ms) a)
 
     -- the tests that are left, on both sides
-    Rest : PairEnd
+    Rest : Result Record PairFault
     Rest =
-        cond (not (eqb (length ls) (length ms))) (end.Refused Unequal)
-        (cond (bad_roll (samples_of ls) (samples_of ms)) (end.RefusedOf (fx + 1) (Sample fx) 1)
-        (cond (has_bad (samples_of ms)) (end.RefusedOf (fy + 1) (Acceleration fy) 2)
-        (cond (ltb (most_samples i.step i.ramp) (length ls)) (end.Refused TooLong)
-        (end.Counted (state_of i (both_channels ls ms))))))
+        cond (not (eqb (length ls) (length ms))) (Err (Plain Unequal))
+        (cond (bad_roll (samples_of ls) (samples_of ms)) (Err (AtLine (fx + 1) (Sample fx) 1))
+        (cond (has_bad (samples_of ms)) (Err (AtLine (fy + 1) (Acceleration fy) 2))
+        (cond (ltb (most_samples i.step i.ramp) (length ls)) (Err (Plain TooLong))
+        (Ok (state_of i (both_channels ls ms))))))
 
     rest : end_of_both i ls ms ≡ Rest
     unfolding end_of_both Rest
     rest = rw (item_ok, right, right₂, le-ltb (length ls) (length ls) (omega arith), le-ltb (length ms) (length ms) (omega arith))
 
     -- in numbers: F and G are the lines of the first samples out of range
-    Now : ℕ → ℕ → ℕ → ℕ → PairEnd
+    Now : ℕ → ℕ → ℕ → ℕ → Result Record PairFault
     Now n m F G =
-        cond (not (eqb n m)) (end.Refused Unequal)
-        (cond (not (eqb F 0) && (eqb G 0 || leb F G)) (end.RefusedOf F (Sample (F - 1)) 1)
-        (cond (not (eqb G 0)) (end.RefusedOf G (Acceleration (G - 1)) 2)
+        cond (not (eqb n m)) (Err (Plain Unequal))
+        (cond (not (eqb F 0) && (eqb G 0 || leb F G)) (Err (AtLine F (Sample (F - 1)) 1))
+        (cond (not (eqb G 0)) (Err (AtLine G (Acceleration (G - 1)) 2))
         (end_by 0 a)))
 
     now : W ≡ Now (length ls) (length ms) (cond (ltb fx (length ls)) (fx + 1) 0) (cond (ltb fy (length ms)) (fy + 1) 0)
@@ -202,7 +201,7 @@ module _ (i : Items) (ok : item_outside i ≡ 0) where
           (sym (rest ∙ rw (eq, lt-ltb fx (length (samples_of ls)) (omega (arith, samples_many ls)), lt-leb fx fy l, lt-ltb fy (length (samples_of ms)) (omega (arith, samples_many ms)))))
 
       -- the roll's is
-      roll_def : fx < length ls → fx ≤ fy → end_of_both i ls ms ≡ end.RefusedOf (fx + 1) (Sample fx) 1
+      roll_def : fx < length ls → fx ≤ fy → end_of_both i ls ms ≡ Err (AtLine (fx + 1) (Sample fx) 1)
       unfolding Rest
       roll_def bx l = rest ∙ rw (eq, lt-ltb fx (length (samples_of ls)) (omega (arith, samples_many ls)), le-leb fx fy l)
 

@@ -1,7 +1,7 @@
 -- WHAT IS SAID OF TWO COMMA FILES, the roll's and the acceleration's of one record (document 02, [1], [8];
 -- docs/CLERK.md): one line and a digit, over both whole texts. Each refusal is judged over both files: 1, 10, 12, 2, 3,
 -- 4. After 10 and 2 the line names the channel: 1 for the roll, 2 for the acceleration. Assumes nothing.
-use Rattle.std.specs.Prelude.{ℕ, ◌+◌, Bool, cond, not, ◌&&◌, ◌||◌, List, [], ◌∷◌, ◌++◌, eqb, leb, ltb, ℤ, length}
+use Rattle.std.specs.Prelude.{ℕ, ◌+◌, Bool, cond, not, ◌&&◌, ◌||◌, List, [], ◌∷◌, ◌++◌, eqb, leb, ltb, ℤ, length, Result, Ok, Err}
 use Rattle.refusal.specs.declared.Refusal.{Refusal}
 use Rattle.refusal.specs.declared.Refusal.TheVariants.{Item, Sample, TooLong, TooShort, CommaLine, Unequal}
 use Rattle.refusal.specs.declared.Refusal.TheVariants.{Acceleration}
@@ -18,8 +18,9 @@ use Rattle.comma_line.specs.Text.{first_wrong, samples_of}
 use Rattle.record_state.specs.State.{state_of}
 use Rattle.desk_line.specs.Said.{Said, refused_digit, refused_word}
 use Rattle.comma_count.specs.Line.{counted, refused_at, result_for}
-use Rattle.comma_pair.specs.declared.PairEnd.{PairEnd}
-use Rattle.comma_pair.specs.declared.PairEnd.TheVariants as end
+use Rattle.comma_pair.specs.declared.PairFault.TheVariants.{Plain, AtLine}
+use Rattle.record_state.specs.declared.Record.{Record}
+use Rattle.comma_pair.specs.declared.PairFault.{PairFault}
 
 -- ---- the refused line with a channel: the word, the line at fault, the refusal's number, the channel
 unfoldable pub channel_line : ℕ → Refusal → ℕ → List ℕ
@@ -64,10 +65,10 @@ both_channels ls ms = moments (samples_of ls) (samples_of ms)
 
 -- ---- what the files come to, for programs that go on from their record: 1, 10, 12, 2, 3, or the record's state over
 -- all samples of both channels
-unfoldable pub end_of_both : Items → List (List ℕ) → List (List ℕ) → PairEnd
+unfoldable pub end_of_both : Items → List (List ℕ) → List (List ℕ) → Result Record PairFault
 end_of_both i ls ms =
-    cond (not (eqb (item_outside i) 0)) (end.Refused (Item (item_outside i)))
-    (pair_then i end.Refused end.RefusedOf ls ms (end.Counted (state_of i (both_channels ls ms))))
+    cond (not (eqb (item_outside i) 0)) (Err (Plain (Item (item_outside i))))
+    (pair_then i Err (Plain (λ x. Err (AtLine x))) ls ms (Ok (state_of i (both_channels ls ms))))
 
 -- ---- what is said of the files: an item goes before all tests, 4 after them, and then it is bin/count's line
 unfoldable pub pair_said_of_lines : Items → List (List ℕ) → List (List ℕ) → Said
@@ -77,7 +78,7 @@ pair_said_of_lines i ls ms =
     (cond (too_few i.ramp (length ls)) (refused_at 0 TooShort)
     (counted (length ls) (result_for i (both_channels ls ms)))))
 
-abbrev pub end_of_texts : Items → List ℕ → List ℕ → PairEnd
+abbrev pub end_of_texts : Items → List ℕ → List ℕ → Result Record PairFault
 end_of_texts i roll acceleration = end_of_both i (lines_of roll) (lines_of acceleration)
 
 -- WHAT IS SAID OF TWO TEXTS

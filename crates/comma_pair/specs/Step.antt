@@ -1,9 +1,10 @@
 -- What the functions that read lines tell each other: some lines of one file, and as many of both. Assumes nothing.
-use Rattle.std.specs.Prelude.{ℕ, ◌≤◌, min, ◌≡◌, Bool, List, ltb, ℤ, length, take}
-use Rattle.record_state.specs.declared.RecordAnswer.{RecordAnswer}
+use Rattle.std.specs.Prelude.{ℕ, ◌≤◌, min, ◌≡◌, Bool, List, ltb, ℤ, length, take, Result}
 use Rattle.comma_stream.specs.declared.Follow.{Follow}
 use Rattle.comma_stream.specs.Follow.{bytes_of, right_lines, after_lines}
 use Rattle.comma_pair.specs.Taking.{onward, held_of, pairs_of}
+use Rattle.refusal.specs.declared.Refusal.{Refusal}
+use Rattle.record_state.specs.declared.Record.{Record}
 
 -- the first n right lines of a text, as many as a slice has places: where the reading stands after them, their bytes,
 -- and the slice afterwards
@@ -14,8 +15,8 @@ pub record Some (f : Follow) (text : List ℕ) (slice : List ℤ) (g : Follow) (
   pub samples : take n later ≡ held_of (take n (right_lines f text))
 
 -- the first n right lines of both texts, 1,024 at most, and whether the roll has one more among so many
-pub record Both (f g : Follow) (a : RecordAnswer) (x y : List ℕ) (f' g' : Follow)
-    (b : RecordAnswer) (at beside n : ℕ) (ahead : Bool) : Type 0 where
+pub record Both (f g : Follow) (a : Result Record Refusal) (x y : List ℕ) (f' g' : Follow)
+    (b : Result Record Refusal) (at beside n : ℕ) (ahead : Bool) : Type 0 where
   pub number : n ≡ min 1024 (pairs_of f g x y)
   pub roll : f' ≡ after_lines f (take n (right_lines f x))
   pub acceleration : g' ≡ after_lines g (take n (right_lines g y))

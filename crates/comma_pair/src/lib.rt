@@ -6,13 +6,11 @@
 // comes back.
 #![tactic(auto)]
 
-ghost use Rattle.std.specs.Prelude.{◌≡◌, true, map, ◌+◌, ◌-◌, ◌≤◌, ◌<◌, min, length, take, drop};
+ghost use Rattle.std.specs.Prelude.{◌≡◌, true, map, ◌+◌, ◌-◌, ◌≤◌, ◌<◌, min, length, take, drop, Ok, Err};
 ghost use Rattle.text.specs.Write.{written};
 ghost use Rattle.sample_items.specs.Limits.{step_in_range};
 ghost use Rattle.desk_line.specs.Said.{longest_said, Puts, putting, put_left};
 ghost use Rattle.comma_count.specs.Taking as count;
-ghost use Rattle.record_state.specs.declared.RecordAnswer.TheVariants.{Refused};
-ghost use Rattle.comma_pair.specs.declared.PairEnd.TheVariants.{Counted};
 ghost use Rattle.comma_pair.specs.Line.{refused_of};
 ghost use Rattle.comma_pair.specs.Taking.{opening, onward, side_by_side, shared, agreeing, watched, stopped, ended};
 ghost use Rattle.comma_pair.specs.Taking.{waiting, alone, roll_alone, acceleration_alone};
@@ -21,9 +19,10 @@ ghost use Rattle.comma_pair.specs.Taking.{end_of, said_end, saying};
 ghost use Rattle.comma_pair.specs.Step.{Some, Both};
 
 use comma_count::Counting;
-use comma_stream::{Follow, Followed, Rest};
+use comma_pair::PairFault;
+use comma_stream::{Follow, Rest};
 use desk_line::Finished;
-use record_state::{Record, RecordAnswer};
+use record_state::Record;
 use refusal::Refusal;
 use sample_items::Items;
 
@@ -49,7 +48,7 @@ pub struct Watching {
     pub roll: Follow,
     pub acceleration: Follow,
     // The record of the lines that both have, or what is held against it.
-    pub answer: RecordAnswer,
+    pub answer: Result<Record, Refusal>,
     // The channel of a line that ended it, or 0.
     pub channel: u64,
     // Nothing that follows changes the answer.
@@ -78,18 +77,18 @@ pub struct Took {
 pub struct Abreast {
     pub roll: Follow,
     pub acceleration: Follow,
-    pub answer: RecordAnswer,
+    pub answer: Result<Record, Refusal>,
     pub at: usize,
     pub beside: usize,
     pub ahead: bool,
 }
 
-// What two files came to: their record; or a refusal, with the line at fault and its channel where it names them.
+// What two files are refused by: a refusal that names no line; or the line at fault, the refusal, and the line's
+// channel.
 #[derive(Clone, Copy)]
-pub enum PairEnd {
-    Counted(Record),
-    Refused(Refusal),
-    RefusedOf(u64, Refusal, u64),
+pub enum PairFault {
+    Plain(Refusal),
+    AtLine(u64, Refusal, u64),
 }
 
 // A count of no lines yet; or one that is over, with refusal 1.
@@ -108,12 +107,16 @@ pub fn open(items: Items) -> Watching
     }
 }
 
-fn onward(a: RecordAnswer, rolls: &[i32], accelerations: &[i32]) -> RecordAnswer
+fn onward(
+    a: Result<Record, Refusal>,
+    rolls: &[i32],
+    accelerations: &[i32],
+) -> Result<Record, Refusal>
     ensures { result ≡ onward a rolls.now accelerations.now }
 {
     match a {
-        RecordAnswer::Taken(r) => record_feed::feed(r, rolls, accelerations),
-        RecordAnswer::Refused(q) => RecordAnswer::Refused(q),
+        Ok(r) => record_feed::feed(r, rolls, accelerations),
+        Err(q) => Err(q),
     }
 }
 
@@ -132,12 +135,12 @@ fn some(f: Follow, text: &[u8], samples: &mut [i32]) -> Lines
         samples.new }
 {
     match comma_stream::take(f, text, samples) {
-        Followed::Taken(follow, bytes, number) => Lines {
+        Ok((follow, bytes, number)) => Lines {
             follow,
             bytes,
             number,
         },
-        Followed::Refused(_) => Lines {
+        Err(_) => Lines {
             follow: f,
             bytes: 0,
             number: 0,
@@ -150,7 +153,7 @@ fn some(f: Follow, text: &[u8], samples: &mut [i32]) -> Lines
 struct Pairs {
     roll: Follow,
     acceleration: Follow,
-    answer: RecordAnswer,
+    answer: Result<Record, Refusal>,
     at: usize,
     beside: usize,
     number: usize,
@@ -162,7 +165,7 @@ struct Pairs {
 fn next_pairs(
     f: Follow,
     g: Follow,
-    before: RecordAnswer,
+    before: Result<Record, Refusal>,
     roll: &[u8],
     acceleration: &[u8],
     rolls: &mut [i32],
@@ -209,7 +212,7 @@ fn next_pairs(
 fn side_by_side(
     f: Follow,
     g: Follow,
-    before: RecordAnswer,
+    before: Result<Record, Refusal>,
     roll: &[u8],
     acceleration: &[u8],
 ) -> Abreast
@@ -270,10 +273,10 @@ fn shared(f: Follow, g: Follow) -> Follow
 }
 
 // Whether two files can lead here, with this answer to the lines that both have.
-fn sound(f: Follow, g: Follow, a: RecordAnswer) -> bool
+fn sound(f: Follow, g: Follow, a: Result<Record, Refusal>) -> bool
     ensures { result ≡ agreeing f g a }
 {
-    let refused = RecordAnswer::Refused(Refusal::Unequal);
+    let refused = Err(Refusal::Unequal);
     truth::both(
         comma_count::agrees(shared(f, g), a),
         truth::both(
@@ -287,7 +290,7 @@ fn sound(f: Follow, g: Follow, a: RecordAnswer) -> bool
 }
 
 // A count that goes on, and one that is over.
-fn watched(f: Follow, g: Follow, a: RecordAnswer) -> Watching
+fn watched(f: Follow, g: Follow, a: Result<Record, Refusal>) -> Watching
     ensures { result ≡ watched f g a }
 {
     Watching {
@@ -299,7 +302,7 @@ fn watched(f: Follow, g: Follow, a: RecordAnswer) -> Watching
     }
 }
 
-fn stopped(f: Follow, g: Follow, a: RecordAnswer, channel: u64) -> Watching
+fn stopped(f: Follow, g: Follow, a: Result<Record, Refusal>, channel: u64) -> Watching
     ensures { result ≡ stopped f g a channel }
 {
     Watching {
@@ -342,7 +345,7 @@ fn alone(f: Follow, text: &[u8], more: bool) -> comma_count::Took
     comma_count::take(
         Counting {
             follow: f,
-            answer: RecordAnswer::Refused(Refusal::Unequal),
+            answer: Err(Refusal::Unequal),
             over: false,
         },
         text,
@@ -408,12 +411,7 @@ fn acceleration_behind(s: Abreast, rest: Rest, roll: &[u8], more: bool, y: usize
         Rest::Waits(_) => waiting(Next::Acceleration, s),
         Rest::Over => roll_alone(alone(f, &roll[at..], more), s, more, x, y),
         Rest::Wrong => ended(
-            stopped(
-                f,
-                g,
-                RecordAnswer::Refused(Refusal::CommaLine(g.lines + 1)),
-                ACCELERATION,
-            ),
+            stopped(f, g, Err(Refusal::CommaLine(g.lines + 1)), ACCELERATION),
             x,
             y,
         ),
@@ -433,12 +431,7 @@ fn roll_behind(s: Abreast, rest: Rest, x: usize, acceleration: &[u8], more: bool
         Rest::Waits(_) => waiting(Next::Roll, s),
         Rest::Over => acceleration_alone(alone(g, &acceleration[at..], more), s, more, x, y),
         Rest::Wrong => ended(
-            stopped(
-                f,
-                g,
-                RecordAnswer::Refused(Refusal::CommaLine(f.lines + 1)),
-                ROLL,
-            ),
+            stopped(f, g, Err(Refusal::CommaLine(f.lines + 1)), ROLL),
             x,
             y,
         ),
@@ -470,11 +463,7 @@ pub fn take(
         return ended(w, x, y);
     }
     if !sound(f, g, before) {
-        return ended(
-            stopped(f, g, RecordAnswer::Refused(Refusal::BrokenState), 0),
-            x,
-            y,
-        );
+        return ended(stopped(f, g, Err(Refusal::BrokenState), 0), x, y);
     }
     let s = side_by_side(f, g, before, roll, acceleration);
     if s.ahead {
@@ -485,23 +474,23 @@ pub fn take(
     roll_behind(s, rest, x, acceleration, acceleration_more)
 }
 
-fn by_answer(channel: u64, a: RecordAnswer) -> PairEnd
+fn by_answer(channel: u64, a: Result<Record, Refusal>) -> Result<Record, PairFault>
     ensures { result ≡ end_by channel a }
 {
     match a {
-        RecordAnswer::Taken(r) => PairEnd::Counted(r),
-        RecordAnswer::Refused(q) => by_refusal(channel, q),
+        Ok(r) => Ok(r),
+        Err(q) => by_refusal(channel, q),
     }
 }
 
 // 10 has a line and a channel.
-fn by_refusal(channel: u64, q: Refusal) -> PairEnd
-    ensures { result ≡ end_by channel (Refused q) }
+fn by_refusal(channel: u64, q: Refusal) -> Result<Record, PairFault>
+    ensures { result ≡ end_by channel (Err q) }
 {
     if refusal::number(q) == COMMA_LINE {
-        return PairEnd::RefusedOf(refusal::carried(q), q, channel);
+        return Err(PairFault::AtLine(refusal::carried(q), q, channel));
     }
-    PairEnd::Refused(q)
+    Err(PairFault::Plain(q))
 }
 
 fn roll_outside(f: Follow, g: Follow) -> bool
@@ -514,7 +503,7 @@ fn roll_outside(f: Follow, g: Follow) -> bool
 }
 
 // What the files came to, for a program that goes on from their record.
-pub fn came_to(w: Watching) -> PairEnd
+pub fn came_to(w: Watching) -> Result<Record, PairFault>
     ensures { result ≡ end_of w }
 {
     let f = w.roll;
@@ -524,17 +513,17 @@ pub fn came_to(w: Watching) -> PairEnd
         return by_answer(w.channel, a);
     }
     if f.lines != g.lines {
-        return PairEnd::Refused(Refusal::Unequal);
+        return Err(PairFault::Plain(Refusal::Unequal));
     }
     if roll_outside(f, g) {
-        return PairEnd::RefusedOf(f.outside, Refusal::Sample(f.outside - 1), ROLL);
+        return Err(PairFault::AtLine(f.outside, Refusal::Sample(f.outside - 1), ROLL));
     }
     if g.outside != 0 {
-        return PairEnd::RefusedOf(
+        return Err(PairFault::AtLine(
             g.outside,
             Refusal::Acceleration(g.outside - 1),
             ACCELERATION,
-        );
+        ));
     }
     by_answer(0, a)
 }
@@ -556,7 +545,7 @@ fn put_channel(line: u64, r: Refusal, channel: u64, out: &mut [u8]) -> Finished
 // The record's line, as that of one file's record.
 fn put_record(r: Record, out: &mut [u8]) -> Finished
     requires { longest_said ≤ length out.old }
-    ensures { Puts (said_end (Counted r)) out.old result out.new }
+    ensures { Puts (said_end (Ok r)) out.old result out.new }
 {
     comma_count::finish(
         Counting {
@@ -565,21 +554,21 @@ fn put_record(r: Record, out: &mut [u8]) -> Finished
                 lines: 0,
                 outside: 0,
             },
-            answer: RecordAnswer::Taken(r),
+            answer: Ok(r),
             over: false,
         },
         out,
     )
 }
 
-fn put_end(e: PairEnd, out: &mut [u8]) -> Finished
+fn put_end(e: Result<Record, PairFault>, out: &mut [u8]) -> Finished
     requires { longest_said ≤ length out.old }
     ensures { Puts (said_end e) out.old result out.new }
 {
     match e {
-        PairEnd::Counted(r) => put_record(r, out),
-        PairEnd::Refused(q) => desk_line::refuse(0, q, out),
-        PairEnd::RefusedOf(line, q, channel) => put_channel(line, q, channel, out),
+        Ok(r) => put_record(r, out),
+        Err(PairFault::Plain(q)) => desk_line::refuse(0, q, out),
+        Err(PairFault::AtLine(line, q, channel)) => put_channel(line, q, channel, out),
     }
 }
 

@@ -10,49 +10,48 @@ use Rattle.sample_range.specs.Range.{first_bad}
 use Rattle.text.specs.Pieces.{joined}
 use Rattle.decimal.specs.Lines.{lines_of}
 use Rattle.comma_line.specs.Text.{first_wrong, samples_of}
-use Rattle.comma_read.specs.declared.Reading.{Reading}
-use Rattle.comma_read.specs.declared.Reading.TheVariants.{Samples, Refused}
 use Rattle.comma_read.specs.Answers.{reading_lines}
 use Rattle.comma_stream.specs.declared.Follow.{Follow}
 use Rattle.comma_stream.specs.Follow.{bytes_of, right_lines, after_lines}
 use Rattle.comma_stream.specs.Pieces.{Passed, nothing, with_piece, passing, ending}
 use Rattle.comma_stream.proofs.Pieces.{pieces_whole, followed_whole}
-use Rattle.comma_peaks.specs.declared.Judged.{Judged}
 use Rattle.comma_peaks.specs.Judged.{comes_to, judging}
 use Rattle.comma_peaks.proofs.Judges.{fresh, right_judged, wrong_judged}
+use Rattle.refusal.specs.declared.Refusal.{Refusal}
+use Rattle.std.specs.Prelude.{Result, Ok, Err}
 
-yes : (b : Bool) (x y : Reading) → b ≡ true → cond b x y ≡ x
+yes : (b : Bool) (x y : Result ℕ Refusal) → b ≡ true → cond b x y ≡ x
 yes b x y e = rw e
 
-no : (b : Bool) (x y : Reading) → b ≡ false → cond b x y ≡ y
+no : (b : Bool) (x y : Result ℕ Refusal) → b ≡ false → cond b x y ≡ y
 no b x y e = rw e
 
 -- 10 is neither 2 nor a number of samples
-not_both : (b c : Bool) (n m i j k : ℕ) → cond b (Refused (Sample i)) (Samples n) ≡ Refused (CommaLine k) → ⊥
+not_both : (b c : Bool) (n m i j k : ℕ) → cond b (Err (Sample i)) (Ok n) ≡ Err (CommaLine k) → ⊥
 not_both true c n m i j k e = impossible (cc)
 not_both false c n m i j k e = impossible (cc)
 
-not_other : (b : Bool) (n i k : ℕ) → cond b (Samples n) (Refused (Sample i)) ≡ Refused (CommaLine k) → ⊥
+not_other : (b : Bool) (n i k : ℕ) → cond b (Ok n) (Err (Sample i)) ≡ Err (CommaLine k) → ⊥
 not_other true n i k e = impossible (cc)
 not_other false n i k e = impossible (cc)
 
 module _ (D : ℕ) (lines : List (List ℕ)) (step : step_in_range D ≡ true) where
-  reading_wrong : first_wrong D 0 lines < length lines → reading_lines D lines (length lines) ≡ Refused (CommaLine (first_wrong D 0 lines + 1))
+  reading_wrong : first_wrong D 0 lines < length lines → reading_lines D lines (length lines) ≡ Err (CommaLine (first_wrong D 0 lines + 1))
   unfolding reading_lines
   reading_wrong h = rw (step, lt-ltb (first_wrong D 0 lines) (length lines) h)
 
   reading_right : length lines ≤ first_wrong D 0 lines → let b = first_bad (samples_of lines) in
-      reading_lines D lines (length lines) ≡ cond (ltb b (length lines)) (Refused (Sample b)) (Samples (length lines))
+      reading_lines D lines (length lines) ≡ cond (ltb b (length lines)) (Err (Sample b)) (Ok (length lines))
   unfolding reading_lines
   reading_right h = rw (step, le-ltb (first_wrong D 0 lines) (length lines) h, le-ltb (length lines) (length lines) (omega arith))
 
 -- how a reading ended
 module _ (p : Passed) where
-  ended_none : length p.left ≡ 0 → cond (eqb p.stands.outside 0) (Samples p.stands.lines) (Refused (Sample (p.stands.outside - 1))) ≡ ending p
+  ended_none : length p.left ≡ 0 → cond (eqb p.stands.outside 0) (Ok p.stands.lines) (Err (Sample (p.stands.outside - 1))) ≡ ending p
   unfolding ending
   ended_none e = sym (yes (eqb (length p.left) 0) _ _ (eq-eqb (length p.left) 0 e))
 
-  ended_some : eqb (length p.left) 0 ≡ false → ending p ≡ Refused (CommaLine (p.stands.lines + 1))
+  ended_some : eqb (length p.left) 0 ≡ false → ending p ≡ Err (CommaLine (p.stands.lines + 1))
   unfolding ending
   ended_some e = no (eqb (length p.left) 0) _ _ e
 

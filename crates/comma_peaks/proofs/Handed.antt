@@ -9,10 +9,7 @@ use Rattle.sample_items.specs.Limits.{step_in_range, decorrelation_in_range, mos
 use Rattle.peak_groups.specs.declared.Peak.{Peak}
 use Rattle.peak_groups.specs.Peaks.{handed, short}
 use Rattle.peak_stream.specs.declared.Surveying.{Surveying}
-use Rattle.peak_stream.specs.declared.Surveyed.TheVariants as surveyed
 use Rattle.peak_stream.specs.declared.Handing.{Handing}
-use Rattle.peak_stream.specs.declared.Handed.{Handed}
-use Rattle.peak_stream.specs.declared.Handed.TheVariants.{Taken}
 use Rattle.peak_stream.specs.Survey.{none, started, onwards, Totalled, Small}
 use Rattle.peak_stream.specs.Hands.{waiting, begun, moved, closed_by, at_end, hands_on, handing_out, Pieces}
 use Rattle.peak_stream.proofs.Coming.{Set, set_out, ready_set}
@@ -21,6 +18,8 @@ use Rattle.peak_stream.proofs.Pieces.{survey_anywhere}
 use Rattle.peak_stream.proofs.Anywhere.{set_fold, both_long, fresh_ready, passes_anywhere}
 use Rattle.comma_peaks.specs.Timed.{timed_of, blocks, handing_blocks}
 use Rattle.comma_peaks.proofs.Blocks.{drop_join, small_drop, counted_anywhere}
+use Rattle.refusal.specs.declared.Refusal.{Refusal}
+use Rattle.std.specs.Prelude.{Result, Ok}
 
 -- the timed samples of each block
 timed_blocks : ℕ → ℕ → List (List ℤ) → List (List ℤ)
@@ -40,12 +39,12 @@ unfolding timed_blocks
 timed_pieces n R lines [] w = tt
 timed_pieces n R lines (x ∷ bs) w = (omega (arith, w.0, length-drop (R - lines) x), timed_pieces n R (lines + length x) bs w.1)
 
-same_survey : (s t : Surveying) → surveyed.Taken s ≡ surveyed.Taken t → s ≡ t
+same_survey : (s t : Surveying) → Ok s ≡ Ok t → s ≡ t
 same_survey s t e = cc
 
 module _ (n R : ℕ) (sizes times : List ℕ) (a : n ≤ length sizes) (b : n ≤ length times) where
   same_out : (bs : List (List ℤ)) (lines : ℕ) (h : Handing) (k : ℕ) → Pieces n bs → Set h (length (drop (R - lines) (together bs)))
-      → handing_blocks R (length sizes) (length times) lines bs (Taken h k) ≡ handing_out (length sizes) (length times) (timed_blocks R lines bs) (Taken h k)
+      → handing_blocks R (length sizes) (length times) lines bs (Ok (h, k)) ≡ handing_out (length sizes) (length times) (timed_blocks R lines bs) (Ok (h, k))
   unfolding handing_blocks handing_out timed_blocks
   same_out [] lines h k w g = refl
   same_out (x ∷ bs) lines h k w g =
@@ -61,9 +60,9 @@ module _ (n R : ℕ) (sizes times : List ℕ) (a : n ≤ length sizes) (b : n �
       let f = foldl moved h A in
       let c = length (closed_by h A) in
       ap (λ (l : List ℤ). closed_by h l ++ handing_blocks R (length sizes) (length times) (lines + length x) bs (hands_on h l (length sizes) (length times))) t
-      ∙ ap (λ (q : Handed). closed_by h A ++ handing_blocks R (length sizes) (length times) (lines + length x) bs q) (sym r)
+      ∙ ap (λ (q : Result (Handing × ℕ) Refusal). closed_by h A ++ handing_blocks R (length sizes) (length times) (lines + length x) bs q) (sym r)
       ∙ ap (λ (l : List Peak). closed_by h A ++ l) (same_out bs (lines + length x) f c w.1 (set_fold h A (length B) s))
-      ∙ ap (λ (q : Handed). closed_by h A ++ handing_out (length sizes) (length times) (timed_blocks R (lines + length x) bs) q) r
+      ∙ ap (λ (q : Result (Handing × ℕ) Refusal). closed_by h A ++ handing_out (length sizes) (length times) (timed_blocks R (lines + length x) bs) q) r
 
   -- a second pass that has begun
   abbrev pub Out : List (List ℤ) → ℕ → ℕ → ℕ → ℕ → List Peak
@@ -91,7 +90,7 @@ module _ (n R : ℕ) (sizes times : List ℕ) (a : n ≤ length sizes) (b : n �
       let small = small_drop R (together bs) m in
       let p = passes_anywhere n sizes times a b D R τ (together bs) qs qs e e d t small l (timed_pieces n R 0 cs w) in
       let q = survey_anywhere D qs d (subst Small (sym e) small) (omega (arith, l, ap length e)) in
-      let u : surveyed.Taken p.0 ≡ surveyed.Taken q.0 = sym p.1 ∙ q.1 in
+      let u : Ok p.0 ≡ Ok q.0 = sym p.1 ∙ q.1 in
       let total : Totalled D (drop R (together bs)) p.0 = subst (λ (s : Surveying). Totalled D (drop R (together
       bs)) s) (sym (same_survey p.0 q.0 u)) (subst (λ (xs : List ℤ). Totalled D xs q.0) e q.2) in
       let mine = counted_anywhere D R bs m l in

@@ -8,31 +8,31 @@ use Rattle.sample_range.specs.Range.{first_bad}
 use Rattle.comma_line.specs.Text.{first_wrong, samples_of}
 use Rattle.comma_stream.specs.declared.Follow.{Follow}
 use Rattle.comma_stream.specs.Follow.{after_lines}
-use Rattle.comma_peaks.specs.declared.Judged.{Judged}
-use Rattle.comma_peaks.specs.declared.Judged.TheVariants.{Refused, Peaks}
 use Rattle.comma_peaks.specs.Judged.{comes_to, judging, next_line}
+use Rattle.refusal.specs.declared.Refusal.{Refusal}
+use Rattle.std.specs.Prelude.{Result, Ok, Err}
 
 module _ (f : Follow) (R : ℕ) (wrong : Bool) where
-  pub judged_wrong : wrong ≡ true → Refused (next_line f) (CommaLine (next_line f)) ≡ judging f R wrong
+  pub judged_wrong : wrong ≡ true → Err (next_line f, CommaLine (next_line f)) ≡ judging f R wrong
   unfolding judging
   judged_wrong w = rw w
 
   module _ (w : wrong ≡ false) where
-    pub judged_outside : (f.outside ≡ 0 → ⊥) → Refused f.outside (Sample (f.outside - 1)) ≡ judging f R wrong
+    pub judged_outside : (f.outside ≡ 0 → ⊥) → Err (f.outside, Sample (f.outside - 1)) ≡ judging f R wrong
     unfolding judging
     judged_outside o = rw (w, ne_eqb f.outside 0 o)
 
     module _ (o : f.outside ≡ 0) where
-      pub judged_long : most_in_range f.step R < f.lines → Refused 0 TooLong ≡ judging f R wrong
+      pub judged_long : most_in_range f.step R < f.lines → Err (0, TooLong) ≡ judging f R wrong
       unfolding judging
       judged_long h = rw (w, eq-eqb f.outside 0 o, lt-ltb (most_in_range f.step R) f.lines h)
 
       module _ (h : f.lines ≤ most_in_range f.step R) where
-        pub judged_short : f.lines < R + 2 → Refused 0 TooShort ≡ judging f R wrong
+        pub judged_short : f.lines < R + 2 → Err (0, TooShort) ≡ judging f R wrong
         unfolding judging
         judged_short k = rw (w, eq-eqb f.outside 0 o, le-ltb (most_in_range f.step R) f.lines h, lt-ltb f.lines (R + 2) k)
 
-        pub judged_peaks : R + 2 ≤ f.lines → Peaks ≡ judging f R wrong
+        pub judged_peaks : R + 2 ≤ f.lines → (Ok tt) ≡ judging f R wrong
         unfolding judging
         judged_peaks k = rw (w, eq-eqb f.outside 0 o, le-ltb (most_in_range f.step R) f.lines h, le-ltb f.lines (R + 2) k)
 
@@ -42,7 +42,7 @@ module _ (D R : ℕ) (lines : List (List ℕ)) where
   abbrev pub fresh : Follow
   fresh = record { step = D; lines = 0; outside = 0 }
 
-  bad_is : (b : ℕ) → ◌≡◌ {A = Judged} (Refused (0 + b + 1) (Sample (0 + b + 1 - 1))) (Refused (b + 1) (Sample b))
+  bad_is : (b : ℕ) → ◌≡◌ {A = (Result (Unit {0}) (ℕ × Refusal))} (Err (0 + b + 1, Sample (0 + b + 1 - 1))) (Err (b + 1, Sample b))
   bad_is b = let e : 0 + b + 1 - 1 ≡ b = omega arith in rw (e, zero-add b)
 
   -- all are right

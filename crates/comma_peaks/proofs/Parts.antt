@@ -6,10 +6,11 @@ use Rattle.peak_groups.proofs.Due.{from_place}
 use Rattle.sample_items.specs.Limits.{most_in_range}
 use Rattle.peak_stream.specs.declared.Reading.{Reading}
 use Rattle.peak_stream.specs.declared.Surveying.{Surveying}
-use Rattle.peak_stream.specs.declared.Surveyed.{Surveyed}
 use Rattle.peak_stream.specs.Survey.{sound, surveyed, taken}
 use Rattle.peak_stream.proofs.Pieces.{taken_broken, taken_all, fits}
 use Rattle.comma_peaks.specs.Timed.{timed_of, counting, surveying_in}
+use Rattle.refusal.specs.declared.Refusal.{Refusal}
+use Rattle.std.specs.Prelude.{Result}
 
 -- no more than there are
 below : (a b : ℕ) → a ≤ b → min a b ≡ a
@@ -53,11 +54,11 @@ timed_fits R lines s xs e =
     let m = most_in_range s.reading.step 0 in
     omega (arith, fits s e, length-take (m - s.reading.n) (drop (R - lines) xs))
 
-pub counted : (R lines : ℕ) (s : Surveying) (xs ys : List ℤ) (a : Surveyed) → ys ≡ timed_of R lines s.reading xs → a ≡ taken s ys → surveying_in a s ≡ counting R lines s xs
+pub counted : (R lines : ℕ) (s : Surveying) (xs ys : List ℤ) (a : Result Surveying Refusal) → ys ≡ timed_of R lines s.reading xs → a ≡ taken s ys → surveying_in a s ≡ counting R lines s xs
 unfolding counting
 counted R lines s xs ys a e f =
     let t = timed_of R lines s.reading xs in
     let g : a ≡ taken s t = f ∙ ap (taken s) e in
     by_test (sound s)
-    (λ h. ap (λ (x : Surveyed). surveying_in x s) (g ∙ sym (taken_all s t h (timed_fits R lines s xs h))) ∙ sym (rw h refl))
-    (λ h. ap (λ (x : Surveyed). surveying_in x s) (g ∙ sym (taken_broken s t h)) ∙ sym (rw h refl))
+    (λ h. ap (λ (x : Result Surveying Refusal). surveying_in x s) (g ∙ sym (taken_all s t h (timed_fits R lines s xs h))) ∙ sym (rw h refl))
+    (λ h. ap (λ (x : Result Surveying Refusal). surveying_in x s) (g ∙ sym (taken_broken s t h)) ∙ sym (rw h refl))

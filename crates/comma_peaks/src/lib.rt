@@ -11,7 +11,7 @@ ghost use Rattle.peak_stream.specs.Hands.{HandsOver};
 ghost use Rattle.sample_items.specs.Limits.{most_in_range};
 
 use comma_stream::Follow;
-use peak_stream::{Handed, Handing, Reading, Surveyed, Surveying};
+use peak_stream::{Handing, Reading, Surveying};
 use refusal::Refusal;
 
 fn least(a: u64, b: usize) -> usize
@@ -42,12 +42,12 @@ fn timed_end(r: Reading, len: usize) -> usize
     least(most - r.n as u64, len)
 }
 
-fn surveying_in(a: Surveyed, s: Surveying) -> Surveying
+fn surveying_in(a: Result<Surveying, Refusal>, s: Surveying) -> Surveying
     ensures { result ≡ surveying_in a s }
 {
     match a {
-        Surveyed::Taken(t) => t,
-        Surveyed::Refused(_) => s,
+        Ok(t) => t,
+        Err(_) => s,
     }
 }
 
@@ -69,7 +69,7 @@ pub fn hand(
     samples: &[i32],
     sizes: &mut [u32],
     times: &mut [u32],
-) -> Handed
+) -> Result<(Handing, u64), Refusal>
     ensures { HandsOver h (timed_of ramp lines h.reading samples.now)
         sizes.old times.old result sizes.new times.new }
 {
@@ -79,34 +79,27 @@ pub fn hand(
     peak_stream::hand_over(h, &timed[..n], sizes, times)
 }
 
-// What a file comes to after its first reading: the line at fault or 0 with the refusal, or its peaks.
-#[derive(Clone, Copy)]
-pub enum Judged {
-    Refused(u64, Refusal),
-    Peaks,
-}
-
 // After the lines of `f`; `wrong` says that the next one is malformed or has a wrong time.
-pub fn judge(f: Follow, ramp: u64, wrong: bool) -> Judged
+pub fn judge(f: Follow, ramp: u64, wrong: bool) -> Result<(), (u64, Refusal)>
     ensures { result ≡ judging f ramp wrong }
 {
     if wrong {
         let line = std::num::wrapping_add_u64(f.lines, 1);
-        return Judged::Refused(line, Refusal::CommaLine(line));
+        return Err((line, Refusal::CommaLine(line)));
     }
     if f.outside != 0 {
-        return Judged::Refused(f.outside, Refusal::Sample(f.outside - 1));
+        return Err((f.outside, Refusal::Sample(f.outside - 1)));
     }
     if sample_items::most_samples(f.step, ramp) < f.lines {
-        return Judged::Refused(0, Refusal::TooLong);
+        return Err((0, Refusal::TooLong));
     }
     if f.lines < 2 {
-        return Judged::Refused(0, Refusal::TooShort);
+        return Err((0, Refusal::TooShort));
     }
     if f.lines - 2 < ramp {
-        return Judged::Refused(0, Refusal::TooShort);
+        return Err((0, Refusal::TooShort));
     }
-    Judged::Peaks
+    Ok(())
 }
 
 // Whether two readings are alike: as many lines, the same first sample out of range, as many peaks with the same sum.

@@ -7,7 +7,6 @@ use Rattle.truth.proofs.Cases.{by_test}
 use Rattle.sample_range.specs.Range.{sample_in_range, first_bad}
 use Rattle.decimal.specs.Lines.{lines_of}
 use Rattle.degrees.specs.Degrees.{below, unsigned, size, sample_of, signed, largest_size}
-use Rattle.comma_read.specs.declared.LinesFound.TheVariants.{Wrong, Right}
 use Rattle.comma_line.specs.Line.{roll, right, line_length}
 use Rattle.comma_line.specs.Text.{first_wrong, samples_of}
 use Rattle.comma_read.specs.Plain.{PlainLines, none, more}
@@ -15,6 +14,7 @@ use Rattle.comma_read.specs.Survey.{AllGood, surveyed}
 use Rattle.comma_read.proofs.Lines.{Turn, turn, first_line}
 use Rattle.comma_line.proofs.At.{LineRead}
 use Rattle.comma_read.proofs.Answered.{found_wrong}
+use Rattle.std.specs.Prelude.{Ok, Err}
 
 -- a sample is in range if its size is
 abs_signed : (b : Bool) (n : ℕ) → nat_abs (signed b n) ≡ n
@@ -118,7 +118,7 @@ module _ {D : ℕ} {text : List ℕ} {at time count sound : ℕ} (a : Along D te
       absurd (omega (arith, a.number, step_number D text at time r)))
 
   -- a wrong line
-  pub stopped : at < length text → right time (drop at text) ≡ false → Wrong count ≡ surveyed D (lines_of text)
+  pub stopped : at < length text → right time (drop at text) ≡ false → Err count ≡ surveyed D (lines_of text)
   unfolding surveyed first_wrong
   stopped inside r =
       let f = first_line time (drop at text) (omega (arith, length-drop at text)) in
@@ -128,7 +128,7 @@ module _ {D : ℕ} {text : List ℕ} {at time count sound : ℕ} (a : Along D te
       rw (here, lt-ltb count (length (lines_of text)) (omega (arith, a.number)))
 
   -- the end
-  pub ended : length text ≤ at → Right count sound ≡ surveyed D (lines_of text)
+  pub ended : length text ≤ at → Ok (count, sound) ≡ surveyed D (lines_of text)
   unfolding surveyed first_wrong lines_of first_bad
   ended past =
       let none : Lines text at ≡ [] = ap lines_of (drop_of_length-le text past) in

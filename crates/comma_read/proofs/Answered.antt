@@ -9,12 +9,11 @@ use Rattle.sample_items.specs.Limits.{step_in_range}
 use Rattle.sample_range.specs.Range.{sample_in_range, first_bad}
 use Rattle.decimal.specs.Field.{line_feed}
 use Rattle.decimal.specs.Lines.{start_line, lines_of}
-use Rattle.comma_read.specs.declared.LinesFound.TheVariants.{Wrong, Right}
-use Rattle.comma_read.specs.declared.Reading.TheVariants.{Samples, Refused}
 use Rattle.comma_line.specs.Line.{right}
 use Rattle.comma_line.specs.Text.{first_wrong, samples_of}
 use Rattle.comma_read.specs.Survey.{surveyed}
 use Rattle.comma_read.specs.Answers.{reading_lines, filled_by}
+use Rattle.std.specs.Prelude.{Ok, Err}
 
 wrong_within : (D time : ℕ) (lines : List (List ℕ)) → first_wrong D time lines ≤ length lines
 unfolding first_wrong
@@ -55,26 +54,26 @@ pub record FoundRight (D : ℕ) (lines : List (List ℕ)) (n s : ℕ) : Type 0 w
   pub low : s ≤ n
 
 module _ (D : ℕ) (lines : List (List ℕ)) where
-  apart : {n m s : ℕ} → ¬ (Wrong n ≡ Right m s)
+  apart : {n m s : ℕ} → ¬ (Err n ≡ Ok (m, s))
   apart e = impossible (cc)
 
-  pub found_wrong : (n : ℕ) → surveyed D lines ≡ Wrong n → FoundWrong D lines n
+  pub found_wrong : (n : ℕ) → surveyed D lines ≡ Err n → FoundWrong D lines n
   unfolding surveyed
   found_wrong n e =
       by_test (ltb (first_wrong D 0 lines) (length lines))
       (λ t.
-      let f : Wrong (first_wrong D 0 lines) ≡ Wrong n = rw t at e in
+      let f : Err (first_wrong D 0 lines) ≡ Err n = rw t at e in
       let p : first_wrong D 0 lines ≡ n = cc (f) in
       record { place = p; some = omega (arith, ltb-true (first_wrong D 0 lines) (length lines) t) })
       (λ t. absurd (apart (sym (rw t at e))))
 
-  pub found_right : (n s : ℕ) → surveyed D lines ≡ Right n s → FoundRight D lines n s
+  pub found_right : (n s : ℕ) → surveyed D lines ≡ Ok (n, s) → FoundRight D lines n s
   unfolding surveyed
   found_right n s e =
       by_test (ltb (first_wrong D 0 lines) (length lines))
       (λ t. absurd (apart (rw t at e)))
       (λ t.
-      let f : Right (length lines) (first_bad (samples_of lines)) ≡ Right n s = rw t at e in
+      let f : Ok (length lines, first_bad (samples_of lines)) ≡ Ok (n, s) = rw t at e in
       let number : length lines ≡ n = cc (f) in
       let bad : first_bad (samples_of lines) ≡ s = cc (f) in
       record {
@@ -85,31 +84,31 @@ module _ (D : ℕ) (lines : List (List ℕ)) where
       })
 
   module _ (places : ℕ) where
-    pub bad_step : step_in_range D ≡ false → Refused (Item 1) ≡ reading_lines D lines places
+    pub bad_step : step_in_range D ≡ false → Err (Item 1) ≡ reading_lines D lines places
     unfolding reading_lines
     bad_step e = rw e
 
     module _ (step : step_in_range D ≡ true) where
-      pub wrong_line : (n : ℕ) → FoundWrong D lines n → Refused (CommaLine (n + 1)) ≡ reading_lines D lines places
+      pub wrong_line : (n : ℕ) → FoundWrong D lines n → Err (CommaLine (n + 1)) ≡ reading_lines D lines places
       unfolding reading_lines
       wrong_line n w = rw (step, w.place, lt-ltb n (length lines) w.some)
 
       module _ (n s : ℕ) (r : FoundRight D lines n s) where
-        pub bad_sample : s < n → Refused (Sample s) ≡ reading_lines D lines places
+        pub bad_sample : s < n → Err (Sample s) ≡ reading_lines D lines places
         unfolding reading_lines
         bad_sample h = rw (step, r.all, r.number, r.bad, le-ltb n n (omega arith), lt-ltb s n h)
 
-        pub no_room : n ≤ s → places < n → Refused (Room n) ≡ reading_lines D lines places
+        pub no_room : n ≤ s → places < n → Err (Room n) ≡ reading_lines D lines places
         unfolding reading_lines
         no_room g h = rw (step, r.all, r.number, r.bad, le-ltb n n (omega arith), le-ltb s n g, lt-ltb places n h)
 
-        pub all_read : n ≤ s → n ≤ places → Samples n ≡ reading_lines D lines places
+        pub all_read : n ≤ s → n ≤ places → Ok n ≡ reading_lines D lines places
         unfolding reading_lines
         all_read g h = rw (step, r.all, r.number, r.bad, le-ltb n n (omega arith), le-ltb s n g, le-ltb places n h)
 
 -- the places after the second pass
 pub samples_put : (lines : List (List ℕ)) (samples : List ℤ) (n : ℕ) → length lines ≡ n → n ≤ length samples
-    → sets samples 0 (samples_of lines) ≡ filled_by (Samples n) (samples_of lines) samples
+    → sets samples 0 (samples_of lines) ≡ filled_by (Ok n) (samples_of lines) samples
 unfolding filled_by
 samples_put lines samples n e h =
     let k : length (samples_of lines) ≡ n = samples_number lines ∙ e in
@@ -123,7 +122,7 @@ pub record AllRead (D : ℕ) (lines : List (List ℕ)) (places n : ℕ) : Type 0
   pub room : length lines ≤ places
   pub count : length lines ≡ n
 
-pub samples_read : (D : ℕ) (lines : List (List ℕ)) (places n : ℕ) → reading_lines D lines places ≡ Samples n → AllRead D lines places n
+pub samples_read : (D : ℕ) (lines : List (List ℕ)) (places n : ℕ) → reading_lines D lines places ≡ Ok n → AllRead D lines places n
 unfolding reading_lines
 samples_read D lines places n e =
     by_test (step_in_range D)
@@ -137,7 +136,7 @@ samples_read D lines places n e =
     by_test (ltb places (length lines))
     (λ p. absurd (never (rw (s, w, b, p) at e)))
     (λ p.
-    let f : Samples (length lines) ≡ Samples n = rw (s, w, b, p) at e in
+    let f : Ok (length lines) ≡ Ok n = rw (s, w, b, p) at e in
     let c : length lines ≡ n = cc (f) in
     record {
       step = s;
@@ -148,5 +147,5 @@ samples_read D lines places n e =
     }))))
     (λ s. absurd (never (rw s at e)))
   where
-    never : {r : Refusal} → ¬ (Refused r ≡ Samples n)
+    never : {r : Refusal} → ¬ (Err r ≡ Ok n)
     never f = impossible (cc)

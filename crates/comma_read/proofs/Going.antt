@@ -15,11 +15,11 @@ use Rattle.degrees.specs.Degrees.{below, unsigned, size, sample_of, signed, larg
 use Rattle.comma_line.specs.Line.{roll, right, line_length}
 use Rattle.comma_line.specs.Text.{first_wrong, samples_of}
 use Rattle.comma_line.proofs.At.{LineRead}
-use Rattle.comma_read.specs.declared.LinesTaken.TheVariants.{Taken}
 use Rattle.comma_read.specs.Plain.{PlainLine, PlainPut, as_it_stood, one_more}
 use Rattle.comma_read.specs.Taken.{bytes_of, held, right_after, lines_taken, taken_of, put_by}
 use Rattle.comma_read.proofs.Lines.{Turn, turn, first_line}
 use Rattle.comma_read.proofs.Along.{Lines, in_range, counted, counted_none}
+use Rattle.std.specs.Prelude.{Ok}
 
 -- the bytes of lines and one more
 bytes_last : (lines : List (List ℕ)) (line : List ℕ) → bytes_of (lines ++ (line ∷ [])) ≡ bytes_of lines + length line
@@ -181,17 +181,17 @@ module _ {D : ℕ} (before : ℕ) {text : List ℕ} {slice : List ℤ} {at numbe
 
   -- then this is what they come to
   module _ (step : step_in_range D ≡ true) (all : take places (right_after D before text) ≡ g.front) where
-    pub going_taken : Taken number at sound ≡ lines_taken D before text places
+    pub going_taken : Ok (number, at, sound) ≡ lines_taken D before text places
     unfolding lines_taken
-    going_taken = rw (step, all) (λ i. Taken (sym g.count i) (g.bytes i) (g.noted i))
+    going_taken = rw (step, all) (λ i. Ok (sym g.count i, g.bytes i, g.noted i))
 
-    pub going_put : samples ≡ put_by (Taken number at sound) text slice
+    pub going_put : samples ≡ put_by (Ok (number, at, sound)) text slice
     unfolding put_by taken_of
     going_put = rw (g.lines, take_at g.front (Lines text at) number g.count) g.put
 
 -- after so many lines that no time has 12 digits nothing is taken
 module _ (D before : ℕ) (text : List ℕ) (places : ℕ) (step : step_in_range D ≡ true) where
-  pub none_late : 10 ^ longest < before → Taken 0 0 0 ≡ lines_taken D before text places
+  pub none_late : 10 ^ longest < before → Ok (0, 0, 0) ≡ lines_taken D before text places
   unfolding lines_taken bytes_of first_bad
   none_late h =
       let late : 10 ^ longest ≤ before * D = omega (arith, mul-le-mul {n₁ = before} {m₁ = 1} {n₂ = before} {m₂ = D} (omega arith) (low 1 10000 D step)) in

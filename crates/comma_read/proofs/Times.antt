@@ -9,10 +9,10 @@ use Rattle.decimal.proofs.Text.{digits_some, digits_above, digits_below, digits_
 use Rattle.decimal.proofs.Leading.{LeadsTo, leading_is}
 use Rattle.comma_line.specs.Line.{comma, roll, is_comma_line, right, line_length}
 use Rattle.comma_read.specs.Plain.{Narrow}
-use Rattle.degrees.specs.declared.Degrees.TheVariants.{Bad}
 use Rattle.degrees.specs.Degrees.{first, is_degrees, degrees_at}
 use Rattle.degrees.proofs.Signs.{ReadsAs, degrees_none}
 use Rattle.comma_line.proofs.At.{LineRead}
+use Rattle.std.specs.Prelude.{None}
 
 pub time_is : (time : ℕ) (text : List ℕ) → right time text ≡ true → leading text ≡ digits_of time
 unfolding right is_comma_line
@@ -54,7 +54,7 @@ module _ (s : List ℕ) (at time width : ℕ) (r : right time (drop at s) ≡ tr
   line_by_roll d =
       record { is = r; sign = rw roll_there d.sign; value = rw roll_there d.value; place = rw (roll_there, time_is time (drop at s) r, ← e) (omega (arith, d.place)) }
 
-  pub roll_good : ¬ (degrees_at s (at + width + 1) ≡ Bad)
+  pub roll_good : ¬ (degrees_at s (at + width + 1) ≡ None)
   unfolding right is_comma_line
   roll_good bad =
       let line = (and-true (is_comma_line (drop at s)) _ r).0 in

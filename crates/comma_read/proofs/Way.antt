@@ -6,12 +6,12 @@ use Rattle.sample_items.proofs.Ranges.{low, high}
 use Rattle.degrees.specs.Degrees.{signed, largest_size}
 use Rattle.comma_line.specs.Line.{right}
 use Rattle.comma_line.proofs.At.{LineRead}
-use Rattle.comma_read.specs.declared.LinesTaken.TheVariants.{Taken}
 use Rattle.comma_read.specs.Plain.{PlainPut}
 use Rattle.comma_read.specs.Taken.{lines_taken, taken_of, put_by}
 use Rattle.comma_read.proofs.Lines.{turn}
 use Rattle.comma_read.proofs.Puts.{put_lines, lines_early}
 use Rattle.comma_read.proofs.Going.{Going, set_out, going_read, going_run, going_full, going_stopped, going_taken, going_put}
+use Rattle.std.specs.Prelude.{Ok}
 
 pub record Way (D before : ℕ) (text : List ℕ) (slice : List ℤ) (at count due sound : ℕ) (samples : List ℤ) : Type 0 where
   pub going : Going D (before * D) text slice at count sound samples
@@ -66,10 +66,10 @@ module _ (D before : ℕ) (text : List ℕ) (slice : List ℤ) (step : step_in_r
 
     -- what the promise says
     abbrev Said : Type 0
-    Said = (Taken count at sound ≡ lines_taken D before text (length slice)) × ((samples ≡ put_by (Taken count at sound) text slice)
-        × (before + taken_of (Taken count at sound) < 18446744073709551616))
+    Said = (Ok (count, at, sound) ≡ lines_taken D before text (length slice)) × ((samples ≡ put_by (Ok (count, at, sound)) text slice)
+        × (before + taken_of (Ok (count, at, sound)) < 18446744073709551616))
 
-    fits : before + taken_of (Taken count at sound) < 18446744073709551616
+    fits : before + taken_of (Ok (count, at, sound)) < 18446744073709551616
     unfolding taken_of
     fits = omega (arith, w.few, w.early)
 

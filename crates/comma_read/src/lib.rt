@@ -21,8 +21,6 @@ ghost use Rattle.comma_read.specs.Answers.{reading_comma, filled_by};
 ghost use Rattle.comma_read.specs.Taken.{lines_taken, taken_of, put_by};
 ghost use Rattle.comma_read.specs.Survey.{AllGood, surveyed};
 
-use comma_line::Line;
-use degrees::Degrees;
 use refusal::Refusal;
 
 const LF: u8 = 10;
@@ -39,31 +37,6 @@ const LATEST: u64 = 99_990_000;
 
 // After so many lines no time has 12 digits.
 const MOST_LINES: u64 = 1_000_000_000_000;
-
-// What reading a text comes to.
-#[derive(Clone, Copy)]
-pub enum Reading {
-    // The number of samples.
-    Samples(u64),
-    Refused(Refusal),
-}
-
-// What taking a text's right lines comes to.
-#[derive(Clone, Copy)]
-pub enum LinesTaken {
-    // Their number, their bytes, and the samples before the first out of range.
-    Taken(u64, usize, u64),
-    Refused(Refusal),
-}
-
-// What all lines of a text come to.
-#[derive(Clone, Copy)]
-enum LinesFound {
-    // The number of lines before the first wrong one.
-    Wrong(u64),
-    // The number of lines, and the place of the first sample out of range, or that number.
-    Right(u64, u64),
-}
 
 // Plain lines one after the other: the place after them, and their number.
 #[derive(Clone, Copy)]
@@ -339,7 +312,7 @@ fn plain_front(text: &[u8], step: u64) -> Run
 }
 
 // Judges all lines of `text`, those of its front being plain: one that may be of any form, and plain ones together.
-fn survey(text: &[u8], step: u64, front: usize, lines: u64) -> LinesFound
+fn survey(text: &[u8], step: u64, front: usize, lines: u64) -> Result<(u64, u64), u64>
     requires { (step ≤ 10000) × PlainLines text.now step 0 0 front lines }
     ensures { result ≡ surveyed step (lines_of text.now) }
 {
@@ -356,17 +329,17 @@ fn survey(text: &[u8], step: u64, front: usize, lines: u64) -> LinesFound
         due += run.lines * step;
         at = run.at;
         if text.len() <= at {
-            return LinesFound::Right(count, sound);
+            return Ok((count, sound));
         }
-        let Line::Says(_, size, end) = comma_line::line_at(text, at, due) else {
-            return LinesFound::Wrong(count);
+        let Some((_, size, end)) = comma_line::line_at(text, at, due) else {
+            return Err(count);
         };
         sound = tallied(sound, count, size <= comma_line::SAMPLE_LIMIT as u64);
         count += 1;
         due += step;
         at = end;
     }
-    LinesFound::Right(count, sound)
+    Ok((count, sound))
 }
 
 // Puts `x` into its place, where `samples` has that place.
@@ -489,7 +462,7 @@ fn fill_rest(text: &[u8], step: u64, front: usize, lines: u64, samples: &mut [i3
         let from = degrees::past_minus(text, roll);
         let bytes = comma_word::bytes_at(text, from);
         if bytes == 0 {
-            let Degrees::Says(minus, size, next) = degrees::degrees_at(text, roll) else {
+            let Some((minus, size, next)) = degrees::degrees_at(text, roll) else {
                 return;
             };
             put(degrees::sample(minus, size), samples, count);
@@ -522,26 +495,26 @@ fn fill(text: &[u8], step: u64, front: usize, lines: u64, samples: &mut [i32])
 // Reads a text into `samples`, thousandths of a degree, whose rest stays, and answers their number; or refusal 1, 10
 // with the line number, 2 with the sample's place, 7 with the number of samples, each judged over all lines, and
 // `samples` as it stood.
-pub fn read(text: &[u8], step: u64, samples: &mut [i32]) -> Reading
+pub fn read(text: &[u8], step: u64, samples: &mut [i32]) -> Result<u64, Refusal>
     ensures value { result ≡ reading_comma step text.now (length samples.old) }
     ensures samples_after { samples.new
         ≡ filled_by result (samples_of (lines_of text.now)) samples.old }
 {
     if !comma_line::step_in_range(step) {
-        return Reading::Refused(Refusal::Item(1));
+        return Err(Refusal::Item(1));
     }
     let front = plain_front(text, step);
     match survey(text, step, front.at, front.lines) {
-        LinesFound::Wrong(lines) => Reading::Refused(Refusal::CommaLine(lines + 1)),
-        LinesFound::Right(count, sound) => {
+        Err(lines) => Err(Refusal::CommaLine(lines + 1)),
+        Ok((count, sound)) => {
             if sound < count {
-                return Reading::Refused(Refusal::Sample(sound));
+                return Err(Refusal::Sample(sound));
             }
             if (samples.len() as u64) < count {
-                return Reading::Refused(Refusal::Room(count));
+                return Err(Refusal::Room(count));
             }
             fill(text, step, front.at, front.lines, samples);
-            Reading::Samples(count)
+            Ok(count)
         }
     }
 }
@@ -621,7 +594,12 @@ fn plain_taken(
 }
 
 // The right lines at a step in range, the first of them having a time: plain ones together, then one of any form.
-fn right_lines(text: &[u8], step: u64, before: u64, samples: &mut [i32]) -> LinesTaken
+fn right_lines(
+    text: &[u8],
+    step: u64,
+    before: u64,
+    samples: &mut [i32],
+) -> Result<(u64, usize, u64), Refusal>
     requires { (step_in_range step ≡ true) × (before ≤ 1000000000000) }
     ensures value { result ≡ lines_taken step before text.now (length samples.old) }
     ensures samples_after { samples.new ≡ put_by result text.now samples.old }
@@ -642,7 +620,7 @@ fn right_lines(text: &[u8], step: u64, before: u64, samples: &mut [i32]) -> Line
         if samples.len() <= count as usize {
             break;
         }
-        let Line::Says(minus, size, end) = comma_line::line_at(text, at, due) else {
+        let Some((minus, size, end)) = comma_line::line_at(text, at, due) else {
             break;
         };
         store(degrees::sample(minus, size), samples, count as usize);
@@ -651,22 +629,27 @@ fn right_lines(text: &[u8], step: u64, before: u64, samples: &mut [i32]) -> Line
         due += step;
         at = end;
     }
-    LinesTaken::Taken(count, at, sound)
+    Ok((count, at, sound))
 }
 
 // Takes the right lines that `text` starts with, as many as `samples` has places, where `before` lines of the file
 // stand before them. Puts their samples, a 0 for one out of range; the rest of `samples` stays. Or refusal 1 for the
 // step.
-pub fn take(text: &[u8], step: u64, before: u64, samples: &mut [i32]) -> LinesTaken
+pub fn take(
+    text: &[u8],
+    step: u64,
+    before: u64,
+    samples: &mut [i32],
+) -> Result<(u64, usize, u64), Refusal>
     ensures value { result ≡ lines_taken step before text.now (length samples.old) }
     ensures samples_after { samples.new ≡ put_by result text.now samples.old }
     ensures result_bound { before + taken_of result < 18446744073709551616 }
 {
     if !comma_line::step_in_range(step) {
-        return LinesTaken::Refused(Refusal::Item(1));
+        return Err(Refusal::Item(1));
     }
     if before > MOST_LINES {
-        return LinesTaken::Taken(0, 0, 0);
+        return Ok((0, 0, 0));
     }
     right_lines(text, step, before, samples)
 }

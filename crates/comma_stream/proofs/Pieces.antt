@@ -19,7 +19,6 @@ use Rattle.degrees.specs.Degrees.{sample_of}
 use Rattle.comma_line.specs.Line.{roll, right, line_length}
 use Rattle.comma_line.specs.Text.{first_wrong, samples_of}
 use Rattle.refusal.specs.declared.Refusal.TheVariants.{Sample, CommaLine}
-use Rattle.comma_read.specs.declared.Reading.TheVariants.{Samples, Refused}
 use Rattle.comma_read.specs.Answers.{reading_comma, reading_lines}
 use Rattle.comma_read.proofs.Lines.{Turn, turn, first_line}
 use Rattle.comma_read.proofs.Going.{wrong_none}
@@ -28,6 +27,7 @@ use Rattle.comma_stream.specs.Follow.{bytes_of, right_lines, after_lines}
 use Rattle.text.specs.Pieces.{joined}
 use Rattle.comma_stream.specs.Pieces.{Passed, nothing, with_piece, passing, ending}
 use Rattle.comma_stream.proofs.Going.{Outside, outside_is, outside_join}
+use Rattle.std.specs.Prelude.{Ok, Err}
 
 -- ---- the right lines that a text starts with, from a time on
 abbrev pub Rights : ℕ → ℕ → List ℕ → List (List ℕ)
@@ -217,12 +217,12 @@ module _ (D : ℕ) (text : List ℕ) (p : Passed) (l : Level D p text) where
     unfolding after_lines
     outside = rw (l.stands, same) (rw zero-add)
 
-    all_taken : ending p ≡ cond (ltb Bad (length L)) (Refused (Sample Bad)) (Samples (length L))
+    all_taken : ending p ≡ cond (ltb Bad (length L)) (Err (Sample Bad)) (Ok (length L))
     unfolding ending
     all_taken =
         by_order Bad (length L)
-        (λ h. rw (l.left, e, outside, lt-ltb Bad (length L) h, ne_eqb (Bad + 1) 0 (λ z. omega arith)) (ap (λ n. Refused (Sample n)) (omega arith)))
-        (λ h. rw (l.left, e, outside, le-ltb Bad (length L) h) (ap Samples lines))
+        (λ h. rw (l.left, e, outside, lt-ltb Bad (length L) h, ne_eqb (Bad + 1) 0 (λ z. omega arith)) (ap (λ n. Err (Sample n)) (omega arith)))
+        (λ h. rw (l.left, e, outside, le-ltb Bad (length L) h) (ap Ok lines))
 
   module _ (places : ℕ) (step : step_in_range D ≡ true) (room : length L ≤ places) where
     none_left : Left D 0 text ≡ [] → ending p ≡ reading_lines D L places
@@ -239,7 +239,7 @@ module _ (D : ℕ) (text : List ℕ) (p : Passed) (l : Level D p text) where
         let more : length (lines_of (Left D 0 text)) ≡ suc (length f.lines) = ap (λ x. length (lines_of x)) e ∙ ap length f.is in
         let short : first_wrong D 0 L < length L = omega (arith, number, more, ap length rest_of ∙ length-append (Rights D 0 text) (lines_of (Left D 0 text))) in
         rw (l.left, l.stands, e, ne_eqb (length (b ∷ left)) 0 (λ z. omega arith), step, lt-ltb (first_wrong D 0 L) (length L) short)
-        (ap (λ n. Refused (CommaLine (n + 1))) (zero-add (length (Rights D 0 text)) ∙ number))
+        (ap (λ n. Err (CommaLine (n + 1))) (zero-add (length (Rights D 0 text)) ∙ number))
 
     ending_whole : ending p ≡ reading_lines D L places
     ending_whole = by_left (Left D 0 text) refl

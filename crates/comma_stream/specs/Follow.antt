@@ -1,6 +1,6 @@
 -- Document 02 [1]: a comma file read as it comes. A text here is what is left of the pieces so far, and the next piece
 -- after it. Assumes nothing.
-use Rattle.std.specs.Prelude.{ℕ, ◌+◌, ◌*◌, Bool, true, cond, not, ◌&&◌, List, [], ◌∷◌, ◌++◌, map, eqb, ltb, ℤ, length, take, drop}
+use Rattle.std.specs.Prelude.{ℕ, ◌+◌, ◌*◌, Bool, true, cond, not, ◌&&◌, List, [], ◌∷◌, ◌++◌, map, eqb, ltb, ℤ, length, take, drop, Result, Ok, Err}
 use Rattle.refusal.specs.declared.Refusal.TheVariants.{Item}
 use Rattle.sample_items.specs.Limits.{step_in_range}
 use Rattle.sample_range.specs.Range.{first_bad}
@@ -9,10 +9,9 @@ use Rattle.decimal.specs.Lines.{lines_of}
 use Rattle.comma_line.specs.Text.{first_wrong, samples_of}
 unfoldable pub use Rattle.comma_read.specs.Taken.{bytes_of, held}
 use Rattle.comma_stream.specs.declared.Follow.{Follow}
-use Rattle.comma_stream.specs.declared.Followed.{Followed}
-use Rattle.comma_stream.specs.declared.Followed.TheVariants.{Taken, Refused}
 use Rattle.comma_stream.specs.declared.Rest.{Rest}
 use Rattle.comma_stream.specs.declared.Rest.TheVariants.{Waits, Over, Wrong}
+use Rattle.refusal.specs.declared.Refusal.{Refusal}
 
 -- the most bytes of a line: two numbers of 12 digits, comma, minus, point, three digits, LF
 abbrev pub longest_comma_line : ℕ
@@ -51,18 +50,18 @@ after_lines f lines =
     }
 
 -- what lines that were taken come to
-unfoldable pub taken_by : Follow → List (List ℕ) → Followed
-taken_by f lines = Taken (after_lines f lines) (bytes_of lines) (length lines)
+unfoldable pub taken_by : Follow → List (List ℕ) → Result (Follow × ℕ × ℕ) Refusal
+taken_by f lines = Ok (after_lines f lines, bytes_of lines, length lines)
 
 -- taking a text's lines into so many places: 1 for the step, or its right lines, as many as there are places
-unfoldable pub taking : Follow → List ℕ → ℕ → Followed
-taking f text places = cond (not (step_in_range f.step)) (Refused (Item 1)) (taken_by f (take places (right_lines f text)))
+unfoldable pub taking : Follow → List ℕ → ℕ → Result (Follow × ℕ × ℕ) Refusal
+taking f text places = cond (not (step_in_range f.step)) (Err (Item 1)) (taken_by f (take places (right_lines f text)))
 
 -- how many lines were taken
-unfoldable pub number_of : Followed → ℕ
-number_of (Taken f bytes n) = n
-number_of (Refused r) = 0
+unfoldable pub number_of : Result (Follow × ℕ × ℕ) Refusal → ℕ
+number_of (Ok (f, bytes, n)) = n
+number_of (Err r) = 0
 
 -- the slice afterwards: the samples of the lines that were taken from its start, and the rest as it stood
-unfoldable pub leaving : Followed → List ℕ → List ℤ → List ℤ
+unfoldable pub leaving : Result (Follow × ℕ × ℕ) Refusal → List ℕ → List ℤ → List ℤ
 leaving r text slice = map held (samples_of (take (number_of r) (lines_of text))) ++ drop (number_of r) slice

@@ -6,7 +6,6 @@
 ghost use Rattle.std.specs.Prelude.{◌≡◌, cond, ◌&&◌, ◌+◌, ◌≤◌, ◌<◌, eqb, ltb, length, drop};
 ghost use Rattle.comma_stream.specs.Follow.{unended, resting, waiting_for, taking, leaving, number_of};
 
-use comma_read::LinesTaken;
 use refusal::Refusal;
 
 const LF: u8 = 10;
@@ -23,14 +22,6 @@ pub struct Follow {
     pub lines: u64,
     // The line of the first sample out of range, 0 for none.
     pub outside: u64,
-}
-
-// What a piece comes to.
-#[derive(Clone, Copy)]
-pub enum Followed {
-    // Where the reading stands after its right lines, their bytes, and their number.
-    Taken(Follow, usize, usize),
-    Refused(Refusal),
 }
 
 // What stands after the right lines.
@@ -96,14 +87,14 @@ fn noted(f: Follow, number: u64, sound: u64) -> u64
 
 // Takes the right lines that `text` starts with, as many as `samples` has places, and puts their samples there, a 0
 // for one out of range; the rest of `samples` stays. Or refusal 1 for the step.
-pub fn take(f: Follow, text: &[u8], samples: &mut [i32]) -> Followed
+pub fn take(f: Follow, text: &[u8], samples: &mut [i32]) -> Result<(Follow, usize, usize), Refusal>
     ensures value { result ≡ taking f text.now (length samples.old) }
     ensures samples_after { samples.new ≡ leaving result text.now samples.old }
     ensures result_in_bounds { number_of result ≤ length samples.old }
 {
     match comma_read::take(text, f.step, f.lines, samples) {
-        LinesTaken::Refused(why) => Followed::Refused(why),
-        LinesTaken::Taken(number, bytes, sound) => Followed::Taken(
+        Err(why) => Err(why),
+        Ok((number, bytes, sound)) => Ok((
             Follow {
                 step: f.step,
                 lines: f.lines + number,
@@ -111,6 +102,6 @@ pub fn take(f: Follow, text: &[u8], samples: &mut [i32]) -> Followed
             },
             bytes,
             number as usize,
-        ),
+        )),
     }
 }

@@ -15,11 +15,11 @@ use Rattle.truth.proofs.Laws.{and-true}
 use Rattle.decimal.specs.Decimal.{zero_byte, is_digit, all_digits, is_number, value_of}
 use Rattle.decimal.specs.Field.{line_feed}
 use Rattle.decimal.proofs.Text.{digit_range, value_below}
-use Rattle.degrees.specs.declared.Degrees.TheVariants.{Says}
 use Rattle.degrees.specs.Degrees.{point, filled, sign_length, size, degrees_at}
 use Rattle.degrees.proofs.Forms.{Sized, with_point, sized_at}
 use Rattle.degrees.proofs.Signs.{after_sign}
 use Rattle.comma_word.specs.Plain.{byte_at, short_digits, long_digits, short_at, long_at, Form, short, long, Plain, plain_bytes, short_size, long_size, plain_size}
+use Rattle.std.specs.Prelude.{Some}
 
 -- the bytes from a place on, one by one
 next_byte : (s : List ℕ) (at : ℕ) → at < length s → drop at s ≡ get_or s at 0 ∷ drop (at + 1) s
@@ -190,5 +190,5 @@ module _ (s : List ℕ) (at : ℕ) where
 
 -- plain degrees after a sign are what is read
 pub plain_read : (s : List ℕ) (at from : ℕ) {bytes : ℕ} → from ≡ at + sign_length (drop at s) → Plain s from bytes
-    → Says (not (eqb from at)) (size (drop from s)) (from + bytes) ≡ degrees_at s at
+    → Some (not (eqb from at), size (drop from s), from + bytes) ≡ degrees_at s at
 plain_read s at from e p = sized_at s from (not (eqb from at)) refl (plain_facts s from p).is ∙ after_sign s at from e

@@ -19,7 +19,6 @@ use Rattle.decimal.proofs.Lines.{lines_front}
 use Rattle.decimal.proofs.Text.{value_digits, number_digits, digit_byte}
 use Rattle.degrees.specs.Degrees.{point, filled, sign, signed, sample_of, three_digits, degrees_text}
 use Rattle.degrees.proofs.Parts.{IsSize, pointed_by, sign_bytes}
-use Rattle.comma_read.specs.declared.Reading.TheVariants.{Samples}
 use Rattle.comma_line.specs.Line.{roll, right, sample_text}
 use Rattle.comma_line.specs.Text.{first_wrong, samples_of, text_from, text_of}
 use Rattle.comma_read.specs.Answers.{reading_lines, reading_comma}
@@ -27,6 +26,7 @@ use Rattle.comma_write.specs.Answers.{last_time}
 use Rattle.comma_read.proofs.Shape.{Front, LineFacts, front_line}
 use Rattle.comma_read.proofs.Lines.{turn, front_none}
 use Rattle.comma_read.proofs.Answered.{samples_number, samples_read}
+use Rattle.std.specs.Prelude.{Ok}
 
 -- ---- the degrees of a sample, as they are written
 is_below : ℤ → Bool
@@ -145,7 +145,7 @@ last_due : (D n : ℕ) → (n - 1) * D < 10 ^ longest → Due D 0 n
 last_due D n h k l = omega (arith, mul-le-mul_right {m = k} {n = n - 1} D (omega arith))
 
 back : (D : ℕ) (xs : List ℤ) (places : ℕ) → step_in_range D ≡ true → first_bad xs ≡ length xs → Due D 0 (length xs) → length xs ≤ places
-    → (reading_comma D (text_of D xs) places ≡ Samples (length xs)) × (samples_of (lines_of (text_of D xs)) ≡ xs)
+    → (reading_comma D (text_of D xs) places ≡ Ok (length xs)) × (samples_of (lines_of (text_of D xs)) ≡ xs)
 unfolding reading_lines
 back D xs places step good due room =
     let r = read D 0 xs good due in
@@ -153,14 +153,14 @@ back D xs places step good due room =
 
 -- READING WHAT WAS WRITTEN gives the samples back, where there is room for them
 pub read_back : (D : ℕ) (xs : List ℤ) (places : ℕ) → step_in_range D ≡ true → first_bad xs ≡ length xs → last_time D xs < 10 ^ longest → length xs ≤ places
-    → (reading_comma D (text_of D xs) places ≡ Samples (length xs)) × (samples_of (lines_of (text_of D xs)) ≡ xs)
+    → (reading_comma D (text_of D xs) places ≡ Ok (length xs)) × (samples_of (lines_of (text_of D xs)) ≡ xs)
 read_back D xs places step good due room = back D xs places step good (last_due D (length xs) due) room
 
 -- WHAT A TEXT READS AS, WRITTEN AND READ AGAIN, is the same
-pub read_again : (D : ℕ) (text : List ℕ) (places n : ℕ) → reading_comma D text places ≡ Samples n
-    → (reading_comma D (text_of D (samples_of (lines_of text))) places ≡ Samples n) × (samples_of (lines_of (text_of D (samples_of (lines_of text)))) ≡ samples_of (lines_of text))
+pub read_again : (D : ℕ) (text : List ℕ) (places n : ℕ) → reading_comma D text places ≡ Ok n
+    → (reading_comma D (text_of D (samples_of (lines_of text))) places ≡ Ok n) × (samples_of (lines_of (text_of D (samples_of (lines_of text)))) ≡ samples_of (lines_of text))
 read_again D text places n e =
     let r = samples_read D (lines_of text) places n e in
     let few = samples_number (lines_of text) in
     let (answer, samples) = back D (samples_of (lines_of text)) places r.step (r.good ∙ sym few) (rw few (lines_due D 0 (lines_of text) r.all)) (rw few r.room) in
-    (answer ∙ ap Samples (few ∙ r.count), samples)
+    (answer ∙ ap Ok (few ∙ r.count), samples)

@@ -12,13 +12,13 @@ use borrow.Author.Tests.{le-ltb, lt-ltb}
 use Rattle.refusal.specs.declared.Refusal.TheVariants.{Item, Sample, TooLong, Room}
 use Rattle.sample_items.specs.Limits.{step_in_range}
 use Rattle.sample_range.specs.Range.{first_bad}
-use Rattle.text.specs.declared.Writing.TheVariants.{Bytes, Refused}
 use Rattle.decimal.specs.Decimal.{longest, digits_of}
 use Rattle.decimal.specs.Field.{line_feed}
 use Rattle.degrees.specs.Degrees.{degrees_text}
 use Rattle.comma_line.specs.Line.{comma, sample_text}
 use Rattle.comma_line.specs.Text.{text_from, text_of}
 use Rattle.comma_write.specs.Answers.{last_time, writing_comma}
+use Rattle.std.specs.Prelude.{Ok, Err}
 
 pub line_bytes : (time : ℕ) (x : ℤ) → length (sample_text time x) ≡ length (digits_of time) + (length (degrees_text x) + 2)
 unfolding sample_text
@@ -39,26 +39,26 @@ next_bytes D time x xs = ap length (text_next D time x xs) ∙ length-append (sa
 
 -- ---- what writing answers
 module _ (D : ℕ) (xs : List ℤ) (out : List ℕ) where
-  pub bad_step : step_in_range D ≡ false → Refused (Item 1) ≡ writing_comma D xs out
+  pub bad_step : step_in_range D ≡ false → Err (Item 1) ≡ writing_comma D xs out
   unfolding writing_comma
   bad_step e = rw e
 
   module _ (step : step_in_range D ≡ true) where
-    pub bad_sample : first_bad xs < length xs → Refused (Sample (first_bad xs)) ≡ writing_comma D xs out
+    pub bad_sample : first_bad xs < length xs → Err (Sample (first_bad xs)) ≡ writing_comma D xs out
     unfolding writing_comma
     bad_sample h = rw (step, lt-ltb _ _ h)
 
     module _ (good : length xs ≤ first_bad xs) where
-      pub too_late : leb (10 ^ longest) (last_time D xs) ≡ true → Refused TooLong ≡ writing_comma D xs out
+      pub too_late : leb (10 ^ longest) (last_time D xs) ≡ true → Err TooLong ≡ writing_comma D xs out
       unfolding writing_comma
       too_late e = rw (step, le-ltb _ _ good, e)
 
       module _ (time : leb (10 ^ longest) (last_time D xs) ≡ false) where
-        pub no_room : length out < length (text_of D xs) → Refused (Room (length (text_of D xs))) ≡ writing_comma D xs out
+        pub no_room : length out < length (text_of D xs) → Err (Room (length (text_of D xs))) ≡ writing_comma D xs out
         unfolding writing_comma
         no_room h = rw (step, le-ltb _ _ good, time, lt-ltb _ _ h)
 
-        pub all_written : length (text_of D xs) ≤ length out → Bytes (length (text_of D xs)) ≡ writing_comma D xs out
+        pub all_written : length (text_of D xs) ≤ length out → Ok (length (text_of D xs)) ≡ writing_comma D xs out
         unfolding writing_comma
         all_written h = rw (step, le-ltb _ _ good, time, le-ltb _ _ h)
 

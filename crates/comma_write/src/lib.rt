@@ -9,7 +9,6 @@ ghost use Rattle.comma_line.specs.Text.{text_of};
 ghost use Rattle.comma_write.specs.Answers.{writing_comma};
 
 use refusal::Refusal;
-use text::Writing;
 
 const LF: u8 = 10;
 
@@ -80,24 +79,24 @@ fn too_long(n: u64, step: u64) -> bool
 
 // Writes samples as a text into `out`, whose rest stays, and answers its bytes; or refusal 1, 2 with the sample's
 // place, 3 where the last time needs more than 12 digits, 7 with the bytes needed, and `out` as it stood.
-pub fn write(samples: &[i32], step: u64, out: &mut [u8]) -> Writing
+pub fn write(samples: &[i32], step: u64, out: &mut [u8]) -> Result<u64, Refusal>
     ensures value { result ≡ writing_comma step samples.now out.old }
     ensures out_after { out.new ≡ laid_by result (text_of step samples.now) out.old }
 {
     if !comma_line::step_in_range(step) {
-        return Writing::Refused(Refusal::Item(1));
+        return Err(Refusal::Item(1));
     }
     let bad = sample_range::first_bad(samples);
     if bad < samples.len() {
-        return Writing::Refused(Refusal::Sample(bad as u64));
+        return Err(Refusal::Sample(bad as u64));
     }
     if too_long(samples.len() as u64, step) {
-        return Writing::Refused(Refusal::TooLong);
+        return Err(Refusal::TooLong);
     }
     let needed = text_length(samples, step);
     if (out.len() as u64) < needed {
-        return Writing::Refused(Refusal::Room(needed));
+        return Err(Refusal::Room(needed));
     }
     put_text(samples, step, out);
-    Writing::Bytes(needed)
+    Ok(needed)
 }

@@ -22,7 +22,6 @@ use Rattle.campaign_state.specs.State.{sound}
 use Rattle.campaign_condition.specs.Answers.{broken_from, judging, lowest_broken, situations_in_range}
 use Rattle.campaign_report.specs.Answers.{after_judging, writing_report}
 use Rattle.campaign_report.specs.Report.{report_text}
-use Rattle.text.specs.declared.Writing.TheVariants.{Bytes}
 use Rattle.text.specs.Pieces.{joined}
 use Rattle.text.specs.Write.{laid_by}
 use Rattle.text.proofs.Laws.{laid_front, written_fits}
@@ -37,11 +36,10 @@ use Rattle.sheet_records.proofs.Clean.{written_again}
 use Rattle.sheet_records.proofs.Entered.{judged_sound}
 use Rattle.desk_line.specs.declared.Finished.{Finished}
 use Rattle.desk_line.specs.Said.{Said, longest_said, putting, put_left}
-use Rattle.condition_sheets.specs.declared.Situations.{Situations}
-use Rattle.condition_sheets.specs.declared.Situations.TheVariants.{Campaigns, Refused}
 use Rattle.condition_sheets.specs.Report.{after_sheet, condition_from, condition_said, refused_situation, reported}
 use Rattle.condition_sheets.specs.Taking.{Taken, by_reading, finishing, finish_left, is_over, opened_condition, place_read, placed, places_after}
 use Rattle.condition_sheets.specs.Taking.{report_kept, report_told, step_of, taken_after, with_sheet}
+use Rattle.std.specs.Prelude.{Result, Ok, Err}
 
 -- ---- campaigns that are all sound are broken nowhere
 pub data AllSound : List Campaign → Type 0 where
@@ -73,20 +71,20 @@ pub record Kept (n : ℕ) (places : List Campaign) : Type 0 where
   pub few : n ≤ 64
   pub good : AllSound (take n places)
 
-abbrev pub Well : Situations → List Campaign → Type 0
-Well (Campaigns n) places = Kept n places
-Well (Refused situation line column r) places = Unit {0}
+abbrev pub Well : Result ℕ (ℕ × ℕ × ℕ × Refusal) → List Campaign → Type 0
+Well (Ok n) places = Kept n places
+Well (Err (situation, line, column, r)) places = Unit {0}
 
 -- ---- what is said of what was taken
-abbrev pub taken_said : Situations → List Campaign → Said
-taken_said (Campaigns n) places = reported (take n places)
-taken_said (Refused situation line column r) places = refused_situation situation line column r
+abbrev pub taken_said : Result ℕ (ℕ × ℕ × ℕ × Refusal) → List Campaign → Said
+taken_said (Ok n) places = reported (take n places)
+taken_said (Err (situation, line, column, r)) places = refused_situation situation line column r
 
-abbrev stood : Situations → List Campaign → Taken
+abbrev stood : Result ℕ (ℕ × ℕ × ℕ × Refusal) → List Campaign → Taken
 stood s places = record { situations = s; places = places }
 
 refused_stays : (sheets : List (List (List ℕ))) (situation line column : ℕ) (r : Refusal) (places : List Campaign)
-    → taken_after (stood (Refused situation line column r) places) sheets ≡ stood (Refused situation line column r) places
+    → taken_after (stood (Err (situation, line, column, r)) places) sheets ≡ stood (Err (situation, line, column, r)) places
 unfolding taken_after
 refused_stays [] situation line column r places = refl
 refused_stays (pieces ∷ sheets) situation line column r places = refused_stays sheets situation line column r places
@@ -95,15 +93,15 @@ refused_stays (pieces ∷ sheets) situation line column r places = refused_stays
 pub record Comes (s : Said) (t : Taken) : Type 0 where
   pub says : taken_said t.situations t.places ≡ s
   pub well : Well t.situations t.places
-  pub many : (n : ℕ) → t.situations ≡ Campaigns n → situations_in_range n ≡ true
+  pub many : (n : ℕ) → t.situations ≡ Ok n → situations_in_range n ≡ true
 
 comes_refused : (sheets : List (List (List ℕ))) (situation line column : ℕ) (r : Refusal) (places : List Campaign)
-    → Comes (refused_situation situation line column r) (taken_after (stood (Refused situation line column r) places) sheets)
+    → Comes (refused_situation situation line column r) (taken_after (stood (Err (situation, line, column, r)) places) sheets)
 comes_refused sheets situation line column r places =
     subst (Comes (refused_situation situation line column r)) (sym (refused_stays sheets situation line column r places))
     (record { says = refl; well = tt; many = λ n e. impossible (cc) })
 
-same_number : {m n : ℕ} → Campaigns m ≡ Campaigns n → n ≡ m
+same_number : {m n : ℕ} → Ok m ≡ Ok n → n ≡ m
 same_number e = cc
 
 in_few : (n : ℕ) → situations_in_range n ≡ true → n ≤ 64
@@ -113,7 +111,7 @@ in_few n t = leb-true n 64 (and-true (leb 1 n) (leb n 64) t).1
 abbrev Later : ℕ → List (List (List ℕ)) → Type 0
 Later number sheets =
     (n : ℕ) (places : List Campaign) → Kept n places → number ≡ n + length sheets → situations_in_range number ≡ true
-    → Comes (condition_from (take n places) (map joined sheets)) (taken_after (stood (Campaigns n) places) sheets)
+    → Comes (condition_from (take n places) (map joined sheets)) (taken_after (stood (Ok n) places) sheets)
 
 -- one sheet and those after it
 module _ (sheets : List (List (List ℕ))) (number n : ℕ) (places : List Campaign) (again : Later number sheets) (k : Kept n places)
@@ -138,27 +136,27 @@ module _ (sheets : List (List (List ℕ))) (number n : ℕ) (places : List Campa
   abbrev S : Reading → Said
   S r = after_sheet r (length (take n places) + 1) (λ c. condition_from (take n places ++ (c ∷ [])) (map joined sheets))
 
-  read_next : (c : Campaign) → sound c ≡ true → Comes (S (Read c)) (taken_after (stood (Campaigns (n + 1)) (set places n c)) sheets)
+  read_next : (c : Campaign) → sound c ≡ true → Comes (S (Read c)) (taken_after (stood (Ok (n + 1)) (set places n c)) sheets)
   read_next c g =
-      subst (λ l. Comes (condition_from l (map joined sheets)) (taken_after (stood (Campaigns (n + 1)) (set places n c)) sheets)) (is c)
+      subst (λ l. Comes (condition_from l (map joined sheets)) (taken_after (stood (Ok (n + 1)) (set places n c)) sheets)) (is c)
       (again (n + 1) (set places n c) (kept_next c g) e few)
 
   bad_next : (line column : ℕ) (r : Refusal) → Comes (refused_situation (length (take n places) + 1) line column r)
-      (taken_after (stood (Refused (n + 1) line column r) places) sheets)
+      (taken_after (stood (Err (n + 1, line, column, r)) places) sheets)
   bad_next line column r =
-      subst (λ m. Comes (refused_situation (m + 1) line column r) (taken_after (stood (Refused (n + 1) line column r) places) sheets)) (sym long)
+      subst (λ m. Comes (refused_situation (m + 1) line column r) (taken_after (stood (Err (n + 1, line, column, r)) places) sheets)) (sym long)
       (comes_refused sheets (n + 1) line column r places)
 
   sheet_taken : (r : Reading) → ((c : Campaign) → r ≡ Read c → sound c ≡ true) → Comes (S r) (taken_after (stood (by_reading n r) (place_read n r places)) sheets)
   unfolding placed
   sheet_taken (Read c) g =
-      subst (λ b. Comes (S (Read c)) (taken_after (stood (Campaigns (n + 1)) (cond b (set places n c) places)) sheets)) (sym (lt-ltb n 64 inside))
+      subst (λ b. Comes (S (Read c)) (taken_after (stood (Ok (n + 1)) (cond b (set places n c) places)) sheets)) (sym (lt-ltb n 64 inside))
       (read_next c (g c refl))
   sheet_taken (Stopped line column r) g = bad_next line column r
   sheet_taken (Waiting s left) g = bad_next 0 0 BrokenState
 
   abbrev Came : Bool → Reading → Reading → Type 0
-  Came b r x = Comes (S r) (taken_after (stood (cond b (Refused 0 0 0 refusal.Situations) (by_reading n x)) (place_read n x places)) sheets)
+  Came b r x = Comes (S r) (taken_after (stood (cond b (Err (0, 0, 0, refusal.Situations)) (by_reading n x)) (place_read n x places)) sheets)
 
   one : (pieces : List (List ℕ)) → Came (leb 64 n) (meaning (joined pieces)).end (feeding pieces Fresh []).end
   one pieces =
@@ -195,18 +193,18 @@ Writes s out f later = (f ≡ record { put = length s.line; end = s.end }) × (l
 
 -- campaigns that are all sound are reported
 report_written : (n : ℕ) (cs : List Campaign) (out : List ℕ) → situations_in_range n ≡ true → AllSound cs → length (report_text cs) ≤ length out
-    → writing_report n cs out ≡ Bytes (length (report_text cs))
+    → writing_report n cs out ≡ Ok (length (report_text cs))
 unfolding writing_report judging
 report_written n cs out t g h = rw (t, none_broken cs 1 g, le-ltb (length out) (length (report_text cs)) h)
 
-well_finished : (a : Situations) (places : List Campaign) (out : List ℕ) → Well a places → ((n : ℕ) → a ≡ Campaigns n → situations_in_range n ≡ true)
+well_finished : (a : Result ℕ (ℕ × ℕ × ℕ × Refusal)) (places : List Campaign) (out : List ℕ) → Well a places → ((n : ℕ) → a ≡ Ok n → situations_in_range n ≡ true)
     → longest_said ≤ length out → length (taken_said a places).line ≤ length out
     → Writes (taken_said a places) out (finishing a places out) (finish_left a places out)
 unfolding putting put_left report_told report_kept laid_by
-well_finished (Refused situation line column r) places out w m room h =
+well_finished (Err (situation, line, column, r)) places out w m room h =
     let text = (refused_situation situation line column r).line in
     rw (le-ltb (length out) longest_said room) (refl, written_fits out 0 text (omega (arith, h)) ∙ laid_front out text)
-well_finished (Campaigns n) places out w m room h =
+well_finished (Ok n) places out w m room h =
     rw (report_written n (take n places) out (m n refl) w.good h) (refl, refl)
 
 -- WHAT IS WRITTEN FOR THE SHEETS OF A LOADING CONDITION, however each is cut, is what is written for their texts

@@ -8,15 +8,16 @@ use Rattle.truth.proofs.Unique.{settled}
 use Rattle.campaign_state.specs.declared.Campaign.{Campaign}
 use Rattle.sheet_text.specs.declared.Reading.{Reading}
 use Rattle.desk_line.specs.declared.Finished.{Finished}
-use Rattle.condition_sheets.specs.declared.Situations.{Situations}
 use Rattle.condition_sheets.specs.Taking.{opened_condition, step_of, places_after, is_over, finishing, finish_left}
+use Rattle.refusal.specs.declared.Refusal.{Refusal}
+use Rattle.std.specs.Prelude.{Result}
 
-pub open_unique : (number : ℕ) (a b : Situations) → a ≡ opened_condition number → b ≡ opened_condition number → a ≡ b
+pub open_unique : (number : ℕ) (a b : Result ℕ (ℕ × ℕ × ℕ × Refusal)) → a ≡ opened_condition number → b ≡ opened_condition number → a ≡ b
 open_unique number a b = settled
 
-module _ (s : Situations) where
+module _ (s : Result ℕ (ℕ × ℕ × ℕ × Refusal)) where
   module _ (r : Reading) where
-    pub add_unique : (a b : Situations) → a ≡ step_of s r → b ≡ step_of s r → a ≡ b
+    pub add_unique : (a b : Result ℕ (ℕ × ℕ × ℕ × Refusal)) → a ≡ step_of s r → b ≡ step_of s r → a ≡ b
     add_unique a b = settled
 
     pub place_unique : (places later other : List Campaign) → later ≡ places_after s r places → other ≡ places_after s r places → later ≡ other

@@ -17,52 +17,44 @@ use campaign_state::Campaign;
 use desk_line::Finished;
 use refusal::Refusal;
 use sheet_text::Reading;
-use text::Writing;
 
 // The refusal that has a column.
 const MALFORMED: u64 = 9;
 
-// How many campaigns are in their places; or the number of the situation at fault, its sheet's line and column or 0,
-// and the refusal.
-#[derive(Clone, Copy)]
-pub enum Situations {
-    Campaigns(u64),
-    Refused(u64, u64, u64, Refusal),
-}
-
 // No campaign yet; or 18 for no sheet or more than 64, which is no situation's.
-pub fn open(number: u64) -> Situations
+pub fn open(number: u64) -> Result<u64, (u64, u64, u64, Refusal)>
     ensures { result ≡ opened_condition number }
 {
     if !truth::both(1 <= number, number <= 64) {
-        return Situations::Refused(0, 0, 0, Refusal::Situations);
+        return Err((0, 0, 0, Refusal::Situations));
     }
-    Situations::Campaigns(0)
+    Ok(0)
 }
 
-fn by_reading(n: u64, r: Reading) -> Situations
+fn by_reading(n: u64, r: Reading) -> Result<u64, (u64, u64, u64, Refusal)>
     requires { n < 64 }
     ensures { result ≡ by_reading n r }
 {
     match r {
-        Reading::Read(_) => Situations::Campaigns(n + 1),
-        Reading::Stopped(line, column, x) => Situations::Refused(n + 1, line, column, x),
-        Reading::Waiting(_, _) => Situations::Refused(n + 1, 0, 0, Refusal::BrokenState),
+        Reading::Read(_) => Ok(n + 1),
+        Reading::Stopped(line, column, x) => Err((n + 1, line, column, x)),
+        Reading::Waiting(_, _) => Err((n + 1, 0, 0, Refusal::BrokenState)),
     }
 }
 
 // The situations with that of a sheet more, whose reading ended so: its campaign is the next, or it is refused by its
 // number, the line and the column. What was refused stays; a sheet after 64 is 18.
-pub fn add(a: Situations, r: Reading) -> Situations
+pub fn add(
+    a: Result<u64, (u64, u64, u64, Refusal)>,
+    r: Reading,
+) -> Result<u64, (u64, u64, u64, Refusal)>
     ensures { result ≡ step_of a r }
 {
     match a {
-        Situations::Refused(situation, line, column, x) => Situations::Refused(
-            situation, line, column, x,
-        ),
-        Situations::Campaigns(n) => {
+        Err((situation, line, column, x)) => Err((situation, line, column, x)),
+        Ok(n) => {
             if n >= 64 {
-                return Situations::Refused(0, 0, 0, Refusal::Situations);
+                return Err((0, 0, 0, Refusal::Situations));
             }
             by_reading(n, r)
         }
@@ -90,22 +82,26 @@ fn put_read(campaigns: [Campaign; 64], n: u64, r: Reading) -> [Campaign; 64]
 }
 
 // The places of the campaigns with that of the sheet: it goes to the next of them.
-pub fn place(campaigns: [Campaign; 64], a: Situations, r: Reading) -> [Campaign; 64]
+pub fn place(
+    campaigns: [Campaign; 64],
+    a: Result<u64, (u64, u64, u64, Refusal)>,
+    r: Reading,
+) -> [Campaign; 64]
     ensures { result ≡ places_after a r campaigns }
 {
     match a {
-        Situations::Campaigns(n) => put_read(campaigns, n, r),
-        Situations::Refused(_, _, _, _) => campaigns,
+        Ok(n) => put_read(campaigns, n, r),
+        Err((_, _, _, _)) => campaigns,
     }
 }
 
 // Whether a sheet was refused: nothing that follows changes it.
-pub fn is_over(a: Situations) -> bool
+pub fn is_over(a: Result<u64, (u64, u64, u64, Refusal)>) -> bool
     ensures { result ≡ is_over a }
 {
     match a {
-        Situations::Campaigns(_) => false,
-        Situations::Refused(_, _, _, _) => true,
+        Ok(_) => false,
+        Err((_, _, _, _)) => true,
     }
 }
 
@@ -118,16 +114,16 @@ fn refuse(situation: u64, line: u64, column: u64, r: Refusal, out: &mut [u8]) ->
     sheet_fault::refuse(situation, line, number, number == MALFORMED, column, out)
 }
 
-fn put_writing(w: Writing, out: &mut [u8]) -> Finished
+fn put_writing(w: Result<u64, Refusal>, out: &mut [u8]) -> Finished
     ensures value { result ≡ writing_told w out.old }
     ensures out_after { out.new ≡ writing_kept w out.old }
 {
     match w {
-        Writing::Bytes(n) => Finished {
+        Ok(n) => Finished {
             put: n as usize,
             end: desk_line::READ,
         },
-        Writing::Refused(r) => refuse(0, 0, 0, r, out),
+        Err(r) => refuse(0, 0, 0, r, out),
     }
 }
 
@@ -142,12 +138,16 @@ fn report(campaigns: [Campaign; 64], n: u64, out: &mut [u8]) -> Finished
 // Writes what is said of the sheets to the start of `out`: the report on the first campaigns of `campaigns`, as many as
 // were taken; or the refused line, with the number of the situation at fault or 0, its sheet's line or 0, the refusal's
 // number, and after 9 the column. Without room for the report the refusal is 7, which is no situation's.
-pub fn finish(a: Situations, campaigns: [Campaign; 64], out: &mut [u8]) -> Finished
+pub fn finish(
+    a: Result<u64, (u64, u64, u64, Refusal)>,
+    campaigns: [Campaign; 64],
+    out: &mut [u8],
+) -> Finished
     ensures value { result ≡ finishing a campaigns out.old }
     ensures out_after { out.new ≡ finish_left a campaigns out.old }
 {
     match a {
-        Situations::Campaigns(n) => report(campaigns, n, out),
-        Situations::Refused(situation, line, column, r) => refuse(situation, line, column, r, out),
+        Ok(n) => report(campaigns, n, out),
+        Err((situation, line, column, r)) => refuse(situation, line, column, r, out),
     }
 }

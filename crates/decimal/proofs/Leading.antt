@@ -13,9 +13,9 @@ use Rattle.truth.proofs.Cases.{by_test, by_order}
 use Rattle.truth.proofs.Laws.{and-true, impossible}
 use Rattle.decimal.specs.Decimal.{zero_byte, longest, is_digit, all_digits, leading_digits, is_number, value_of}
 use Rattle.decimal.specs.Leading.{stands_at, leading, after_leading, leading_at}
-use Rattle.decimal.specs.declared.Lead.TheVariants.{Number, Nothing}
 use Rattle.decimal.proofs.Text.{sound, number_below}
 use Rattle.decimal.proofs.Reading.{run, run_number}
+use Rattle.std.specs.Prelude.{Some, None}
 
 -- up to a byte that is no digit, digits are what a text starts with
 pub leading_is : (digits after : List ℕ) → all_digits digits ≡ true → is_digit (get_or after 0 0) ≡ false → leading (digits ++ after) ≡ digits
@@ -81,12 +81,12 @@ module _ (s : List ℕ) (at end : ℕ) (e : end ≡ at + length (run s at)) wher
   byte : get_or (drop at s) (length (run s at)) 0 ≡ get_or s end 0
   byte = rw (get_or-drop, ← e)
 
-  pub leads_bad : is_digit (get_or s end 0) ≡ true → leading_at s at ≡ Nothing
+  pub leads_bad : is_digit (get_or s end 0) ≡ true → leading_at s at ≡ None
   unfolding leading_at is_number
   leads_bad d = rw (long (all_digits (leading (drop at s))) _ _ _ (lt-leb _ _ (leads_on longest (drop at s) (rw byte d))))
 
   pub leads_read : is_digit (get_or s end 0) ≡ false → (value : ℕ) → value ≡ value_of (run s at)
-      → leading_at s at ≡ cond (leb 1 (length (run s at)) && not (ltb 1 (length (run s at)) && eqb (get_or s at 0) zero_byte)) (Number value end) Nothing
+      → leading_at s at ≡ cond (leb 1 (length (run s at)) && not (ltb 1 (length (run s at)) && eqb (get_or s at 0) zero_byte)) (Some (value, end)) None
   unfolding leading_at
   leads_read d value v = rw (leads_to longest (drop at s) (rw byte d), v, e) (rw run_number)
 
@@ -102,25 +102,25 @@ module _ (s : List ℕ) (at : ℕ) where
   abbrev Digits : List ℕ
   Digits = leading (drop at s)
 
-  never : {v end : ℕ} → ¬ (Nothing ≡ Number v end)
+  never : {v end : ℕ} → ¬ (None ≡ Some (v, end))
   never e = impossible (cc)
 
   -- the digits stand in the text
   inside : 1 ≤ length Digits → at + length Digits ≤ length s
   inside some = omega (arith, length-drop at s, simp length-append at (ap length (led (drop at s)).parts))
 
-  pub leads_number : (v end : ℕ) → leading_at s at ≡ Number v end → LeadsTo s at v end
+  pub leads_number : (v end : ℕ) → leading_at s at ≡ Some (v, end) → LeadsTo s at v end
   unfolding leading_at
   leads_number v end r =
       by_test (is_number Digits)
       (λ n.
-      let e : Number (value_of Digits) (at + length Digits) ≡ Number v end = rw n at r in
+      let e : Some (value_of Digits, at + length Digits) ≡ Some (v, end) = rw n at r in
       let value : v ≡ value_of Digits = cc in
       let place : end ≡ at + length Digits = cc in
       record { number = n; value = value; place = place; small = rw value (number_below Digits n); within = omega (arith, inside (sound Digits n).some) })
       (λ n. absurd (never (rw n at r)))
 
-  pub leads_none : leading_at s at ≡ Nothing → is_number Digits ≡ false
+  pub leads_none : leading_at s at ≡ None → is_number Digits ≡ false
   unfolding leading_at
   leads_none r = by_test (is_number Digits) (λ n. absurd (never (sym (rw n at r)))) (λ n. n)
 

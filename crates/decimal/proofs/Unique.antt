@@ -8,8 +8,8 @@ use Rattle.text.specs.Write.{written, place_after}
 use Rattle.decimal.specs.Decimal.{zero_byte, is_digit, is_number, longest, leading_digits, value_of, digits_of}
 use Rattle.decimal.specs.Field.{field_text}
 use Rattle.decimal.specs.Leading.{leading, leading_at, stands_at}
-use Rattle.decimal.specs.declared.Lead.{Lead}
 use Rattle.decimal.specs.declared.Run.{Run}
+use Rattle.std.specs.Prelude.{Option}
 
 pub is_digit_unique : (b : ℕ) (r q : Bool) → r ≡ is_digit b → q ≡ is_digit b → r ≡ q
 is_digit_unique b r q e f = cc
@@ -17,7 +17,7 @@ is_digit_unique b r q e f = cc
 pub stands_unique : (s : List ℕ) (at b : ℕ) (r q : Bool) → r ≡ stands_at s at b → q ≡ stands_at s at b → r ≡ q
 stands_unique s at b r q e f = cc
 
-pub leading_at_unique : (s : List ℕ) (at : ℕ) (r q : Lead) → r ≡ leading_at s at → q ≡ leading_at s at → r ≡ q
+pub leading_at_unique : (s : List ℕ) (at : ℕ) (r q : Option (ℕ × ℕ)) → r ≡ leading_at s at → q ≡ leading_at s at → r ≡ q
 leading_at_unique s at r q e f = cc
 
 pub number_or_unique : (s : List ℕ) (other r q : ℕ) → r ≡ cond (is_number s) (value_of s) other → q ≡ cond (is_number s) (value_of s) other → r ≡ q

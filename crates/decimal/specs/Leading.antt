@@ -1,9 +1,7 @@
 -- The number that a text starts with, whatever stands after it: its digits are all the digits at the text's start.
 -- Assumes nothing.
-use Rattle.std.specs.Prelude.{ℕ, ◌+◌, Bool, cond, ◌&&◌, List, [], ◌∷◌, length, drop, get_or, eqb, ltb}
+use Rattle.std.specs.Prelude.{ℕ, ◌+◌, Bool, cond, ◌&&◌, List, [], ◌∷◌, length, drop, get_or, eqb, ltb, Option, Some, None}
 use Rattle.decimal.specs.Decimal.{is_digit, is_number, value_of}
-use Rattle.decimal.specs.declared.Lead.{Lead}
-use Rattle.decimal.specs.declared.Lead.TheVariants.{Number, Nothing}
 
 -- the byte stands at a place of a text
 abbrev pub stands_at : List ℕ → ℕ → ℕ → Bool
@@ -20,5 +18,5 @@ after_leading text = drop (length (leading text)) text
 
 -- what stands at a place of a text, read as a number up to the first byte that is no digit: its number and the place of
 -- that byte
-unfoldable pub leading_at : List ℕ → ℕ → Lead
-leading_at text at = cond (is_number (leading (drop at text))) (Number (value_of (leading (drop at text))) (at + length (leading (drop at text)))) Nothing
+unfoldable pub leading_at : List ℕ → ℕ → Option (ℕ × ℕ)
+leading_at text at = cond (is_number (leading (drop at text))) (Some (value_of (leading (drop at text)), at + length (leading (drop at text)))) None

@@ -16,40 +16,32 @@ const ZERO: u8 = 48;
 // The most digits of a number.
 const LONGEST: usize = 12;
 
-// The number that a text starts with, whatever stands after it.
-#[derive(Clone, Copy)]
-pub enum Lead {
-    // The number, and the place of the byte after its digits.
-    Number(u64, usize),
-    Nothing,
-}
-
 // Reads the number of `s` that starts at `at` and goes up to the first byte that is no digit, or to the end of `s`.
-pub fn leading_at(s: &[u8], at: usize) -> Lead
+pub fn leading_at(s: &[u8], at: usize) -> Option<(u64, usize)>
     ensures { result ≡ leading_at s.now at }
 {
     let run = run_at(s, at);
     let end = run.end;
     if digit_at(s, end) {
-        return Lead::Nothing;
+        return None;
     }
     if end == at {
-        return Lead::Nothing;
+        return None;
     }
     if end - at == 1 {
-        return Lead::Number(run.value, end);
+        return Some((run.value, end));
     }
     if s[at] == ZERO {
-        return Lead::Nothing;
+        return None;
     }
-    Lead::Number(run.value, end)
+    Some((run.value, end))
 }
 
 // The number that the whole of `s` is; `other` where it is none.
 pub fn number_or(s: &[u8], other: u64) -> u64
     ensures { result ≡ cond (is_number s.now) (value_of s.now) other }
 {
-    let Lead::Number(v, end) = leading_at(s, 0) else {
+    let Some((v, end)) = leading_at(s, 0) else {
         return other;
     };
     if end < s.len() {

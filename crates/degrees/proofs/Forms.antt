@@ -12,8 +12,8 @@ use Rattle.decimal.specs.Decimal.{is_digit, all_digits, is_number, value_of}
 use Rattle.decimal.specs.Leading.{leading}
 use Rattle.decimal.proofs.Text.{sound}
 use Rattle.decimal.proofs.Leading.{leading_is}
-use Rattle.degrees.specs.declared.Degrees.TheVariants.{Says}
 use Rattle.degrees.specs.Degrees.{point, first, is_size, size_length, filled, size, size_at}
+use Rattle.std.specs.Prelude.{Some}
 
 -- a text starts with degrees of so many thousandths and so many bytes
 pub record Sized (text : List ℕ) (n bytes : ℕ) : Type 0 where
@@ -47,6 +47,6 @@ module _ (w : List ℕ) (n : is_number w ≡ true) where
       }
 
 -- a text at a place of another
-pub sized_at : (s : List ℕ) (at : ℕ) (minus : Bool) {text : List ℕ} {n bytes : ℕ} → drop at s ≡ text → Sized text n bytes → Says minus n (at + bytes) ≡ size_at s at minus
+pub sized_at : (s : List ℕ) (at : ℕ) (minus : Bool) {text : List ℕ} {n bytes : ℕ} → drop at s ≡ text → Sized text n bytes → Some (minus, n, at + bytes) ≡ size_at s at minus
 unfolding size_at
 sized_at s at minus e z = rw (e, z.right, z.value, z.count)

@@ -16,8 +16,8 @@ use mir.Val.{SFits}
 use Rattle.truth.proofs.Cases.{by_test}
 use Rattle.truth.proofs.Laws.{impossible, true≢false}
 use Rattle.decimal.specs.Decimal.{digits_of}
-use Rattle.degrees.specs.declared.Degrees.TheVariants.{Says, Bad}
 use Rattle.degrees.specs.Degrees.{minus, below, sign_length, unsigned, size, is_degrees, degrees_length, degrees_at, size_at, sign, degrees_text}
+use Rattle.std.specs.Prelude.{Some, None}
 
 pub sign_below : (x : ℤ) → lt_z x (pos 0) ≡ true → sign x ≡ minus ∷ []
 sign_below (pos n) t = absurd (omega (arith, ltb-true n 0 t))
@@ -63,18 +63,18 @@ pub record ReadsAs (s : List ℕ) (at : ℕ) (b : Bool) (n next : ℕ) : Type 0 
   pub place : next ≡ at + degrees_length (drop at s)
 
 module _ (s : List ℕ) (at : ℕ) where
-  never : {b : Bool} {n next : ℕ} → ¬ (Bad ≡ Says b n next)
+  never : {b : Bool} {n next : ℕ} → ¬ (None ≡ Some (b, n, next))
   never e = impossible (cc)
 
-  pub degrees_read : (b : Bool) (n next : ℕ) → degrees_at s at ≡ Says b n next → ReadsAs s at b n next
+  pub degrees_read : (b : Bool) (n next : ℕ) → degrees_at s at ≡ Some (b, n, next) → ReadsAs s at b n next
   unfolding degrees_at
   degrees_read b n next r =
       by_test (is_degrees (drop at s))
       (λ h.
-      let e : Says (below (drop at s)) (size (unsigned (drop at s))) (at + degrees_length (drop at s)) ≡ Says b n next = rw h at r in
+      let e : Some (below (drop at s), size (unsigned (drop at s)), at + degrees_length (drop at s)) ≡ Some (b, n, next) = rw h at r in
       record { right = h; sign = cc (e); value = cc (e); place = cc (e) })
       (λ h. absurd (never (rw h at r)))
 
-  pub degrees_none : degrees_at s at ≡ Bad → is_degrees (drop at s) ≡ false
+  pub degrees_none : degrees_at s at ≡ None → is_degrees (drop at s) ≡ false
   unfolding degrees_at
   degrees_none r = by_test (is_degrees (drop at s)) (λ h. absurd (never (sym (rw h at r)))) (λ h. h)

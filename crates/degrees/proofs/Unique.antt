@@ -7,10 +7,10 @@ use lib.Dec.{leb}
 use lib.IntN.{ℤ, pos}
 use lib.ListN.{length, drop}
 use Rattle.text.specs.Write.{written, place_after}
-use Rattle.degrees.specs.declared.Degrees.{Degrees}
 use Rattle.degrees.specs.Degrees.{sign_length, degrees_at, degrees_text, signed, largest_size}
+use Rattle.std.specs.Prelude.{Option}
 
-pub degrees_at_unique : (s : List ℕ) (at : ℕ) (r q : Degrees) → r ≡ degrees_at s at → q ≡ degrees_at s at → r ≡ q
+pub degrees_at_unique : (s : List ℕ) (at : ℕ) (r q : Option (Bool × ℕ × ℕ)) → r ≡ degrees_at s at → q ≡ degrees_at s at → r ≡ q
 degrees_at_unique s at r q e f = cc
 
 pub past_minus_unique : (s : List ℕ) (at r q : ℕ) → r ≡ at + sign_length (drop at s) → q ≡ at + sign_length (drop at s) → r ≡ q

@@ -1,9 +1,7 @@
 -- Document 02 [1]: degrees in text, and the sample that they stand for, in thousandths of a degree. Assumes nothing.
-use Rattle.std.specs.Prelude.{ℕ, ◌+◌, ◌*◌, ◌/◌, ◌%◌, Bool, true, cond, ◌&&◌, List, [], ◌∷◌, ◌++◌, length, get_or, take, drop, leb, eqb, ℤ, pos, negsuc, neg_ℤ, nat_abs}
+use Rattle.std.specs.Prelude.{ℕ, ◌+◌, ◌*◌, ◌/◌, ◌%◌, Bool, true, cond, ◌&&◌, List, [], ◌∷◌, ◌++◌, length, get_or, take, drop, leb, eqb, ℤ, pos, negsuc, neg_ℤ, nat_abs, Option, Some, None}
 use Rattle.decimal.specs.Decimal.{zero_byte, is_number, value_of, digits_of}
 use Rattle.decimal.specs.Leading.{leading, after_leading}
-use Rattle.degrees.specs.declared.Degrees.{Degrees}
-use Rattle.degrees.specs.declared.Degrees.TheVariants.{Says, Bad}
 
 abbrev pub minus : ℕ
 minus = 45
@@ -68,13 +66,13 @@ abbrev pub sample_of : List ℕ → ℤ
 sample_of text = signed (below text) (size (unsigned text))
 
 -- what stands at a place of a text, read as degrees: the sign, the thousandths and the place after
-unfoldable pub degrees_at : List ℕ → ℕ → Degrees
+unfoldable pub degrees_at : List ℕ → ℕ → Option (Bool × ℕ × ℕ)
 degrees_at text at =
-    cond (is_degrees (drop at text)) (Says (below (drop at text)) (size (unsigned (drop at text))) (at + degrees_length (drop at text))) Bad
+    cond (is_degrees (drop at text)) (Some (below (drop at text), size (unsigned (drop at text)), at + degrees_length (drop at text))) None
 
 -- the same after the sign
-unfoldable pub size_at : List ℕ → ℕ → Bool → Degrees
-size_at text at minus = cond (is_size (drop at text)) (Says minus (size (drop at text)) (at + size_length (drop at text))) Bad
+unfoldable pub size_at : List ℕ → ℕ → Bool → Option (Bool × ℕ × ℕ)
+size_at text at minus = cond (is_size (drop at text)) (Some (minus, size (drop at text), at + size_length (drop at text))) None
 
 -- ---- a sample as it is written: always three decimals, minus only below zero
 abbrev pub sign : ℤ → List ℕ

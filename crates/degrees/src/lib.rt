@@ -7,22 +7,12 @@ ghost use Rattle.degrees.specs.Degrees.{point, sign_length, degrees_at, size_at,
 ghost use Rattle.degrees.specs.Degrees.{degrees_text, longest_degrees, largest_size};
 ghost use Rattle.text.specs.Write.{written, place_after};
 
-use decimal::Lead;
-
 const MINUS: u8 = 45;
 
 const POINT: u8 = 46;
 
-// What degrees in text say.
-#[derive(Clone, Copy)]
-pub enum Degrees {
-    // Whether a minus stands before them, their thousandths, and the place after them.
-    Says(bool, u64, usize),
-    Bad,
-}
-
 // Reads the degrees of `s` that start at `at`.
-pub fn degrees_at(s: &[u8], at: usize) -> Degrees
+pub fn degrees_at(s: &[u8], at: usize) -> Option<(bool, u64, usize)>
     ensures { result ≡ degrees_at s.now at }
 {
     let from = past_minus(s, at);
@@ -40,24 +30,24 @@ pub fn past_minus(s: &[u8], at: usize) -> usize
 }
 
 // Reads degrees without a sign, `minus` being the sign that stood before them.
-fn size_at(s: &[u8], at: usize, minus: bool) -> Degrees
+fn size_at(s: &[u8], at: usize, minus: bool) -> Option<(bool, u64, usize)>
     ensures { result ≡ size_at s.now at minus }
 {
-    let Lead::Number(whole, end) = decimal::leading_at(s, at) else {
-        return Degrees::Bad;
+    let Some((whole, end)) = decimal::leading_at(s, at) else {
+        return None;
     };
     if !decimal::stands(s, end, POINT) {
-        return Degrees::Says(minus, whole * 1000, end);
+        return Some((minus, whole * 1000, end));
     }
     let run = decimal::run_at(s, end + 1);
     let count = run.end - (end + 1);
     if count == 0 {
-        return Degrees::Bad;
+        return None;
     }
     if count > 3 {
-        return Degrees::Bad;
+        return None;
     }
-    Degrees::Says(minus, whole * 1000 + filled(run.value, count), run.end)
+    Some((minus, whole * 1000 + filled(run.value, count), run.end))
 }
 
 // One to three digits after a point, as thousandths.

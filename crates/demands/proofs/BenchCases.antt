@@ -11,8 +11,6 @@ use Rattle.campaign_state.specs.declared.Campaign.{Campaign}
 use Rattle.campaign_state.specs.Answers.{entering}
 use Rattle.campaign_state.specs.State.{sound}
 use Rattle.campaign_verdict.specs.Answers.{judging, rating}
-use Rattle.bureau_table.specs.declared.TableAnswer.{TableAnswer}
-use Rattle.bureau_table.specs.declared.TableAnswer.TheVariants.{Entered, Freed, Judged, Placed, Rated, Refused}
 use Rattle.bureau_table.specs.declared.Ask.{Ask}
 use Rattle.bureau_table.specs.declared.Ask.TheVariants.{On, Take}
 use Rattle.bureau_table.specs.declared.Place.{Place}
@@ -20,6 +18,10 @@ use Rattle.bureau_table.specs.declared.Work.{Work}
 use Rattle.bureau_table.specs.declared.Work.TheVariants.{Enter, GiveBack, Judge, Rate}
 use Rattle.bureau_table.specs.Calls.{Done, called}
 use Rattle.bureau_table.specs.Table.{all_kept, at, is_bureau, jobs, kept, lowest_free}
+use Rattle.bureau_table.specs.declared.Reply.TheVariants.{Entered, Freed, Judged, Placed, Rated}
+use Rattle.refusal.specs.declared.Refusal.{Refusal}
+use Rattle.bureau_table.specs.declared.Reply.{Reply}
+use Rattle.std.specs.Prelude.{Result, Ok, Err}
 
 -- a place: its owner and its campaign
 abbrev place : ℕ → ℕ → ℕ → ℕ → ℕ → Bool → Place
@@ -68,13 +70,13 @@ table_relations = refl
 two_bureaus : map is_bureau (0 ∷ 1 ∷ 2 ∷ 3 ∷ []) ≡ false ∷ true ∷ true ∷ false ∷ []
 two_bureaus = refl
 
-abbrev of_answer : TableAnswer → List ℕ
-of_answer (Placed i) = i ∷ []
-of_answer Entered = []
-of_answer (Judged v) = []
-of_answer (Rated some r) = []
-of_answer Freed = []
-of_answer (Refused r) = number_of r ∷ value_of r ∷ []
+abbrev of_answer : Result Reply Refusal → List ℕ
+of_answer (Ok (Placed i)) = i ∷ []
+of_answer (Ok Entered) = []
+of_answer (Ok (Judged v)) = []
+of_answer (Ok (Rated r)) = []
+of_answer (Ok Freed) = []
+of_answer (Err r) = number_of r ∷ value_of r ∷ []
 
 abbrev answered : List Place → ℕ → Ask → List ℕ
 answered t b a = of_answer (called t b a).answer
@@ -84,13 +86,13 @@ abbrev mixed : List Place
 mixed = holding 1 7 ∷ holding 1 7 ∷ holding 2 7 ∷ holding 1 7 ∷ replicate 28 nobody
 
 -- the lowest free place, with a fresh campaign; giving back frees it
-job_taken : ((called mixed 2 (Take 9)).answer ≡ Placed 4)
+job_taken : ((called mixed 2 (Take 9)).answer ≡ Ok (Placed 4))
     × ((called mixed 2 (Take 9)).table
     ≡ holding 1 7 ∷ holding 1 7 ∷ holding 2 7 ∷ holding 1 7 ∷ place 2 9 0 0 0 false ∷ replicate 27 nobody)
 unfolding called kept all_kept jobs sound lowest_free
 job_taken = (refl, refl)
 
-job_given_back : ((called mixed 1 (On 1 GiveBack)).answer ≡ Freed)
+job_given_back : ((called mixed 1 (On 1 GiveBack)).answer ≡ (Ok Freed))
     × ((called mixed 1 (On 1 GiveBack)).table
     ≡ holding 1 7 ∷ nobody ∷ holding 2 7 ∷ holding 1 7 ∷ replicate 28 nobody)
 unfolding called kept all_kept jobs sound

@@ -18,8 +18,6 @@ use Rattle.root.proofs.HalfWidth.{all_failures, width_is}
 use Rattle.peak_tail.specs.Hill.{figures, hill_sum, kth}
 use Rattle.peak_reach.specs.Answers.{extrapolated, first_out_after, item_outside, letter_for, reached, times}
 use Rattle.peak_reach.specs.Figures.{count_width, divided_up, longest_by, rejected_by, shape_width, shortest_above, times_by, times_of}
-use Rattle.peak_reach.specs.declared.Extrapolated.{Extrapolated}
-use Rattle.peak_reach.specs.declared.Extrapolated.TheVariants.{Found, Refused}
 use Rattle.peak_reach.specs.declared.Letter.{Letter}
 use Rattle.peak_reach.specs.declared.Letter.TheVariants.{Accept, Continue, Reject}
 use Rattle.peak_reach.specs.declared.Times.{Times}
@@ -43,6 +41,8 @@ use Rattle.reach_files.specs.Down.{downwards}
 use Rattle.reach_files.specs.Line.{above_level, figures_line, figures_of, letter_text, list_said, low_line, refused_list, rejected_text, said_by}
 use Rattle.reach_files.specs.Files.{items_of, reach_from, reach_said}
 use Rattle.demands.proofs.Request14.{Answer, Keeps}
+use Rattle.refusal.specs.declared.Refusal.{Refusal}
+use Rattle.std.specs.Prelude.{Result, Ok, Err}
 
 abbrev three : ℕ → ℕ → ℕ → Times
 three E A B = record { estimate = E; accepted = A; rejected = B }
@@ -148,9 +148,9 @@ letters = refl
 -- the whole answers they come from
 -- past its tests the answer is that of the times
 abbrev Taken : List ℕ → ℕ → ℕ → ℕ → ℕ → ℕ → Type 0
-Taken ys k c D P q = extrapolated ys k c D P q ≡ Found (times ys k c D P) (letter_for q (times ys k c D P))
+Taken ys k c D P q = extrapolated ys k c D P q ≡ Ok (times ys k c D P, letter_for q (times ys k c D P))
 
-told : (t s : Times) (q : ℕ) → t ≡ s → Found t (letter_for q t) ≡ Found s (letter_for q s)
+told : (t s : Times) (q : ℕ) → t ≡ s → Ok (t, letter_for q t) ≡ Ok (s, letter_for q s)
 told t s q e = rw e
 
 passed_40000 : Taken peaks 10 40000 500 1000000 7200000
@@ -165,47 +165,47 @@ passed_at_B : Taken peaks 10 28500 500 1000000 170706726
 unfolding extrapolated reached item_outside first_out_after figures our_figure doublings squarings
 passed_at_B = refl
 
-accepted_case : extrapolated peaks 10 40000 500 1000000 7200000 ≡ Found (three 3569418850 356906209 0) Accept
+accepted_case : extrapolated peaks 10 40000 500 1000000 7200000 ≡ Ok (three 3569418850 356906209 0, Accept)
 accepted_case = passed_40000 ∙ told _ _ 7200000 tail_of_ten
 
-continued_case : extrapolated peaks 10 28500 500 1000000 50000000 ≡ Found (three 50000000 29289438 170706726) Continue
+continued_case : extrapolated peaks 10 28500 500 1000000 50000000 ≡ Ok (three 50000000 29289438 170706726, Continue)
 continued_case = passed_28500 ∙ told _ _ 50000000 at_the_last_peak
 
-rejected_case : extrapolated peaks 10 28500 500 1000000 170706726 ≡ Found (three 50000000 29289438 170706726) Reject
+rejected_case : extrapolated peaks 10 28500 500 1000000 170706726 ≡ Ok (three 50000000 29289438 170706726, Reject)
 rejected_case = passed_at_B ∙ told _ _ 170706726 at_the_last_peak
 
 -- ---- refusals, each alone and the first of two
-abbrev asked : List ℕ → ℕ → ℕ → ℕ → ℕ → ℕ → Extrapolated
+abbrev asked : List ℕ → ℕ → ℕ → ℕ → ℕ → ℕ → Result (Times × Letter) Refusal
 asked = extrapolated
 
 items_refused : asked peaks 10 40000 0 1000000 1 ∷ asked peaks 10 40000 10001 1000000 1 ∷ asked peaks 10 0 1 1000000 1
     ∷ asked peaks 10 1000001 1 1000000 1 ∷ asked peaks 10 40000 1 1000000 0 ∷ asked peaks 10 40000 1 1000000 100000000001
     ∷ asked peaks 10 0 0 1000000 0 ∷ asked peaks 10 0 1 1000000 0 ∷ asked [] 0 40000 1 0 0 ∷ []
-    ≡ Refused (Item 1) ∷ Refused (Item 1) ∷ Refused (Item 3) ∷ Refused (Item 3) ∷ Refused (Item 5) ∷ Refused (Item 5)
-    ∷ Refused (Item 1) ∷ Refused (Item 3) ∷ Refused (Item 5) ∷ []
+    ≡ Err (Item 1) ∷ Err (Item 1) ∷ Err (Item 3) ∷ Err (Item 3) ∷ Err (Item 5) ∷ Err (Item 5)
+    ∷ Err (Item 1) ∷ Err (Item 3) ∷ Err (Item 5) ∷ []
 unfolding extrapolated item_outside
 items_refused = refl
 
 -- 16 before 17: no list, a k of 1, one of 13, with a peak of 0 beside it
 tails_refused : asked [] 2 40000 1 1 1 ∷ asked peaks 1 40000 1 1 1 ∷ asked peaks 13 40000 1 1 1 ∷ asked (0 ∷ []) 2 40000 1 1 1 ∷ []
-    ≡ Refused Tail ∷ Refused Tail ∷ Refused Tail ∷ Refused Tail ∷ []
+    ≡ Err Tail ∷ Err Tail ∷ Err Tail ∷ Err Tail ∷ []
 unfolding extrapolated item_outside
 tails_refused = refl
 
 -- 17 before 19: a peak of 0, one above 1,000,000, one above the one before it; the first of several
 peaks_refused : asked (2 ∷ 1 ∷ 0 ∷ []) 2 40000 1 0 1 ∷ asked (1000001 ∷ 1 ∷ []) 2 40000 1 0 1 ∷ asked (5 ∷ 4 ∷ 3 ∷ 4 ∷ 0 ∷ []) 2 40000 1 0 1 ∷ []
-    ≡ Refused (Peak 2) ∷ Refused (Peak 0) ∷ Refused (Peak 3) ∷ []
+    ≡ Err (Peak 2) ∷ Err (Peak 0) ∷ Err (Peak 3) ∷ []
 unfolding extrapolated item_outside first_out_after
 peaks_refused = refl
 
 -- 19 before 20, 20 before 21
 samples_refused : asked (5 ∷ 4 ∷ []) 2 3 1 1 1 ∷ asked (5 ∷ 4 ∷ []) 2 40000 1 100000001 1 ∷ []
-    ≡ Refused TimedSamples ∷ Refused TimedSamples ∷ []
+    ≡ Err TimedSamples ∷ Err TimedSamples ∷ []
 unfolding extrapolated reached item_outside first_out_after
 samples_refused = refl
 
 level_refused : asked (5 ∷ 4 ∷ []) 2 3 1 2 1 ∷ asked (4 ∷ 4 ∷ []) 2 3 1 2 1 ∷ []
-    ≡ Refused (LowLevel 4) ∷ Refused (LowLevel 4) ∷ []
+    ≡ Err (LowLevel 4) ∷ Err (LowLevel 4) ∷ []
 unfolding extrapolated reached item_outside first_out_after
 level_refused = refl
 
@@ -213,12 +213,12 @@ level_refused = refl
 -- under
 spread_refused : asked (4 ∷ 4 ∷ []) 2 4 1 2 1 ∷ asked (4 ∷ 4 ∷ []) 2 5 1 2 1
     ∷ asked (replicate 40 35000 ++ (34999 ∷ [])) 41 40000 500 1000000 7200000 ∷ []
-    ≡ Refused NoSpread ∷ Refused NoSpread ∷ Refused NoSpread ∷ []
+    ≡ Err NoSpread ∷ Err NoSpread ∷ Err NoSpread ∷ []
 unfolding extrapolated reached item_outside first_out_after figures our_figure doublings squarings
 spread_refused = refl
 
 -- the exponent by our figures: 2 · 127 is below 64 · (2 + 2), 2 · 128 is not
-limit_refused : asked (100003 ∷ 100000 ∷ []) 2 100136 1 2 1 ≡ Refused NoSpread
+limit_refused : asked (100003 ∷ 100000 ∷ []) 2 100136 1 2 1 ≡ Err NoSpread
 unfolding extrapolated reached item_outside first_out_after figures our_figure doublings squarings
 limit_refused = refl
 
@@ -282,7 +282,7 @@ line_accepted : list_said (job 40000 10 7200000) 80 1000000 peaks
       end = 48;
     }
 line_accepted =
-    ap (λ (x : Extrapolated). said_by (job 40000 10 7200000) 80 1000000 peaks x) accepted_case
+    ap (λ (x : Result (Times × Letter) Refusal). said_by (job 40000 10 7200000) 80 1000000 peaks x) accepted_case
     ∙ ap (λ (l : List ℕ). record { line = l; end = 48 }) bytes_accepted
 
 -- at the level of the last peak, nine are above it and the standard is rejected: B is a number and the letter R
@@ -301,7 +301,7 @@ line_rejected : list_said (job 28500 10 170706726) 3 1000000 peaks
       end = 48;
     }
 line_rejected =
-    ap (λ (x : Extrapolated). said_by (job 28500 10 170706726) 3 1000000 peaks x) rejected_case
+    ap (λ (x : Result (Times × Letter) Refusal). said_by (job 28500 10 170706726) 3 1000000 peaks x) rejected_case
     ∙ ap (λ (l : List ℕ). record { line = l; end = 48 }) bytes_rejected
 
 -- 20 has the last peak of the tail after it, 21 nothing: refused 0 0 20 4, refused 0 0 21
@@ -356,22 +356,22 @@ whole_already = refl
 -- ---- builders
 -- one who answers C to everything, one who answers A to everything, and one whose times are all 0
 abbrev pub LetterAlways : Letter → Answer → Type 0
-LetterAlways x f = (ys : List ℕ) (k c D P q : ℕ) (t : Times) (l : Letter) → f ys k c D P q ≡ Found t l → l ≡ x
+LetterAlways x f = (ys : List ℕ) (k c D P q : ℕ) (t : Times) (l : Letter) → f ys k c D P q ≡ Ok (t, l) → l ≡ x
 
 abbrev pub TimesAlways : Times → Answer → Type 0
-TimesAlways x f = (ys : List ℕ) (k c D P q : ℕ) (t : Times) (l : Letter) → f ys k c D P q ≡ Found t l → t ≡ x
+TimesAlways x f = (ys : List ℕ) (k c D P q : ℕ) (t : Times) (l : Letter) → f ys k c D P q ≡ Ok (t, l) → t ≡ x
 
 pub record Builders : Type 0 where
   pub continue_to_everything : (f : Answer) → Keeps f → LetterAlways Continue f → ⊥
   pub accept_to_everything : (f : Answer) → Keeps f → LetterAlways Accept f → ⊥
   pub zero_for_every_time : (f : Answer) → Keeps f → TimesAlways (three 0 0 0) f → ⊥
   -- and one who refuses everything
-  pub refuses_everything : (f : Answer) → Keeps f → ((ys : List ℕ) (k c D P q : ℕ) (t : Times) (l : Letter) → f ys k c D P q ≡ Found t l → ⊥) → ⊥
+  pub refuses_everything : (f : Answer) → Keeps f → ((ys : List ℕ) (k c D P q : ℕ) (t : Times) (l : Letter) → f ys k c D P q ≡ Ok (t, l) → ⊥) → ⊥
 
-accepts : (f : Answer) → Keeps f → f peaks 10 40000 500 1000000 7200000 ≡ Found (three 3569418850 356906209 0) Accept
+accepts : (f : Answer) → Keeps f → f peaks 10 40000 500 1000000 7200000 ≡ Ok (three 3569418850 356906209 0, Accept)
 accepts f k = (k peaks 10 40000 500 1000000 7200000).answers ∙ accepted_case
 
-rejects : (f : Answer) → Keeps f → f peaks 10 28500 500 1000000 170706726 ≡ Found (three 50000000 29289438 170706726) Reject
+rejects : (f : Answer) → Keeps f → f peaks 10 28500 500 1000000 170706726 ≡ Ok (three 50000000 29289438 170706726, Reject)
 rejects f k = (k peaks 10 28500 500 1000000 170706726).answers ∙ rejected_case
 
 pub builders : Builders

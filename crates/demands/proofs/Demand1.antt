@@ -23,7 +23,6 @@ use Rattle.truth.proofs.Laws.{impossible}
 use Rattle.refusal.specs.declared.Refusal.{Refusal}
 use Rattle.refusal.specs.declared.Refusal.TheVariants.{BrokenState, CampaignFull, Item, Room, RowsUsedUp, TooLong, TooShort, Unequal}
 use Rattle.poisson.specs.Rows.{rows}
-use Rattle.record_state.specs.declared.RecordAnswer.TheVariants.{Refused, Taken}
 use Rattle.record_state.specs.declared.Record.{Record}
 use Rattle.record_state.specs.Answers.{opened}
 use Rattle.record_feed.specs.Answers.{fed}
@@ -32,19 +31,13 @@ use Rattle.sample_channels.specs.Channels.{any_bad, bad_sample, moments}
 use Rattle.sample_items.specs.Limits.{decorrelation_in_range, item_outside, level_in_range, longest_time, most_samples, ramp_in_range, step_in_range}
 use Rattle.sample_range.specs.Range.{first_bad}
 use Rattle.crossing_places.specs.Reading.{counted, too_few}
-use Rattle.record_list.specs.declared.Listed.TheVariants as listing
 use Rattle.record_list.specs.Answers.{ListsTo, listed, written}
 use Rattle.record_state.specs.State.{sound, state_of, too_short}
 use Rattle.record_step.specs.Step.{stepped}
-use Rattle.record_end.specs.declared.Ended.TheVariants as ended
 use Rattle.record_end.specs.declared.Outcome.{Outcome}
-use Rattle.record_end.specs.declared.Result.{Result}
+use Rattle.record_end.specs.declared.RecordResult.{RecordResult}
 use Rattle.record_end.specs.Result.{ending, outcome_of, result_of}
-use Rattle.campaign_state.specs.declared.CampaignAnswer.TheVariants as campaigned
 use Rattle.campaign_state.specs.declared.Campaign.{Campaign}
-use Rattle.campaign_verdict.specs.declared.Counted.TheVariants as counting
-use Rattle.campaign_verdict.specs.declared.Judged.TheVariants as judging
-use Rattle.campaign_verdict.specs.declared.Rated.TheVariants as rating
 use Rattle.campaign_state.specs.Answers as campaigns
 use Rattle.campaign_state.specs.Answers.{entering, outcome_kept, taken}
 use Rattle.campaign_verdict.specs.Answers as verdicts
@@ -59,6 +52,7 @@ use Rattle.sheet_text.specs.Pieces.{feeding}
 use Rattle.sheet_text.specs.Sheet.{meaning}
 use Rattle.sheet_text.proofs.Pieces.{cut_anywhere}
 use Rattle.sheet_line.proofs.Theorems.{result_line}
+use Rattle.std.specs.Prelude.{Some, None, Ok, Err}
 
 -- ---- the statement
 -- a condition, and the refusal that it gives
@@ -118,38 +112,38 @@ result_tests c o = not (outcome_kept o) gives BrokenState ∷ room_tests c
 -- "Order", entry by entry
 pub record Demand1 : Type 0 where
   -- opening 1
-  pub open_record : (items : Items) → Decides Refused (item_tests items []) (Taken (state_of items [])) (opened items)
-  pub open_campaign : (q : ℕ) → Decides campaigned.Refused (not (standard_in_range q) gives Item 5 ∷ []) (campaigned.Taken (empty q)) (campaigns.opened q)
+  pub open_record : (items : Items) → Decides Err (item_tests items []) (Ok (state_of items [])) (opened items)
+  pub open_campaign : (q : ℕ) → Decides Err (not (standard_in_range q) gives Item 5 ∷ []) (Ok (empty q)) (campaigns.opened q)
   -- a piece 8, 12, 2, 3
   pub feed :
       (r : Record) (xs ys : List ℤ)
-      → Decides Refused
+      → Decides Err
       (not (sound r) gives BrokenState
       ∷ (not (eqb (length xs) (length ys)) gives Unequal
       ∷ (any_bad xs ys gives bad_sample (first_bad xs) (first_bad ys)
       ∷ (ltb (most_samples r.items.step r.items.ramp) (r.n + length xs) gives TooLong
       ∷ []))))
-      (Taken (foldl stepped r (moments xs ys)))
+      (Ok (foldl stepped r (moments xs ys)))
       (fed r xs ys)
   -- ending 8, 4
-  pub end : (r : Record) → Decides ended.Refused (not (sound r) gives BrokenState ∷ (too_short r gives TooShort ∷ [])) (ended.Given (result_of r)) (ending r)
+  pub end : (r : Record) → Decides Err (not (sound r) gives BrokenState ∷ (too_short r gives TooShort ∷ [])) (Ok (result_of r)) (ending r)
   -- entering 8, for the campaign and for the result, then 5, 6
   pub enter :
       (c : Campaign) (o : Outcome)
-      → Decides campaigned.Refused (not (campaigning.sound c) gives BrokenState ∷ result_tests c o) (campaigned.Taken (entered c o.failed o.exposure)) (entering c o)
+      → Decides Err (not (campaigning.sound c) gives BrokenState ∷ result_tests c o) (Ok (entered c o.failed o.exposure)) (entering c o)
   -- listing 1, 12, 2, 3, 4, 7; and a refusal leaves the slice as it stood
   pub list :
       (items : Items) (xs ys : List ℤ) (places : ℕ)
-      → Decides listing.Refused (item_tests items (list_tests items xs ys places))
-      (listing.Times (length (counted items (moments xs ys)))) (listed items xs ys places)
+      → Decides Err (item_tests items (list_tests items xs ys places))
+      (Ok (length (counted items (moments xs ys)))) (listed items xs ys places)
   pub kept : (items : Items) (xs ys : List ℤ) (before after : List ℕ) (r : Refusal)
-      → ListsTo items xs ys before (listing.Refused r) after → after ≡ before
+      → ListsTo items xs ys before (Err r) after → after ≡ before
   -- verdict, rates and the censored count 8
-  pub verdict : (c : Campaign) → Decides judging.Refused (not (campaigning.sound c) gives BrokenState ∷ []) (judging.Given (verdict_of c)) (verdicts.judging c)
+  pub verdict : (c : Campaign) → Decides Err (not (campaigning.sound c) gives BrokenState ∷ []) (Ok (verdict_of c)) (verdicts.judging c)
   pub rates :
       (c : Campaign)
-      → Decides rating.Refused (not (campaigning.sound c) gives BrokenState ∷ []) (rating.Given (not (eqb c.records 0)) (rates_of c)) (verdicts.rating c)
-  pub censored : (c : Campaign) → Decides counting.Refused (not (campaigning.sound c) gives BrokenState ∷ []) (counting.Count (censored c)) (verdicts.counting c)
+      → Decides Err (not (campaigning.sound c) gives BrokenState ∷ []) (Ok (cond (not (eqb c.records 0)) (Some (rates_of c)) None)) (verdicts.rating c)
+  pub censored : (c : Campaign) → Decides Err (not (campaigning.sound c) gives BrokenState ∷ []) (Ok (censored c)) (verdicts.counting c)
   -- a job sheet: however the text is cut into pieces, what is written and what the reading ends in are those of its
   -- meaning; of a record that a line tells of, exposure 0 gives 4, above 10,000,000 gives 3, then 5, 6; and the line of
   -- a record that was ended comes to what entering its result answers, refusals and all
@@ -157,11 +151,11 @@ pub record Demand1 : Type 0 where
   pub sheet_record :
       (c : Campaign) (f : Bool) (t : ℕ)
       → campaigning.sound c ≡ true
-      → Decides campaigned.Refused (eqb t 0 gives TooShort ∷ (ltb longest_time t gives TooLong ∷ room_tests c)) (campaigned.Taken (entered c f t)) (telling c f t)
+      → Decides Err (eqb t 0 gives TooShort ∷ (ltb longest_time t gives TooLong ∷ room_tests c)) (Ok (entered c f t)) (telling c f t)
   pub sheet_line :
-      (r : Record) (x : Result) (c : Campaign)
+      (r : Record) (x : RecordResult) (c : Campaign)
       → campaigning.sound c ≡ true
-      → ending r ≡ ended.Given x
+      → ending r ≡ Ok x
       → stepping (Open c) (entry_text (c.records + 1) (cond (outcome_of x).failed 1 0) x.exposure)
       ≡ outcome (line_after c) (entering c (outcome_of x))
 
@@ -217,25 +211,25 @@ swapped true x y = refl
 swapped false x y = refl
 
 module _ (r s : Refusal) where
-  own_record : Refused r ≡ Refused s → r ≡ s
+  own_record : Err r ≡ Err s → r ≡ s
   own_record e = cc
 
-  own_list : listing.Refused r ≡ listing.Refused s → r ≡ s
+  own_list : Err r ≡ Err s → r ≡ s
   own_list e = cc
 
-  own_campaign : campaigned.Refused r ≡ campaigned.Refused s → r ≡ s
+  own_campaign : Err r ≡ Err s → r ≡ s
   own_campaign e = cc
 
-  own_result : ended.Refused r ≡ ended.Refused s → r ≡ s
+  own_result : Err r ≡ Err s → r ≡ s
   own_result e = cc
 
-  own_verdict : judging.Refused r ≡ judging.Refused s → r ≡ s
+  own_verdict : Err r ≡ Err s → r ≡ s
   own_verdict e = cc
 
-  own_rates : rating.Refused r ≡ rating.Refused s → r ≡ s
+  own_rates : Err r ≡ Err s → r ≡ s
   own_rates e = cc
 
-  own_count : counting.Refused r ≡ counting.Refused s → r ≡ s
+  own_count : Err r ≡ Err s → r ≡ s
   own_count e = cc
 
 some : (n : ℕ) → ¬ (n ≡ 0) → 1 ≤ n
@@ -243,13 +237,13 @@ some n h = omega arith
 
 -- a line's own tests, then those of entering, of which 8 is settled
 pub tells : (c : Campaign) (f : Bool) (t : ℕ) → campaigning.sound c ≡ true
-    → telling c f t ≡ cond (eqb t 0) (campaigned.Refused TooShort) (cond (ltb longest_time t) (campaigned.Refused TooLong) (taken c f t))
+    → telling c f t ≡ cond (eqb t 0) (Err TooShort) (cond (ltb longest_time t) (Err TooLong) (taken c f t))
 unfolding telling entering
 tells c f t g = go (eqb t 0) refl (ltb longest_time t) refl
   where
     go : (a : Bool) → eqb t 0 ≡ a → (b : Bool) → ltb longest_time t ≡ b
-        → cond a (campaigned.Refused TooShort) (cond b (campaigned.Refused TooLong) (entering c (line_outcome f t)))
-        ≡ cond a (campaigned.Refused TooShort) (cond b (campaigned.Refused TooLong) (taken c f t))
+        → cond a (Err TooShort) (cond b (Err TooLong) (entering c (line_outcome f t)))
+        ≡ cond a (Err TooShort) (cond b (Err TooLong) (taken c f t))
     go true e b l = refl
     go false e true l = refl
     go false e false l = rw (g, le-leb 1 t (some t (eqb-false t 0 e)), le-leb t longest_time (ltb-false longest_time t l))
@@ -260,27 +254,27 @@ demand_1 =
     record {
       open_record =
           λ items.
-          decided Refused (Taken (state_of items [])) own_record (λ r e. impossible (cc)) (item_tests items []) (opened items)
-          (swapped (eqb (item_outside items) 0) _ _ ∙ first-item Refused [] (Taken (state_of items []))
+          decided Err (Ok (state_of items [])) own_record (λ r e. impossible (cc)) (item_tests items []) (opened items)
+          (swapped (eqb (item_outside items) 0) _ _ ∙ first-item Err [] (Ok (state_of items []))
           (step_in_range items.step) (ramp_in_range items.ramp) (level_in_range items.levels.roll)
           (decorrelation_in_range items.decorrelation) (level_in_range items.levels.acceleration)
           (item_outside items) refl);
-      open_campaign = λ q. decided campaigned.Refused (campaigned.Taken (empty q)) own_campaign (λ r e. impossible (cc)) _ (campaigns.opened q) (swapped (standard_in_range q) _ _);
-      feed = λ r xs ys. decided Refused (Taken (foldl stepped r (moments xs ys))) own_record (λ f e. impossible (cc)) _ (fed r xs ys) refl;
-      end = λ r. decided ended.Refused (ended.Given (result_of r)) own_result (λ f e. impossible (cc)) _ (ending r) refl;
-      enter = λ c o. decided campaigned.Refused (campaigned.Taken (entered c o.failed o.exposure)) own_campaign (λ r e. impossible (cc)) _ (entering c o) refl;
+      open_campaign = λ q. decided Err (Ok (empty q)) own_campaign (λ r e. impossible (cc)) _ (campaigns.opened q) (swapped (standard_in_range q) _ _);
+      feed = λ r xs ys. decided Err (Ok (foldl stepped r (moments xs ys))) own_record (λ f e. impossible (cc)) _ (fed r xs ys) refl;
+      end = λ r. decided Err (Ok (result_of r)) own_result (λ f e. impossible (cc)) _ (ending r) refl;
+      enter = λ c o. decided Err (Ok (entered c o.failed o.exposure)) own_campaign (λ r e. impossible (cc)) _ (entering c o) refl;
       list =
           λ items xs ys places.
-          decided listing.Refused (listing.Times (length (counted items (moments xs ys)))) own_list (λ r e. impossible (cc)) _ (listed items xs ys places)
-          (first-item listing.Refused (list_tests items xs ys places)
-          (listing.Times (length (counted items (moments xs ys)))) (step_in_range items.step)
+          decided Err (Ok (length (counted items (moments xs ys)))) own_list (λ r e. impossible (cc)) _ (listed items xs ys places)
+          (first-item Err (list_tests items xs ys places)
+          (Ok (length (counted items (moments xs ys)))) (step_in_range items.step)
           (ramp_in_range items.ramp) (level_in_range items.levels.roll) (decorrelation_in_range
           items.decorrelation) (level_in_range items.levels.acceleration) (item_outside items) refl);
       kept = λ items xs ys before after r p. p.leaves;
-      verdict = λ c. decided judging.Refused (judging.Given (verdict_of c)) own_verdict (λ r e. impossible (cc)) _ (verdicts.judging c) (swapped (campaigning.sound c) _ _);
-      rates = λ c. decided rating.Refused (rating.Given (not (eqb c.records 0)) (rates_of c)) own_rates (λ r e. impossible (cc)) _ (verdicts.rating c) (swapped (campaigning.sound c) _ _);
+      verdict = λ c. decided Err (Ok (verdict_of c)) own_verdict (λ r e. impossible (cc)) _ (verdicts.judging c) (swapped (campaigning.sound c) _ _);
+      rates = λ c. decided Err (Ok (cond (not (eqb c.records 0)) (Some (rates_of c)) None)) own_rates (λ r e. impossible (cc)) _ (verdicts.rating c) (swapped (campaigning.sound c) _ _);
       sheet = cut_anywhere;
-      sheet_record = λ c f t g. decided campaigned.Refused (campaigned.Taken (entered c f t)) own_campaign (λ r e. impossible (cc)) _ (telling c f t) (tells c f t g);
+      sheet_record = λ c f t g. decided Err (Ok (entered c f t)) own_campaign (λ r e. impossible (cc)) _ (telling c f t) (tells c f t g);
       sheet_line = result_line;
-      censored = λ c. decided counting.Refused (counting.Count (censored c)) own_count (λ r e. impossible (cc)) _ (verdicts.counting c) (swapped (campaigning.sound c) _ _);
+      censored = λ c. decided Err (Ok (censored c)) own_count (λ r e. impossible (cc)) _ (verdicts.counting c) (swapped (campaigning.sound c) _ _);
     }

@@ -27,9 +27,7 @@ use Rattle.crossing_places.specs.Reading.{full_time, groups, largest_set, time_a
 use Rattle.crossing_places.proofs.First.{head_passes}
 use Rattle.crossing_places.proofs.Places.{itself}
 use Rattle.record_list.specs.Answers.{ListsTo, written}
-use Rattle.record_list.specs.declared.Listed.TheVariants.{Times}
 use Rattle.record_list.proofs.Answered.{times_number}
-use Rattle.record_state.specs.declared.RecordAnswer.TheVariants.{Refused, Taken}
 use Rattle.record_state.specs.declared.Record.{Record}
 use Rattle.record_state.specs.Answers.{opened}
 use Rattle.record_feed.specs.Answers.{fed}
@@ -41,10 +39,10 @@ use Rattle.record_feed.proofs.Theorems.{all_sound, empty_taken}
 use Rattle.record_feed.proofs.Theorems.{every_cutting, groups_fewer, groups_parted, join_taken, never_broken, pieces_whole, search_found, search_none, set_largest, times_apart}
 use Rattle.campaign_state.specs.declared.Campaign.{Campaign}
 use Rattle.campaign_state.specs.Answers as campaigns
-use Rattle.campaign_state.specs.declared.CampaignAnswer.TheVariants as campaigned
 use Rattle.campaign_state.specs.Records.{AllEnded, campaign_of, censored_in, outcome}
 use Rattle.campaign_state.specs.State.{censored}
 use Rattle.campaign_state.proofs.Records.{censored_grown, grown_by_results}
+use Rattle.std.specs.Prelude.{Ok, Err}
 
 -- by a record's items: the moment of a place, and the places of the crossings among its samples
 abbrev pub time_of : Items → ℕ → ℕ
@@ -81,25 +79,25 @@ pub record ReadsWhole (items : Items) (s t : Record) (p : Piece) (xs : List Mome
   -- state
   pub cuttings : (qs : List Piece) → Even qs → joined qs ≡ p → AllTaken s qs t
   -- the state is never refused as broken
-  pub unbroken : (us vs : List ℤ) → ¬ (fed t us vs ≡ Refused BrokenState)
+  pub unbroken : (us vs : List ℤ) → ¬ (fed t us vs ≡ Err BrokenState)
 
 -- a record in the state r fed pieces, each taken, up to the state t
 pub record Resumed (r : Record) (ps : List Piece) (t : Record) : Type 0 where
-  pub as_one : fed r (joined ps).roll (joined ps).acceleration ≡ Taken t
+  pub as_one : fed r (joined ps).roll (joined ps).acceleration ≡ Ok t
   pub cut : (qs : List Piece) → Even qs → joined qs ≡ joined ps → AllTaken r qs t
   pub keeps : sound t ≡ true
 
 pub record Demand2 : Type 0 where
-  pub pieces : (items : Items) (s t : Record) (ps : List Piece) → opened items ≡ Taken s → AllTaken s ps t
+  pub pieces : (items : Items) (s t : Record) (ps : List Piece) → opened items ≡ Ok s → AllTaken s ps t
       → ReadsWhole items s t (joined ps) (samples_of (joined ps))
   -- from any state that keeps the relations, opened here or not: an empty piece is taken and changes nothing; pieces
   -- that are all taken are taken as one, and in any other cutting of both channels at the same places, and end in the
   -- same state, which keeps them
-  pub nothing : (r : Record) → sound r ≡ true → fed r [] [] ≡ Taken r
+  pub nothing : (r : Record) → sound r ≡ true → fed r [] [] ≡ Ok r
   pub resumed : (r t : Record) (ps : List Piece) → sound r ≡ true → AllTaken r ps t → Resumed r ps t
   -- the listed times are those of the groups' first crossings, as many as there are groups, and pairwise τ apart
   pub listed : (items : Items) (xs ys : List ℤ) (before after : List ℕ) (k : ℕ)
-      → ListsTo items xs ys before (Times k) after
+      → ListsTo items xs ys before (Ok k) after
       → (k ≡ length (groups items (moments xs ys)))
       × (after ≡ map (time_of items) (firsts (groups items (moments xs ys))) ++ drop k before)
   pub times : (items : Items) (xs : List Moment) → Apart itself items.decorrelation (counted_times items xs)
@@ -111,8 +109,8 @@ pub record Demand2 : Type 0 where
       → first_crossing (length xs) items.ramp items.levels xs ≡ length xs
   -- records ended and their results entered, one after the other: the campaign's figures over the list of them, and its
   -- censored count by document 000's recurrence
-  pub campaign : (q : ℕ) (c d : Campaign) (rs : List Record) → campaigns.opened q ≡ campaigned.Taken c → AllEnded c rs d → d ≡ campaign_of q (map outcome rs)
-  pub censored : (q : ℕ) (c d : Campaign) (rs : List Record) → campaigns.opened q ≡ campaigned.Taken c → AllEnded c rs d → censored d ≡ censored_in (map outcome rs)
+  pub campaign : (q : ℕ) (c d : Campaign) (rs : List Record) → campaigns.opened q ≡ Ok c → AllEnded c rs d → d ≡ campaign_of q (map outcome rs)
+  pub censored : (q : ℕ) (c d : Campaign) (rs : List Record) → campaigns.opened q ≡ Ok c → AllEnded c rs d → censored d ≡ censored_in (map outcome rs)
 
 -- ---- the proof
 number : (items : Items) (xs : List Moment) {t : Record} → t ≡ state_of items xs → t.groups ≡ length (groups items xs)
@@ -147,7 +145,7 @@ resumed r t ps s f =
     let one = join_taken s f in
     record { as_one = one; cut = λ qs v j. every_cutting r qs t v (rw j one); keeps = all_sound s f }
 
-lists : (items : Items) (xs ys : List ℤ) (before after : List ℕ) (k : ℕ) → ListsTo items xs ys before (Times k) after
+lists : (items : Items) (xs ys : List ℤ) (before after : List ℕ) (k : ℕ) → ListsTo items xs ys before (Ok k) after
     → (k ≡ length (groups items (moments xs ys)))
     × (after ≡ map (time_of items) (firsts (groups items (moments xs ys))) ++ drop k before)
 unfolding written

@@ -15,17 +15,16 @@ use Rattle.poisson.specs.Rows.{million, millionth_less, millionth_more}
 use Rattle.poisson.specs.Tables.{l}
 use Rattle.poisson.proofs.Exposure.{accept_only_if, accept_whenever, none_or_more, reject_only_if, reject_whenever}
 use Rattle.campaign_state.specs.declared.Campaign.{Campaign}
-use Rattle.campaign_verdict.specs.declared.Judged.TheVariants.{Given}
 use Rattle.campaign_verdict.specs.declared.Verdict.{Verdict}
 use Rattle.campaign_verdict.specs.declared.Verdict.TheVariants.{Accept, Continue, NoRecord, Reject}
 use Rattle.campaign_verdict.specs.declared.Rates.{Rates}
-use Rattle.campaign_verdict.specs.declared.Rated.TheVariants as rated
 use Rattle.campaign_verdict.specs.Answers.{judging, rating}
 use Rattle.campaign_verdict.specs.Figures.{IsVerdict, lower_rate, rates_of, three, upper_rate}
 use Rattle.campaign_verdict.proofs.Only.{given, gives}
 use Rattle.campaign_state.specs.State.{censored, sound}
 use Rattle.truth.proofs.Laws.{holds}
 use Rattle.campaign_state.proofs.Relations.{censored_row, kept_from}
+use Rattle.std.specs.Prelude.{Some, None, Ok}
 
 -- ---- the statement
 -- the failures that a stream at the standard rate expects over the campaign's exposure
@@ -34,10 +33,10 @@ expected c = over c.exposure c.standard
 
 -- the verdict that is given, at whatever rate
 abbrev pub AcceptGiven : Campaign → Type 0
-AcceptGiven c = (r : Float) × (judging c ≡ Given (Accept r))
+AcceptGiven c = (r : Float) × (judging c ≡ Ok (Accept r))
 
 abbrev pub RejectGiven : Campaign → Type 0
-RejectGiven c = (r : Float) × (judging c ≡ Given (Reject r))
+RejectGiven c = (r : Float) × (judging c ≡ Ok (Reject r))
 
 pub record Demand3 (c : Campaign) : Type 0 where
   -- accept only if fewer failures than the censored count would be shown less than once in 40
@@ -57,7 +56,7 @@ Carries (Continue x y) r = (x ≡ r.lower) × (y ≡ r.upper)
 Carries NoRecord r = Unit {0}
 
 pub RatesCarried : Campaign → Type 0
-RatesCarried c = (v : Verdict) (some : Bool) (r : Rates) → judging c ≡ Given v → rating c ≡ rated.Given some r → Carries v r
+RatesCarried c = (v : Verdict) (r : Rates) → judging c ≡ Ok v → rating c ≡ Ok (Some r) → Carries v r
 
 -- ---- the proof
 module _ (c : Campaign) (kept : sound c ≡ true) (some : 1 ≤ c.records) where
@@ -105,6 +104,6 @@ carried c NoRecord e = tt
 pub rates_carried : (c : Campaign) → sound c ≡ true → RatesCarried c
 unfolding RatesCarried rating
 rates_carried c kept v some r j q =
-    let f : rated.Given (not (eqb c.records 0)) (rates_of c) ≡ rated.Given some r = rw kept at q in
+    let f : Ok (cond (not (eqb c.records 0)) (Some (rates_of c)) None) ≡ Ok (cond some (Some r) None) = rw kept at q in
     let r-is : rates_of c ≡ r = cc in
     rw (← r-is) (carried c v (given c kept v j))

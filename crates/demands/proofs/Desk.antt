@@ -17,8 +17,6 @@ use Rattle.sample_items.specs.declared.Items.{Items}
 use Rattle.sample_items.specs.Limits.{item_outside, most_samples, step_in_range}
 use Rattle.sample_range.specs.Range.{first_bad}
 use Rattle.crossing_places.specs.Reading.{too_few}
-use Rattle.record_state.specs.declared.RecordAnswer.{RecordAnswer}
-use Rattle.record_state.specs.declared.RecordAnswer.TheVariants.{Refused, Taken}
 use Rattle.record_state.specs.State.{sound}
 use Rattle.campaign_state.specs.State.{most_records, standard_in_range}
 use Rattle.binomial_sum.specs.declared.Sum.{Sum}
@@ -45,6 +43,8 @@ use Rattle.sheet_files.specs.Files.{failures_in, record_of, refused_record, shee
 use Rattle.sheet_files.specs.Filing.{finishing, finish_left}
 use Rattle.sheet_files.proofs.Anywhere.{desk_of, sheet_anywhere}
 use Rattle.demands.proofs.Demand1.{Test, ◌gives◌, decide}
+use Rattle.record_state.specs.declared.Record.{Record}
+use Rattle.std.specs.Prelude.{Result, Ok, Err}
 
 -- ---- the statement
 -- the line that a refusal of a file names: a malformed line's number, a bad sample's line, or 0
@@ -92,9 +92,9 @@ lines_kept f = step_in_range f.step && (leb f.lines 1000000000000 && leb f.outsi
 
 -- its record is sound, of the step of the lines, and has a sample for each of them, none out of range; where they were
 -- refused there is no record
-abbrev pub count_kept : Follow → RecordAnswer → Bool
-count_kept f (Taken r) = sound r && (eqb r.items.step f.step && (eqb r.n f.lines && eqb f.outside 0))
-count_kept f (Refused q) = lines_kept f
+abbrev pub count_kept : Follow → Result Record Refusal → Bool
+count_kept f (Ok r) = sound r && (eqb r.items.step f.step && (eqb r.n f.lines && eqb f.outside 0))
+count_kept f (Err q) = lines_kept f
 
 -- what may be handed out: a count that is over, or one that keeps the relations
 abbrev pub Handed : Counting → Type 0
@@ -109,12 +109,12 @@ pub record Desk : Type 0 where
       count_said i text ≡ decide refused_file (count_tests i lines) (counted (length lines) (result_for i (one_channel (samples_of lines))))
   -- a count that breaks a relation of 8 is over with 8, and all of the piece is used; one that breaks none is not
   -- answered by 8, and what is handed out breaks none
-  pub count_broken : (f : Follow) (a : RecordAnswer) (text : List ℕ) (more : Bool) → count_kept f a ≡ false
+  pub count_broken : (f : Follow) (a : Result Record Refusal) (text : List ℕ) (more : Bool) → count_kept f a ≡ false
       → taking (going f a) text more ≡ record { counting = over f BrokenState; used = length text }
-  pub count_kept_lem : (f : Follow) (a : RecordAnswer) (text : List ℕ) (more : Bool) → count_kept f a ≡ true → (a ≡ Refused BrokenState → ⊥)
-      → (taking (going f a) text more).counting.answer ≡ Refused BrokenState → ⊥
+  pub count_kept_lem : (f : Follow) (a : Result Record Refusal) (text : List ℕ) (more : Bool) → count_kept f a ≡ true → (a ≡ Err BrokenState → ⊥)
+      → (taking (going f a) text more).counting.answer ≡ Err BrokenState → ⊥
   pub count_opened : (i : Items) → Handed (opening i)
-  pub count_handed : (f : Follow) (a : RecordAnswer) (text : List ℕ) (more : Bool) → count_kept f a ≡ true → Handed (taking (going f a) text more).counting
+  pub count_handed : (f : Follow) (a : Result Record Refusal) (text : List ℕ) (more : Bool) → count_kept f a ≡ true → Handed (taking (going f a) text more).counting
   -- bin/binomial: what is said of several files does not depend on the pieces in which each comes
   pub binomial_pieces : (i : Items) (files : List (List (List ℕ))) → added_said (files_after i 1 (opened_files i) files) ≡ binomial_said i (map joined files)
   -- an item goes first; then file by file the tests of bin/count, and 11; the first that is refused is named by its number
@@ -173,11 +173,11 @@ unfolding sheet_from decide
 by_record q i records text texts = refl
 
 -- `count_kept` is written out, so that each of its cases has to be what is asked
-kept-is : (f : Follow) (a : RecordAnswer) → count_kept f a ≡ agrees f a
-kept-is f (Taken r) = refl
-kept-is f (Refused q) = refl
+kept-is : (f : Follow) (a : Result Record Refusal) → count_kept f a ≡ agrees f a
+kept-is f (Ok r) = refl
+kept-is f (Err q) = refl
 
-by_relations : (f : Follow) (a : RecordAnswer) (text : List ℕ) (more : Bool) → count_kept f a ≡ false
+by_relations : (f : Follow) (a : Result Record Refusal) (text : List ℕ) (more : Bool) → count_kept f a ≡ false
     → taking (going f a) text more ≡ record { counting = over f BrokenState; used = length text }
 by_relations f a text more e = sym (taking_broken (going f a) text more refl (sym (kept-is f a) ∙ e))
 

@@ -15,8 +15,6 @@ use Rattle.crossing_places.specs.Reading.{too_few}
 use Rattle.text.specs.Pieces.{joined}
 use Rattle.decimal.specs.Lines.{lines_of}
 use Rattle.comma_line.specs.Text.{first_wrong, samples_of}
-use Rattle.comma_peaks.specs.declared.Judged.{Judged}
-use Rattle.comma_peaks.specs.declared.Judged.TheVariants as judged
 use Rattle.comma_peaks.specs.Judged.{comes_to}
 use Rattle.peak_groups.specs.Peaks.{handed}
 use Rattle.peak_machine.specs.Step.{size_of}
@@ -25,7 +23,6 @@ use Rattle.sorting.specs.Sorting.{Sorted}
 use Rattle.peak_tail.specs.Fitting.{longest_list, tail_outside}
 use Rattle.peak_reach.specs.declared.Times.{Times}
 use Rattle.peak_reach.specs.declared.Letter.{Letter}
-use Rattle.peak_reach.specs.declared.Extrapolated.TheVariants.{Found, Refused}
 use Rattle.peak_reach.specs.Answers.{extrapolated, standard_in_range}
 use Rattle.reach_files.specs.declared.Job.{Job}
 use Rattle.reach_files.specs.Down.{downwards}
@@ -38,6 +35,7 @@ use Rattle.reach_files.proofs.Cut.{reach_cut}
 use Rattle.reach_files.proofs.Down.{is_sorted}
 use Rattle.demands.proofs.Demand1.{Test, ◌gives◌, decide}
 use Rattle.demands.proofs.Desk.{fault_line}
+use Rattle.std.specs.Prelude.{Ok, Err}
 
 -- ---- the statement
 -- before all files 1, the standard after the record's items, and 16 for a k that no list has
@@ -89,10 +87,10 @@ pub record DeskBeyond : Type 0 where
   pub sorted : (ys : List ℕ) → Sorted ys (downwards ys)
   pub end : (j : Job) (files : ℕ) (ys : List ℕ) (P : ℕ) → reach_from j files ys P [] ≡ list_said j files P (downwards ys)
   pub found : (j : Job) (files : ℕ) (ys : List ℕ) (P : ℕ) (t : Times) (l : Letter)
-      → extrapolated ys j.tail j.level j.step P j.standard ≡ Found t l → list_said j files P ys ≡ told (figures_of j files P ys t l)
+      → extrapolated ys j.tail j.level j.step P j.standard ≡ Ok (t, l) → list_said j files P ys ≡ told (figures_of j files P ys t l)
   -- or [14]'s refusal, which is no file's; after 20 the k-th peak stands
   pub refused : (j : Job) (files : ℕ) (ys : List ℕ) (P : ℕ) (r : Refusal)
-      → extrapolated ys j.tail j.level j.step P j.standard ≡ Refused r → list_said j files P ys ≡ refused_list r
+      → extrapolated ys j.tail j.level j.step P j.standard ≡ Err r → list_said j files P ys ≡ refused_list r
   pub low_level : (u : ℕ) → refused_list (LowLevel u) ≡ low u
 
 -- ---- the proof
@@ -103,8 +101,8 @@ by_asked j texts = refl
 -- what a file comes to, test by test
 by_judged : {X : Type 0} (refuse : ℕ → Refusal → X) (a b c d : Bool) (proper : X) (m n : ℕ)
     → judged_then refuse proper
-    (cond a (judged.Refused (m + 1) (CommaLine (m + 1)))
-    (cond b (judged.Refused (n + 1) (Sample n)) (cond c (judged.Refused 0 TooLong) (cond d (judged.Refused 0 TooShort) judged.Peaks))))
+    (cond a (Err (m + 1, CommaLine (m + 1)))
+    (cond b (Err (n + 1, Sample n)) (cond c (Err (0, TooLong)) (cond d (Err (0, TooShort)) (Ok tt)))))
     ≡ cond a (refuse (m + 1) (CommaLine (m + 1))) (cond b (refuse (n + 1) (Sample n)) (cond c (refuse 0 TooLong) (cond d (refuse 0 TooShort) proper)))
 by_judged refuse true b c d proper m n = refl
 by_judged refuse false true c d proper m n = refl

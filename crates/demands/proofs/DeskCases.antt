@@ -22,8 +22,6 @@ use Rattle.crossing_places.specs.Reading.{first_of, passing}
 use Rattle.crossing_sets.specs.Groups.{attach, groups}
 use Rattle.crossing_sets.specs.Walk.{later, walk}
 use Rattle.record_state.specs.declared.Record.{Record}
-use Rattle.record_state.specs.declared.RecordAnswer.{RecordAnswer}
-use Rattle.record_state.specs.declared.RecordAnswer.TheVariants.{Refused, Taken}
 use Rattle.record_state.specs.State.{sound}
 use Rattle.comma_stream.specs.Follow.{after_lines, bytes_of, resting, right_lines}
 use Rattle.desk_line.specs.Said.{Said, places_then, refused_line, why_text}
@@ -34,6 +32,8 @@ use Rattle.root.specs.Root.{first_from}
 use Rattle.binomial_files.specs.Files.{binomial_from, binomial_said, sum_line}
 use Rattle.sheet_records.specs.Ledger.{lines_from, sheet_text}
 use Rattle.sheet_files.specs.Files.{failures_in, sheet_from, sheet_said}
+use Rattle.refusal.specs.declared.Refusal.{Refusal}
+use Rattle.std.specs.Prelude.{Result, Ok, Err}
 
 -- the step 500 ms, no ramp, 40 degrees, 1,500 ms
 abbrev items : Items
@@ -122,29 +122,29 @@ still D n crossings =
     }
 
 -- lines at 500 ms, the first out of range among them, and what is answered when the next is malformed
-abbrev answered : ℕ → ℕ → RecordAnswer → RecordAnswer
+abbrev answered : ℕ → ℕ → Result Record Refusal → Result Record Refusal
 answered lines outside a = (taking (going (record { step = 500; lines = lines; outside = outside }) a) (120 ∷ []) false).counting.answer
 
 -- 8, before 10: a record of another step, of a sample too many, of one too few, of lines of which one was out of range,
 -- with a crossing that stands nowhere; lines out of range or refused as too many, of which the noted one was not read
 count_eight :
-    answered 2 0 (Taken (still 500 2 0))
-    ∷ answered 2 0 (Taken (still 499 2 0))
-    ∷ answered 2 0 (Taken (still 500 3 0))
-    ∷ answered 2 0 (Taken (still 500 1 0))
-    ∷ answered 2 1 (Taken (still 500 2 0))
-    ∷ answered 2 0 (Taken (still 500 2 1))
-    ∷ answered 2 2 (Refused TooLong)
-    ∷ answered 2 3 (Refused TooLong)
+    answered 2 0 (Ok (still 500 2 0))
+    ∷ answered 2 0 (Ok (still 499 2 0))
+    ∷ answered 2 0 (Ok (still 500 3 0))
+    ∷ answered 2 0 (Ok (still 500 1 0))
+    ∷ answered 2 1 (Ok (still 500 2 0))
+    ∷ answered 2 0 (Ok (still 500 2 1))
+    ∷ answered 2 2 (Err TooLong)
+    ∷ answered 2 3 (Err TooLong)
     ∷ []
-    ≡ Refused (CommaLine 3)
-    ∷ Refused BrokenState
-    ∷ Refused BrokenState
-    ∷ Refused BrokenState
-    ∷ Refused BrokenState
-    ∷ Refused BrokenState
-    ∷ Refused (CommaLine 3)
-    ∷ Refused BrokenState
+    ≡ Err (CommaLine 3)
+    ∷ Err BrokenState
+    ∷ Err BrokenState
+    ∷ Err BrokenState
+    ∷ Err BrokenState
+    ∷ Err BrokenState
+    ∷ Err (CommaLine 3)
+    ∷ Err BrokenState
     ∷ []
 unfolding taking sound item_outside resting right_lines bytes_of after_lines lines_of first_wrong right is_comma_line is_number
     all_digits leading

@@ -19,8 +19,6 @@ use Rattle.sample_items.specs.declared.Items.{Items}
 use Rattle.sample_items.specs.Limits.{item_outside, most_samples}
 use Rattle.sample_range.specs.Range.{first_bad}
 use Rattle.crossing_places.specs.Reading.{too_few}
-use Rattle.record_state.specs.declared.RecordAnswer.{RecordAnswer}
-use Rattle.record_state.specs.declared.RecordAnswer.TheVariants.{Refused, Taken}
 use Rattle.decimal.specs.Lines.{lines_of}
 use Rattle.comma_line.specs.Text.{first_wrong, samples_of}
 use Rattle.comma_stream.specs.declared.Follow.{Follow}
@@ -34,6 +32,9 @@ use Rattle.comma_pair.proofs.Agreeing.{never_eight}
 use Rattle.comma_pair.proofs.Cut.{cut_anywhere}
 use Rattle.comma_pair.proofs.Piece.{spare, taking_broken}
 use Rattle.demands.proofs.Desk.{count_kept, lines_kept}
+use Rattle.refusal.specs.declared.Refusal.{Refusal}
+use Rattle.record_state.specs.declared.Record.{Record}
+use Rattle.std.specs.Prelude.{Result, Ok, Err}
 
 -- ---- the statement
 -- a condition, and what is said where it holds
@@ -65,7 +66,7 @@ pair_tests i ls ms =
 
 -- the relations of 8 for a count of two files that goes on: its record is of the lines that both have, a sample out of
 -- range of which is held as 0; both have one step, and each keeps the relations of lines
-abbrev pub pair_kept : Follow → Follow → RecordAnswer → Bool
+abbrev pub pair_kept : Follow → Follow → Result Record Refusal → Bool
 pair_kept f g a =
     count_kept (record { step = f.step; lines = min f.lines g.lines; outside = 0 }) a
     && (eqb f.step g.step && (lines_kept f && lines_kept g))
@@ -94,10 +95,10 @@ pub record DeskPair : Type 0 where
       ((t.roll ≤ length x) × (t.acceleration ≤ length y)) × (left_over t.next t x y < 31)
   -- a count that breaks a relation of 8 is over with 8, which has no channel, and all of both pieces is used; one that
   -- breaks none is not answered by 8
-  pub pair_broken : (f g : Follow) (a : RecordAnswer) (x : List ℕ) (xMore : Bool) (y : List ℕ) (yMore : Bool) → pair_kept f g a ≡ false
-      → taking (watched f g a) x xMore y yMore ≡ ended (stopped f g (Refused BrokenState) 0) (length x) (length y)
-  pub pair_kept_lem : (f g : Follow) (a : RecordAnswer) (x : List ℕ) (xMore : Bool) (y : List ℕ) (yMore : Bool) → pair_kept f g a ≡ true
-      → (a ≡ Refused BrokenState → ⊥) → (taking (watched f g a) x xMore y yMore).watching.answer ≡ Refused BrokenState → ⊥
+  pub pair_broken : (f g : Follow) (a : Result Record Refusal) (x : List ℕ) (xMore : Bool) (y : List ℕ) (yMore : Bool) → pair_kept f g a ≡ false
+      → taking (watched f g a) x xMore y yMore ≡ ended (stopped f g (Err BrokenState) 0) (length x) (length y)
+  pub pair_kept_lem : (f g : Follow) (a : Result Record Refusal) (x : List ℕ) (xMore : Bool) (y : List ℕ) (yMore : Bool) → pair_kept f g a ≡ true
+      → (a ≡ Err BrokenState → ⊥) → (taking (watched f g a) x xMore y yMore).watching.answer ≡ Err BrokenState → ⊥
 
 -- ---- the proof
 by_tests : (i : Items) (roll acceleration : List ℕ)
@@ -133,12 +134,12 @@ lower_bad_acceleration : (xs ys : List ℤ) → bad_roll xs ys ≡ false → fir
 lower_bad_acceleration xs ys e h = leb-false (first_bad xs) (first_bad ys) (rw (lt-ltb (first_bad xs) (length xs) h) at e)
 
 -- `pair_kept` is written out, so that each of its cases has to be what is asked
-kept-is : (f g : Follow) (a : RecordAnswer) → pair_kept f g a ≡ agreeing f g a
-kept-is f g (Taken r) = refl
-kept-is f g (Refused q) = refl
+kept-is : (f g : Follow) (a : Result Record Refusal) → pair_kept f g a ≡ agreeing f g a
+kept-is f g (Ok r) = refl
+kept-is f g (Err q) = refl
 
-by_relations : (f g : Follow) (a : RecordAnswer) (x : List ℕ) (xMore : Bool) (y : List ℕ) (yMore : Bool) → pair_kept f g a ≡ false
-    → taking (watched f g a) x xMore y yMore ≡ ended (stopped f g (Refused BrokenState) 0) (length x) (length y)
+by_relations : (f g : Follow) (a : Result Record Refusal) (x : List ℕ) (xMore : Bool) (y : List ℕ) (yMore : Bool) → pair_kept f g a ≡ false
+    → taking (watched f g a) x xMore y yMore ≡ ended (stopped f g (Err BrokenState) 0) (length x) (length y)
 by_relations f g a x xMore y yMore e = sym (taking_broken (watched f g a) x xMore y yMore refl (sym (kept-is f g a) ∙ e))
 
 pub desk_pair : DeskPair

@@ -19,8 +19,6 @@ use Rattle.sample_channels.specs.Channels.{moments}
 use Rattle.crossing_places.specs.Reading.{first_of, passing}
 use Rattle.crossing_sets.specs.Groups.{attach, groups}
 use Rattle.crossing_sets.specs.Walk.{later, walk}
-use Rattle.record_state.specs.declared.RecordAnswer.{RecordAnswer}
-use Rattle.record_state.specs.declared.RecordAnswer.TheVariants.{Refused, Taken}
 use Rattle.record_state.specs.State.{sound}
 use Rattle.comma_stream.specs.declared.Follow.{Follow}
 use Rattle.comma_stream.specs.Follow.{after_lines, bytes_of, resting, right_lines}
@@ -30,6 +28,9 @@ use Rattle.comma_pair.specs.Line.{channel_line, pair_said, pair_said_of_lines}
 use Rattle.comma_pair.specs.Taking.{judged, side_by_side, taking, watched}
 use Rattle.sheet_pairs.specs.Files.{channel_record, refused_record_of}
 use Rattle.demands.proofs.DeskCases.{still}
+use Rattle.refusal.specs.declared.Refusal.{Refusal}
+use Rattle.record_state.specs.declared.Record.{Record}
+use Rattle.std.specs.Prelude.{Result, Ok, Err}
 
 -- the step 500 ms, no ramp, 40 degrees, 9.81 m/s², 1,500 ms
 abbrev items : Items
@@ -147,30 +148,30 @@ abbrev lines : ℕ → ℕ → ℕ → Follow
 lines D n outside = record { step = D; lines = n; outside = outside }
 
 -- what is answered when the next line of the roll is malformed
-abbrev answered : Follow → Follow → RecordAnswer → RecordAnswer
+abbrev answered : Follow → Follow → Result Record Refusal → Result Record Refusal
 answered f g a = (taking (watched f g a) (120 ∷ []) false [] false).watching.answer
 
 -- 8, before 10: a record of another step, of more samples than both files have, of fewer, with a crossing that stands
 -- nowhere; files of two steps; a noted line that was not read, of either. A record has the samples of the shorter file,
 -- and one out of range counts among them
 pair_eight :
-    answered (lines 500 3 0) (lines 500 2 2) (Taken (still 500 2 0))
-    ∷ answered (lines 500 3 0) (lines 500 2 0) (Taken (still 499 2 0))
-    ∷ answered (lines 500 3 0) (lines 500 2 0) (Taken (still 500 3 0))
-    ∷ answered (lines 500 2 0) (lines 500 2 0) (Taken (still 500 1 0))
-    ∷ answered (lines 500 2 0) (lines 500 2 0) (Taken (still 500 2 1))
-    ∷ answered (lines 500 2 0) (lines 499 2 0) (Taken (still 500 2 0))
-    ∷ answered (lines 500 2 3) (lines 500 2 0) (Refused TooLong)
-    ∷ answered (lines 500 2 0) (lines 500 2 3) (Refused TooLong)
+    answered (lines 500 3 0) (lines 500 2 2) (Ok (still 500 2 0))
+    ∷ answered (lines 500 3 0) (lines 500 2 0) (Ok (still 499 2 0))
+    ∷ answered (lines 500 3 0) (lines 500 2 0) (Ok (still 500 3 0))
+    ∷ answered (lines 500 2 0) (lines 500 2 0) (Ok (still 500 1 0))
+    ∷ answered (lines 500 2 0) (lines 500 2 0) (Ok (still 500 2 1))
+    ∷ answered (lines 500 2 0) (lines 499 2 0) (Ok (still 500 2 0))
+    ∷ answered (lines 500 2 3) (lines 500 2 0) (Err TooLong)
+    ∷ answered (lines 500 2 0) (lines 500 2 3) (Err TooLong)
     ∷ []
-    ≡ Refused (CommaLine 4)
-    ∷ Refused BrokenState
-    ∷ Refused BrokenState
-    ∷ Refused BrokenState
-    ∷ Refused BrokenState
-    ∷ Refused BrokenState
-    ∷ Refused BrokenState
-    ∷ Refused BrokenState
+    ≡ Err (CommaLine 4)
+    ∷ Err BrokenState
+    ∷ Err BrokenState
+    ∷ Err BrokenState
+    ∷ Err BrokenState
+    ∷ Err BrokenState
+    ∷ Err BrokenState
+    ∷ Err BrokenState
     ∷ []
 unfolding taking judged side_by_side sound item_outside resting right_lines bytes_of after_lines lines_of first_wrong right
     is_comma_line is_number all_digits leading

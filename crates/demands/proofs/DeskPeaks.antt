@@ -17,18 +17,16 @@ use Rattle.comma_line.specs.Text.{first_wrong, samples_of}
 use Rattle.peak_groups.specs.Peaks.{handed}
 use Rattle.peak_lines.specs.Lines.{peaks_text}
 use Rattle.desk_line.specs.Said.{Said, refused}
-use Rattle.comma_peaks.specs.declared.Judged.TheVariants.{Refused, Peaks}
-use Rattle.comma_peaks.specs.declared.Judged.{Judged}
 use Rattle.comma_peaks.specs.Judged.{comes_to}
 use Rattle.peak_files.specs.Said.{places_of, peaks_read, judged_said, file_said, then_said, files_from, searched, items_said, peaks_said, files_said}
 use Rattle.peak_stream.specs.declared.Surveying.{Surveying}
-use Rattle.peak_stream.specs.declared.Surveyed.TheVariants as survey
 use Rattle.peak_files.specs.declared.Pass.{Pass}
 use Rattle.peak_files.specs.Passing.{finishing, last_by}
 use Rattle.peak_files.specs.Reading.{Twice, ReadTwice, AllTwice, both_wrote, files_wrote}
 use Rattle.peak_files.proofs.Anywhere.{file_anywhere, files_anywhere}
 use Rattle.demands.proofs.Demand1.{Test, ◌gives◌, decide}
 use Rattle.demands.proofs.Desk.{fault_line}
+use Rattle.std.specs.Prelude.{Ok, Err}
 
 -- ---- the statement
 -- a file's tests, each over all its lines: 10, 2, 3, 4
@@ -51,10 +49,10 @@ pub record DeskPeaks : Type 0 where
   pub peaks_none : (D R τ : ℕ) (text : List ℕ) → eqb (item_outside (searched D R τ)) 0 ≡ true → peaks_said D R τ text ≡ file_said D R τ 0 text
   pub files_none : (D R τ : ℕ) (texts : List (List ℕ)) → eqb (item_outside (searched D R τ)) 0 ≡ true → files_said D R τ texts ≡ files_from D R τ 1 texts
   -- what a file comes to: the first test that holds, and its line or 0
-  pub peaks_order : (D R : ℕ) (lines : List (List ℕ)) → comes_to D R lines ≡ decide (λ r. Refused (fault_line r) r) (peaks_tests D R lines) Peaks
+  pub peaks_order : (D R : ℕ) (lines : List (List ℕ)) → comes_to D R lines ≡ decide (λ r. Err (fault_line r, r)) (peaks_tests D R lines) (Ok tt)
   -- a file: refused with its line or 0, after its number where there are several, or its envelope peaks in order
-  pub peaks_refused : (D R τ file : ℕ) (text : List ℕ) (line : ℕ) (r : Refusal) → comes_to D R (lines_of text) ≡ Refused line r → file_said D R τ file text ≡ refused (places_of file line) r
-  pub peaks_written : (D R τ file : ℕ) (text : List ℕ) → comes_to D R (lines_of text) ≡ Peaks
+  pub peaks_refused : (D R τ file : ℕ) (text : List ℕ) (line : ℕ) (r : Refusal) → comes_to D R (lines_of text) ≡ Err (line, r) → file_said D R τ file text ≡ refused (places_of file line) r
+  pub peaks_written : (D R τ file : ℕ) (text : List ℕ) → comes_to D R (lines_of text) ≡ (Ok tt)
       → file_said D R τ file text ≡ record { line = peaks_text file (handed D R τ (samples_of (lines_of text))); end = 48 }
   -- one file after the other, until one is refused
   pub files_on : (D R τ file : ℕ) (text : List ℕ) (texts : List (List ℕ)) → eqb (file_said D R τ file text).end 48 ≡ true
@@ -63,7 +61,7 @@ pub record DeskPeaks : Type 0 where
       → files_from D R τ file (text ∷ texts) ≡ file_said D R τ file text
   -- a file that has changed between its readings: they differ in their lines, in the first sample out of range, in the
   -- number of peaks or in their sum, or the second has a wrong line. Nothing more is written, and '2'
-  pub peaks_changed : (a b : Pass) (s t : Surveying) → a.counted ≡ survey.Taken s → b.counted ≡ survey.Taken t
+  pub peaks_changed : (a b : Pass) (s t : Surveying) → a.counted ≡ Ok s → b.counted ≡ Ok t
       → let f = a.follow in
       let g = b.follow in
       finishing a b
@@ -72,7 +70,7 @@ pub record DeskPeaks : Type 0 where
   pub files_end : (D R τ file : ℕ) → files_from D R τ file [] ≡ record { line = []; end = 48 }
 
 -- ---- the proof
-by_tests : (D R : ℕ) (lines : List (List ℕ)) → comes_to D R lines ≡ decide (λ r. Refused (fault_line r) r) (peaks_tests D R lines) Peaks
+by_tests : (D R : ℕ) (lines : List (List ℕ)) → comes_to D R lines ≡ decide (λ r. Err (fault_line r, r)) (peaks_tests D R lines) (Ok tt)
 unfolding comes_to decide
 by_tests D R lines = refl
 
@@ -84,7 +82,7 @@ no_item : (D R τ : ℕ) (s : Said) → eqb (item_outside (searched D R τ)) 0 �
 unfolding then_said items_said
 no_item D R τ s e = rw e
 
-by_changed : (a b : Pass) (s t : Surveying) → a.counted ≡ survey.Taken s → b.counted ≡ survey.Taken t
+by_changed : (a b : Pass) (s t : Surveying) → a.counted ≡ Ok s → b.counted ≡ Ok t
     → let f = a.follow in
     let g = b.follow in
     finishing a b

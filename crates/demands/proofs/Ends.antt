@@ -15,38 +15,27 @@ use Rattle.sample_channels.specs.Channels.{moments, still}
 use Rattle.sample_range.specs.Range.{first_bad}
 use Rattle.sample_items.specs.declared.Items.{Items}
 use Rattle.sample_items.specs.Limits.{item_outside, most_in_range}
-use Rattle.record_state.specs.declared.RecordAnswer.{RecordAnswer}
-use Rattle.record_state.specs.declared.RecordAnswer.TheVariants as recorded
 use Rattle.record_state.specs.declared.Record.{Record}
 use Rattle.record_state.specs.Answers as records
 use Rattle.record_state.specs.State as recording
 use Rattle.record_feed.specs.Answers.{fed}
 use Rattle.crossing_sets.specs.Groups.{attach, firsts, groups as in_groups}
 use Rattle.crossing_places.specs.Reading.{passing}
-use Rattle.record_list.specs.declared.Listed.{Listed}
-use Rattle.record_list.specs.declared.Listed.TheVariants as listing
 use Rattle.record_list.specs.Answers.{listed}
-use Rattle.record_end.specs.declared.Ended.{Ended}
-use Rattle.record_end.specs.declared.Ended.TheVariants as ended
 use Rattle.record_end.specs.declared.Outcome.{Outcome}
 use Rattle.record_end.specs.Result.{ending}
-use Rattle.campaign_state.specs.declared.CampaignAnswer.{CampaignAnswer}
-use Rattle.campaign_state.specs.declared.CampaignAnswer.TheVariants as campaigned
 use Rattle.campaign_state.specs.declared.Campaign.{Campaign}
 use Rattle.campaign_state.specs.Answers as campaigns
 use Rattle.campaign_state.specs.State as campaigning
 use Rattle.sheet_line.specs.Line.{telling}
-use Rattle.binomial_sum.specs.declared.SumAnswer.{SumAnswer}
-use Rattle.binomial_sum.specs.declared.SumAnswer.TheVariants as summed
 use Rattle.binomial_sum.specs.declared.Sum.{Sum}
 use Rattle.binomial_sum.specs.Answers as sums
 use Rattle.binomial_sum.specs.State as summing
-use Rattle.peak_tail.specs.declared.Fitted.{Fitted}
-use Rattle.peak_tail.specs.declared.Fitted.TheVariants as fitting
 use Rattle.peak_tail.specs.Fitting as tails
-use Rattle.campaign_condition.specs.declared.ConditionAnswer.{ConditionAnswer}
-use Rattle.campaign_condition.specs.declared.ConditionAnswer.TheVariants as conditioned
 use Rattle.campaign_condition.specs.Answers as conditions
+use Rattle.record_end.specs.declared.RecordResult.{RecordResult}
+use Rattle.campaign_condition.specs.declared.Standing.{Standing}
+use Rattle.std.specs.Prelude.{Result, Ok, Err}
 
 abbrev pub refused : Refusal → ℕ × ℕ
 refused f = (number_of f, value_of f)
@@ -55,33 +44,33 @@ abbrev pub taken : ℕ × ℕ
 taken = (0, 0)
 
 -- what each kind of answer comes to
-abbrev pub of_record : RecordAnswer → ℕ × ℕ
-of_record (recorded.Taken r) = taken
-of_record (recorded.Refused f) = refused f
+abbrev pub of_record : Result Record Refusal → ℕ × ℕ
+of_record (Ok r) = taken
+of_record (Err f) = refused f
 
-abbrev pub of_ended : Ended → ℕ × ℕ
-of_ended (ended.Given x) = taken
-of_ended (ended.Refused f) = refused f
+abbrev pub of_ended : Result RecordResult Refusal → ℕ × ℕ
+of_ended (Ok x) = taken
+of_ended (Err f) = refused f
 
-abbrev pub of_listed : Listed → ℕ × ℕ
-of_listed (listing.Times n) = taken
-of_listed (listing.Refused f) = refused f
+abbrev pub of_listed : Result ℕ Refusal → ℕ × ℕ
+of_listed (Ok n) = taken
+of_listed (Err f) = refused f
 
-abbrev pub of_campaign : CampaignAnswer → ℕ × ℕ
-of_campaign (campaigned.Taken c) = taken
-of_campaign (campaigned.Refused f) = refused f
+abbrev pub of_campaign : Result Campaign Refusal → ℕ × ℕ
+of_campaign (Ok c) = taken
+of_campaign (Err f) = refused f
 
-abbrev pub of_sum : SumAnswer → ℕ × ℕ
-of_sum (summed.Taken s) = taken
-of_sum (summed.Refused f) = refused f
+abbrev pub of_sum : Result Sum Refusal → ℕ × ℕ
+of_sum (Ok s) = taken
+of_sum (Err f) = refused f
 
-abbrev pub of_tail : Fitted → ℕ × ℕ
-of_tail (fitting.Sum s) = taken
-of_tail (fitting.Refused f) = refused f
+abbrev pub of_tail : Result ℕ Refusal → ℕ × ℕ
+of_tail (Ok s) = taken
+of_tail (Err f) = refused f
 
-abbrev pub of_condition : ConditionAnswer → ℕ × ℕ
-of_condition (conditioned.Given s) = taken
-of_condition (conditioned.Refused f) = refused f
+abbrev pub of_condition : Result Standing Refusal → ℕ × ℕ
+of_condition (Ok s) = taken
+of_condition (Err f) = refused f
 
 -- the usual levels, and no decorrelation time
 abbrev pub usual : ℕ → ℕ → Items

@@ -26,13 +26,9 @@ use Rattle.sheet_line.specs.Column.{record_column, standard_column}
 use Rattle.sheet_line.specs.Texts.{RecordText, StandardText, entry_text, head_text}
 use Rattle.sheet_line.specs.declared.Sheet.{Sheet}
 use Rattle.sheet_line.specs.declared.Sheet.TheVariants.{Fresh, Open}
-use Rattle.sheet_line.specs.declared.Step.{Step}
-use Rattle.sheet_line.specs.declared.Step.TheVariants.{Next, Stop}
 use Rattle.sheet_line.specs.Line.{sound_sheet, stepping}
 use Rattle.text.specs.Write.{fits, laid, written}
-use Rattle.sheet_reply.specs.declared.Written.TheVariants.{Upto, Refused}
 use Rattle.sheet_reply.specs.Written.{record_left, record_text, record_writing, refused_text, writing_reply}
-use Rattle.sheet_text.specs.declared.Ran.TheVariants.{Came, Refused as Declined}
 use Rattle.sheet_text.specs.declared.Reading.{Reading}
 use Rattle.sheet_text.specs.declared.Reading.TheVariants.{Read, Stopped, Waiting}
 use Rattle.sheet_text.specs.Sheet.{Account, after_step, meaning, prefixed, reading_sheet, reading_end, run_left, running, text_of, waits}
@@ -41,6 +37,7 @@ use Rattle.demands.proofs.Exactly.{Exactly}
 use Rattle.demands.proofs.Demand1.{Decides, First, None, Test, ◌gives◌, decide, decided, end, here, later, not_it}
 use Rattle.demands.proofs.Refusal9.{Nine, refusal_9, standard_tests, tell_tests}
 use Rattle.demands.proofs.Request10.{request_10}
+use Rattle.std.specs.Prelude.{Result, Ok, Err}
 
 -- ---- the statement
 -- what a line says where the reading stands: the tests of what it tells, and where it leads
@@ -94,10 +91,10 @@ pub record StopsByNine (n : ℕ) (r : Reading) : Type 0 where
   pub is : r ≡ Stopped n column (Line n)
 
 -- a line, or a reading, is refused by 8
-pub record StepEight (answer : Step) : Type 0 where
+pub record StepEight (answer : Result Sheet (ℕ × ℕ × Refusal)) : Type 0 where
   pub number : ℕ
   pub column : ℕ
-  pub is : answer ≡ Stop number column BrokenState
+  pub is : answer ≡ Err (number, column, BrokenState)
 
 pub record ReadEight (answer : Reading) : Type 0 where
   pub number : ℕ
@@ -126,29 +123,29 @@ pub record JobSheet : Type 0 where
   -- a text run: 8, then 7 with the bytes needed; a refusal leaves the lent bytes, and else they start with what is
   -- written
   pub run : (more : Bool) (text : List ℕ) (s : Sheet) (out : List ℕ) → let a = reading_sheet more (lines_of text) s in
-      Decides Declined
+      Decides Err
       (not (sound_sheet s) gives BrokenState ∷ (not (leb (length a.text) (length out)) gives Room (length a.text) ∷ []))
-      (Came a.end (length a.text))
+      (Ok (a.end, length a.text))
       (running more text s out)
   pub run_kept : (more : Bool) (text : List ℕ) (s : Sheet) (out : List ℕ) (r : Refusal)
-      → running more text s out ≡ Declined r → run_left more text s out ≡ out
+      → running more text s out ≡ Err r → run_left more text s out ≡ out
   pub run_left_lem : (more : Bool) (text : List ℕ) (s : Sheet) (out : List ℕ) (e : Reading) (n : ℕ)
-      → running more text s out ≡ Came e n → run_left more text s out ≡ (reading_sheet more (lines_of text) s).text ++ drop n out
+      → running more text s out ≡ Ok (e, n) → run_left more text s out ≡ (reading_sheet more (lines_of text) s).text ++ drop n out
   -- a record's line written: 8, then 7; the refused line written: 7
   pub record_written : (c : Campaign) (out : List ℕ) (at : ℕ)
-      → Decides Refused (not (sound c) gives BrokenState ∷ room_tests out at (record_text c))
-      (Upto (at + length (record_text c)))
+      → Decides Err (not (sound c) gives BrokenState ∷ room_tests out at (record_text c))
+      (Ok (at + length (record_text c)))
       (record_writing c out at)
   pub record_kept : (c : Campaign) (out : List ℕ) (at : ℕ) (r : Refusal)
-      → record_writing c out at ≡ Refused r → record_left c out at ≡ out
+      → record_writing c out at ≡ Err r → record_left c out at ≡ out
   pub record_left_lem : (c : Campaign) (out : List ℕ) (at n : ℕ)
-      → record_writing c out at ≡ Upto n → record_left c out at ≡ take at out ++ (record_text c ++ drop n out)
+      → record_writing c out at ≡ Ok n → record_left c out at ≡ take at out ++ (record_text c ++ drop n out)
   pub refused_written : (line column : ℕ) (r : Refusal) (out : List ℕ) (at : ℕ) → let text = refused_text line column r in
-      Decides Refused (room_tests out at text) (Upto (at + length text)) (writing_reply out at text)
+      Decides Err (room_tests out at text) (Ok (at + length text)) (writing_reply out at text)
   pub refused_kept : (line column : ℕ) (r : Refusal) (out : List ℕ) (at : ℕ) (q : Refusal)
-      → writing_reply out at (refused_text line column r) ≡ Refused q → written out at (refused_text line column r) ≡ out
+      → writing_reply out at (refused_text line column r) ≡ Err q → written out at (refused_text line column r) ≡ out
   pub refused_left : (line column : ℕ) (r : Refusal) (out : List ℕ) (at n : ℕ) → let text = refused_text line column r in
-      writing_reply out at text ≡ Upto n → written out at text ≡ take at out ++ (text ++ drop n out)
+      writing_reply out at text ≡ Ok n → written out at text ≡ take at out ++ (text ++ drop n out)
 
 -- the line at which the reading stands
 abbrev line_at : Sheet → ℕ
@@ -165,18 +162,18 @@ none_or_first (t ∷ ts) = by_test t.holds (λ h. inr (t.gives, here h)) (λ h. 
 
 -- ---- a line where the reading stands: what is due decides by its tests, and what is not is malformed
 says_decides : {s : Sheet} {line : List ℕ} {ts : List Test} {t : Sheet} → sound_sheet s ≡ true → Says s line ts t
-    → Decides (Stop (line_at s) 0) ts (Next t) (stepping s line)
+    → Decides ((λ a. Err ((line_at s), 0, a))) ts (Ok t) (stepping s line)
 says_decides g (standard q few) = refusal_9.first_then q few
 says_decides g (record_of_lem c flag exposure f few) = refusal_9.line_then c flag exposure g f few
 
 bad_step : (s : Sheet) (line : List ℕ) → sound_sheet s ≡ true → ¬ Due s line
-    → stepping s line ≡ Stop (line_at s) (column_at s line) (Line (line_at s))
+    → stepping s line ≡ Err (line_at s, column_at s line, Line (line_at s))
 bad_step Fresh line g bad =
     let n = (refusal_9.first line).when bad in
-    n.is ∙ ap (λ (k : ℕ). Stop 1 k (Line 1)) ((request_10.first line).column_told n.column n.is)
+    n.is ∙ ap (λ (k : ℕ). Err (1, k, Line 1)) ((request_10.first line).column_told n.column n.is)
 bad_step (Open c) line g bad =
     let n = (refusal_9.line c line g).when bad in
-    n.is ∙ ap (λ (k : ℕ). Stop (c.records + 2) k (Line (c.records + 2))) ((request_10.later c line g).column_told n.column n.is)
+    n.is ∙ ap (λ (k : ℕ). Err (c.records + 2, k, Line (c.records + 2))) ((request_10.later c line g).column_told n.column n.is)
 
 due_or_bad : (s : Sheet) (line : List ℕ) → sound_sheet s ≡ true
     → ((ts : List Test) × (t : Sheet) × Says s line ts t) ⊎ (¬ Due s line)
@@ -194,15 +191,15 @@ due_or_bad (Open c) line g = go (refusal_9.line_either c line g)
     go (inr n) = inr ((refusal_9.line c line g).only_if n)
 
 -- ---- the reading, line by line
-one_on : (line : List ℕ) (lines : List (List ℕ)) (s t : Sheet) → stepping s line ≡ Next t
+one_on : (line : List ℕ) (lines : List (List ℕ)) (s t : Sheet) → stepping s line ≡ Ok t
     → reading_sheet false (line ∷ lines) s ≡ prefixed (text_of t) (reading_sheet false lines t)
 unfolding reading_sheet
-one_on line lines s t e = ap (λ (x : Step). after_step x (reading_sheet false lines)) e
+one_on line lines s t e = ap (λ (x : Result Sheet (ℕ × ℕ × Refusal)). after_step x (reading_sheet false lines)) e
 
-one_stop : (line : List ℕ) (lines : List (List ℕ)) (s : Sheet) {n k : ℕ} {r : Refusal} → stepping s line ≡ Stop n k r
+one_stop : (line : List ℕ) (lines : List (List ℕ)) (s : Sheet) {n k : ℕ} {r : Refusal} → stepping s line ≡ Err (n, k, r)
     → reading_sheet false (line ∷ lines) s ≡ stopped [] n k r
 unfolding reading_sheet
-one_stop line lines s e = ap (λ (x : Step). after_step x (reading_sheet false lines)) e
+one_stop line lines s e = ap (λ (x : Result Sheet (ℕ × ℕ × Refusal)). after_step x (reading_sheet false lines)) e
 
 prefixed_twice : (x y : List ℕ) (a : Account) → prefixed x (prefixed y a) ≡ prefixed (x ++ y) a
 prefixed_twice x y a = ap (λ (text : List ℕ). record { text = text; end = a.end }) (sym (append_assoc x y a.text))
@@ -318,9 +315,9 @@ nine_is lines (not_due before s text line after a l bad) =
     }
 
 -- ---- 8
-abbrev number_in : Step → ℕ
-number_in (Next s) = 0
-number_in (Stop l k r) = number_of r
+abbrev number_in : Result Sheet (ℕ × ℕ × Refusal) → ℕ
+number_in (Ok s) = 0
+number_in (Err (l, k, r)) = number_of r
 
 not_eight : (s : Sheet) (line : List ℕ) → sound_sheet s ≡ true → ¬ (number_in (stepping s line) ≡ 8)
 not_eight s line g e = go (due_or_bad s line g)
@@ -333,7 +330,7 @@ not_eight s line g e = go (due_or_bad s line g)
     go (inl (ts, t, y)) = tested ts t y (none_or_first ts)
     go (inr bad) = omega (arith, sym (ap number_in (bad_step s line g bad)) ∙ e)
 
-broken_step : (s : Sheet) (line : List ℕ) → sound_sheet s ≡ false → stepping s line ≡ Stop 0 0 BrokenState
+broken_step : (s : Sheet) (line : List ℕ) → sound_sheet s ≡ false → stepping s line ≡ Err (0, 0, BrokenState)
 unfolding stepping
 broken_step Fresh line e = absurd (true≢false e)
 broken_step (Open c) line e = rw e
@@ -356,25 +353,25 @@ never_eight more (line ∷ lines) s g e =
     zero : ¬ (◌≡◌ {A = ℕ} 0 8)
     zero z = omega arith
 
-    go : (x : Step) → stepping s line ≡ x → ((t : Sheet) → stepping s line ≡ Next t → ¬ (number_of_end (reading_sheet more lines t).end ≡ 8))
+    go : (x : Result Sheet (ℕ × ℕ × Refusal)) → stepping s line ≡ x → ((t : Sheet) → stepping s line ≡ Ok t → ¬ (number_of_end (reading_sheet more lines t).end ≡ 8))
         → ¬ (number_of_end (after_step x (reading_sheet more lines)).end ≡ 8)
-    go (Next t) f rest z = rest t f z
-    go (Stop n k r) f rest z = not_eight s line g (ap number_in f ∙ z)
+    go (Ok t) f rest z = rest t f z
+    go (Err (n, k, r)) f rest z = not_eight s line g (ap number_in f ∙ z)
 
 -- ---- writing from a place on
-own_written : (r q : Refusal) → Refused r ≡ Refused q → r ≡ q
+own_written : (r q : Refusal) → Err r ≡ Err q → r ≡ q
 own_written r q e = cc
 
 module _ (out : List ℕ) (at : ℕ) (text : List ℕ) where
-  writing_tests : writing_reply out at text ≡ decide Refused (room_tests out at text) (Upto (at + length text))
+  writing_tests : writing_reply out at text ≡ decide Err (room_tests out at text) (Ok (at + length text))
   unfolding writing_reply decide
   writing_tests = by_test (fits out at text) (λ e. rw e) (λ e. rw e)
 
-  writing_kept : (r : Refusal) → writing_reply out at text ≡ Refused r → written out at text ≡ out
+  writing_kept : (r : Refusal) → writing_reply out at text ≡ Err r → written out at text ≡ out
   unfolding writing_reply written
   writing_kept r e = by_test (fits out at text) (λ f. impossible (cc (rw f at e))) (λ f. rw f)
 
-  writing_left : (n : ℕ) → writing_reply out at text ≡ Upto n → written out at text ≡ take at out ++ (text ++ drop n out)
+  writing_left : (n : ℕ) → writing_reply out at text ≡ Ok n → written out at text ≡ take at out ++ (text ++ drop n out)
   unfolding writing_reply written laid
   writing_left n e =
       by_test (fits out at text)
@@ -383,21 +380,21 @@ module _ (out : List ℕ) (at : ℕ) (text : List ℕ) where
 
 module _ (c : Campaign) (out : List ℕ) (at : ℕ) where
   record_tests : record_writing c out at
-      ≡ decide Refused (not (sound c) gives BrokenState ∷ room_tests out at (record_text c)) (Upto (at + length (record_text c)))
+      ≡ decide Err (not (sound c) gives BrokenState ∷ room_tests out at (record_text c)) (Ok (at + length (record_text c)))
   unfolding record_writing decide
   record_tests = by_test (sound c) (λ g. rw g (writing_tests out at (record_text c))) (λ g. rw g)
 
-  record_keeps : (r : Refusal) → record_writing c out at ≡ Refused r → record_left c out at ≡ out
+  record_keeps : (r : Refusal) → record_writing c out at ≡ Err r → record_left c out at ≡ out
   unfolding record_writing record_left
   record_keeps r e = by_test (sound c) (λ g. rw g (writing_kept out at (record_text c) r (rw g at e))) (λ g. rw g)
 
-  record_leaves : (n : ℕ) → record_writing c out at ≡ Upto n → record_left c out at ≡ take at out ++ (record_text c ++ drop n out)
+  record_leaves : (n : ℕ) → record_writing c out at ≡ Ok n → record_left c out at ≡ take at out ++ (record_text c ++ drop n out)
   unfolding record_writing record_left
   record_leaves n e =
       by_test (sound c) (λ g. rw g (writing_left out at (record_text c) n (rw g at e))) (λ g. impossible (cc (rw g at e)))
 
 -- ---- a text run
-own_run : (r q : Refusal) → Declined r ≡ Declined q → r ≡ q
+own_run : (r q : Refusal) → Err r ≡ Err q → r ≡ q
 own_run r q e = cc
 
 module _ (more : Bool) (text : List ℕ) (s : Sheet) (out : List ℕ) where
@@ -408,17 +405,17 @@ module _ (more : Bool) (text : List ℕ) (s : Sheet) (out : List ℕ) where
   room = leb (length account.text) (length out)
 
   run_tests : running more text s out
-      ≡ decide Declined (not (sound_sheet s) gives BrokenState ∷ (not room gives Room (length account.text) ∷ []))
-      (Came account.end (length account.text))
+      ≡ decide Err (not (sound_sheet s) gives BrokenState ∷ (not room gives Room (length account.text) ∷ []))
+      (Ok (account.end, length account.text))
   unfolding running decide
   run_tests = by_test (sound_sheet s) (λ g. by_test room (λ e. rw (g, e)) (λ e. rw (g, e))) (λ g. rw g)
 
-  run_keeps : (r : Refusal) → running more text s out ≡ Declined r → run_left more text s out ≡ out
+  run_keeps : (r : Refusal) → running more text s out ≡ Err r → run_left more text s out ≡ out
   unfolding running run_left written
   run_keeps r e =
       by_test (sound_sheet s) (λ g. by_test room (λ f. impossible (cc (rw (g, f) at e))) (λ f. rw (g, zero-add, f))) (λ g. rw g)
 
-  run_leaves : (e : Reading) (n : ℕ) → running more text s out ≡ Came e n → run_left more text s out ≡ account.text ++ drop n out
+  run_leaves : (e : Reading) (n : ℕ) → running more text s out ≡ Ok (e, n) → run_left more text s out ≡ account.text ++ drop n out
   unfolding running run_left written laid
   run_leaves r n e =
       by_test (sound_sheet s)
@@ -453,16 +450,16 @@ job_sheet =
       read_sound = λ more text s g. rw g;
       read_whole = λ text. refl;
       run = λ more text s out.
-          decided Declined (Came (reading_sheet more (lines_of text) s).end (length (reading_sheet more (lines_of text) s).text))
+          decided Err (Ok ((reading_sheet more (lines_of text) s).end, length (reading_sheet more (lines_of text) s).text))
           own_run (λ r e. impossible (cc)) _ (running more text s out) (run_tests more text s out);
       run_kept = run_keeps;
       run_left_lem = run_leaves;
       record_written = λ c out at.
-          decided Refused (Upto (at + length (record_text c))) own_written (λ r e. impossible (cc)) _ (record_writing c out at) (record_tests c out at);
+          decided Err (Ok (at + length (record_text c))) own_written (λ r e. impossible (cc)) _ (record_writing c out at) (record_tests c out at);
       record_kept = record_keeps;
       record_left_lem = record_leaves;
       refused_written = λ line column r out at. let text = refused_text line column r in
-          decided Refused (Upto (at + length text)) own_written (λ q e. impossible (cc)) _ (writing_reply out at text) (writing_tests out at text);
+          decided Err (Ok (at + length text)) own_written (λ q e. impossible (cc)) _ (writing_reply out at text) (writing_tests out at text);
       refused_kept = λ line column r out at q e. writing_kept out at (refused_text line column r) q e;
       refused_left = λ line column r out at n e. writing_left out at (refused_text line column r) n e;
     }

@@ -26,7 +26,6 @@ use Rattle.sheet_line.specs.declared.Sheet.TheVariants.{Fresh}
 use Rattle.sheet_text.specs.declared.Reading.{Reading}
 use Rattle.sheet_text.specs.declared.Reading.TheVariants.{Read, Stopped, Waiting}
 use Rattle.sheet_text.specs.Sheet.{meaning, reading_sheet}
-use Rattle.sheet_records.specs.declared.Resumed.{Resumed}
 use Rattle.sheet_records.specs.Ledger.{sheet_text}
 use Rattle.sheet_records.specs.Records.{filled_by, records_of, resumed_from, resuming}
 use Rattle.sheet_records.proofs.Back.{read_back, records_back}
@@ -34,13 +33,9 @@ use Rattle.desk_line.specs.declared.Finished.{Finished}
 use Rattle.desk_line.specs.Said.{Said, longest_said, putting, put_left, read_digit, refused_digit}
 use Rattle.comma_pair.specs.Line.{any_wrong, bad_roll, wrong_roll}
 use Rattle.comma_pair.specs.Pieces.{acceleration_text, roll_goes_on, roll_text}
-use Rattle.sheet_files.specs.declared.Filed.{Filed}
-use Rattle.sheet_files.specs.declared.Filed.TheVariants as filed
 use Rattle.sheet_files.specs.Files.{failures_in, most_failures, written}
 use Rattle.sheet_files.proofs.Clean.{Clean}
 use Rattle.sheet_files.proofs.Anywhere.{Kept, Well, Writes, filed_said}
-use Rattle.sheet_after.specs.declared.TakenUp.{TakenUp}
-use Rattle.sheet_after.specs.declared.TakenUp.TheVariants as up
 use Rattle.sheet_after.specs.After.{refused_old}
 use Rattle.sheet_after.specs.Taking.{taken_left, taking_up, up_of}
 use Rattle.sheet_after.proofs.Anywhere.{puts_whole}
@@ -51,6 +46,7 @@ use Rattle.sheet_pairs.specs.Files.{Texts, pairs_from, pairs_said, record_of_bot
 use Rattle.sheet_pairs.specs.Filing.{Comes, Desk, desk_after, finishing, finish_left}
 use Rattle.sheet_pairs.proofs.Anywhere.{channel_said, desk_of, desk_said, desk_well, files_said}
 use Rattle.sheet_pairs.proofs.Anywhere.{finished_by, from, texts_of, well_after}
+use Rattle.std.specs.Prelude.{Result, Ok, Err}
 
 -- ---- the statement
 -- what is written for the sheet and the files after it: the items go before the sheet, and the sheet before the files
@@ -68,20 +64,20 @@ pairs_after i old pairs =
 abbrev pub desk_up : Items → ℕ → ℕ → List ℤ → List Comes → Desk
 desk_up i n failures records pairs =
     desk_after i (n + 1)
-    (record { filed = record { filed = filed.Records n failures; channel = 0 }; records = records }) pairs
+    (record { filed = record { filed = Ok (n, failures); channel = 0 }; records = records }) pairs
 
 -- how it ends, and the lent bytes afterwards
-abbrev pub finishing_day : TakenUp → Items → List ℤ → List Comes → List ℕ → Finished
-finishing_day (up.Records q n failures) i records pairs out =
+abbrev pub finishing_day : Result (ℕ × ℕ × ℕ) (ℕ × ℕ × Refusal) → Items → List ℤ → List Comes → List ℕ → Finished
+finishing_day (Ok (q, n, failures)) i records pairs out =
     let d = desk_up i n failures records pairs in
     finishing q d.filed d.records out
-finishing_day (up.Refused line column r) i records pairs out = putting (refused_old line column r) out
+finishing_day (Err (line, column, r)) i records pairs out = putting (refused_old line column r) out
 
-abbrev pub day_left : TakenUp → Items → List ℤ → List Comes → List ℕ → List ℕ
-day_left (up.Records q n failures) i records pairs out =
+abbrev pub day_left : Result (ℕ × ℕ × ℕ) (ℕ × ℕ × Refusal) → Items → List ℤ → List Comes → List ℕ → List ℕ
+day_left (Ok (q, n, failures)) i records pairs out =
     let d = desk_up i n failures records pairs in
     finish_left q d.filed d.records out
-day_left (up.Refused line column r) i records pairs out = put_left (refused_old line column r) out
+day_left (Err (line, column, r)) i records pairs out = put_left (refused_old line column r) out
 
 pub record NextDayPairs : Type 0 where
   -- the sheet of some pairs of files, taken up and followed by others, is the sheet of all of them; and where the files
@@ -151,12 +147,12 @@ whole_files [] = refl
 whole_files (t ∷ xs) =
     ap (λ u. u ∷ map texts_of (map whole xs)) (whole_is t) ∙ ap (λ l. t ∷ l) (whole_files xs)
 
-said_clean : (q : ℕ) (f : Filed) (channel : ℕ) (b : Bool) (rs after : List ℤ) → Well q f rs
+said_clean : (q : ℕ) (f : Result (ℕ × ℕ) (ℕ × ℕ × Refusal)) (channel : ℕ) (b : Bool) (rs after : List ℤ) → Well q f rs
     → cond b (filed_said q f rs) (channel_said q f channel rs) ≡ written q after → Clean q after
 said_clean q f channel true rs after w e = filed_clean q f rs after w e
-said_clean q (filed.Records n failures) channel false rs after w e =
-    filed_clean q (filed.Records n failures) rs after w e
-said_clean q (filed.Refused number line r) channel false rs after w e =
+said_clean q (Ok (n, failures)) channel false rs after w e =
+    filed_clean q (Ok (n, failures)) rs after w e
+said_clean q (Err (number, line, r)) channel false rs after w e =
     let z : refused_digit ≡ read_digit = ap (λ (s : Said). s.end) e in
     absurd (omega (arith, z))
 
@@ -253,7 +249,7 @@ module _ (i : Items) (ok : item_outside i ≡ 0) (old : List ℕ) (c : Campaign)
       said
       (finished_by q d.filed.filed d.filed.channel (eqb d.filed.channel 0) d.records out
       (well_after q i pairs (n + 1)
-      (record { filed = record { filed = filed.Records n (failures_in (records_of old)); channel = 0 }; records = later })
+      (record { filed = record { filed = Ok (n, failures_in (records_of old)); channel = 0 }; records = later })
       kept)
       room (subst (λ s. length s.line ≤ length out) (sym said) fits))
 

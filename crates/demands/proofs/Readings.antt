@@ -15,19 +15,16 @@ use Rattle.sample_range.specs.Range.{first_bad}
 use Rattle.crossing_sets.specs.Groups.{attach, firsts, groups}
 use Rattle.crossing_places.specs.Reading.{counted_times, crossings, first_crossing, first_of, full_time, last_of, passing, time_at}
 use Rattle.refusal.specs.declared.Refusal.TheVariants.{Room}
-use Rattle.record_list.specs.declared.Listed.TheVariants.{Refused, Times}
 use Rattle.record_list.specs.Answers.{listed, written}
-use Rattle.record_state.specs.declared.RecordAnswer.{RecordAnswer}
-use Rattle.record_state.specs.declared.RecordAnswer.TheVariants as answered
 use Rattle.record_state.specs.declared.Record.{Record}
 use Rattle.record_state.specs.Answers.{opened}
 use Rattle.record_state.specs.State.{sound, state_of}
 use Rattle.record_feed.specs.Answers.{fed}
 use Rattle.record_step.specs.Step.{stepped}
-use Rattle.record_end.specs.declared.Ended.{Ended}
-use Rattle.record_end.specs.declared.Ended.TheVariants as ended
-use Rattle.record_end.specs.declared.Result.{Result}
+use Rattle.record_end.specs.declared.RecordResult.{RecordResult}
 use Rattle.record_end.specs.Result.{ending, result_of}
+use Rattle.refusal.specs.declared.Refusal.{Refusal}
+use Rattle.std.specs.Prelude.{Result, Ok, Err}
 
 abbrev usual : Levels
 usual = record { roll = 40000; acceleration = 9810 }
@@ -73,9 +70,9 @@ twice =
     pos 0 ∷ pos 0 ∷ pos 0 ∷ pos 41000 ∷ pos 0 ∷ negsuc 40999 ∷ pos 0 ∷ pos 41000 ∷ pos 0 ∷ negsuc 40999 ∷ pos 0
     ∷ pos 0 ∷ pos 0 ∷ pos 0 ∷ pos 41000 ∷ pos 0 ∷ negsuc 40999 ∷ pos 0 ∷ pos 41000 ∷ []
 
-abbrev of_ending : Ended → List ℕ
-of_ending (ended.Given x) = x.crossings ∷ x.counted ∷ x.first ∷ x.exposure ∷ x.largest ∷ []
-of_ending (ended.Refused r) = []
+abbrev of_ending : Result RecordResult Refusal → List ℕ
+of_ending (Ok x) = x.crossings ∷ x.counted ∷ x.first ∷ x.exposure ∷ x.largest ∷ []
+of_ending (Err r) = []
 
 -- crossings, counted, the first failure's place, exposure, the largest set; R = 2: a failed record's exposure is the
 -- first failure's time
@@ -90,13 +87,13 @@ unfolding ending sound item_outside state_of passing moments groups attach walk 
 ended_unfailed = refl
 
 -- ---- pieces
-abbrev of_pieces : RecordAnswer → List ℕ
-of_pieces (answered.Taken r) = r.n ∷ r.crossings ∷ r.first ∷ r.last_crossing ∷ []
-of_pieces (answered.Refused r) = []
+abbrev of_pieces : Result Record Refusal → List ℕ
+of_pieces (Ok r) = r.n ∷ r.crossings ∷ r.first ∷ r.last_crossing ∷ []
+of_pieces (Err r) = []
 
-abbrev next : List ℤ → RecordAnswer → RecordAnswer
-next xs (answered.Taken r) = fed r xs (map (λ (x : ℤ). pos 0) xs)
-next xs (answered.Refused r) = answered.Refused r
+abbrev next : List ℤ → Result Record Refusal → Result Record Refusal
+next xs (Ok r) = fed r xs (map (λ (x : ℤ). pos 0) xs)
+next xs (Err r) = Err r
 
 -- a crossing at a cut: the last sample of the piece before is kept; an empty piece between changes nothing
 pub crossing_at_cut : of_pieces (next (pos 41000 ∷ []) (next [] (next (pos 0 ∷ pos 0 ∷ []) (opened (usually 0 0)))))
@@ -118,15 +115,15 @@ pub times_listed : counted_times (usually 0 0) (alone xs) ≡ 500 ∷ 1500 ∷ [
 unfolding passing moments groups attach firsts
 times_listed = refl
 
-pub times_number : listed (usually 0 0) xs (map (λ (x : ℤ). pos 0) xs) 3 ≡ Times 2
+pub times_number : listed (usually 0 0) xs (map (λ (x : ℤ). pos 0) xs) 3 ≡ Ok 2
 unfolding listed item_outside first_bad passing moments groups attach firsts
 times_number = refl
 
-pub times_written : written (Times 2) (500 ∷ 1500 ∷ []) (7 ∷ 8 ∷ 9 ∷ []) ≡ 500 ∷ 1500 ∷ 9 ∷ []
+pub times_written : written (Ok 2) (500 ∷ 1500 ∷ []) (7 ∷ 8 ∷ 9 ∷ []) ≡ 500 ∷ 1500 ∷ 9 ∷ []
 unfolding written
 times_written = refl
 
 -- a refusal leaves the slice
-pub times_refused : written (Refused (Room 2)) (500 ∷ 1500 ∷ []) (7 ∷ []) ≡ 7 ∷ []
+pub times_refused : written (Err (Room 2)) (500 ∷ 1500 ∷ []) (7 ∷ []) ≡ 7 ∷ []
 unfolding written
 times_refused = refl

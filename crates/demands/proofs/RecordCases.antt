@@ -18,23 +18,15 @@ use Rattle.sample_channels.specs.declared.Levels.{Levels}
 use Rattle.sample_channels.specs.declared.Moment.{Moment}
 use Rattle.sample_channels.specs.Channels.{above, moment, moments}
 use Rattle.crossing_places.specs.Reading.{counted_times, first_of, groups, last_of, passing}
-use Rattle.record_state.specs.declared.RecordAnswer.{RecordAnswer}
-use Rattle.record_state.specs.declared.RecordAnswer.TheVariants as fed
 use Rattle.record_state.specs.declared.Record.{Record}
 use Rattle.record_state.specs.State.{sound, state_of}
 use Rattle.record_feed.specs.Answers as feeding
-use Rattle.record_end.specs.declared.Ended.{Ended}
-use Rattle.record_end.specs.declared.Ended.TheVariants as ended
 use Rattle.record_end.specs.declared.Outcome.{Outcome}
-use Rattle.record_end.specs.declared.Result.{Result}
+use Rattle.record_end.specs.declared.RecordResult.{RecordResult}
 use Rattle.record_end.specs.Result.{ending, outcome_of}
-use Rattle.campaign_state.specs.declared.CampaignAnswer.{CampaignAnswer}
-use Rattle.campaign_state.specs.declared.CampaignAnswer.TheVariants as entered
 use Rattle.campaign_state.specs.declared.Campaign.{Campaign}
 use Rattle.campaign_state.specs.Answers.{entering}
 use Rattle.campaign_state.specs.State as campaigning
-use Rattle.binomial_sum.specs.declared.SumAnswer.{SumAnswer}
-use Rattle.binomial_sum.specs.declared.SumAnswer.TheVariants as summed
 use Rattle.binomial_sum.specs.declared.Sum.{Sum}
 use Rattle.binomial_sum.specs.Answers as summing
 use Rattle.binomial_sum.specs.Answers.{adding}
@@ -47,6 +39,7 @@ use Rattle.binomial_bounds.specs.Bounds.{bounds_of, rates_of}
 use Rattle.binomial_bounds.specs.HalfWidth.{half_width}
 use Rattle.root.specs.HalfWidth as root
 use Rattle.root.specs.Root.{first_from}
+use Rattle.std.specs.Prelude.{Result, Ok, Err}
 
 -- ---- records
 abbrev levels : ℕ → ℕ → Levels
@@ -69,9 +62,9 @@ bobbing =
 abbrev read : ℕ → ℕ → List Moment → Record
 read R τ xs = state_of (usual R τ) xs
 
-abbrev of_ended : Ended → List ℕ
-of_ended (ended.Given x) = x.crossings ∷ x.counted ∷ x.first ∷ x.exposure ∷ x.largest ∷ []
-of_ended (ended.Refused r) = number_of r ∷ value_of r ∷ []
+abbrev of_ended : Result RecordResult Refusal → List ℕ
+of_ended (Ok x) = x.crossings ∷ x.counted ∷ x.first ∷ x.exposure ∷ x.largest ∷ []
+of_ended (Err r) = number_of r ∷ value_of r ∷ []
 
 -- [4] crossings, count, first failure, exposure, and by [5] the largest set; with a ramp; without a failure; 4 for a
 -- record without a full time
@@ -164,9 +157,9 @@ either_channel_above :
 either_channel_above = refl
 
 -- nothing for what is taken; the number, the value and the channel for what is refused
-abbrev of_fed : RecordAnswer → List ℕ
-of_fed (fed.Taken r) = []
-of_fed (fed.Refused r) = number_of r ∷ value_of r ∷ channel_of r ∷ []
+abbrev of_fed : Result Record Refusal → List ℕ
+of_fed (Ok r) = []
+of_fed (Err r) = number_of r ∷ value_of r ∷ channel_of r ∷ []
 
 abbrev feeds : List ℤ → List ℤ → List ℕ
 feeds xs ys = of_fed (feeding.fed (still 0 (levels 1 1) (moment (pos 0) (pos 0)) 0 0) xs ys)
@@ -185,9 +178,9 @@ unfolding feeding.fed sound item_outside first_bad
 channels_refused = refl
 
 -- ---- [4] results
-abbrev of_entered : CampaignAnswer → List ℕ
-of_entered (entered.Taken c) = c.records ∷ c.failures ∷ c.exposure ∷ []
-of_entered (entered.Refused r) = number_of r ∷ value_of r ∷ []
+abbrev of_entered : Result Campaign Refusal → List ℕ
+of_entered (Ok c) = c.records ∷ c.failures ∷ c.exposure ∷ []
+of_entered (Err r) = number_of r ∷ value_of r ∷ []
 
 -- 100,000 records, or 64 failures, or neither
 abbrev campaign : ℕ → ℕ → Campaign
@@ -249,9 +242,9 @@ rates_figures = refl
 no_record_lem : map recorded (sum 500 0 0 ∷ sum 500 0 2 ∷ []) ≡ false ∷ true ∷ []
 no_record_lem = refl
 
-abbrev of_sum : SumAnswer → List ℕ
-of_sum (summed.Taken s) = s.step ∷ s.failures ∷ s.samples ∷ []
-of_sum (summed.Refused r) = number_of r ∷ value_of r ∷ []
+abbrev of_sum : Result Sum Refusal → List ℕ
+of_sum (Ok s) = s.step ∷ s.failures ∷ s.samples ∷ []
+of_sum (Err r) = number_of r ∷ value_of r ∷ []
 
 -- a sum opens with its D, 1 with item 1
 sum_opened : map (λ (D : ℕ). of_sum (summing.opened D)) (0 ∷ 1 ∷ 10000 ∷ 10001 ∷ [])

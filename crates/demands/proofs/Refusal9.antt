@@ -16,27 +16,25 @@ use Rattle.refusal.specs.declared.Refusal.TheVariants.{CampaignFull, Item, Line,
 use Rattle.refusal.specs.Numbers.{number_of}
 use Rattle.poisson.specs.Rows.{rows}
 use Rattle.sample_items.specs.Limits.{longest_time}
-use Rattle.campaign_state.specs.declared.CampaignAnswer.TheVariants.{Refused, Taken}
 use Rattle.campaign_state.specs.declared.Campaign.{Campaign}
 use Rattle.campaign_state.specs.State.{empty, entered, most_records, sound, standard_in_range}
 use Rattle.decimal.specs.Decimal.{longest}
 use Rattle.sheet_line.specs.Column.{record_column, standard_column}
 use Rattle.sheet_line.specs.declared.Sheet.{Sheet}
 use Rattle.sheet_line.specs.declared.Sheet.TheVariants.{Fresh, Open}
-use Rattle.sheet_line.specs.declared.Step.{Step}
-use Rattle.sheet_line.specs.declared.Step.TheVariants.{Next, Stop}
 use Rattle.sheet_line.specs.Line.{line_after, malformed, outcome, stepping}
 use Rattle.sheet_line.proofs.Theorems.{line_back, standard_back}
 use Rattle.sheet_line.specs.Texts.{RecordText, StandardText, entry_text, head_text}
 use Rattle.demands.proofs.Exactly.{Exactly}
 use Rattle.sheet_line.proofs.Forms.{Reads, Told, ToldStandard, good, ill, record_reads, standard_reads}
 use Rattle.demands.proofs.Demand1.{Decides, Test, ◌gives◌, decide, decided, room_tests, tells}
+use Rattle.std.specs.Prelude.{Result, Ok, Err}
 
 -- ---- the statement
 -- the answer refuses the line by 9 with this line number, at some column
-pub record Nine (number : ℕ) (answer : Step) : Type 0 where
+pub record Nine (number : ℕ) (answer : Result Sheet (ℕ × ℕ × Refusal)) : Type 0 where
   pub column : ℕ
-  pub is : answer ≡ Stop number column (Line number)
+  pub is : answer ≡ Err (number, column, Line number)
 
 -- of a standard: 1 with item 5
 abbrev pub standard_tests : ℕ → List Test
@@ -51,43 +49,43 @@ pub record Refusal9 : Type 0 where
   pub first : (line : List ℕ) → Exactly (Nine 1 (stepping Fresh line)) (¬ StandardText line)
   pub first_either : (line : List ℕ) → StandardText line ⊎ Nine 1 (stepping Fresh line)
   pub first_then : (q : ℕ) → q < 10 ^ longest
-      → Decides (Stop 1 0) (standard_tests q) (Next (Open (empty q))) (stepping Fresh (head_text q))
+      → Decides ((λ a. Err (1, 0, a))) (standard_tests q) (Ok (Open (empty q))) (stepping Fresh (head_text q))
   -- a later line, after M records: 9 exactly if it is not the text of record M + 1, then 4, 3, 5, 6
   pub line : (c : Campaign) (line : List ℕ) → sound c ≡ true
       → Exactly (Nine (c.records + 2) (stepping (Open c) line)) (¬ RecordText (c.records + 1) line)
   pub line_either : (c : Campaign) (line : List ℕ) → sound c ≡ true
       → RecordText (c.records + 1) line ⊎ Nine (c.records + 2) (stepping (Open c) line)
   pub line_then : (c : Campaign) (flag exposure : ℕ) → sound c ≡ true → flag ≤ 1 → exposure < 10 ^ longest
-      → Decides (Stop (c.records + 2) 0) (tell_tests c exposure) (Next (Open (entered c (eqb flag 1) exposure)))
+      → Decides ((λ a. Err ((c.records + 2), 0, a))) (tell_tests c exposure) (Ok (Open (entered c (eqb flag 1) exposure)))
       (stepping (Open c) (entry_text (c.records + 1) flag exposure))
 
-own : (n k : ℕ) (r s : Refusal) → Stop n k r ≡ Stop n k s → r ≡ s
+own : (n k : ℕ) (r s : Refusal) → Err (n, k, r) ≡ Err (n, k, s) → r ≡ s
 own n k r s e = cc
 
 -- the tests of a line are those of the answer
 outcome_decides : (n : ℕ) (ts : List Test) (d : Campaign)
-    → outcome n (decide Refused ts (Taken d)) ≡ decide (Stop n 0) ts (Next (Open d))
+    → outcome n (decide Err ts (Ok d)) ≡ decide ((λ a. Err (n, 0, a))) ts (Ok (Open d))
 unfolding decide
 outcome_decides n [] d = refl
 outcome_decides n (t ∷ ts) d = go t.holds (outcome_decides n ts d)
   where
-    go : (b : Bool) → outcome n (decide Refused ts (Taken d)) ≡ decide (Stop n 0) ts (Next (Open d))
-        → outcome n (cond b (Refused t.gives) (decide Refused ts (Taken d)))
-        ≡ cond b (Stop n 0 t.gives) (decide (Stop n 0) ts (Next (Open d)))
+    go : (b : Bool) → outcome n (decide Err ts (Ok d)) ≡ decide ((λ a. Err (n, 0, a))) ts (Ok (Open d))
+        → outcome n (cond b (Err t.gives) (decide Err ts (Ok d)))
+        ≡ cond b (Err (n, 0, t.gives)) (decide ((λ a. Err (n, 0, a))) ts (Ok (Open d)))
     go true rest = refl
     go false rest = rest
 
 -- the number of the refusal in an answer; 0 for none
-abbrev number_in : Step → ℕ
-number_in (Next s) = 0
-number_in (Stop l k r) = number_of r
+abbrev number_in : Result Sheet (ℕ × ℕ × Refusal) → ℕ
+number_in (Ok s) = 0
+number_in (Err (l, k, r)) = number_of r
 
-nine_number : (n : ℕ) (s : Step) → Nine n s → number_in s ≡ 9
+nine_number : (n : ℕ) (s : Result Sheet (ℕ × ℕ × Refusal)) → Nine n s → number_in s ≡ 9
 nine_number n s nine = ap number_in nine.is
 
 below_nine : (a b d e : Bool) (n : ℕ) (s : Sheet)
-    → number_in (cond a (Stop n 0 TooShort) (cond b (Stop n 0 TooLong)
-    (cond d (Stop n 0 CampaignFull) (cond e (Stop n 0 RowsUsedUp) (Next s))))) < 9
+    → number_in (cond a (Err (n, 0, TooShort)) (cond b (Err (n, 0, TooLong))
+    (cond d (Err (n, 0, CampaignFull)) (cond e (Err (n, 0, RowsUsedUp)) (Ok s))))) < 9
 below_nine true b d e n s = omega arith
 below_nine false true d e n s = omega arith
 below_nine false false true e n s = omega arith
@@ -97,15 +95,15 @@ below_nine false false false false n s = omega arith
 -- ---- a record's line
 module _ (c : Campaign) (kept : sound c ≡ true) where
   module _ (flag exposure : ℕ) (f : flag ≤ 1) (s : exposure < 10 ^ longest) where
-    told_is : stepping (Open c) (entry_text (c.records + 1) flag exposure) ≡ decide (Stop (c.records + 2) 0) (tell_tests c exposure) (Next (Open (entered c (eqb flag 1) exposure)))
+    told_is : stepping (Open c) (entry_text (c.records + 1) flag exposure) ≡ decide ((λ a. Err ((c.records + 2), 0, a))) (tell_tests c exposure) (Ok (Open (entered c (eqb flag 1) exposure)))
     unfolding decide
     told_is =
         line_back c flag exposure kept f s
         ∙ (ap (outcome (c.records + 2)) (tells c (eqb flag 1) exposure kept)
         ∙ outcome_decides (c.records + 2) (tell_tests c exposure) (entered c (eqb flag 1) exposure))
 
-    told_decides : Decides (Stop (c.records + 2) 0) (tell_tests c exposure) (Next (Open (entered c (eqb flag 1) exposure))) (stepping (Open c) (entry_text (c.records + 1) flag exposure))
-    told_decides = decided (Stop (c.records + 2) 0) (Next (Open (entered c (eqb flag 1) exposure))) (own (c.records + 2) 0) (λ r e. impossible (cc)) (tell_tests c exposure) _ told_is
+    told_decides : Decides ((λ a. Err ((c.records + 2), 0, a))) (tell_tests c exposure) (Ok (Open (entered c (eqb flag 1) exposure))) (stepping (Open c) (entry_text (c.records + 1) flag exposure))
+    told_decides = decided ((λ a. Err ((c.records + 2), 0, a))) (Ok (Open (entered c (eqb flag 1) exposure))) (own (c.records + 2) 0) (λ r e. impossible (cc)) (tell_tests c exposure) _ told_is
 
     not_nine : ¬ Nine (c.records + 2) (stepping (Open c) (entry_text (c.records + 1) flag exposure))
     unfolding decide
@@ -119,7 +117,7 @@ module _ (c : Campaign) (kept : sound c ≡ true) where
     unfolding stepping
     either = rw kept (go (record_reads (record_column (c.records + 1) line) c line))
       where
-        go : {s : Step} → Reads (Told c line) (malformed (line_after c) (record_column (c.records + 1) line)) s
+        go : {s : (Result Sheet (ℕ × ℕ × Refusal))} → Reads (Told c line) (malformed (line_after c) (record_column (c.records + 1) line)) s
             → RecordText (c.records + 1) line ⊎ Nine (c.records + 2) s
         go (good t) = inl t.text
         go ill = inr (record { column = record_column (c.records + 1) line; is = refl })
@@ -139,24 +137,24 @@ module _ (c : Campaign) (kept : sound c ≡ true) where
 
 -- ---- line 1
 module _ (q : ℕ) (s : q < 10 ^ longest) where
-  standard_is : stepping Fresh (head_text q) ≡ decide (Stop 1 0) (standard_tests q) (Next (Open (empty q)))
+  standard_is : stepping Fresh (head_text q) ≡ decide ((λ a. Err (1, 0, a))) (standard_tests q) (Ok (Open (empty q)))
   unfolding decide
   standard_is = standard_back q s ∙ go (standard_in_range q)
     where
       go : (b : Bool)
-          → outcome 1 (cond b (Taken (empty q)) (Refused (Item 5)))
-          ≡ cond (not b) (Stop 1 0 (Item 5)) (Next (Open (empty q)))
+          → outcome 1 (cond b (Ok (empty q)) (Err (Item 5)))
+          ≡ cond (not b) (Err (1, 0, Item 5)) (Ok (Open (empty q)))
       go true = refl
       go false = refl
 
-  standard_decides : Decides (Stop 1 0) (standard_tests q) (Next (Open (empty q))) (stepping Fresh (head_text q))
-  standard_decides = decided (Stop 1 0) (Next (Open (empty q))) (own 1 0) (λ r e. impossible (cc)) (standard_tests q) _ standard_is
+  standard_decides : Decides ((λ a. Err (1, 0, a))) (standard_tests q) (Ok (Open (empty q))) (stepping Fresh (head_text q))
+  standard_decides = decided ((λ a. Err (1, 0, a))) (Ok (Open (empty q))) (own 1 0) (λ r e. impossible (cc)) (standard_tests q) _ standard_is
 
   standard_not_nine : ¬ Nine 1 (stepping Fresh (head_text q))
   unfolding decide
   standard_not_nine nine = go (standard_in_range q) (sym (nine_number _ _ nine) ∙ ap number_in standard_is)
     where
-      go : (b : Bool) → ¬ (9 ≡ number_in (cond (not b) (Stop 1 0 (Item 5)) (Next (Open (empty q)))))
+      go : (b : Bool) → ¬ (9 ≡ number_in (cond (not b) (Err (1, 0, Item 5)) (Ok (Open (empty q)))))
       go true e = omega arith
       go false e = omega arith
 
@@ -165,7 +163,7 @@ module _ (line : List ℕ) where
   unfolding stepping
   standard_either = go (standard_reads (standard_column line) line)
     where
-      go : {s : Step} → Reads (ToldStandard line) (malformed 1 (standard_column line)) s → StandardText line ⊎ Nine 1 s
+      go : {s : (Result Sheet (ℕ × ℕ × Refusal))} → Reads (ToldStandard line) (malformed 1 (standard_column line)) s → StandardText line ⊎ Nine 1 s
       go (good t) = inl t.text
       go ill = inr (record { column = standard_column line; is = refl })
 

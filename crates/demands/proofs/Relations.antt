@@ -27,40 +27,33 @@ use Rattle.sample_items.specs.Limits.{decorrelation_in_range, item_outside, leve
 use Rattle.sample_items.specs.Limits.{within}
 use Rattle.sample_items.proofs.Ranges.{high, low}
 use Rattle.record_state.specs.State as recording
-use Rattle.record_state.specs.declared.RecordAnswer.TheVariants as recorded
 use Rattle.record_state.specs.declared.Record.{Record}
 use Rattle.record_state.proofs.Relations as record-facts
 use Rattle.record_feed.specs.Answers.{fed}
 use Rattle.record_step.specs.Step.{stepped}
 use Rattle.record_end.specs.Result.{ending, result_of}
-use Rattle.record_end.specs.declared.Ended.TheVariants as ended
 use Rattle.record_end.specs.declared.Outcome.{Outcome}
-use Rattle.record_end.specs.declared.Result.{Result}
+use Rattle.record_end.specs.declared.RecordResult.{RecordResult}
 use Rattle.campaign_state.specs.Answers.{entering, outcome_kept}
 use Rattle.campaign_state.specs.State as campaigning
-use Rattle.campaign_state.specs.declared.CampaignAnswer.TheVariants as campaigned
 use Rattle.campaign_state.specs.declared.Campaign.{Campaign}
 use Rattle.campaign_state.proofs.Relations as campaign-facts
 use Rattle.campaign_verdict.specs.Answers as verdicts
 use Rattle.campaign_verdict.specs.Figures.{rates_of, verdict_of}
-use Rattle.campaign_verdict.specs.declared.Counted.TheVariants as counting
-use Rattle.campaign_verdict.specs.declared.Judged.TheVariants as judging
-use Rattle.campaign_verdict.specs.declared.Rated.TheVariants as rating
 use Rattle.binomial_sum.specs.Answers.{adding}
 use Rattle.binomial_sum.specs.State as summing
-use Rattle.binomial_sum.specs.declared.SumAnswer.TheVariants as summed
 use Rattle.binomial_sum.specs.declared.Sum.{Sum}
 use Rattle.binomial_sum.proofs.Relations as sum-facts
 use Rattle.binomial_bounds.specs.Answers as spreads
 use Rattle.binomial_bounds.specs.Bounds.{bounds_of, rates_of as sumRates}
-use Rattle.binomial_bounds.specs.declared.Bounded.TheVariants as bounded
-use Rattle.bureau_table.specs.declared.TableAnswer.TheVariants as benched
 use Rattle.bureau_table.specs.declared.Ask.{Ask}
 use Rattle.bureau_table.specs.declared.Place.{Place}
 use Rattle.bureau_table.specs.Calls.{called}
 use Rattle.bureau_table.specs.Table.{all_kept, at, free, is_bureau, jobs, kept, place_kept}
 use Rattle.bureau_table.proofs.Places.{all-at}
 use Rattle.bureau_table.proofs.Relations as table-facts
+use Rattle.bureau_table.specs.declared.Reply.TheVariants.{Placed, Entered, Judged, Rated, Freed}
+use Rattle.std.specs.Prelude.{Some, None, Ok, Err}
 
 -- ---- the statement
 -- a number from low to high
@@ -137,20 +130,20 @@ pub record Exactly8 {A : Type 0} (refused : Refusal → A) (Relations : Type 0) 
 
 pub record Relations8 : Type 0 where
   -- a record: a piece, ending
-  pub feed : (r : Record) (xs ys : List ℤ) → Exactly8 recorded.Refused (RecordRelations r) (fed r xs ys)
-  pub end : (r : Record) → Exactly8 ended.Refused (RecordRelations r) (ending r)
+  pub feed : (r : Record) (xs ys : List ℤ) → Exactly8 Err (RecordRelations r) (fed r xs ys)
+  pub end : (r : Record) → Exactly8 Err (RecordRelations r) (ending r)
   -- a campaign, and for entering a result: entering, verdict, rates, the censored count
-  pub enter : (c : Campaign) (o : Outcome) → Exactly8 campaigned.Refused (CampaignRelations c × ResultRelations o) (entering c o)
-  pub verdict : (c : Campaign) → Exactly8 judging.Refused (CampaignRelations c) (verdicts.judging c)
-  pub rates : (c : Campaign) → Exactly8 rating.Refused (CampaignRelations c) (verdicts.rating c)
-  pub censored : (c : Campaign) → Exactly8 counting.Refused (CampaignRelations c) (verdicts.counting c)
+  pub enter : (c : Campaign) (o : Outcome) → Exactly8 Err (CampaignRelations c × ResultRelations o) (entering c o)
+  pub verdict : (c : Campaign) → Exactly8 Err (CampaignRelations c) (verdicts.judging c)
+  pub rates : (c : Campaign) → Exactly8 Err (CampaignRelations c) (verdicts.rating c)
+  pub censored : (c : Campaign) → Exactly8 Err (CampaignRelations c) (verdicts.counting c)
   -- a sum, and for adding a record: adding, bounds, rates
-  pub add : (s : Sum) (r : Record) → Exactly8 summed.Refused (SumRelations s × RecordRelations r) (adding s r)
-  pub bounds : (s : Sum) → Exactly8 bounded.Refused (SumRelations s) (spreads.bounding s)
-  pub sum_rates : (s : Sum) → Exactly8 rating.Refused (SumRelations s) (spreads.rating s)
+  pub add : (s : Sum) (r : Record) → Exactly8 Err (SumRelations s × RecordRelations r) (adding s r)
+  pub bounds : (s : Sum) → Exactly8 Err (SumRelations s) (spreads.bounding s)
+  pub sum_rates : (s : Sum) → Exactly8 Err (SumRelations s) (spreads.rating s)
   -- the table, first of all: every call finds it so (what else a call is refused by is `Request9.order`)
   pub table : (t : List Place) → (kept t ≡ true → TableRelations t) × (TableRelations t → kept t ≡ true)
-  pub call : (t : List Place) (b : ℕ) (a : Ask) → ¬ TableRelations t → (called t b a).answer ≡ benched.Refused BrokenState
+  pub call : (t : List Place) (b : ℕ) (a : Ask) → ¬ TableRelations t → (called t b a).answer ≡ Err BrokenState
 
 -- ---- the proof
 -- a test that holds exactly if the facts do
@@ -404,26 +397,26 @@ table_says t = (from, to)
 
 -- ---- no later test gives 8
 fed_else : (a b c d : Bool) (p q : ℕ) (t : Record)
-    → ¬ (cond a (recorded.Refused Unequal) (cond b (recorded.Refused (cond d (Sample p) (Acceleration q))) (cond c (recorded.Refused TooLong) (recorded.Taken t)))
-    ≡ recorded.Refused BrokenState)
+    → ¬ (cond a (Err Unequal) (cond b (Err (cond d (Sample p) (Acceleration q))) (cond c (Err TooLong) (Ok t)))
+    ≡ Err BrokenState)
 fed_else true b c d p q t e = impossible (cc)
 fed_else false true c true p q t e = impossible (cc)
 fed_else false true c false p q t e = impossible (cc)
 fed_else false false true d p q t e = impossible (cc)
 fed_else false false false d p q t e = impossible (cc)
 
-end_else : (a : Bool) (x : Result) → ¬ (cond a (ended.Refused TooShort) (ended.Given x) ≡ ended.Refused BrokenState)
+end_else : (a : Bool) (x : RecordResult) → ¬ (cond a (Err TooShort) (Ok x) ≡ Err BrokenState)
 end_else true x e = impossible (cc)
 end_else false x e = impossible (cc)
 
 enter_else : (a b : Bool) (c : Campaign)
-    → ¬ (cond a (campaigned.Refused CampaignFull) (cond b (campaigned.Refused RowsUsedUp) (campaigned.Taken c)) ≡ campaigned.Refused BrokenState)
+    → ¬ (cond a (Err CampaignFull) (cond b (Err RowsUsedUp) (Ok c)) ≡ Err BrokenState)
 enter_else true b c e = impossible (cc)
 enter_else false true c e = impossible (cc)
 enter_else false false c e = impossible (cc)
 
 add_else : (a b c : Bool) (s : Sum)
-    → ¬ (cond a (summed.Refused TooShort) (cond b (summed.Refused (Item 1)) (cond c (summed.Refused SumFull) (summed.Taken s))) ≡ summed.Refused BrokenState)
+    → ¬ (cond a (Err TooShort) (cond b (Err (Item 1)) (cond c (Err SumFull) (Ok s))) ≡ Err BrokenState)
 add_else true b c s e = impossible (cc)
 add_else false true c s e = impossible (cc)
 add_else false false true s e = impossible (cc)
@@ -439,43 +432,43 @@ unfolding fed ending entering adding verdicts.judging verdicts.rating verdicts.c
 relations_8 =
     record {
       feed = λ r xs ys.
-          let f = first_only recorded.Refused (recording.sound r) (fed r xs ys) _ refl
+          let f = first_only Err (recording.sound r) (fed r xs ys) _ refl
           (fed_else (not (eqb (length xs) (length ys))) (any_bad xs ys) (ltb (most_samples r.items.step r.items.ramp) (r.n + length xs))
           (leb (first_bad xs) (first_bad ys)) (first_bad xs) (first_bad ys) (foldl stepped r (moments xs ys))) in
-          exactly_8 recorded.Refused (recording.sound r) (fed r xs ys) (record_says r) f.0 f.1;
+          exactly_8 Err (recording.sound r) (fed r xs ys) (record_says r) f.0 f.1;
       end = λ r.
-          let f = first_only ended.Refused (recording.sound r) (ending r) _ refl (end_else (recording.too_short r) (result_of r)) in
-          exactly_8 ended.Refused (recording.sound r) (ending r) (record_says r) f.0 f.1;
+          let f = first_only Err (recording.sound r) (ending r) _ refl (end_else (recording.too_short r) (result_of r)) in
+          exactly_8 Err (recording.sound r) (ending r) (record_says r) f.0 f.1;
       enter = λ c o.
           let b = campaigning.sound c && outcome_kept o in
-          let f = first_only campaigned.Refused b (entering c o) _ (two (campaigning.sound c) (outcome_kept o) _ _)
+          let f = first_only Err b (entering c o) _ (two (campaigning.sound c) (outcome_kept o) _ _)
           (enter_else (eqb c.records 100000) (eqb c.failures 64) (campaigning.entered c o.failed o.exposure)) in
-          exactly_8 campaigned.Refused b (entering c o) (both_say (campaign_says c) (within_says 1 10000000 o.exposure)) f.0 f.1;
+          exactly_8 Err b (entering c o) (both_say (campaign_says c) (within_says 1 10000000 o.exposure)) f.0 f.1;
       verdict = λ c.
-          let f = first_only judging.Refused (campaigning.sound c) (verdicts.judging c) (judging.Given (verdict_of c)) (turned (campaigning.sound c) _ _) (λ e. impossible (cc)) in
-          exactly_8 judging.Refused (campaigning.sound c) (verdicts.judging c) (campaign_says c) f.0 f.1;
+          let f = first_only Err (campaigning.sound c) (verdicts.judging c) (Ok (verdict_of c)) (turned (campaigning.sound c) _ _) (λ e. impossible (cc)) in
+          exactly_8 Err (campaigning.sound c) (verdicts.judging c) (campaign_says c) f.0 f.1;
       rates = λ c.
-          let f = first_only rating.Refused (campaigning.sound c) (verdicts.rating c) (rating.Given (not (eqb c.records 0)) (rates_of c)) (turned (campaigning.sound c) _ _) (λ e. impossible (cc)) in
-          exactly_8 rating.Refused (campaigning.sound c) (verdicts.rating c) (campaign_says c) f.0 f.1;
+          let f = first_only Err (campaigning.sound c) (verdicts.rating c) (Ok (cond (not (eqb c.records 0)) (Some (rates_of c)) None)) (turned (campaigning.sound c) _ _) (λ e. impossible (cc)) in
+          exactly_8 Err (campaigning.sound c) (verdicts.rating c) (campaign_says c) f.0 f.1;
       censored = λ c.
-          let f = first_only counting.Refused (campaigning.sound c) (verdicts.counting c) (counting.Count (campaigning.censored c)) (turned (campaigning.sound c) _ _) (λ e. impossible (cc)) in
-          exactly_8 counting.Refused (campaigning.sound c) (verdicts.counting c) (campaign_says c) f.0 f.1;
+          let f = first_only Err (campaigning.sound c) (verdicts.counting c) (Ok (campaigning.censored c)) (turned (campaigning.sound c) _ _) (λ e. impossible (cc)) in
+          exactly_8 Err (campaigning.sound c) (verdicts.counting c) (campaign_says c) f.0 f.1;
       add = λ s r.
           let b = summing.sound s && recording.sound r in
-          let f = first_only summed.Refused b (adding s r) _ (two (summing.sound s) (recording.sound r) _ _)
+          let f = first_only Err b (adding s r) _ (two (summing.sound s) (recording.sound r) _ _)
           (add_else (recording.too_short r) (not (eqb r.items.step s.step)) (summing.would_pass s r.groups (summing.timed r))
           (summing.grown s r.groups (summing.timed r))) in
-          exactly_8 summed.Refused b (adding s r) (both_say (sum_says s) (record_says r)) f.0 f.1;
+          exactly_8 Err b (adding s r) (both_say (sum_says s) (record_says r)) f.0 f.1;
       bounds = λ s.
-          let f = first_only bounded.Refused (summing.sound s) (spreads.bounding s) (bounded.Given (spreads.recorded s) (bounds_of s)) (turned (summing.sound s) _ _) (λ e. impossible (cc)) in
-          exactly_8 bounded.Refused (summing.sound s) (spreads.bounding s) (sum_says s) f.0 f.1;
+          let f = first_only Err (summing.sound s) (spreads.bounding s) (Ok (spreads.recorded s, bounds_of s)) (turned (summing.sound s) _ _) (λ e. impossible (cc)) in
+          exactly_8 Err (summing.sound s) (spreads.bounding s) (sum_says s) f.0 f.1;
       sum_rates = λ s.
-          let f = first_only rating.Refused (summing.sound s) (spreads.rating s) (rating.Given (spreads.recorded s) (sumRates s)) (turned (summing.sound s) _ _) (λ e. impossible (cc)) in
-          exactly_8 rating.Refused (summing.sound s) (spreads.rating s) (sum_says s) f.0 f.1;
+          let f = first_only Err (summing.sound s) (spreads.rating s) (Ok (cond (spreads.recorded s) (Some (sumRates s)) None)) (turned (summing.sound s) _ _) (λ e. impossible (cc)) in
+          exactly_8 Err (summing.sound s) (spreads.rating s) (sum_says s) f.0 f.1;
       table = table_says;
       call = λ t b a n. go t b a (kept t) refl n;
     }
   where
-    go : (t : List Place) (b : ℕ) (a : Ask) (k : Bool) → kept t ≡ k → ¬ TableRelations t → (called t b a).answer ≡ benched.Refused BrokenState
+    go : (t : List Place) (b : ℕ) (a : Ask) (k : Bool) → kept t ≡ k → ¬ TableRelations t → (called t b a).answer ≡ Err BrokenState
     go t b a true e n = absurd (n ((table_says t).0 e))
     go t b a false e n = rw e

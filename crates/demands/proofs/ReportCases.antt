@@ -13,15 +13,14 @@ use Rattle.campaign_state.specs.State.{censored, sound}
 use Rattle.decimal.specs.Decimal.{digits_of, digits_within}
 use Rattle.decimal.specs.Field.{field_text}
 use Rattle.campaign_verdict.specs.Answers as verdict
-use Rattle.campaign_condition.specs.declared.ConditionAnswer.{ConditionAnswer}
-use Rattle.campaign_condition.specs.declared.ConditionAnswer.TheVariants as judged
 use Rattle.campaign_condition.specs.Answers.{broken_from, judging}
 use Rattle.campaign_condition.specs.Standing.{accepted, all_accepted, one_rejected, rejected, standing}
 use Rattle.campaign_condition.specs.declared.Standing.TheVariants.{Accepted, Open, Rejected}
-use Rattle.text.specs.declared.Writing.{Writing}
-use Rattle.text.specs.declared.Writing.TheVariants as written
 use Rattle.campaign_report.specs.Answers.{writing_report}
 use Rattle.campaign_report.specs.Report.{blocks, four_text, letter_for, situation_text, lines_from, report_text, sum_of, total_text}
+use Rattle.refusal.specs.declared.Refusal.{Refusal}
+use Rattle.campaign_condition.specs.declared.Standing.{Standing}
+use Rattle.std.specs.Prelude.{Result, Ok, Err}
 
 -- at q = 7,200,000: accepted, rejected, neither, without a record, broken
 abbrev campaign : ℕ → ℕ → ℕ → Bool → Campaign
@@ -55,9 +54,9 @@ condition_standings = refl
 blocks_of_five : map blocks (0 ∷ 1 ∷ 5 ∷ 6 ∷ 10 ∷ 11 ∷ 64 ∷ []) ≡ 0 ∷ 1 ∷ 1 ∷ 2 ∷ 2 ∷ 3 ∷ 13 ∷ []
 blocks_of_five = refl
 
-abbrev of_judged : ConditionAnswer → List ℕ
-of_judged (judged.Given s) = []
-of_judged (judged.Refused r) = number_of r ∷ value_of r ∷ []
+abbrev of_judged : Result Standing Refusal → List ℕ
+of_judged (Ok s) = []
+of_judged (Err r) = number_of r ∷ value_of r ∷ []
 
 -- 18 for none or more than 64, before 8, with the lowest situation
 condition_refused :
@@ -69,9 +68,9 @@ condition_refused :
 unfolding judging broken_from sound
 condition_refused = refl
 
-abbrev of_writing : Writing → List ℕ
-of_writing (written.Bytes n) = n ∷ []
-of_writing (written.Refused r) = number_of r ∷ value_of r ∷ []
+abbrev of_writing : Result ℕ Refusal → List ℕ
+of_writing (Ok n) = n ∷ []
+of_writing (Err r) = number_of r ∷ value_of r ∷ []
 
 -- and then 7, with the bytes needed: 12 for the line of an empty situation and 16 for the total
 report_refused :

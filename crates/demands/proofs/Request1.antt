@@ -24,18 +24,17 @@ use Rattle.decimal.specs.Lines.{lines_of}
 use Rattle.comma_line.specs.Line.{is_comma_line, right}
 use Rattle.comma_line.specs.Text.{first_wrong, samples_of, text_of}
 use Rattle.degrees.specs.Degrees.{filled, is_size, size, size_length}
-use Rattle.comma_read.specs.declared.Reading.TheVariants.{Samples, Refused}
 use Rattle.comma_read.specs.Answers.{filled_by, reading_comma, reading_lines}
 use Rattle.comma_stream.specs.Follow.{may_begin}
 use Rattle.text.specs.Pieces.{joined}
 use Rattle.comma_stream.specs.Pieces.{nothing, passing, ending}
 use Rattle.comma_stream.proofs.Pieces.{followed_whole, followed_samples}
 use Rattle.comma_stream.proofs.Begun.{wrong_stays}
-use Rattle.text.specs.declared.Writing.TheVariants.{Bytes, Refused as Declined}
 use Rattle.text.specs.Write.{laid_by}
 use Rattle.comma_write.specs.Answers.{last_time, writing_comma}
 use Rattle.comma_write.proofs.Back.{read_again, read_back}
 use Rattle.demands.proofs.Demand1.{Decides, Test, ◌gives◌, decide, decided}
+use Rattle.std.specs.Prelude.{Ok, Err}
 
 -- ---- the statement
 -- reading 1, 10 with the line's number, 2 with the sample's place, 7 with the number of samples
@@ -100,25 +99,25 @@ no_form =
     ∷ []
 
 pub record Request1 : Type 0 where
-  pub read : (D : ℕ) (text : List ℕ) (places : ℕ) → Decides Refused (read_tests D (lines_of text) places) (Samples (length (lines_of text))) (reading_comma D text places)
-  pub write : (D : ℕ) (xs : List ℤ) (out : List ℕ) → Decides Declined (write_tests D xs (length out)) (Bytes (length (text_of D xs))) (writing_comma D xs out)
+  pub read : (D : ℕ) (text : List ℕ) (places : ℕ) → Decides Err (read_tests D (lines_of text) places) (Ok (length (lines_of text))) (reading_comma D text places)
+  pub write : (D : ℕ) (xs : List ℤ) (out : List ℕ) → Decides Err (write_tests D xs (length out)) (Ok (length (text_of D xs))) (writing_comma D xs out)
   -- a refusal leaves what was lent as it stood
-  pub samples_kept : (r : Refusal) (xs slice : List ℤ) → filled_by (Refused r) xs slice ≡ slice
-  pub bytes_kept : (r : Refusal) (text out : List ℕ) → laid_by (Declined r) text out ≡ out
+  pub samples_kept : (r : Refusal) (xs slice : List ℤ) → filled_by (Err r) xs slice ≡ slice
+  pub bytes_kept : (r : Refusal) (text out : List ℕ) → laid_by (Err r) text out ≡ out
   -- each form reads as its sample, and what has no form is refused by 10 on its line
-  pub forms : (reading_comma 500 every_form 12 ≡ Samples 12)
+  pub forms : (reading_comma 500 every_form 12 ≡ Ok 12)
       × (samples_of (lines_of every_form)
       ≡ negsuc 41499 ∷ pos 41500 ∷ pos 50 ∷ pos 7000 ∷ pos 0 ∷ pos 0
       ∷ pos 12345 ∷ pos 1000000 ∷ negsuc 999999 ∷ pos 500 ∷ negsuc 0 ∷ pos 9990 ∷ [])
   pub formless : map (λ (text : List ℕ). reading_comma 500 text 1) no_form
-      ≡ map (λ (text : List ℕ). Refused (CommaLine 1)) no_form
+      ≡ map (λ (text : List ℕ). Err (CommaLine 1)) no_form
   -- reading what was written gives the samples back
-  pub back : (D : ℕ) (xs : List ℤ) (out : List ℕ) (n places : ℕ) → writing_comma D xs out ≡ Bytes n → length xs ≤ places
-      → let text = take n (laid_by (Bytes n) (text_of D xs) out) in
-      (reading_comma D text places ≡ Samples (length xs)) × (samples_of (lines_of text) ≡ xs)
+  pub back : (D : ℕ) (xs : List ℤ) (out : List ℕ) (n places : ℕ) → writing_comma D xs out ≡ Ok n → length xs ≤ places
+      → let text = take n (laid_by (Ok n) (text_of D xs) out) in
+      (reading_comma D text places ≡ Ok (length xs)) × (samples_of (lines_of text) ≡ xs)
   -- what a text reads as, written and read again, is the same
-  pub again : (D : ℕ) (text : List ℕ) (places n : ℕ) → reading_comma D text places ≡ Samples n
-      → (reading_comma D (text_of D (samples_of (lines_of text))) places ≡ Samples n) × (samples_of (lines_of (text_of D (samples_of (lines_of text)))) ≡ samples_of (lines_of text))
+  pub again : (D : ℕ) (text : List ℕ) (places n : ℕ) → reading_comma D text places ≡ Ok n
+      → (reading_comma D (text_of D (samples_of (lines_of text))) places ≡ Ok n) × (samples_of (lines_of (text_of D (samples_of (lines_of text)))) ≡ samples_of (lines_of text))
   -- in whatever pieces a file comes, it ends as it reads whole, with the same samples; and a line that is told to be
   -- wrong before its end is wrong with anything after it
   pub pieces : (D places : ℕ) (pieces : List (List ℕ)) → step_in_range D ≡ true → length (lines_of (joined pieces)) ≤ places
@@ -128,10 +127,10 @@ pub record Request1 : Type 0 where
 
 -- ---- the proof
 module _ (r s : Refusal) where
-  own_read : Refused r ≡ Refused s → r ≡ s
+  own_read : Err r ≡ Err s → r ≡ s
   own_read e = cc
 
-  own_write : Declined r ≡ Declined s → r ≡ s
+  own_write : Err r ≡ Err s → r ≡ s
   own_write e = cc
 
 -- what was written keeps the tests, and is the text
@@ -141,7 +140,7 @@ pub record Wrote (D : ℕ) (xs : List ℤ) (n : ℕ) : Type 0 where
   pub short : last_time D xs < 10 ^ longest
   pub bytes : n ≡ length (text_of D xs)
 
-wrote : (D : ℕ) (xs : List ℤ) (out : List ℕ) (n : ℕ) → writing_comma D xs out ≡ Bytes n → Wrote D xs n
+wrote : (D : ℕ) (xs : List ℤ) (out : List ℕ) (n : ℕ) → writing_comma D xs out ≡ Ok n → Wrote D xs n
 unfolding writing_comma
 wrote D xs out n e =
     by_test (step_in_range D)
@@ -162,16 +161,16 @@ wrote D xs out n e =
     }))))
     (λ a. impossible (cc (rw a at e)))
 
-written_back : (D : ℕ) (xs : List ℤ) (out : List ℕ) (n places : ℕ) → writing_comma D xs out ≡ Bytes n → length xs ≤ places
-    → let text = take n (laid_by (Bytes n) (text_of D xs) out) in
-    (reading_comma D text places ≡ Samples (length xs)) × (samples_of (lines_of text) ≡ xs)
+written_back : (D : ℕ) (xs : List ℤ) (out : List ℕ) (n places : ℕ) → writing_comma D xs out ≡ Ok n → length xs ≤ places
+    → let text = take n (laid_by (Ok n) (text_of D xs) out) in
+    (reading_comma D text places ≡ Ok (length xs)) × (samples_of (lines_of text) ≡ xs)
 unfolding laid_by
 written_back D xs out n places e room =
     let w = wrote D xs out n e in
     let front : take n (text_of D xs ++ drop n out) ≡ text_of D xs = rw w.bytes (take-append_seam (text_of D xs) _) in
     rw front (read_back D xs places w.step w.good w.short room)
 
-computed_forms : (reading_comma 500 every_form 12 ≡ Samples 12)
+computed_forms : (reading_comma 500 every_form 12 ≡ Ok 12)
     × (samples_of (lines_of every_form)
     ≡ negsuc 41499 ∷ pos 41500 ∷ pos 50 ∷ pos 7000 ∷ pos 0 ∷ pos 0
     ∷ pos 12345 ∷ pos 1000000 ∷ negsuc 999999 ∷ pos 500 ∷ negsuc 0 ∷ pos 9990 ∷ [])
@@ -179,7 +178,7 @@ unfolding every_form reading_lines lines_of first_wrong right is_comma_line is_n
     first_bad
 computed_forms = (refl, refl)
 
-computed_formless : map (λ (text : List ℕ). reading_comma 500 text 1) no_form ≡ map (λ (text : List ℕ). Refused (CommaLine 1)) no_form
+computed_formless : map (λ (text : List ℕ). reading_comma 500 text 1) no_form ≡ map (λ (text : List ℕ). Err (CommaLine 1)) no_form
 unfolding no_form reading_lines lines_of first_wrong right is_comma_line is_number all_digits leading value_of is_size size_length filled size
     first_bad
 computed_formless = refl
@@ -188,8 +187,8 @@ pub request_1 : Request1
 unfolding decide reading_lines writing_comma filled_by laid_by
 request_1 =
     record {
-      read = λ D text places. decided Refused (Samples (length (lines_of text))) own_read (λ r e. impossible (cc)) (read_tests D (lines_of text) places) (reading_comma D text places) refl;
-      write = λ D xs out. decided Declined (Bytes (length (text_of D xs))) own_write (λ r e. impossible (cc)) (write_tests D xs (length out)) (writing_comma D xs out) refl;
+      read = λ D text places. decided Err (Ok (length (lines_of text))) own_read (λ r e. impossible (cc)) (read_tests D (lines_of text) places) (reading_comma D text places) refl;
+      write = λ D xs out. decided Err (Ok (length (text_of D xs))) own_write (λ r e. impossible (cc)) (write_tests D xs (length out)) (writing_comma D xs out) refl;
       samples_kept = λ r xs slice. refl;
       bytes_kept = λ r text out. refl;
       forms = computed_forms;

@@ -31,8 +31,6 @@ use Rattle.sheet_line.specs.declared.Field.{Field}
 use Rattle.sheet_line.specs.Column.{next_field, column_in, how_many, is_whole, most_number, record_column, record_fields, standard_column, standard_fields}
 use Rattle.sheet_line.specs.Form.{begins, standard_start, standard_word}
 use Rattle.sheet_line.specs.declared.Sheet.TheVariants.{Fresh, Open}
-use Rattle.sheet_line.specs.declared.Step.{Step}
-use Rattle.sheet_line.specs.declared.Step.TheVariants.{Stop}
 use Rattle.sheet_line.specs.Line.{line_after, malformed, stepping}
 use Rattle.sheet_line.proofs.Fields.{begins_with}
 use Rattle.sheet_line.proofs.Theorems.{begins_itself}
@@ -46,11 +44,13 @@ use Rattle.sheet_line.proofs.Fault.{bad_column, bad_some, good_column, good_or_b
 use Rattle.sheet_line.proofs.Parts.{field_plain, reads_plain, three_whole, two_whole, whole_three, whole_two}
 use Rattle.sheet_line.proofs.Forms.{Reads, Told, ToldStandard, good, ill, record_reads, standard_reads}
 use Rattle.demands.proofs.Refusal9.{Nine, refusal_9}
+use Rattle.sheet_line.specs.declared.Sheet.{Sheet}
+use Rattle.std.specs.Prelude.{Result, Err}
 
 -- ---- the statement
 -- malformed, on line n, at column k
-abbrev pub at : ℕ → ℕ → Step
-at n k = Stop n k (Line n)
+abbrev pub at : ℕ → ℕ → Result Sheet (ℕ × ℕ × Refusal)
+at n k = Err (n, k, Line n)
 
 -- line 1
 pub record First (line : List ℕ) : Type 0 where
@@ -245,7 +245,7 @@ module _ (c : Campaign) (line : List ℕ) (kept : sound c ≡ true) where
   unfolding stepping
   either = rw kept (go (record_reads (record_column due line) c line))
     where
-      go : {s : Step} → Reads (Told c line) (malformed (line_after c) (record_column due line)) s
+      go : {s : (Result Sheet (ℕ × ℕ × Refusal))} → Reads (Told c line) (malformed (line_after c) (record_column due line)) s
           → RecordText due line ⊎ (s ≡ at n (record_column due line))
       go (good t) = inl t.text
       go ill = inr refl
@@ -358,7 +358,7 @@ module _ (line : List ℕ) where
   unfolding stepping
   standard_either = go (standard_reads (standard_column line) line)
     where
-      go : {s : Step} → Reads (ToldStandard line) (malformed 1 (standard_column line)) s
+      go : {s : (Result Sheet (ℕ × ℕ × Refusal))} → Reads (ToldStandard line) (malformed 1 (standard_column line)) s
           → StandardText line ⊎ (s ≡ at 1 (standard_column line))
       go (good t) = inl t.text
       go ill = inr refl

@@ -33,12 +33,11 @@ use Rattle.peak_groups.specs.Peaks.{close, handed, high, kept, sum}
 use Rattle.peak_groups.specs.Meaning.{Stands}
 use Rattle.peak_groups.proofs.Stretches.{standing_stands, stands_standing}
 use Rattle.peak_groups.proofs.Apart.{handed_apart}
-use Rattle.peak_envelope.specs.declared.PeaksFound.{PeaksFound}
-use Rattle.peak_envelope.specs.declared.PeaksFound.TheVariants.{Peaks, Refused}
 use Rattle.peak_machine.specs.Step.{moment_of, size_of}
 use Rattle.peak_envelope.specs.Answers.{FindsTo, found, item_asked, placed, written}
 use Rattle.peak_envelope.proofs.Unique.{find_unique}
 use Rattle.demands.proofs.Demand1.{Decides, Test, ◌gives◌, decide, decided}
+use Rattle.std.specs.Prelude.{Result, Ok, Err}
 
 -- ---- the statement
 abbrev pub envelope_tests : ℕ → ℕ → ℕ → List ℤ → ℕ → ℕ → List Test
@@ -59,10 +58,10 @@ abbrev pub runs_of : ℕ → List ℤ → List (List Peak)
 runs_of D xs = groups same_side (started (points D false 0 xs))
 
 pub record Request11 : Type 0 where
-  pub order : (D R τ : ℕ) (xs : List ℤ) (sizes times : ℕ) → Decides Refused (envelope_tests D R τ xs sizes times) (Peaks (length (handed D R τ xs))) (found D R τ xs sizes times)
+  pub order : (D R τ : ℕ) (xs : List ℤ) (sizes times : ℕ) → Decides Err (envelope_tests D R τ xs sizes times) (Ok (length (handed D R τ xs))) (found D R τ xs sizes times)
   pub no_level : (D R τ : ℕ) → ¬ (item_asked D R τ ≡ 3) × ¬ (item_asked D R τ ≡ 6)
-  pub stays : (D R τ : ℕ) (xs : List ℤ) (sizes times s t : List ℕ) (f : Refusal) → FindsTo D R τ xs sizes times (Refused f) s t → (s ≡ sizes) × (t ≡ times)
-  pub given : (D R τ : ℕ) (xs : List ℤ) (sizes times s t : List ℕ) (k : ℕ) → FindsTo D R τ xs sizes times (Peaks k) s t
+  pub stays : (D R τ : ℕ) (xs : List ℤ) (sizes times s t : List ℕ) (f : Refusal) → FindsTo D R τ xs sizes times (Err f) s t → (s ≡ sizes) × (t ≡ times)
+  pub given : (D R τ : ℕ) (xs : List ℤ) (sizes times s t : List ℕ) (k : ℕ) → FindsTo D R τ xs sizes times (Ok k) s t
       → (s ≡ map size_of (handed D R τ xs) ++ drop k sizes) × (t ≡ map moment_of (handed D R τ xs) ++ drop k times)
   -- the samples as they are read: magnitude, time and sign, a zero with the sign before it; at the start it is in no
   -- run
@@ -79,7 +78,7 @@ pub record Request11 : Type 0 where
   pub highest : (l : List Peak) → All (Highest l) (kept l)
   pub all_kept : (l : List Peak) (p : Peak) (g : List Peak) → Stands (high (length l) (sum l)) l (p ∷ g) → In (largest (p ∷ g)) (kept l)
   pub apart : (D R τ : ℕ) (xs : List ℤ) → 1 ≤ D → Spaced (τ + 1) 0 (handed D R τ xs)
-  pub settled : (D R τ : ℕ) (xs : List ℤ) (sizes times : List ℕ) (x y : PeaksFound) (s t u v : List ℕ) → FindsTo D R
+  pub settled : (D R τ : ℕ) (xs : List ℤ) (sizes times : List ℕ) (x y : Result ℕ Refusal) (s t u v : List ℕ) → FindsTo D R
       τ xs sizes times x s u → FindsTo D R τ xs sizes times y t v → (x ≡ y) × (s ≡ t) × (u ≡ v)
 
 -- ---- the proof
@@ -100,7 +99,7 @@ pub request_11 : Request11
 unfolding decide found placed written peaks
 request_11 =
     record {
-      order = λ D R τ xs sizes times. decided Refused (Peaks (length (handed D R τ xs))) (λ r s e. cc) (λ r e. impossible (cc)) (envelope_tests D R τ xs sizes times) (found D R τ xs sizes times) refl;
+      order = λ D R τ xs sizes times. decided Err (Ok (length (handed D R τ xs))) (λ r s e. cc) (λ r e. impossible (cc)) (envelope_tests D R τ xs sizes times) (found D R τ xs sizes times) refl;
       no_level = level_in_range;
       stays = λ D R τ xs sizes times s t f p. (p.sizes_left, p.times_left);
       given = λ D R τ xs sizes times s t k p. (p.sizes_left, p.times_left);

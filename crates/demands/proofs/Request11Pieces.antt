@@ -20,10 +20,7 @@ use Rattle.peak_groups.specs.Runs.{peaks}
 use Rattle.peak_machine.specs.Step.{moment_of, size_of}
 use Rattle.peak_stream.specs.declared.Reading.{Reading}
 use Rattle.peak_stream.specs.declared.Surveying.{Surveying}
-use Rattle.peak_stream.specs.declared.Surveyed.TheVariants.{Taken, Refused}
 use Rattle.peak_stream.specs.declared.Handing.{Handing}
-use Rattle.peak_stream.specs.declared.Handed.{Handed}
-use Rattle.peak_stream.specs.declared.Handed.TheVariants as handing
 use Rattle.peak_stream.specs.Survey.{none, started, surveyed, taken, onwards, Totalled, Small}
 use Rattle.peak_stream.specs.Hands.{waiting, begun, moved, closed_by, hands_on, handing_out, noted}
 use Rattle.peak_stream.specs.Hands.{HandsOver, Pieces}
@@ -35,12 +32,12 @@ use Rattle.decimal.specs.Lines.{lines_of}
 use Rattle.comma_line.specs.Text.{samples_of}
 use Rattle.comma_stream.specs.Follow.{held}
 use Rattle.comma_stream.specs.Pieces.{nothing, passing}
-use Rattle.comma_peaks.specs.declared.Judged.TheVariants.{Peaks}
 use Rattle.comma_peaks.specs.Timed.{blocks, handing_blocks}
 use Rattle.comma_peaks.specs.Judged.{comes_to, judging}
 use Rattle.comma_peaks.proofs.Files.{file_judged}
 use Rattle.comma_peaks.proofs.Peaks.{file_peaks}
 use Rattle.demands.proofs.Demand1.{Decides, ◌gives◌, decide, decided}
+use Rattle.std.specs.Prelude.{Result, Ok, Err}
 
 -- ---- the statement
 -- the relations of 8: no more samples than a record may have, no more runs than samples; of a first pass no more peaks
@@ -59,41 +56,41 @@ second_kept h =
 
 pub record Request11Pieces : Type 0 where
   -- the first pass
-  pub survey : (D : ℕ) → Decides Refused (not (step_in_range D) gives Item 1 ∷ []) (Taken (none D)) (started D)
+  pub survey : (D : ℕ) → Decides Err (not (step_in_range D) gives Item 1 ∷ []) (Ok (none D)) (started D)
   pub take : (s : Surveying) (xs : List ℤ)
-      → Decides Refused
+      → Decides Err
       (not (first_kept s) gives BrokenState
       ∷ (ltb (most_in_range s.reading.step 0) (s.reading.n + length xs) gives TooLong
       ∷ []))
-      (Taken (foldl surveyed s xs)) (taken s xs)
+      (Ok (foldl surveyed s xs)) (taken s xs)
   -- its number and sum are those of the peaks, however the timed samples are cut
   pub totals : (D : ℕ) (ps : List (List ℤ)) → step_in_range D ≡ true → Small (together ps) → length (together ps) ≤ most_in_range D 0
-      → (s : Surveying) × (onwards ps (started D) ≡ Taken s)
+      → (s : Surveying) × (onwards ps (started D) ≡ Ok s)
       × (s.number ≡ length (peaks D (together ps))) × (s.sum ≡ sum (peaks D (together ps)))
   pub too_long : (D : ℕ) (ps : List (List ℤ)) → step_in_range D ≡ true → Small (together ps) → most_in_range D 0 < length (together ps)
-      → onwards ps (started D) ≡ Refused TooLong
+      → onwards ps (started D) ≡ Err TooLong
   -- the second pass
   pub begin : (D τ n s : ℕ)
-      → Decides handing.Refused (not (step_in_range D) gives Item 1 ∷ (not (decorrelation_in_range τ) gives Item 4 ∷ []))
-      (handing.Taken (waiting D τ n s) 0) (begun D τ n s)
+      → Decides Err (not (step_in_range D) gives Item 1 ∷ (not (decorrelation_in_range τ) gives Item 4 ∷ []))
+      (Ok (waiting D τ n s, 0)) (begun D τ n s)
   pub hand_over : (h : Handing) (xs : List ℤ) (sizes times : ℕ)
-      → Decides handing.Refused
+      → Decides Err
       (not (second_kept h) gives BrokenState
       ∷ (ltb (most_in_range h.reading.step 0) (h.reading.n + length xs) gives TooLong
       ∷ ((ltb sizes (length xs) || ltb times (length xs)) gives Room (length xs)
       ∷ [])))
-      (handing.Taken (foldl moved h xs) (length (closed_by h xs))) (hands_on h xs sizes times)
+      (Ok (foldl moved h xs, length (closed_by h xs))) (hands_on h xs sizes times)
   pub stays : (h : Handing) (xs : List ℤ) (sizes times s t : List ℕ) (f : Refusal)
-      → HandsOver h xs sizes times (handing.Refused f) s t → (s ≡ sizes) × (t ≡ times)
-  pub given : (h g : Handing) (xs : List ℤ) (sizes times s t : List ℕ) (k : ℕ) → HandsOver h xs sizes times (handing.Taken g k) s t
+      → HandsOver h xs sizes times (Err f) s t → (s ≡ sizes) × (t ≡ times)
+  pub given : (h g : Handing) (xs : List ℤ) (sizes times s t : List ℕ) (k : ℕ) → HandsOver h xs sizes times (Ok (g, k)) s t
       → (s ≡ map size_of (closed_by h xs) ++ drop k sizes) × (t ≡ map moment_of (closed_by h xs) ++ drop k times)
   -- at most one peak for each sample of a piece
-  pub few : (h : Handing) (xs : List ℤ) (sizes times s t : List ℕ) (x : Handed) → HandsOver h xs sizes times x s t → length (closed_by h xs) ≤ length xs
+  pub few : (h : Handing) (xs : List ℤ) (sizes times s t : List ℕ) (x : Result (Handing × ℕ) Refusal) → HandsOver h xs sizes times x s t → length (closed_by h xs) ≤ length xs
   -- two passes over the same timed samples, cut as ps and as qs, hand out the record's peaks
   pub passes : (n : ℕ) (sizes times : List ℕ) → n ≤ length sizes → n ≤ length times → (D R τ : ℕ) (xs : List ℤ) (ps qs : List (List ℤ))
       → together ps ≡ drop R xs → together qs ≡ drop R xs → step_in_range D ≡ true → decorrelation_in_range τ ≡ true
       → Small (drop R xs) → length (drop R xs) ≤ most_in_range D 0 → Pieces n qs
-      → (s : Surveying) × (onwards ps (started D) ≡ Taken s)
+      → (s : Surveying) × (onwards ps (started D) ≡ Ok s)
       × (handing_out (length sizes) (length times) qs (begun D τ s.number s.sum) ≡ handed D R τ xs)
   -- a comma file that comes in pieces is judged at its end, 10, 2, 3, 4, as its whole text is
   pub judged : (D : ℕ) (ps : List (List ℕ)) → step_in_range D ≡ true → (R : ℕ) → length (lines_of (joined ps)) < 18446744073709551615
@@ -101,52 +98,52 @@ pub record Request11Pieces : Type 0 where
   -- and where nothing is refused, two readings of it, cut as ps and as qs, their samples in blocks bs and cs, hand
   -- out the peaks of the text
   pub file : (n : ℕ) (sizes times : List ℕ) → n ≤ length sizes → n ≤ length times → (D R τ : ℕ) (ps qs : List (List ℕ)) (bs cs : List (List ℤ))
-      → joined ps ≡ joined qs → step_in_range D ≡ true → decorrelation_in_range τ ≡ true → comes_to D R (lines_of (joined ps)) ≡ Peaks
+      → joined ps ≡ joined qs → step_in_range D ≡ true → decorrelation_in_range τ ≡ true → comes_to D R (lines_of (joined ps)) ≡ (Ok tt)
       → together bs ≡ map held (passing (nothing D) ps).samples → together cs ≡ map held (passing (nothing D) qs).samples → Pieces n cs
       → handing_blocks R (length sizes) (length times) 0 cs (begun D τ (blocks R 0 (none D) bs).number (blocks R 0 (none D) bs).sum)
       ≡ handed D R τ (samples_of (lines_of (joined ps)))
-  pub settled : (h : Handing) (xs : List ℤ) (sizes times : List ℕ) (x y : Handed) (s t u v : List ℕ)
+  pub settled : (h : Handing) (xs : List ℤ) (sizes times : List ℕ) (x y : Result (Handing × ℕ) Refusal) (s t u v : List ℕ)
       → HandsOver h xs sizes times x s u → HandsOver h xs sizes times y t v → (x ≡ y) × (s ≡ t) × (u ≡ v)
 
 -- ---- the proof
-by_survey : (D : ℕ) → Decides Refused (not (step_in_range D) gives Item 1 ∷ []) (Taken (none D)) (started D)
+by_survey : (D : ℕ) → Decides Err (not (step_in_range D) gives Item 1 ∷ []) (Ok (none D)) (started D)
 unfolding decide started
-by_survey D = decided Refused (Taken (none D)) (λ r s e. cc) (λ r e. impossible (cc)) _ (started D) refl
+by_survey D = decided Err (Ok (none D)) (λ r s e. cc) (λ r e. impossible (cc)) _ (started D) refl
 
 by_take : (s : Surveying) (xs : List ℤ)
-    → Decides Refused
+    → Decides Err
     (not (first_kept s) gives BrokenState
     ∷ (ltb (most_in_range s.reading.step 0) (s.reading.n + length xs) gives TooLong
     ∷ []))
-    (Taken (foldl surveyed s xs)) (taken s xs)
+    (Ok (foldl surveyed s xs)) (taken s xs)
 unfolding decide taken
-by_take s xs = decided Refused (Taken (foldl surveyed s xs)) (λ r t e. cc) (λ r e. impossible (cc)) _ (taken s xs) refl
+by_take s xs = decided Err (Ok (foldl surveyed s xs)) (λ r t e. cc) (λ r e. impossible (cc)) _ (taken s xs) refl
 
 by_begin : (D τ n s : ℕ)
-    → Decides handing.Refused (not (step_in_range D) gives Item 1 ∷ (not (decorrelation_in_range τ) gives Item 4 ∷ []))
-    (handing.Taken (waiting D τ n s) 0) (begun D τ n s)
+    → Decides Err (not (step_in_range D) gives Item 1 ∷ (not (decorrelation_in_range τ) gives Item 4 ∷ []))
+    (Ok (waiting D τ n s, 0)) (begun D τ n s)
 unfolding decide begun
 by_begin D τ n s =
-    decided handing.Refused (handing.Taken (waiting D τ n s) 0) (λ r t e. cc) (λ r e. impossible (cc)) _ (begun D τ n s) refl
+    decided Err (Ok (waiting D τ n s, 0)) (λ r t e. cc) (λ r e. impossible (cc)) _ (begun D τ n s) refl
 
 by_hand_over : (h : Handing) (xs : List ℤ) (sizes times : ℕ)
-    → Decides handing.Refused
+    → Decides Err
     (not (second_kept h) gives BrokenState
     ∷ (ltb (most_in_range h.reading.step 0) (h.reading.n + length xs) gives TooLong
     ∷ ((ltb sizes (length xs) || ltb times (length xs)) gives Room (length xs)
     ∷ [])))
-    (handing.Taken (foldl moved h xs) (length (closed_by h xs))) (hands_on h xs sizes times)
+    (Ok (foldl moved h xs, length (closed_by h xs))) (hands_on h xs sizes times)
 unfolding decide hands_on
 by_hand_over h xs sizes times =
-    decided handing.Refused (handing.Taken (foldl moved h xs) (length (closed_by h xs))) (λ r t e. cc)
+    decided Err (Ok (foldl moved h xs, length (closed_by h xs))) (λ r t e. cc)
     (λ r e. impossible (cc)) _ (hands_on h xs sizes times) refl
 
 by_stays : (h : Handing) (xs : List ℤ) (sizes times s t : List ℕ) (f : Refusal)
-    → HandsOver h xs sizes times (handing.Refused f) s t → (s ≡ sizes) × (t ≡ times)
+    → HandsOver h xs sizes times (Err f) s t → (s ≡ sizes) × (t ≡ times)
 unfolding noted
 by_stays h xs sizes times s t f p = (p.sizes_left, p.times_left)
 
-by_given : (h g : Handing) (xs : List ℤ) (sizes times s t : List ℕ) (k : ℕ) → HandsOver h xs sizes times (handing.Taken g k) s t
+by_given : (h g : Handing) (xs : List ℤ) (sizes times s t : List ℕ) (k : ℕ) → HandsOver h xs sizes times (Ok (g, k)) s t
     → (s ≡ map size_of (closed_by h xs) ++ drop k sizes) × (t ≡ map moment_of (closed_by h xs) ++ drop k times)
 unfolding noted
 by_given h g xs sizes times s t k p = (p.sizes_left, p.times_left)

@@ -24,7 +24,6 @@ use Rattle.campaign_verdict.specs.Letters.{letter_e, letter_of}
 use Rattle.campaign_verdict.proofs.Letters.{of_accept, of_continue, of_reject}
 use Rattle.campaign_condition.specs.Answers.{situations_in_range, judging, lowest_broken}
 use Rattle.campaign_condition.specs.Standing.{All, One, accepted, rejected, standing}
-use Rattle.campaign_condition.specs.declared.ConditionAnswer.TheVariants.{Given, Refused}
 use Rattle.campaign_condition.specs.declared.Standing.{Standing}
 use Rattle.campaign_condition.specs.declared.Standing.TheVariants.{Accepted, Open, Rejected}
 use Rattle.campaign_condition.proofs.Exactly.{accepted_if, never_both, only_accepted, only_open, only_rejected, open_if, rejected_if}
@@ -36,12 +35,12 @@ use Rattle.sheet_reply.specs.Written as replying
 use Rattle.sheet_reply.specs.Written.{figures, record_text}
 use Rattle.campaign_report.specs.WholeCase.{report_on_third, report_on_three, their_report, third_alone, three_situations, two_situations}
 use Rattle.text.specs.Write.{laid_by}
-use Rattle.text.specs.declared.Writing.TheVariants.{Bytes, Refused as Declined}
 use Rattle.campaign_report.proofs.Enough.{enough}
 use Rattle.campaign_report.proofs.Rounding.{blocks_enough, blocks_least}
 use Rattle.campaign_report.proofs.WholeCase.{third_case, three_case, whole_case}
 use Rattle.demands.proofs.Exactly.{Exactly}
 use Rattle.demands.proofs.Demand1.{Decides, Test, ◌gives◌, decide, decided}
+use Rattle.std.specs.Prelude.{Ok, Err}
 
 -- ---- the statement
 -- 18, then 8 with the lowest situation; then what is tested after them
@@ -86,12 +85,12 @@ total_line cs letter =
     ++ (letter ∷ line_feed ∷ []))
 
 pub record Request13 : Type 0 where
-  pub judge : (number : ℕ) (cs : List Campaign) → Decides Refused (tests number cs []) (Given (standing cs)) (judging number cs)
-  pub write : (number : ℕ) (cs : List Campaign) (out : List ℕ) → Decides Declined (write_tests number cs (length out)) (Bytes (length (report_text cs))) (writing_report number cs out)
+  pub judge : (number : ℕ) (cs : List Campaign) → Decides Err (tests number cs []) (Ok (standing cs)) (judging number cs)
+  pub write : (number : ℕ) (cs : List Campaign) (out : List ℕ) → Decides Err (write_tests number cs (length out)) (Ok (length (report_text cs))) (writing_report number cs out)
   -- those before it keep their relations, and it does not
   pub lowest : (before : List Campaign) (c : Campaign) (after : List Campaign) → lowest_broken before ≡ 0 → sound c ≡ false
       → lowest_broken (before ++ (c ∷ after)) ≡ length before + 1
-  pub bytes_kept : (r : Refusal) (text out : List ℕ) → laid_by (Declined r) text out ≡ out
+  pub bytes_kept : (r : Refusal) (text out : List ℕ) → laid_by (Err r) text out ≡ out
   -- a campaign is rejected or accepted by document 01's tests, with a record
   pub rejecting : (c : Campaign) → rejected c ≡ true → (sound c ≡ true) × (1 ≤ c.records) × (rejects c ≡ true)
   pub rejected_by : (c : Campaign) → sound c ≡ true → 1 ≤ c.records → rejects c ≡ true → rejected c ≡ true
@@ -112,7 +111,7 @@ pub record Request13 : Type 0 where
   pub billed : (n : ℕ) → n ≤ 5 * blocks n
   pub no_fewer : (n b : ℕ) → n ≤ 5 * b → blocks n ≤ b
   -- 40 bytes and 28 for each situation are always room
-  pub enough : (number : ℕ) (cs : List Campaign) (out : List ℕ) (n : ℕ) → length cs ≡ number → writing_report number cs out ≡ Bytes n → n ≤ 40 + 28 * number
+  pub enough : (number : ℕ) (cs : List Campaign) (out : List ℕ) (n : ℕ) → length cs ≡ number → writing_report number cs out ≡ Ok n → n ≤ 40 + 28 * number
   pub case : report_text two_situations ≡ their_report
   -- the letter on the sheet, in a situation's line and in the last one; E where there is no record
   pub sheet_letter : (c : Campaign) → sound c ≡ true → 1 ≤ c.records
@@ -128,10 +127,10 @@ pub record Request13 : Type 0 where
 
 -- ---- the proof
 module _ (r s : Refusal) where
-  own : Refused r ≡ Refused s → r ≡ s
+  own : Err r ≡ Err s → r ≡ s
   own e = cc
 
-  own_writing : Declined r ≡ Declined s → r ≡ s
+  own_writing : Err r ≡ Err s → r ≡ s
   own_writing e = cc
 
 abbrev ranked : Standing → ℕ
@@ -139,11 +138,11 @@ ranked Accepted = 0
 ranked Rejected = 1
 ranked Open = 2
 
-judging_decides : (number : ℕ) (cs : List Campaign) → judging number cs ≡ decide Refused (tests number cs []) (Given (standing cs))
+judging_decides : (number : ℕ) (cs : List Campaign) → judging number cs ≡ decide Err (tests number cs []) (Ok (standing cs))
 unfolding decide judging
 judging_decides number cs = refl
 
-writing_decides : (number : ℕ) (cs : List Campaign) (out : List ℕ) → writing_report number cs out ≡ decide Declined (write_tests number cs (length out)) (Bytes (length (report_text cs)))
+writing_decides : (number : ℕ) (cs : List Campaign) (out : List ℕ) → writing_report number cs out ≡ decide Err (write_tests number cs (length out)) (Ok (length (report_text cs)))
 unfolding decide judging writing_report
 writing_decides number cs out =
     by_test (situations_in_range number)
@@ -217,9 +216,9 @@ pub request_13 : Request13
 unfolding laid_by
 request_13 =
     record {
-      judge = λ number cs. decided Refused (Given (standing cs)) own (λ r e. impossible (cc)) (tests number cs []) (judging number cs) (judging_decides number cs);
+      judge = λ number cs. decided Err (Ok (standing cs)) own (λ r e. impossible (cc)) (tests number cs []) (judging number cs) (judging_decides number cs);
       write = λ number cs out.
-          decided Declined (Bytes (length (report_text cs))) own_writing (λ r e. impossible (cc)) (write_tests number cs (length out)) (writing_report number cs out) (writing_decides number cs out);
+          decided Err (Ok (length (report_text cs))) own_writing (λ r e. impossible (cc)) (write_tests number cs (length out)) (writing_report number cs out) (writing_decides number cs out);
       lowest = lowest_named;
       bytes_kept = λ r text out. refl;
       rejecting = rejected_rejects;

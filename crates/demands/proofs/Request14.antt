@@ -34,8 +34,6 @@ use Rattle.peak_reach.specs.Answers.{no_spread, reached, samples_outside, standa
 use Rattle.peak_reach.specs.Figures.{count_width, exponent_down, full_sum, longest_standard, shape_width}
 use Rattle.peak_reach.specs.Reach.{Accepted, AcceptedWell, AtMostEstimate, HalfWidths, PowersAtMost, Rejected}
 use Rattle.peak_reach.specs.Reach.{RejectedWell, product}
-use Rattle.peak_reach.specs.declared.Extrapolated.{Extrapolated}
-use Rattle.peak_reach.specs.declared.Extrapolated.TheVariants.{Found, Refused}
 use Rattle.peak_reach.specs.declared.Letter.{Letter}
 use Rattle.peak_reach.specs.declared.Letter.TheVariants.{Accept, Reject}
 use Rattle.peak_reach.specs.declared.Times.{Times}
@@ -49,6 +47,7 @@ use Rattle.peak_reach.proofs.Order.{Answered, answered, answered_right, at_anoth
 use Rattle.peak_reach.proofs.Rightly.{exponents_small}
 use Rattle.peak_reach.proofs.Unique.{extrapolate_unique}
 use Rattle.demands.proofs.Demand1.{Decides, Test, ◌gives◌, decide, decided}
+use Rattle.std.specs.Prelude.{Result, Ok, Err}
 
 -- ---- the statement
 -- 1 with the lowest of items 1, 3 and 5; 16; 17 with the first place; 19; 20 with the k-th peak; 21
@@ -105,72 +104,72 @@ pub record NoShorter (t s : Times) : Type 0 where
 
 -- an answer to every list and every item, and that it keeps the promise
 abbrev pub Answer : Type 0
-Answer = List ℕ → ℕ → ℕ → ℕ → ℕ → ℕ → Extrapolated
+Answer = List ℕ → ℕ → ℕ → ℕ → ℕ → ℕ → Result (Times × Letter) Refusal
 
 abbrev pub Keeps : Answer → Type 0
 Keeps f = (ys : List ℕ) (k c D P q : ℕ) → ExtrapolatesTo ys k c D P q (f ys k c D P q)
 
 pub record Request14 : Type 0 where
   pub order : (ys : List ℕ) (k c D P q : ℕ)
-      → Decides Refused (beyond_tests ys k c D P q) (Found (times ys k c D P) (letter_for q (times ys k c D P))) (extrapolated ys k c D P q)
+      → Decides Err (beyond_tests ys k c D P q) (Ok (times ys k c D P, letter_for q (times ys k c D P))) (extrapolated ys k c D P q)
   -- item 5 is a campaign's
   pub standards : (q : ℕ) → standard_in_range q ≡ campaign.standard_in_range q
-  pub settled : (ys : List ℕ) (k c D P q : ℕ) (x y : Extrapolated) → ExtrapolatesTo ys k c D P q x → ExtrapolatesTo ys k c D P q y → x ≡ y
+  pub settled : (ys : List ℕ) (k c D P q : ℕ) (x y : Result (Times × Letter) Refusal) → ExtrapolatesTo ys k c D P q x → ExtrapolatesTo ys k c D P q y → x ≡ y
   -- the half-widths are the least such numbers, and the only ones
   pub widths : (k P : ℕ) → 1 ≤ k → HalfWidths k P (count_width k P) (shape_width k)
   pub only_widths : (k P h w : ℕ) → 1 ≤ k → HalfWidths k P h w → (h ≡ count_width k P) × (w ≡ shape_width k)
   -- A only if, and whenever with the spare; R likewise; never both
-  pub accepted_only_if : (ys : List ℕ) (k c D P q : ℕ) (t : Times) → extrapolated ys k c D P q ≡ Found t Accept → AcceptedAt ys k c D P q
-  pub accepted_whenever : (ys : List ℕ) (k c D P q : ℕ) (t : Times) (l : Letter) → extrapolated ys k c D P q ≡ Found t l
+  pub accepted_only_if : (ys : List ℕ) (k c D P q : ℕ) (t : Times) → extrapolated ys k c D P q ≡ Ok (t, Accept) → AcceptedAt ys k c D P q
+  pub accepted_whenever : (ys : List ℕ) (k c D P q : ℕ) (t : Times) (l : Letter) → extrapolated ys k c D P q ≡ Ok (t, l)
       → AcceptedWellAt ys k c D P q → l ≡ Accept
-  pub rejected_only_if : (ys : List ℕ) (k c D P q : ℕ) (t : Times) → extrapolated ys k c D P q ≡ Found t Reject → RejectedAt ys k c D P q
-  pub rejected_whenever : (ys : List ℕ) (k c D P q : ℕ) (t : Times) (l : Letter) → extrapolated ys k c D P q ≡ Found t l
+  pub rejected_only_if : (ys : List ℕ) (k c D P q : ℕ) (t : Times) → extrapolated ys k c D P q ≡ Ok (t, Reject) → RejectedAt ys k c D P q
+  pub rejected_whenever : (ys : List ℕ) (k c D P q : ℕ) (t : Times) (l : Letter) → extrapolated ys k c D P q ≡ Ok (t, l)
       → RejectedWellAt ys k c D P q → l ≡ Reject
-  pub never_both : (ys : List ℕ) (k c D P q : ℕ) (t : Times) (l : Letter) → extrapolated ys k c D P q ≡ Found t l
+  pub never_both : (ys : List ℕ) (k c D P q : ℕ) (t : Times) (l : Letter) → extrapolated ys k c D P q ≡ Ok (t, l)
       → (p : ℕ) → AcceptedAt ys k c D P p → RejectedAt ys k c D P p → ⊥
   -- what is to spare is that and no more
   pub spare_accepted : SpareAccepted
   pub spare_rejected : SpareRejected
   -- E is at most the estimate, and at least what is left of it with the spare
-  pub estimate : (ys : List ℕ) (k c D P q : ℕ) (t : Times) (l : Letter) → extrapolated ys k c D P q ≡ Found t l
+  pub estimate : (ys : List ℕ) (k c D P q : ℕ) (t : Times) (l : Letter) → extrapolated ys k c D P q ≡ Ok (t, l)
       → AtMostEstimate ys k c P D t.estimate
-  pub estimate_near : (ys : List ℕ) (k c D P q : ℕ) (t : Times) (l : Letter) → extrapolated ys k c D P q ≡ Found t l
+  pub estimate_near : (ys : List ℕ) (k c D P q : ℕ) (t : Times) (l : Letter) → extrapolated ys k c D P q ≡ Ok (t, l)
       → (p : ℕ) → p ≤ longest_standard → AcceptedWell ys k c P D 0 0 p → p ≤ t.estimate
   -- A ≤ E < B
-  pub in_order : (ys : List ℕ) (k c D P q : ℕ) (t : Times) (l : Letter) → extrapolated ys k c D P q ≡ Found t l
+  pub in_order : (ys : List ℕ) (k c D P q : ℕ) (t : Times) (l : Letter) → extrapolated ys k c D P q ≡ Ok (t, l)
       → (t.accepted ≤ t.estimate) × (1 ≤ t.rejected → t.estimate < t.rejected)
   -- what is accepted is accepted at every shorter standard, what is rejected at every longer one
-  pub shorter : (ys : List ℕ) (k c D P q p : ℕ) (t : Times) → extrapolated ys k c D P q ≡ Found t Accept → 1 ≤ p → p ≤ q
-      → extrapolated ys k c D P p ≡ Found t Accept
-  pub longer : (ys : List ℕ) (k c D P q p : ℕ) (t : Times) → extrapolated ys k c D P q ≡ Found t Reject → q ≤ p → p ≤ longest_standard
-      → extrapolated ys k c D P p ≡ Found t Reject
+  pub shorter : (ys : List ℕ) (k c D P q p : ℕ) (t : Times) → extrapolated ys k c D P q ≡ Ok (t, Accept) → 1 ≤ p → p ≤ q
+      → extrapolated ys k c D P p ≡ Ok (t, Accept)
+  pub longer : (ys : List ℕ) (k c D P q p : ℕ) (t : Times) → extrapolated ys k c D P q ≡ Ok (t, Reject) → q ≤ p → p ≤ longest_standard
+      → extrapolated ys k c D P p ≡ Ok (t, Reject)
   -- a higher level, and higher peaks over the same k-th one
   pub higher_level : (ys : List ℕ) (k c d D P q p : ℕ) (t s : Times) (l m : Letter) → c ≤ d
-      → extrapolated ys k c D P q ≡ Found t l → extrapolated ys k d D P p ≡ Found s m → NoShorter t s
+      → extrapolated ys k c D P q ≡ Ok (t, l) → extrapolated ys k d D P p ≡ Ok (s, m) → NoShorter t s
   pub higher_peaks : (ys zs : List ℕ) (k c D P q p : ℕ) (t s : Times) (l m : Letter) → kth ys k ≡ kth zs k
       → ((i : ℕ) → i < k → get_or ys i 0 ≤ get_or zs i 0)
-      → extrapolated ys k c D P q ≡ Found t l → extrapolated zs k c D P p ≡ Found s m → NoShorter s t
+      → extrapolated ys k c D P q ≡ Ok (t, l) → extrapolated zs k c D P p ≡ Ok (s, m) → NoShorter s t
   -- more samples: E and B grow, and A where the half-width is the same; A alone need not
   pub more_samples : (ys : List ℕ) (k c D P Q q p : ℕ) (t s : Times) (l m : Letter) → P ≤ Q
-      → extrapolated ys k c D P q ≡ Found t l → extrapolated ys k c D Q p ≡ Found s m
+      → extrapolated ys k c D P q ≡ Ok (t, l) → extrapolated ys k c D Q p ≡ Ok (s, m)
       → (t.estimate ≤ s.estimate) × (1 ≤ s.rejected → (1 ≤ t.rejected) × (t.rejected ≤ s.rejected))
   pub more_samples_accepted : (ys : List ℕ) (k c D P Q q p : ℕ) (t s : Times) (l m : Letter) → P ≤ Q → count_width k P ≡ count_width k Q
-      → extrapolated ys k c D P q ≡ Found t l → extrapolated ys k c D Q p ≡ Found s m → t.accepted ≤ s.accepted
+      → extrapolated ys k c D P q ≡ Ok (t, l) → extrapolated ys k c D Q p ≡ Ok (s, m) → t.accepted ≤ s.accepted
   -- at the k-th peak itself, the counted answer
-  pub counted : (ys : List ℕ) (k D P q : ℕ) (t : Times) (l : Letter) → extrapolated ys k (kth ys k) D P q ≡ Found t l
+  pub counted : (ys : List ℕ) (k D P q : ℕ) (t : Times) (l : Letter) → extrapolated ys k (kth ys k) D P q ≡ Ok (t, l)
       → CountedTimes k (count_width k P) (shape_width k) (1000 * (P * D)) t
   -- equal peaks, those of clipped records, have no times and no letter
   pub clipped : (ys : List ℕ) (k c D P q : ℕ) (t : Times) (l : Letter) → ((i : ℕ) → i < k → get_or ys i 0 ≡ kth ys k)
-      → extrapolated ys k c D P q ≡ Found t l → ⊥
+      → extrapolated ys k c D P q ≡ Ok (t, l) → ⊥
 
 -- ---- the proof
-own : (r s : Refusal) → Refused r ≡ Refused s → r ≡ s
+own : (r s : Refusal) → Err r ≡ Err s → r ≡ s
 own r s e = cc
 
 -- an item's number and the tests of the three items
-first-item : (ts : List Test) (x : Extrapolated) (a b c : Bool) (n : ℕ) → n ≡ cond (not a) 1 (cond (not b) 3 (cond (not c) 5 0))
-    → cond (not (eqb n 0)) (Refused (Item n)) (decide Refused ts x)
-    ≡ decide Refused (not a gives Item 1 ∷ (not b gives Item 3 ∷ (not c gives Item 5 ∷ ts))) x
+first-item : (ts : List Test) (x : Result (Times × Letter) Refusal) (a b c : Bool) (n : ℕ) → n ≡ cond (not a) 1 (cond (not b) 3 (cond (not c) 5 0))
+    → cond (not (eqb n 0)) (Err (Item n)) (decide Err ts x)
+    ≡ decide Err (not a gives Item 1 ∷ (not b gives Item 3 ∷ (not c gives Item 5 ∷ ts))) x
 unfolding decide
 first-item ts x false b c n e = rw e
 first-item ts x true false c n e = rw e
@@ -178,10 +177,10 @@ first-item ts x true true false n e = rw e
 first-item ts x true true true n e = rw e
 
 order : (ys : List ℕ) (k c D P q : ℕ)
-    → Decides Refused (beyond_tests ys k c D P q) (Found (times ys k c D P) (letter_for q (times ys k c D P))) (extrapolated ys k c D P q)
+    → Decides Err (beyond_tests ys k c D P q) (Ok (times ys k c D P, letter_for q (times ys k c D P))) (extrapolated ys k c D P q)
 unfolding decide extrapolated reached item_outside
 order ys k c D P q =
-    decided Refused (Found (times ys k c D P) (letter_for q (times ys k c D P))) own (λ r e. impossible (cc)) (beyond_tests ys k c D P q) (extrapolated ys k c D P q)
+    decided Err (Ok (times ys k c D P, letter_for q (times ys k c D P))) own (λ r e. impossible (cc)) (beyond_tests ys k c D P q) (extrapolated ys k c D P q)
     (first-item
     (tail_outside (length ys) k gives Tail
     ∷ (ltb (first_out ys) (length ys) gives Peak (first_out ys)
@@ -189,7 +188,7 @@ order ys k c D P q =
     ∷ (ltb c (kth ys k) gives LowLevel (kth ys k)
     ∷ (no_spread k (hill_sum ys k) (our_figure c (kth ys k)) gives NoSpread
     ∷ [])))))
-    (Found (times ys k c D P) (letter_for q (times ys k c D P))) (step_in_range D) (level_in_range c) (standard_in_range q)
+    (Ok (times ys k c D P, letter_for q (times ys k c D P))) (step_in_range D) (level_in_range c) (standard_in_range q)
     (item_outside D c q) refl)
 
 spare_accepted : SpareAccepted
@@ -230,7 +229,7 @@ only_widths k P h w some x =
     (only_least x.count (half_width_lem 2236 k P), only_least x.shape (least_root_lem (2236000 * 2236000) k some))
 
 -- ---- one answer with times
-module _ (ys : List ℕ) (k c D P q : ℕ) (t : Times) (l : Letter) (e : extrapolated ys k c D P q ≡ Found t l) where
+module _ (ys : List ℕ) (k c D P q : ℕ) (t : Times) (l : Letter) (e : extrapolated ys k c D P q ≡ Ok (t, l)) where
   a : Answered ys k c D P q t l
   a = answered ys k c D P q t l e
 
@@ -266,24 +265,24 @@ module _ (ys : List ℕ) (k c D P q : ℕ) (t : Times) (l : Letter) (e : extrapo
       y
 
   -- at another standard the times are the same
-  other : (p : ℕ) → 1 ≤ p → p ≤ longest_standard → extrapolated ys k c D P p ≡ Found t (letter_for p t)
+  other : (p : ℕ) → 1 ≤ p → p ≤ longest_standard → extrapolated ys k c D P p ≡ Ok (t, letter_for p t)
   other p low high = at_another ys k c D P q t l a p (rw (le-leb 1 p low, le-leb p longest_standard high))
 
-  shorter : l ≡ Accept → (p : ℕ) → 1 ≤ p → p ≤ q → extrapolated ys k c D P p ≡ Found t Accept
+  shorter : l ≡ Accept → (p : ℕ) → 1 ≤ p → p ≤ q → extrapolated ys k c D P p ≡ Ok (t, Accept)
   shorter is p low high =
       other p low (le_trans high within_standard)
-      ∙ ap (Found t) (to_accept p t (le_trans high (from_accept q t (sym a.letter ∙ is))))
+      ∙ ap ((λ a. Ok (t, a))) (to_accept p t (le_trans high (from_accept q t (sym a.letter ∙ is))))
 
-  longer : l ≡ Reject → (p : ℕ) → q ≤ p → p ≤ longest_standard → extrapolated ys k c D P p ≡ Found t Reject
+  longer : l ≡ Reject → (p : ℕ) → q ≤ p → p ≤ longest_standard → extrapolated ys k c D P p ≡ Ok (t, Reject)
   longer is p low high =
       let r = answered_right ys k c D P q t l a in
       let (some, m) = from_reject q t (sym a.letter ∙ is) in
       other p (omega (arith, some, m)) high
-      ∙ ap (Found t) (to_reject p t (omega (arith, r.first, r.last some, m)) some (le_trans m low))
+      ∙ ap ((λ a. Ok (t, a))) (to_reject p t (omega (arith, r.first, r.last some, m)) some (le_trans m low))
 
 -- ---- two answers
 higher_level : (ys : List ℕ) (k c d D P q p : ℕ) (t s : Times) (l m : Letter) → c ≤ d
-    → extrapolated ys k c D P q ≡ Found t l → extrapolated ys k d D P p ≡ Found s m → NoShorter t s
+    → extrapolated ys k c D P q ≡ Ok (t, l) → extrapolated ys k d D P p ≡ Ok (s, m) → NoShorter t s
 higher_level ys k c d D P q p t s l m le e f =
     let a = answered ys k c D P q t l e in
     let b = answered ys k d D P p s m f in
@@ -310,7 +309,7 @@ higher_level ys k c d D P q p t s l m le e f =
 
 higher_peaks : (ys zs : List ℕ) (k c D P q p : ℕ) (t s : Times) (l m : Letter) → kth ys k ≡ kth zs k
     → ((i : ℕ) → i < k → get_or ys i 0 ≤ get_or zs i 0)
-    → extrapolated ys k c D P q ≡ Found t l → extrapolated zs k c D P p ≡ Found s m → NoShorter s t
+    → extrapolated ys k c D P q ≡ Ok (t, l) → extrapolated zs k c D P p ≡ Ok (s, m) → NoShorter s t
 higher_peaks ys zs k c D P q p t s l m same all e f =
     let a = answered ys k c D P q t l e in
     let b = answered zs k c D P p s m f in
@@ -335,7 +334,7 @@ higher_peaks ys zs k c D P q p t s l m same all e f =
     })
 
 module _ (ys : List ℕ) (k c D P Q q p : ℕ) (t s : Times) (l m : Letter) (le : P ≤ Q)
-    (e : extrapolated ys k c D P q ≡ Found t l) (f : extrapolated ys k c D Q p ≡ Found s m) where
+    (e : extrapolated ys k c D P q ≡ Ok (t, l)) (f : extrapolated ys k c D Q p ≡ Ok (s, m)) where
   before : Answered ys k c D P q t l
   before = answered ys k c D P q t l e
 
@@ -370,7 +369,7 @@ module _ (ys : List ℕ) (k c D P Q q p : ℕ) (t s : Times) (l m : Letter) (le 
       (longest_grows (k * our_figure c u) (k * our_figure c u) (S + 2 * (k - 1)) (S + 2 * (k - 1)) (shape_width k) (1000 * k + count_width k Q) (1000 * (P * D)) (1000 * (Q * D)) 1
       (le_refl _) (le_refl _) (omega (arith, a.is_ready.spread)) time_grows (omega (arith, a.is_ready.two)) small_after.1)
 
-counted : (ys : List ℕ) (k D P q : ℕ) (t : Times) (l : Letter) → extrapolated ys k (kth ys k) D P q ≡ Found t l
+counted : (ys : List ℕ) (k D P q : ℕ) (t : Times) (l : Letter) → extrapolated ys k (kth ys k) D P q ≡ Ok (t, l)
     → CountedTimes k (count_width k P) (shape_width k) (1000 * (P * D)) t
 counted ys k D P q t l e =
     let a = answered ys k (kth ys k) D P q t l e in
@@ -390,7 +389,7 @@ none_apart ys y (suc n) all =
     omega (arith, e, d)
 
 clipped : (ys : List ℕ) (k c D P q : ℕ) (t : Times) (l : Letter) → ((i : ℕ) → i < k → get_or ys i 0 ≡ kth ys k)
-    → extrapolated ys k c D P q ≡ Found t l → ⊥
+    → extrapolated ys k c D P q ≡ Ok (t, l) → ⊥
 clipped ys k c D P q t l all e =
     let a = answered ys k c D P q t l e in
     let z : hill_sum ys k ≡ 0 = none_apart ys (kth ys k) k all in

@@ -18,8 +18,6 @@ use Rattle.poisson.specs.Rows.{rows}
 use Rattle.refusal.specs.declared.Refusal.{Refusal}
 use Rattle.refusal.specs.declared.Refusal.TheVariants.{CampaignFull, Item, Room, RowsUsedUp, TooLong, TooShort}
 use Rattle.sample_items.specs.Limits.{longest_time}
-use Rattle.campaign_state.specs.declared.CampaignAnswer.{CampaignAnswer}
-use Rattle.campaign_state.specs.declared.CampaignAnswer.TheVariants.{Taken}
 use Rattle.campaign_state.specs.declared.Campaign.{Campaign}
 use Rattle.campaign_state.specs.Answers.{opened}
 use Rattle.campaign_state.specs.Records.{campaign_of}
@@ -27,20 +25,18 @@ use Rattle.campaign_state.specs.State.{empty, entered, most_records, sound, stan
 use Rattle.campaign_state.proofs.Keeping.{opened_sound}
 use Rattle.sheet_text.specs.declared.Reading.TheVariants.{Read, Stopped}
 use Rattle.sheet_text.specs.Sheet.{meaning}
-use Rattle.text.specs.declared.Writing.{Writing}
 use Rattle.text.specs.Write.{laid_by}
-use Rattle.text.specs.declared.Writing.TheVariants.{Bytes, Refused as Declined}
 use Rattle.sheet_records.specs.Answers.{after_judging, judged, judged_as, judged_from, onward, writing_sheet}
 use Rattle.sheet_records.specs.Ledger.{exposure_in, failed_in, outcome_in, sheet_text}
 use Rattle.sheet_records.proofs.Enough.{enough}
 use Rattle.sheet_records.proofs.Entered.{judged_campaign, judged_records}
 use Rattle.sheet_records.proofs.Judging.{told_full, told_long, told_short, told_taken, told_used_up}
 use Rattle.sheet_records.proofs.Puts.{all_written, wrote}
-use Rattle.sheet_records.specs.declared.Resumed.TheVariants.{Records, Stopped as Bad}
 use Rattle.sheet_records.specs.Records.{filled_by, records_of, resuming}
 use Rattle.sheet_records.proofs.Back.{read_back, records_back}
 use Rattle.sheet_records.proofs.Clean.{written_again}
 use Rattle.demands.proofs.Demand1.{Decides, Test, ◌gives◌, decide, decided}
+use Rattle.std.specs.Prelude.{Result, Ok, Err}
 
 -- ---- the statement
 -- a record after so many records and failures: 4, 3, 5, 6; then the records after it, and what is tested after them
@@ -60,36 +56,36 @@ write_tests q xs room =
     ∷ record_tests 0 0 xs (ltb room (length (sheet_text q xs)) gives Room (length (sheet_text q xs)) ∷ [])
 
 pub record Request2 : Type 0 where
-  pub write : (q : ℕ) (xs : List ℤ) (out : List ℕ) → Decides Declined (write_tests q xs (length out)) (Bytes (length (sheet_text q xs))) (writing_sheet q xs out)
+  pub write : (q : ℕ) (xs : List ℤ) (out : List ℕ) → Decides Err (write_tests q xs (length out)) (Ok (length (sheet_text q xs))) (writing_sheet q xs out)
   -- 22 bytes and 18 for each record are always room
-  pub enough : (q : ℕ) (xs : List ℤ) (out : List ℕ) (n : ℕ) → writing_sheet q xs out ≡ Bytes n → n ≤ 22 + 18 * length xs
+  pub enough : (q : ℕ) (xs : List ℤ) (out : List ℕ) (n : ℕ) → writing_sheet q xs out ≡ Ok n → n ≤ 22 + 18 * length xs
   -- the least number of 32 bits is a failed record, and too long
   pub least : (failed_in (negsuc 2147483647) ≡ true) × (ltb longest_time (exposure_in (negsuc 2147483647)) ≡ true)
   -- the sheet's own refusals with their line and column; then 7 with the places needed, on no line; else the standard
   -- and the number of records
-  pub refused_sheet : (text : List ℕ) (places line column : ℕ) (r : Refusal) → (meaning text).end ≡ Stopped line column r → resuming text places ≡ Bad line column r
+  pub refused_sheet : (text : List ℕ) (places line column : ℕ) (r : Refusal) → (meaning text).end ≡ Stopped line column r → resuming text places ≡ Err (line, column, r)
   pub clean_sheet : (text : List ℕ) (places : ℕ) (c : Campaign) → (meaning text).end ≡ Read c
-      → Decides (Bad 0 0) (ltb places c.records gives Room c.records ∷ []) (Records c.standard c.records)
+      → Decides ((λ a. Err (0, 0, a))) (ltb places c.records gives Room c.records ∷ []) (Ok (c.standard, c.records))
       (resuming text places)
   -- a refusal leaves what was lent as it stood
-  pub bytes_kept : (r : Refusal) (text out : List ℕ) → laid_by (Declined r) text out ≡ out
-  pub records_kept : (line column : ℕ) (r : Refusal) (xs slice : List ℤ) → filled_by (Bad line column r) xs slice ≡ slice
+  pub bytes_kept : (r : Refusal) (text out : List ℕ) → laid_by (Err r) text out ≡ out
+  pub records_kept : (line column : ℕ) (r : Refusal) (xs slice : List ℤ) → filled_by (Err (line, column, r)) xs slice ≡ slice
   -- reading what was written gives the campaign of those records
-  pub back : (q : ℕ) (xs : List ℤ) (out : List ℕ) (n : ℕ) → writing_sheet q xs out ≡ Bytes n
-      → (meaning (take n (laid_by (Bytes n) (sheet_text q xs) out))).end ≡ Read (campaign_of q (map outcome_in xs))
+  pub back : (q : ℕ) (xs : List ℤ) (out : List ℕ) (n : ℕ) → writing_sheet q xs out ≡ Ok n
+      → (meaning (take n (laid_by (Ok n) (sheet_text q xs) out))).end ≡ Read (campaign_of q (map outcome_in xs))
   -- the records of a sheet that reads cleanly, with its standard, come out of the writer as that sheet
   pub again : (text : List ℕ) (c : Campaign) (out : List ℕ) → (meaning text).end ≡ Read c → length text ≤ length out
-      → (writing_sheet c.standard (records_of text) out ≡ Bytes (length text)) × (sheet_text c.standard (records_of text) ≡ text)
+      → (writing_sheet c.standard (records_of text) out ≡ Ok (length text)) × (sheet_text c.standard (records_of text) ≡ text)
   -- the records of what was written are the records, with the standard
-  pub same : (q : ℕ) (xs : List ℤ) (out : List ℕ) (n places : ℕ) → writing_sheet q xs out ≡ Bytes n → length xs ≤ places
-      → (resuming (sheet_text q xs) places ≡ Records q (length xs)) × (records_of (sheet_text q xs) ≡ xs)
+  pub same : (q : ℕ) (xs : List ℤ) (out : List ℕ) (n places : ℕ) → writing_sheet q xs out ≡ Ok n → length xs ≤ places
+      → (resuming (sheet_text q xs) places ≡ Ok (q, length xs)) × (records_of (sheet_text q xs) ≡ xs)
 
 -- ---- the proof
 module _ (r s : Refusal) where
-  own : Declined r ≡ Declined s → r ≡ s
+  own : Err r ≡ Err s → r ≡ s
   own e = cc
 
-  own_sheet : Bad 0 0 r ≡ Bad 0 0 s → r ≡ s
+  own_sheet : Err (0, 0, r) ≡ Err (0, 0, s) → r ≡ s
   own_sheet e = cc
 
 -- what the records' tests decide is what is judged of them, from a campaign of so many records and failures
@@ -97,11 +93,11 @@ module _ (needed room : ℕ) where
   abbrev last : List Test
   last = ltb room needed gives Room needed ∷ []
 
-  abbrev then : List ℤ → CampaignAnswer → Writing
+  abbrev then : List ℤ → Result Campaign Refusal → Result ℕ Refusal
   then xs a = after_judging (onward a (λ d. judged_from d xs)) needed room
 
   records_decide : (xs : List ℤ) (c : Campaign) → sound c ≡ true
-      → after_judging (judged_from c xs) needed room ≡ decide Declined (record_tests c.records c.failures xs last) (Bytes needed)
+      → after_judging (judged_from c xs) needed room ≡ decide Err (record_tests c.records c.failures xs last) (Ok needed)
   unfolding judged_from record_tests decide
   records_decide [] c g = refl
   records_decide (x ∷ xs) c g =
@@ -124,24 +120,24 @@ module _ (needed room : ℕ) where
       let (taken, good) = told_taken c f t g low high (eqb-false c.records most_records m) (eqb-false c.failures 64 n) in
       ap (then xs) taken ∙ records_decide xs (entered c f t) good ∙ rw (e, h, m, n)))))
 
-written_decides : (q : ℕ) (xs : List ℤ) (out : List ℕ) → writing_sheet q xs out ≡ decide Declined (write_tests q xs (length out)) (Bytes (length (sheet_text q xs)))
+written_decides : (q : ℕ) (xs : List ℤ) (out : List ℕ) → writing_sheet q xs out ≡ decide Err (write_tests q xs (length out)) (Ok (length (sheet_text q xs)))
 unfolding decide writing_sheet judged
 written_decides q xs out =
     by_test (standard_in_range q)
     (λ e.
-    let opens : opened q ≡ Taken (empty q) = rw e in
+    let opens : opened q ≡ Ok (empty q) = rw e in
     ap (then (length (sheet_text q xs)) (length out) xs) opens ∙ records_decide (length (sheet_text q xs)) (length out) xs (empty q) (is_true _ (opened_sound q (empty q) opens)) ∙ rw e)
     (λ e. rw e)
 
 -- the bytes that were written
-front : (text out : List ℕ) (n : ℕ) → n ≡ length text → take n (laid_by (Bytes n) text out) ≡ text
+front : (text out : List ℕ) (n : ℕ) → n ≡ length text → take n (laid_by (Ok n) text out) ≡ text
 unfolding laid_by
 front text out n e = rw e (take-append_seam text _)
 
 -- a sheet that reads cleanly: room for its records
 rooms : (text : List ℕ) (places : ℕ) (c : Campaign) → (meaning text).end ≡ Read c
     → resuming text places
-    ≡ decide (Bad 0 0) (ltb places c.records gives Room c.records ∷ []) (Records c.standard c.records)
+    ≡ decide ((λ a. Err (0, 0, a))) (ltb places c.records gives Room c.records ∷ []) (Ok (c.standard, c.records))
 unfolding resuming decide
 rooms text places c e = rw e
 
@@ -149,12 +145,12 @@ pub request_2 : Request2
 unfolding laid_by filled_by resuming campaign_of
 request_2 =
     record {
-      write = λ q xs out. decided Declined (Bytes (length (sheet_text q xs))) own (λ r e. impossible (cc)) (write_tests q xs (length out)) (writing_sheet q xs out) (written_decides q xs out);
+      write = λ q xs out. decided Err (Ok (length (sheet_text q xs))) own (λ r e. impossible (cc)) (write_tests q xs (length out)) (writing_sheet q xs out) (written_decides q xs out);
       enough = λ q xs out n e. let w = wrote q xs out n e in omega (arith, w.bytes, enough q xs w.end w.clean);
       least = (refl, refl);
       refused_sheet = λ text places line column r e. rw e;
       clean_sheet = λ text places c e.
-          decided (Bad 0 0) (Records c.standard c.records) own_sheet (λ r z. impossible (cc)) _ (resuming text places) (rooms text places c e);
+          decided ((λ a. Err (0, 0, a))) (Ok (c.standard, c.records)) own_sheet (λ r z. impossible (cc)) _ (resuming text places) (rooms text places c e);
       bytes_kept = λ r text out. refl;
       records_kept = λ line column r xs slice. refl;
       back = λ q xs out n e.
@@ -165,13 +161,13 @@ request_2 =
     }
   where
     written : (text : List ℕ) (c : Campaign) (out : List ℕ) → (meaning text).end ≡ Read c → length text ≤ length out
-        → (writing_sheet c.standard (records_of text) out ≡ Bytes (length text)) × (sheet_text c.standard (records_of text) ≡ text)
+        → (writing_sheet c.standard (records_of text) out ≡ Ok (length text)) × (sheet_text c.standard (records_of text) ≡ text)
     written text c out e room =
         let (judges, is) = written_again text c e in
-        (sym (all_written c.standard (records_of text) out (ap judged_as (sym judges)) (rw is room)) ∙ ap (λ (l : List ℕ). Bytes (length l)) is, is)
+        (sym (all_written c.standard (records_of text) out (ap judged_as (sym judges)) (rw is room)) ∙ ap (λ (l : List ℕ). Ok (length l)) is, is)
 
-    same_records : (q : ℕ) (xs : List ℤ) (out : List ℕ) (n places : ℕ) → writing_sheet q xs out ≡ Bytes n → length xs ≤ places
-        → (resuming (sheet_text q xs) places ≡ Records q (length xs)) × (records_of (sheet_text q xs) ≡ xs)
+    same_records : (q : ℕ) (xs : List ℤ) (out : List ℕ) (n places : ℕ) → writing_sheet q xs out ≡ Ok n → length xs ≤ places
+        → (resuming (sheet_text q xs) places ≡ Ok (q, length xs)) × (records_of (sheet_text q xs) ≡ xs)
     same_records q xs out n places e room =
         let w = wrote q xs out n e in
         let d = w.end in

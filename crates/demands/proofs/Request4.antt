@@ -18,42 +18,38 @@ use Rattle.sample_items.specs.declared.Items.{Items}
 use Rattle.sample_channels.specs.declared.Moment.{Moment}
 use Rattle.crossing_places.specs.Reading.{crosses_at, first_of, groups, largest_set, passing}
 use Rattle.record_state.specs.Answers.{opened}
-use Rattle.record_state.specs.declared.RecordAnswer.TheVariants.{Taken}
 use Rattle.record_feed.specs.Pieces.{AllTaken, Piece, joined, samples_of}
 use Rattle.record_feed.proofs.Theorems.{pieces_whole}
 use Rattle.record_state.specs.State.{failed, state_of, too_short}
 use Rattle.record_state.specs.State as reading
 use Rattle.record_state.specs.declared.Record.{Record}
 use Rattle.record_end.specs.Result.{ending, exposure_of, outcome_of, result_of}
-use Rattle.record_end.specs.declared.Ended.{Ended}
-use Rattle.record_end.specs.declared.Ended.TheVariants.{Given}
-use Rattle.record_end.specs.declared.Ended.TheVariants as ended
-use Rattle.record_end.specs.declared.Result.{Result}
+use Rattle.record_end.specs.declared.RecordResult.{RecordResult}
 use Rattle.record_end.proofs.Given.{exposure_bounds, given, given_bounds}
 use Rattle.campaign_state.specs.Answers.{entering, outcome_kept, taken}
 use Rattle.campaign_state.specs.State.{sound}
-use Rattle.campaign_state.specs.declared.CampaignAnswer.{CampaignAnswer}
-use Rattle.campaign_state.specs.declared.CampaignAnswer.TheVariants.{Refused}
 use Rattle.campaign_state.specs.declared.Campaign.{Campaign}
 use Rattle.demands.proofs.Demand2.{crossings_of}
+use Rattle.refusal.specs.declared.Refusal.{Refusal}
+use Rattle.std.specs.Prelude.{Result, Ok, Err}
 
 -- ---- the statement
 -- the old closing: 8 (either state), 4, 5, 6
-abbrev closing : Record → Campaign → CampaignAnswer
+abbrev closing : Record → Campaign → Result Campaign Refusal
 closing r c =
-    cond (not (reading.sound r)) (Refused BrokenState)
-    (cond (not (sound c)) (Refused BrokenState)
-    (cond (too_short r) (Refused TooShort)
+    cond (not (reading.sound r)) (Err BrokenState)
+    (cond (not (sound c)) (Err BrokenState)
+    (cond (too_short r) (Err TooShort)
     (taken c (failed r) (exposure_of r))))
 
 -- the second step after the first
-abbrev onward : Campaign → Ended → CampaignAnswer
-onward c (Given x) = entering c (outcome_of x)
-onward c (ended.Refused f) = Refused f
+abbrev onward : Campaign → Result RecordResult Refusal → Result Campaign Refusal
+onward c (Ok x) = entering c (outcome_of x)
+onward c (Err f) = Err f
 
 -- the result of an ended record is that of its samples xs: the number of crossings, that of the groups, that of the
 -- largest set, and the first crossing with its time, or no place and the full time
-pub record EndsAs (items : Items) (xs : List Moment) (x : Result) : Type 0 where
+pub record EndsAs (items : Items) (xs : List Moment) (x : RecordResult) : Type 0 where
   pub crossed : x.crossings ≡ length (crossings_of items xs)
   pub counted : x.counted ≡ length (groups items xs)
   pub largest : x.largest ≡ length (largest_set items xs)
@@ -63,21 +59,21 @@ pub record EndsAs (items : Items) (xs : List Moment) (x : Result) : Type 0 where
 
 pub record Request4 : Type 0 where
   -- what the clerk sees of a record that was opened and fed, however it was cut
-  pub of_samples : (items : Items) (s t : Record) (ps : List Piece) (x : Result)
-      → opened items ≡ Taken s → AllTaken s ps t → ending t ≡ Given x
+  pub of_samples : (items : Items) (s t : Record) (ps : List Piece) (x : RecordResult)
+      → opened items ≡ Ok s → AllTaken s ps t → ending t ≡ Ok x
       → EndsAs items (samples_of (joined ps)) x
   pub in_two : (r : Record) (c : Campaign) → reading.sound r ≡ true → sound c ≡ true → onward c (ending r) ≡ closing r c
-  pub unbroken : (r : Record) (x : Result) → ending r ≡ Given x → outcome_kept (outcome_of x) ≡ true
-  pub alike : (c : Campaign) (x y : Result) → x.exposure ≡ y.exposure → eqb x.first 0 ≡ eqb y.first 0 → entering c (outcome_of x) ≡ entering c (outcome_of y)
+  pub unbroken : (r : Record) (x : RecordResult) → ending r ≡ Ok x → outcome_kept (outcome_of x) ≡ true
+  pub alike : (c : Campaign) (x y : RecordResult) → x.exposure ≡ y.exposure → eqb x.first 0 ≡ eqb y.first 0 → entering c (outcome_of x) ≡ entering c (outcome_of y)
   -- what the clerk sees are the record's own figures
-  pub seen : (r : Record) (x : Result) → ending r ≡ Given x → x ≡ result_of r
+  pub seen : (r : Record) (x : RecordResult) → ending r ≡ Ok x → x ≡ result_of r
 
 -- ---- the proof
 two : (r : Record) (c : Campaign) → reading.sound r ≡ true → sound c ≡ true → onward c (ending r) ≡ closing r c
 unfolding ending entering
 two r c s k = rw (s, k) (go (too_short r) refl)
   where
-    go : (b : Bool) → too_short r ≡ b → onward c (cond b (ended.Refused TooShort) (Given (result_of r))) ≡ cond b (Refused TooShort) (taken c (failed r) (exposure_of r))
+    go : (b : Bool) → too_short r ≡ b → onward c (cond b (Err TooShort) (Ok (result_of r))) ≡ cond b (Err TooShort) (taken c (failed r) (exposure_of r))
     go true e = refl
     go false e = let t = exposure_bounds r s e in rw (k, le-leb 1 (exposure_of r) t.0, le-leb (exposure_of r) longest_time t.1)
 

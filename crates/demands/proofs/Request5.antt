@@ -16,13 +16,13 @@ use Rattle.record_state.specs.Answers.{opened}
 use Rattle.sample_items.specs.declared.Items.{Items}
 use Rattle.record_feed.specs.Answers.{fed}
 use Rattle.record_state.specs.State.{counts_kept, failed, failure_kept, groups_kept, items_kept, last_kept, length_kept, no_groups, none_kept, sound}
-use Rattle.record_state.specs.declared.RecordAnswer.TheVariants.{Refused, Taken}
 use Rattle.record_state.specs.declared.Record.{Record}
 use Rattle.record_feed.proofs.Fed.{fed_broken}
 use Rattle.record_state.proofs.Relations.{Failure, None, kept_from}
 use Rattle.record_state.proofs.Bounds.{failure}
 use Rattle.record_state.proofs.Opening.{opened_sound}
 use Rattle.record_feed.proofs.Theorems.{fed_sound}
+use Rattle.std.specs.Prelude.{Ok, Err}
 
 -- ---- the statement
 -- document 01's relations
@@ -49,10 +49,10 @@ pub record Request5 : Type 0 where
   pub crossed : (r : Record) → sound r ≡ true → ¬ (r.crossings ≡ 0) → Grouped r
   pub none : (r : Record) → sound r ≡ true → r.crossings ≡ 0 → (r.last_crossing ≡ 0) × (r.groups ≡ 0)
   -- a state without them is refused by 8, whatever piece comes with it
-  pub refused : (r : Record) (xs ys : List ℤ) → sound r ≡ false → fed r xs ys ≡ Refused BrokenState
+  pub refused : (r : Record) (xs ys : List ℤ) → sound r ≡ false → fed r xs ys ≡ Err BrokenState
   -- what is handed out keeps them
-  pub fresh : (items : Items) (s : Record) → opened items ≡ Taken s → sound s ≡ true
-  pub handed : (r : Record) (xs ys : List ℤ) (t : Record) → fed r xs ys ≡ Taken t → sound t ≡ true
+  pub fresh : (items : Items) (s : Record) → opened items ≡ Ok s → sound s ≡ true
+  pub handed : (r : Record) (xs ys : List ℤ) (t : Record) → fed r xs ys ≡ Ok t → sound t ≡ true
 
 -- ---- the proof
 parted : (a b c d f x y g h : Bool) → (a && (b && (c && (d && cond f (x && g) (y && h))))) ≡ ((a && (b && (c && (d && cond f x y)))) && cond f g h)

@@ -23,28 +23,25 @@ use Rattle.crossing_places.specs.Reading.{groups}
 use Rattle.record_state.specs.Answers as records
 use Rattle.record_state.specs.State as recording
 use Rattle.record_state.specs.State.{state_of, too_short}
-use Rattle.record_state.specs.declared.RecordAnswer.TheVariants as read
 use Rattle.record_state.specs.declared.Record.{Record}
 use Rattle.record_feed.specs.Pieces.{AllTaken, Piece, joined, samples_of}
 use Rattle.record_feed.proofs.Theorems.{pieces_whole}
 use Rattle.binomial_sum.specs.Answers.{adding, opened}
 use Rattle.binomial_sum.specs.Records.{AllAdded, sum_of}
 use Rattle.binomial_sum.specs.State.{empty, grown, sound, timed, would_pass}
-use Rattle.binomial_sum.specs.declared.SumAnswer.TheVariants.{Refused, Taken}
 use Rattle.binomial_sum.specs.declared.Sum.{Sum}
 use Rattle.binomial_sum.proofs.Answered as answered
 use Rattle.binomial_sum.proofs.Records.{any_order, grown_by_adding, none_timed}
-use Rattle.campaign_verdict.specs.declared.Rated.TheVariants as rated
 use Rattle.binomial_bounds.specs.Answers.{bounding, rating, recorded}
 use Rattle.binomial_bounds.specs.Bounds.{bounds_of, rates_of}
 use Rattle.binomial_bounds.specs.HalfWidth.{HalfWidth, half_width}
-use Rattle.binomial_bounds.specs.declared.Bounded.TheVariants as bounded
 use Rattle.root.specs.HalfWidth as root
 use Rattle.root.specs.Root.{first_from}
 use Rattle.root.proofs.First.{only_least}
 use Rattle.root.proofs.HalfWidth.{all_failures, half_width_lem, no_failure}
 use Rattle.binomial_bounds.proofs.Order.{ordered}
 use Rattle.demands.proofs.Demand1.{Decides, Test, ◌gives◌, decide, decided}
+use Rattle.std.specs.Prelude.{Some, None, Ok, Err}
 
 -- ---- the statement
 -- 8 for the sum and for the record, 4, 1 with item 1 for another step, 11
@@ -62,22 +59,22 @@ broken_test s = not (sound s) gives BrokenState ∷ []
 
 pub record Request7 : Type 0 where
   -- the order of refusals
-  pub opening : (D : ℕ) → Decides Refused (not (step_in_range D) gives Item 1 ∷ []) (Taken (empty D)) (opened D)
-  pub add : (s : Sum) (r : Record) → Decides Refused (add_tests s r) (Taken (grown s r.groups (timed r))) (adding s r)
-  pub bounds : (s : Sum) → Decides bounded.Refused (broken_test s) (bounded.Given (recorded s) (bounds_of s)) (bounding s)
-  pub rates : (s : Sum) → Decides rated.Refused (broken_test s) (rated.Given (recorded s) (rates_of s)) (rating s)
+  pub opening : (D : ℕ) → Decides Err (not (step_in_range D) gives Item 1 ∷ []) (Ok (empty D)) (opened D)
+  pub add : (s : Sum) (r : Record) → Decides Err (add_tests s r) (Ok (grown s r.groups (timed r))) (adding s r)
+  pub bounds : (s : Sum) → Decides Err (broken_test s) (Ok (recorded s, bounds_of s)) (bounding s)
+  pub rates : (s : Sum) → Decides Err (broken_test s) (Ok (cond (recorded s) (Some (rates_of s)) None)) (rating s)
   -- a sum that is handed out is never refused as broken
-  pub opened_sound : (D : ℕ) (s : Sum) → opened D ≡ Taken s → sound s ≡ true
-  pub added_sound : (s : Sum) (r : Record) (t : Sum) → adding s r ≡ Taken t → sound t ≡ true
+  pub opened_sound : (D : ℕ) (s : Sum) → opened D ≡ Ok s → sound s ≡ true
+  pub added_sound : (s : Sum) (r : Record) (t : Sum) → adding s r ≡ Ok t → sound t ≡ true
   -- N and P over the list of the records; neighbours may change places, and by such changes any order comes from any
   -- other
-  pub totals : (D : ℕ) (s t : Sum) (rs : List Record) → opened D ≡ Taken s → AllAdded s rs t → t ≡ sum_of D rs
+  pub totals : (D : ℕ) (s t : Sum) (rs : List Record) → opened D ≡ Ok s → AllAdded s rs t → t ≡ sum_of D rs
   pub in_any_order : (before : List Record) (a b : Record) (after : List Record) (s t : Sum) → AllAdded s (before ++ (a ∷ (b ∷ after))) t → AllAdded s (before ++ (b ∷ (a ∷ after))) t
   -- the pieces rule: what is answered for a record in pieces is answered for the whole one, refusals too; and what that
   -- adds
   pub pieces : (items : Items) (s t : Record) (ps : List Piece) (x : Sum)
-      → records.opened items ≡ read.Taken s → AllTaken s ps t → adding x t ≡ adding x (state_of items (samples_of (joined ps)))
-  pub adds : (items : Items) (xs : List Moment) (x y : Sum) → adding x (state_of items xs) ≡ Taken y
+      → records.opened items ≡ Ok s → AllTaken s ps t → adding x t ≡ adding x (state_of items (samples_of (joined ps)))
+  pub adds : (items : Items) (xs : List Moment) (x y : Sum) → adding x (state_of items xs) ≡ Ok y
       → y ≡ grown x (length (groups items xs)) (length xs - items.ramp)
   -- the half-width is the least such number, and the only one; it is 0 without a failure and where every sample failed
   pub least : (N P : ℕ) → HalfWidth N P (half_width N P)
@@ -88,30 +85,30 @@ pub record Request7 : Type 0 where
   pub all_failures : (N : ℕ) → half_width N N ≡ 0
   pub in_order : (s : Sum) → ((bounds_of s).lower ≤ (bounds_of s).estimate) × ((bounds_of s).estimate ≤ (bounds_of s).upper)
   -- "no record" of a sum just opened, whose bounds are 0, and of no sum that a record was added to
-  pub no_record_lem : (D : ℕ) (s : Sum) → opened D ≡ Taken s → (recorded s ≡ false) × ((bounds_of s).upper ≡ 0)
+  pub no_record_lem : (D : ℕ) (s : Sum) → opened D ≡ Ok s → (recorded s ≡ false) × ((bounds_of s).upper ≡ 0)
   pub a_record : (s t : Sum) (r : Record) (rs : List Record) → AllAdded s (r ∷ rs) t → recorded t ≡ true
 
 -- ---- the proof
 module _ (r s : Refusal) where
-  own : Refused r ≡ Refused s → r ≡ s
+  own : Err r ≡ Err s → r ≡ s
   own e = cc
 
-  own_bounds : bounded.Refused r ≡ bounded.Refused s → r ≡ s
+  own_bounds : Err r ≡ Err s → r ≡ s
   own_bounds e = cc
 
-  own_rates : rated.Refused r ≡ rated.Refused s → r ≡ s
+  own_rates : Err r ≡ Err s → r ≡ s
   own_rates e = cc
 
 swapped : {A : Type 0} (b : Bool) (x y : A) → cond b x y ≡ cond (not b) y x
 swapped true x y = refl
 swapped false x y = refl
 
-joined_adds : (items : Items) (xs : List Moment) (x y : Sum) → adding x (state_of items xs) ≡ Taken y
+joined_adds : (items : Items) (xs : List Moment) (x y : Sum) → adding x (state_of items xs) ≡ Ok y
     → y ≡ grown x (length (groups items xs)) (length xs - items.ramp)
 unfolding state_of
 joined_adds items xs x y e = (answered.added_from x (state_of items xs) y e).after
 
-empty_record : (D : ℕ) (s : Sum) → opened D ≡ Taken s → (recorded s ≡ false) × ((bounds_of s).upper ≡ 0)
+empty_record : (D : ℕ) (s : Sum) → opened D ≡ Ok s → (recorded s ≡ false) × ((bounds_of s).upper ≡ 0)
 empty_record D s e = rw (answered.opened_from D s e).1 (refl, omega (arith, no_failure 1960 0))
 
 some_record : (s t : Sum) (r : Record) (rs : List Record) → AllAdded s (r ∷ rs) t → recorded t ≡ true
@@ -129,10 +126,10 @@ pub request_7 : Request7
 unfolding decide adding bounding rating
 request_7 =
     record {
-      opening = λ D. decided Refused (Taken (empty D)) own (λ r e. impossible (cc)) _ (opened D) (swapped (step_in_range D) _ _);
-      add = λ s r. decided Refused (Taken (grown s r.groups (timed r))) own (λ f e. impossible (cc)) (add_tests s r) (adding s r) refl;
-      bounds = λ s. decided bounded.Refused (bounded.Given (recorded s) (bounds_of s)) own_bounds (λ r e. impossible (cc)) (broken_test s) (bounding s) (swapped (sound s) _ _);
-      rates = λ s. decided rated.Refused (rated.Given (recorded s) (rates_of s)) own_rates (λ r e. impossible (cc)) (broken_test s) (rating s) (swapped (sound s) _ _);
+      opening = λ D. decided Err (Ok (empty D)) own (λ r e. impossible (cc)) _ (opened D) (swapped (step_in_range D) _ _);
+      add = λ s r. decided Err (Ok (grown s r.groups (timed r))) own (λ f e. impossible (cc)) (add_tests s r) (adding s r) refl;
+      bounds = λ s. decided Err (Ok (recorded s, bounds_of s)) own_bounds (λ r e. impossible (cc)) (broken_test s) (bounding s) (swapped (sound s) _ _);
+      rates = λ s. decided Err (Ok (cond (recorded s) (Some (rates_of s)) None)) own_rates (λ r e. impossible (cc)) (broken_test s) (rating s) (swapped (sound s) _ _);
       opened_sound = λ D s e. is_true (sound s) (answered.opened_sound D s e);
       added_sound = λ s r t e. is_true (sound t) (answered.adding_sound s r t e);
       totals = grown_by_adding;

@@ -17,15 +17,12 @@ use Rattle.refusal.specs.declared.Refusal.TheVariants.{BrokenState, BureauFull, 
 use Rattle.poisson.specs.Rows.{rows}
 use Rattle.truth.proofs.Cases.{by_test}
 use Rattle.record_end.specs.declared.Outcome.{Outcome}
-use Rattle.campaign_state.specs.declared.CampaignAnswer.TheVariants as campaigned
 use Rattle.campaign_state.specs.declared.Campaign.{Campaign}
 use Rattle.campaign_state.specs.Answers.{entering, outcome_kept}
 use Rattle.campaign_state.specs.Records.{campaign_of, censored_in}
 use Rattle.campaign_state.specs.State.{censored, most_records, sound, standard_in_range}
 use Rattle.campaign_verdict.specs.Answers.{judging, rating}
 use Rattle.campaign_verdict.specs.Figures.{rates_of, verdict_of}
-use Rattle.bureau_table.specs.declared.TableAnswer.{TableAnswer}
-use Rattle.bureau_table.specs.declared.TableAnswer.TheVariants.{Entered, Freed, Judged, Placed, Rated, Refused}
 use Rattle.bureau_table.specs.declared.Ask.{Ask}
 use Rattle.bureau_table.specs.declared.Ask.TheVariants.{On, Take}
 use Rattle.bureau_table.specs.declared.Call.{Call}
@@ -44,6 +41,9 @@ use Rattle.bureau_table.proofs.Alone.{as_alone, its_own_desk, same_answers}
 use Rattle.bureau_table.proofs.Life.{Reads, from_taking_to_return}
 use Rattle.demands.proofs.Demand1.{Decides, Test, decide, decided, ◌gives◌}
 use Rattle.demands.proofs.Demand3.{Demand3, demand_3}
+use Rattle.bureau_table.specs.declared.Reply.TheVariants.{Entered, Freed, Judged, Placed, Rated}
+use Rattle.bureau_table.specs.declared.Reply.{Reply}
+use Rattle.std.specs.Prelude.{Some, None, Result, Ok, Err}
 
 -- ---- the statement
 -- 8 first of all, then 13
@@ -58,20 +58,20 @@ place_tests t b i ts = call_tests t b (not (ltb i (length t) && eqb (at t i).own
 pub record Order (t : List Place) (b : ℕ) : Type 0 where
   pub take :
       (q : ℕ)
-      → Decides Refused (call_tests t b (leb most_jobs (jobs b t) gives BureauFull ∷ (not (standard_in_range q) gives Item 5 ∷ []))) (Placed (lowest_free t)) (called t b (Take q)).answer
+      → Decides Err (call_tests t b (leb most_jobs (jobs b t) gives BureauFull ∷ (not (standard_in_range q) gives Item 5 ∷ []))) (Ok (Placed (lowest_free t))) (called t b (Take q)).answer
   pub enter :
       (i : ℕ) (o : Outcome)
-      → Decides Refused
+      → Decides Err
       (place_tests t b i
       (not (outcome_kept o) gives BrokenState
       ∷ (eqb (at t i).campaign.records most_records gives CampaignFull
       ∷ (eqb (at t i).campaign.failures rows gives RowsUsedUp
       ∷ []))))
-      Entered
+      (Ok Entered)
       (called t b (On i (Enter o))).answer
-  pub verdict : (i : ℕ) → Decides Refused (place_tests t b i []) (Judged (verdict_of (at t i).campaign)) (called t b (On i Judge)).answer
-  pub rates : (i : ℕ) → Decides Refused (place_tests t b i []) (Rated (not (eqb (at t i).campaign.records 0)) (rates_of (at t i).campaign)) (called t b (On i Rate)).answer
-  pub give_back : (i : ℕ) → Decides Refused (place_tests t b i []) Freed (called t b (On i GiveBack)).answer
+  pub verdict : (i : ℕ) → Decides Err (place_tests t b i []) (Ok (Judged (verdict_of (at t i).campaign))) (called t b (On i Judge)).answer
+  pub rates : (i : ℕ) → Decides Err (place_tests t b i []) (Ok (Rated (cond (not (eqb (at t i).campaign.records 0)) (Some (rates_of (at t i).campaign)) None))) (called t b (On i Rate)).answer
+  pub give_back : (i : ℕ) → Decides Err (place_tests t b i []) (Ok Freed) (called t b (On i GiveBack)).answer
 
 -- of any table, any number for a bureau and anything asked
 pub record EachCall (t : List Place) (b : ℕ) : Type 0 where
@@ -79,16 +79,16 @@ pub record EachCall (t : List Place) (b : ℕ) : Type 0 where
   pub keeps : (a : Ask) → kept t ≡ true → kept (called t b a).table ≡ true
   -- 8 first of all, 13, 14 or 15, then document 01's; and a refusal leaves the table as it was
   pub order : Order t b
-  pub refusal_leaves : (a : Ask) (r : Refusal) → (called t b a).answer ≡ Refused r → (called t b a).table ≡ t
+  pub refusal_leaves : (a : Ask) (r : Refusal) → (called t b a).answer ≡ Err r → (called t b a).table ≡ t
   -- verdict and rates only read
   pub verdict_leaves : (i : ℕ) → (called t b (On i Judge)).table ≡ t
   pub rates_leave : (i : ℕ) → (called t b (On i Rate)).table ≡ t
   -- taking a job gives the lowest free place and a fresh campaign; a bureau under 16 jobs always gets one for a q in
   -- range
-  pub taken : (q i : ℕ) → (called t b (Take q)).answer ≡ Placed i → TakenAt t b q i (called t b (Take q))
-  pub always : (q : ℕ) → kept t ≡ true → is_bureau b ≡ true → jobs b t < 16 → standard_in_range q ≡ true → (i : ℕ) × ((called t b (Take q)).answer ≡ Placed i)
+  pub taken : (q i : ℕ) → (called t b (Take q)).answer ≡ Ok (Placed i) → TakenAt t b q i (called t b (Take q))
+  pub always : (q : ℕ) → kept t ≡ true → is_bureau b ≡ true → jobs b t < 16 → standard_in_range q ≡ true → (i : ℕ) × ((called t b (Take q)).answer ≡ Ok (Placed i))
   -- giving it back frees the place
-  pub freed : (i : ℕ) → (called t b (On i GiveBack)).answer ≡ Freed → (called t b (On i GiveBack)).table ≡ set t i free
+  pub freed : (i : ℕ) → (called t b (On i GiveBack)).answer ≡ (Ok Freed) → (called t b (On i GiveBack)).table ≡ set t i free
   -- a place of another bureau stays as it was
   pub others : (a : Ask) (c j : ℕ) → is_bureau c ≡ true → (at t j).owner ≡ c → ¬ (c ≡ b) → at (called t b a).table j ≡ at t j
 
@@ -114,8 +114,8 @@ pub record Undisturbed (b : ℕ) : Type 0 where
 pub record Holds (t : List Place) (b q i : ℕ) (os : List Outcome) : Type 0 where
   pub stands : at t i ≡ owned b (campaign_of q os)
   pub censored : censored (at t i).campaign ≡ censored_in os
-  pub verdict : (called t b (On i Judge)).answer ≡ Judged (verdict_of (campaign_of q os))
-  pub rates : (called t b (On i Rate)).answer ≡ Rated (not (eqb (length os) 0)) (rates_of (campaign_of q os))
+  pub verdict : (called t b (On i Judge)).answer ≡ Ok (Judged (verdict_of (campaign_of q os)))
+  pub rates : (called t b (On i Rate)).answer ≡ Ok (Rated (cond (not (eqb (length os) 0)) (Some (rates_of (campaign_of q os))) None))
   pub chances : 1 ≤ length os → Demand3 (campaign_of q os)
 
 pub record Request9 : Type 0 where
@@ -127,25 +127,25 @@ pub record Request9 : Type 0 where
   -- of which gave it back
   pub life :
       (t : List Place) (b q i : ℕ) (cs : List Call)
-      → (called t b (Take q)).answer ≡ Placed i
+      → (called t b (Take q)).answer ≡ Ok (Placed i)
       → freed_at i (called t b (Take q)).table cs ≡ false
       → Holds (after (called t b (Take q)).table cs) b q i (entries_at i (called t b (Take q)).table cs)
 
 -- ---- the proof
-own : (r s : Refusal) → Refused r ≡ Refused s → r ≡ s
+own : (r s : Refusal) → Err r ≡ Err s → r ≡ s
 own r s e = cc
 
 -- document 01's refusals of an entry, as the bench hands them on
 handed_on : (b : ℕ) (c d : Campaign) (l m n : Bool)
-    → (entry b c (cond l (campaigned.Refused BrokenState) (cond m (campaigned.Refused CampaignFull) (cond n (campaigned.Refused RowsUsedUp) (campaigned.Taken d))))).answer
-    ≡ cond l (Refused BrokenState) (cond m (Refused CampaignFull) (cond n (Refused RowsUsedUp) Entered))
+    → (entry b c (cond l (Err BrokenState) (cond m (Err CampaignFull) (cond n (Err RowsUsedUp) (Ok d))))).answer
+    ≡ cond l (Err BrokenState) (cond m (Err CampaignFull) (cond n (Err RowsUsedUp) (Ok Entered)))
 handed_on b c d true m n = refl
 handed_on b c d false true n = refl
 handed_on b c d false false true = refl
 handed_on b c d false false false = refl
 
 module _ (t : List Place) (b : ℕ) where
-  take_is : (q : ℕ) → (called t b (Take q)).answer ≡ decide Refused (call_tests t b (leb most_jobs (jobs b t) gives BureauFull ∷ (not (standard_in_range q) gives Item 5 ∷ []))) (Placed (lowest_free t))
+  take_is : (q : ℕ) → (called t b (Take q)).answer ≡ decide Err (call_tests t b (leb most_jobs (jobs b t) gives BureauFull ∷ (not (standard_in_range q) gives Item 5 ∷ []))) (Ok (Placed (lowest_free t)))
   unfolding called decide
   take_is q =
       by_test (kept t)
@@ -156,8 +156,8 @@ module _ (t : List Place) (b : ℕ) where
       (λ k. rw k)
 
   -- the tests before document 01's
-  work_is : (i : ℕ) (w : Work) (ts : List Test) (proper : TableAnswer) → (sound (at t i).campaign ≡ true → (worked b (at t i).campaign w).answer ≡ decide Refused ts proper)
-      → (called t b (On i w)).answer ≡ decide Refused (place_tests t b i ts) proper
+  work_is : (i : ℕ) (w : Work) (ts : List Test) (proper : Result Reply Refusal) → (sound (at t i).campaign ≡ true → (worked b (at t i).campaign w).answer ≡ decide Err ts proper)
+      → (called t b (On i w)).answer ≡ decide Err (place_tests t b i ts) proper
   unfolding called decide
   work_is i w ts proper rest =
       by_test (kept t)
@@ -172,31 +172,31 @@ module _ (t : List Place) (b : ℕ) where
 
   enter_is : (i : ℕ) (o : Outcome) → sound (at t i).campaign ≡ true
       → (worked b (at t i).campaign (Enter o)).answer
-      ≡ decide Refused (not (outcome_kept o) gives BrokenState ∷ (eqb (at t i).campaign.records most_records gives
-      CampaignFull ∷ (eqb (at t i).campaign.failures rows gives RowsUsedUp ∷ []))) Entered
+      ≡ decide Err (not (outcome_kept o) gives BrokenState ∷ (eqb (at t i).campaign.records most_records gives
+      CampaignFull ∷ (eqb (at t i).campaign.failures rows gives RowsUsedUp ∷ []))) (Ok Entered)
   unfolding entering decide
   enter_is i o s = rw s (handed_on b (at t i).campaign _ (not (outcome_kept o)) (eqb (at t i).campaign.records most_records) (eqb (at t i).campaign.failures rows))
 
-  verdict_is : (i : ℕ) → sound (at t i).campaign ≡ true → (worked b (at t i).campaign Judge).answer ≡ decide Refused [] (Judged (verdict_of (at t i).campaign))
+  verdict_is : (i : ℕ) → sound (at t i).campaign ≡ true → (worked b (at t i).campaign Judge).answer ≡ decide Err [] (Ok (Judged (verdict_of (at t i).campaign)))
   unfolding judging decide
   verdict_is i s = rw s
 
-  rates_is : (i : ℕ) → sound (at t i).campaign ≡ true → (worked b (at t i).campaign Rate).answer ≡ decide Refused [] (Rated (not (eqb (at t i).campaign.records 0)) (rates_of (at t i).campaign))
+  rates_is : (i : ℕ) → sound (at t i).campaign ≡ true → (worked b (at t i).campaign Rate).answer ≡ decide Err [] (Ok (Rated (cond (not (eqb (at t i).campaign.records 0)) (Some (rates_of (at t i).campaign)) None)))
   unfolding rating decide
   rates_is i s = rw s
 
-  given_is : (i : ℕ) → (worked b (at t i).campaign GiveBack).answer ≡ decide Refused [] Freed
+  given_is : (i : ℕ) → (worked b (at t i).campaign GiveBack).answer ≡ decide Err [] (Ok Freed)
   unfolding decide
   given_is i = refl
 
   order : Order t b
   order =
       record {
-        take = λ q. decided Refused _ own (λ r e. impossible (cc)) _ _ (take_is q);
-        enter = λ i o. decided Refused _ own (λ r e. impossible (cc)) _ _ (work_is i (Enter o) _ _ (enter_is i o));
-        verdict = λ i. decided Refused _ own (λ r e. impossible (cc)) _ _ (work_is i Judge _ _ (verdict_is i));
-        rates = λ i. decided Refused _ own (λ r e. impossible (cc)) _ _ (work_is i Rate _ _ (rates_is i));
-        give_back = λ i. decided Refused _ own (λ r e. impossible (cc)) _ _ (work_is i GiveBack _ _ (λ s. given_is i));
+        take = λ q. decided Err _ own (λ r e. impossible (cc)) _ _ (take_is q);
+        enter = λ i o. decided Err _ own (λ r e. impossible (cc)) _ _ (work_is i (Enter o) _ _ (enter_is i o));
+        verdict = λ i. decided Err _ own (λ r e. impossible (cc)) _ _ (work_is i Judge _ _ (verdict_is i));
+        rates = λ i. decided Err _ own (λ r e. impossible (cc)) _ _ (work_is i Rate _ _ (rates_is i));
+        give_back = λ i. decided Err _ own (λ r e. impossible (cc)) _ _ (work_is i GiveBack _ _ (λ s. given_is i));
       }
 
 each_call : (t : List Place) (b : ℕ) → EachCall t b

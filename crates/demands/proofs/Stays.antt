@@ -16,18 +16,17 @@ use Rattle.poisson.specs.Rows.{million}
 use Rattle.poisson.specs.Tables.{l, u}
 use Rattle.truth.proofs.Laws.{holds, is_true, true≢false}
 use Rattle.record_end.specs.declared.Outcome.{Outcome}
-use Rattle.campaign_state.specs.declared.CampaignAnswer.TheVariants.{Taken}
 use Rattle.campaign_state.specs.declared.Campaign.{Campaign}
 use Rattle.campaign_state.specs.Answers.{entering}
 use Rattle.campaign_state.specs.State.{censored, entered, sound, standard_in_range}
 use Rattle.campaign_state.proofs.Answered.{entered_from}
 use Rattle.campaign_state.proofs.Keeping.{entering_sound}
 use Rattle.campaign_state.proofs.Relations.{kept_from, sound_from}
-use Rattle.campaign_verdict.specs.declared.Judged.TheVariants.{Given}
 use Rattle.campaign_verdict.specs.declared.Verdict.TheVariants.{Accept, Reject}
 use Rattle.campaign_verdict.specs.Answers.{judging}
 use Rattle.campaign_verdict.specs.Figures.{accepts, rejects, upper_rate}
 use Rattle.campaign_verdict.proofs.Only.{given, gives, not_both}
+use Rattle.std.specs.Prelude.{Ok}
 
 -- ---- the statement
 -- the campaign at another standard
@@ -36,13 +35,13 @@ at_standard q c = record { standard = q; records = c.records; failures = c.failu
 
 pub record Stays (c : Campaign) : Type 0 where
   -- accepted at q stays accepted at every shorter q in range, with the same rate
-  pub accepted_shorter : (x : Float) (q : ℕ) → T (standard_in_range q) → q ≤ c.standard → judging c ≡ Given (Accept x) → judging (at_standard q c) ≡ Given (Accept x)
+  pub accepted_shorter : (x : Float) (q : ℕ) → T (standard_in_range q) → q ≤ c.standard → judging c ≡ Ok (Accept x) → judging (at_standard q c) ≡ Ok (Accept x)
   -- rejected at q stays rejected at every longer one, with the same rate
-  pub rejected_longer : (x : Float) (q : ℕ) → T (standard_in_range q) → c.standard ≤ q → judging c ≡ Given (Reject x) → judging (at_standard q c) ≡ Given (Reject x)
+  pub rejected_longer : (x : Float) (q : ℕ) → T (standard_in_range q) → c.standard ≤ q → judging c ≡ Ok (Reject x) → judging (at_standard q c) ≡ Ok (Reject x)
   -- if the last record did not fail and the verdict is accept, one more record without failure, if taken, leaves it
   -- accept, with the upper rate of then
-  pub accepted_on : (x : Float) (o : Outcome) (d : Campaign) → c.failed ≡ false → judging c ≡ Given (Accept x) → o.failed ≡ false → entering c o ≡ Taken d
-      → judging d ≡ Given (Accept (upper_rate d))
+  pub accepted_on : (x : Float) (o : Outcome) (d : Campaign) → c.failed ≡ false → judging c ≡ Ok (Accept x) → o.failed ≡ false → entering c o ≡ Ok d
+      → judging d ≡ Ok (Accept (upper_rate d))
   -- accept and reject never both hold
   pub never_both : accepts c ≡ true → rejects c ≡ true → ⊥
 
@@ -72,8 +71,8 @@ module _ (c : Campaign) (kept : sound c ≡ true) (some : 1 ≤ c.records) where
   unfolding censored
   same_count t f = rw (f, ne_eqb c.records 0 (λ e. omega arith), ne_eqb (c.records + 1) 0 (λ e. omega arith))
 
-  on : (x : Float) (f : Bool) (t : ℕ) → c.failed ≡ false → judging c ≡ Given (Accept x) → f ≡ false → sound (entered c f t) ≡ true
-      → judging (entered c f t) ≡ Given (Accept (upper_rate (entered c f t)))
+  on : (x : Float) (f : Bool) (t : ℕ) → c.failed ≡ false → judging c ≡ Ok (Accept x) → f ≡ false → sound (entered c f t) ≡ true
+      → judging (entered c f t) ≡ Ok (Accept (upper_rate (entered c f t)))
   on x true t last e new s = absurd (true≢false new)
   on x false t last e new s =
       let v = given c kept (Accept x) e in

@@ -19,14 +19,13 @@ use Rattle.logarithm.proofs.Monotone.{log2_grows}
 use Rattle.logarithm.proofs.Unique.{exact_unique}
 use Rattle.sorting.specs.Sorting.{Downwards}
 use Rattle.sorting.proofs.Unique.{sort_unique}
-use Rattle.peak_tail.specs.declared.Fitted.{Fitted}
-use Rattle.peak_tail.specs.declared.Fitted.TheVariants.{Refused, Sum}
 use Rattle.peak_tail.specs.Fitting.{FitsTo, Summed, first_bad, fitted, tail_outside}
 use Rattle.peak_tail.specs.Hill.{ExactSum, HillSum, figures, kth}
 use Rattle.peak_tail.proofs.Slack.{exact_sum, hill_slack}
 use Rattle.peak_tail.proofs.Summing.{sum_of_figures}
 use Rattle.peak_tail.proofs.Unique.{fit_unique}
 use Rattle.demands.proofs.Demand1.{Decides, Test, ◌gives◌, decide, decided}
+use Rattle.std.specs.Prelude.{Result, Ok, Err}
 
 abbrev pub tail_tests : List ℕ → ℕ → ℕ → List Test
 tail_tests peaks k places =
@@ -39,19 +38,19 @@ abbrev two_and_ones : List ℕ
 two_and_ones = 2 ∷ (1 ∷ (1 ∷ (1 ∷ [])))
 
 pub record TailFitted : Type 0 where
-  pub order : (peaks : List ℕ) (k places sum : ℕ) → Decides Refused (tail_tests peaks k places) (Sum sum) (fitted peaks k places sum)
-  pub kept : (peaks : List ℕ) (k : ℕ) (before after : List ℕ) (r : Refusal) → FitsTo peaks k before (Refused r) after → after ≡ before
-  pub summed : (peaks : List ℕ) (k : ℕ) (before after : List ℕ) (s : ℕ) → FitsTo peaks k before (Sum s) after → Summed peaks k before s after
+  pub order : (peaks : List ℕ) (k places sum : ℕ) → Decides Err (tail_tests peaks k places) (Ok sum) (fitted peaks k places sum)
+  pub kept : (peaks : List ℕ) (k : ℕ) (before after : List ℕ) (r : Refusal) → FitsTo peaks k before (Err r) after → after ≡ before
+  pub summed : (peaks : List ℕ) (k : ℕ) (before after : List ℕ) (s : ℕ) → FitsTo peaks k before (Ok s) after → Summed peaks k before s after
   -- a figure of a ratio of at least 1, in the request's words; and the sum of k of them, which has an exact one
   pub figure : (a b r m : ℕ) → Near a b r → ExactFigure a b m → (r ≤ m) × (m ≤ r + 1) × (a ≡ b → r ≡ 0)
   pub exact : (ys : List ℕ) (k s : ℕ) → HillSum ys k s → (e : ℕ) × ExactSum ys (kth ys k) k e
   pub slack : (ys : List ℕ) (k s e : ℕ) → HillSum ys k s → ExactSum ys (kth ys k) k e → (s ≤ e) × (e ≤ s + (k - 1))
   -- peaks 2, 1, 1, 1 with k = 4 have one logarithm that is not 0
-  pub twice : (before after : List ℕ) (s : ℕ) → FitsTo two_and_ones 4 before (Sum s) after → s ≡ 65536
+  pub twice : (before after : List ℕ) (s : ℕ) → FitsTo two_and_ones 4 before (Ok s) after → s ≡ 65536
   -- a ratio that is no smaller has no smaller figure
   pub grows : (a b c d r q : ℕ) → Logarithm a b r → Logarithm c d q → a < 2 ^ 32 → c < 2 ^ 32 → 1 ≤ b → 1 ≤ d
       → a * d ≤ c * b → r ≤ q
-  pub settled : (peaks : List ℕ) (k : ℕ) (before : List ℕ) (x y : Fitted) (s t : List ℕ)
+  pub settled : (peaks : List ℕ) (k : ℕ) (before : List ℕ) (x y : Result ℕ Refusal) (s t : List ℕ)
       → FitsTo peaks k before x s → FitsTo peaks k before y t → (x ≡ y) × (s ≡ t)
 
 -- ---- the proof
@@ -77,7 +76,7 @@ high (suc (suc (suc (suc j)))) h l = absurd (omega arith)
 down : Downwards two_and_ones
 down i j l h = le_trans (high j h (omega arith)) (low i (omega arith))
 
-twice : (before after : List ℕ) (s : ℕ) → FitsTo two_and_ones 4 before (Sum s) after → s ≡ 65536
+twice : (before after : List ℕ) (s : ℕ) → FitsTo two_and_ones 4 before (Ok s) after → s ≡ 65536
 unfolding figures our_figure doublings squarings
 twice before after s f =
     let x = f.leaves in
@@ -88,7 +87,7 @@ pub tail_fitted : TailFitted
 unfolding decide fitted
 tail_fitted =
     record {
-      order = λ peaks k places sum. decided Refused (Sum sum) (λ r s e. cc) (λ r e. impossible (cc)) (tail_tests peaks k places) (fitted peaks k places sum) refl;
+      order = λ peaks k places sum. decided Err (Ok sum) (λ r s e. cc) (λ r e. impossible (cc)) (tail_tests peaks k places) (fitted peaks k places sum) refl;
       kept = λ peaks k before after r p. p.leaves;
       summed = λ peaks k before after s p. p.leaves;
       figure = figure;

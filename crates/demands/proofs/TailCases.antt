@@ -17,17 +17,15 @@ use Rattle.crossing_sets.specs.Groups.{attach, groups}
 use Rattle.peak_groups.specs.Groups.{larger, largest, those, tops}
 use Rattle.peak_groups.specs.Runs.{peaks, points, started}
 use Rattle.peak_groups.specs.Peaks.{handed, sum}
-use Rattle.peak_envelope.specs.declared.PeaksFound.{PeaksFound}
-use Rattle.peak_envelope.specs.declared.PeaksFound.TheVariants as envelope
 use Rattle.peak_envelope.specs.Answers.{found, placed}
 use Rattle.logarithm.specs.Ours.{doublings, our_figure, squarings}
 use Rattle.sorting.specs.Sorting.{Downwards, SameValues, count}
 use Rattle.sorting.proofs.Unique.{sort_unique}
-use Rattle.peak_tail.specs.declared.Fitted.{Fitted}
-use Rattle.peak_tail.specs.declared.Fitted.TheVariants.{Refused, Sum}
 use Rattle.peak_tail.specs.Fitting.{FitsTo, first_bad, fitted, peak_in_range, tail_outside}
 use Rattle.peak_tail.specs.Hill.{figures}
 use Rattle.peak_tail.proofs.Summing.{sum_of_figures}
+use Rattle.refusal.specs.declared.Refusal.{Refusal}
+use Rattle.std.specs.Prelude.{Result, Ok, Err}
 
 -- ---- [11] envelope peaks
 -- the runs 2 | -1 | 5 | -1 | 7 | -1 | 6 | -1 | 2, one sample each: of the peaks 1 5 1 7 1 6 1, seven with the sum 22,
@@ -68,9 +66,9 @@ zeros_in_runs :
 unfolding peaks points started attach groups those larger largest tops sum
 zeros_in_runs = refl
 
-abbrev of_found : PeaksFound → List ℕ
-of_found (envelope.Peaks k) = k ∷ []
-of_found (envelope.Refused r) = number_of r ∷ value_of r ∷ []
+abbrev of_found : Result ℕ Refusal → List ℕ
+of_found (Ok k) = k ∷ []
+of_found (Err r) = number_of r ∷ value_of r ∷ []
 
 -- 1 with the items 1, 2 and 4; 2 with the place; 4; 7 with the number needed if either slice is too short
 envelope_refused :
@@ -96,9 +94,9 @@ log_figures :
 unfolding our_figure doublings squarings
 log_figures = refl
 
-abbrev of_fitted : Fitted → List ℕ
-of_fitted (Sum s) = s ∷ []
-of_fitted (Refused r) = number_of r ∷ value_of r ∷ []
+abbrev of_fitted : Result ℕ Refusal → List ℕ
+of_fitted (Ok s) = s ∷ []
+of_fitted (Err r) = number_of r ∷ value_of r ∷ []
 
 abbrev fits : List ℕ → ℕ → ℕ → List ℕ
 fits peaks k places = of_fitted (fitted peaks k places 9)
@@ -143,7 +141,7 @@ unfolding count
 same x = omega arith
 
 -- the peaks 1, 4 and 2 with k = 2: sorted downwards 4, 2, 1, and the sum is that of 4/2 and 2/2
-sum_of_two : (before after : List ℕ) (s : ℕ) → FitsTo unsorted 2 before (Sum s) after
+sum_of_two : (before after : List ℕ) (s : ℕ) → FitsTo unsorted 2 before (Ok s) after
     → (s ≡ 65536) × (after ≡ sorted ++ drop 3 before)
 unfolding figures our_figure doublings squarings
 sum_of_two before after s f =

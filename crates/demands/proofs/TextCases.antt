@@ -13,15 +13,11 @@ use Rattle.sample_range.specs.Range.{first_bad}
 use Rattle.decimal.specs.Decimal.{all_digits, digits_of, digits_within, is_number}
 use Rattle.decimal.specs.Decimal as decimal
 use Rattle.decimal.specs.Field.{field_text}
-use Rattle.text.specs.declared.Writing.{Writing}
-use Rattle.text.specs.declared.Writing.TheVariants as written
 use Rattle.decimal.specs.Leading.{leading}
 use Rattle.decimal.specs.Lines.{lines_of}
 use Rattle.degrees.specs.Degrees.{degrees_text, filled, is_size, size, size_length}
 use Rattle.comma_line.specs.Line as comma
 use Rattle.comma_line.specs.Text.{first_wrong, text_from, text_of}
-use Rattle.comma_read.specs.declared.Reading.{Reading}
-use Rattle.comma_read.specs.declared.Reading.TheVariants as read
 use Rattle.comma_read.specs.Answers.{reading_comma, reading_lines}
 use Rattle.comma_write.specs.Answers.{last_time}
 use Rattle.comma_write.specs.Answers as scribe
@@ -35,16 +31,18 @@ use Rattle.sheet_line.specs.Field.{ends_here, fault_in, field_at, field_of, read
 use Rattle.sheet_line.specs.Column.{how_many, record_column, record_fields, standard_column, standard_fields}
 use Rattle.sheet_line.specs.Form.{begins}
 use Rattle.sheet_reply.specs.Written.{reason_text, refused_text}
+use Rattle.refusal.specs.declared.Refusal.{Refusal}
+use Rattle.std.specs.Prelude.{Result, Ok, Err}
 
 -- ---- [1] comma files
 -- nothing but a number for what is done, the number and the value for what is refused
-abbrev of_reading : Reading → List ℕ
-of_reading (read.Samples n) = n ∷ []
-of_reading (read.Refused r) = number_of r ∷ value_of r ∷ []
+abbrev of_reading : Result ℕ Refusal → List ℕ
+of_reading (Ok n) = n ∷ []
+of_reading (Err r) = number_of r ∷ value_of r ∷ []
 
-abbrev of_writing : Writing → List ℕ
-of_writing (written.Bytes n) = n ∷ []
-of_writing (written.Refused r) = number_of r ∷ value_of r ∷ []
+abbrev of_writing : Result ℕ Refusal → List ℕ
+of_writing (Ok n) = n ∷ []
+of_writing (Err r) = number_of r ∷ value_of r ∷ []
 
 -- -41.5, 0, 0.007, 1,000 and -0.001 degrees
 abbrev five : List ℤ

@@ -9,19 +9,17 @@ use Rattle.poisson.specs.Fractions.{Fraction, over}
 use Rattle.poisson.specs.Rows.{millionth_less, millionth_more}
 use Rattle.poisson.specs.Tables.{l, lower_rows, u, upper_rows}
 use Rattle.record_end.specs.declared.Outcome.{Outcome}
-use Rattle.campaign_state.specs.declared.CampaignAnswer.TheVariants.{Taken}
 use Rattle.campaign_state.specs.declared.Campaign.{Campaign}
 use Rattle.campaign_state.specs.Answers.{entering}
 use Rattle.campaign_state.specs.Records.{but_last, campaign_of, censored_in, exposure_in, failures_in, last_failed}
 use Rattle.campaign_state.specs.State.{censored, empty, sound}
-use Rattle.campaign_verdict.specs.declared.Judged.TheVariants.{Given}
-use Rattle.campaign_verdict.specs.declared.Rated.TheVariants as rated
 use Rattle.campaign_verdict.specs.declared.Rates.{Rates}
 use Rattle.campaign_verdict.specs.declared.Verdict.{Verdict}
 use Rattle.campaign_verdict.specs.declared.Verdict.TheVariants.{Accept, Continue, NoRecord, Reject}
 use Rattle.campaign_verdict.specs.Answers.{judging, rating}
 use Rattle.campaign_verdict.specs.Figures.{quotient, rates_of, verdict_of}
 use Rattle.campaign_verdict.specs.Letters.{letter_e, letter_of}
+use Rattle.std.specs.Prelude.{Some, None, Ok}
 
 -- q, M, N, whether the last record failed, T
 abbrev at : ℕ → ℕ → ℕ → Bool → ℕ → Campaign
@@ -32,12 +30,12 @@ after f t = record { failed = f; exposure = t }
 
 -- ---- M, N, T
 -- with a first failure N grows by 1, T by that failure's time
-pub failed_enters : entering (at 9 2 1 false 20) (after true 3) ≡ Taken (at 9 3 2 true 23)
+pub failed_enters : entering (at 9 2 1 false 20) (after true 3) ≡ Ok (at 9 3 2 true 23)
 unfolding entering sound
 failed_enters = refl
 
 -- without, T grows by the full time
-pub unfailed_enters : entering (at 9 2 1 false 20) (after false 3) ≡ Taken (at 9 3 1 false 23)
+pub unfailed_enters : entering (at 9 2 1 false 20) (after false 3) ≡ Ok (at 9 3 1 false 23)
 unfolding entering sound
 unfailed_enters = refl
 
@@ -85,7 +83,7 @@ unfolding censored l lower_rows u upper_rows
 none_rejected = refl
 
 -- M = 0: a fourth verdict
-pub no_record_lem : judging (empty 9) ≡ Given NoRecord
+pub no_record_lem : judging (empty 9) ≡ Ok NoRecord
 unfolding judging sound
 no_record_lem = refl
 
@@ -123,18 +121,17 @@ unfolding of_bits div of_int
 rounded_once = refl
 
 -- with a record they are given with a yes, and without one with a no and as 0
-pub rates_without : rating (empty 9) ≡ rated.Given false
-    (record { estimate = of_bits binary64 0; lower = of_bits binary64 0; upper = of_bits binary64 0 })
+pub rates_without : rating (empty 9) ≡ Ok None
 unfolding rating sound
 rates_without = refl
 
-pub rates_with : rating seen ≡ rated.Given true (rates_of seen)
+pub rates_with : rating seen ≡ Ok (Some (rates_of seen))
 unfolding rating sound
 rates_with = refl
 
 -- also where none of them failed: 3 records in 26,559,936 ms, so N = 0 and N* = 1
 pub rates_unfailed : rating (at 7200000 3 0 false 26559936)
-    ≡ rated.Given true (record { estimate = quotient 0 26559936; lower = quotient 0 26559936000; upper = quotient 3688880 26559936000 })
+    ≡ Ok (Some (record { estimate = quotient 0 26559936; lower = quotient 0 26559936000; upper = quotient 3688880 26559936000 }))
 unfolding rating sound censored l lower_rows u upper_rows
 rates_unfailed = refl
 

@@ -31,24 +31,16 @@ use Rattle.sample_items.specs.declared.Items.{Items}
 use Rattle.sample_range.specs.Range.{first_bad}
 use Rattle.sample_items.specs.Limits.{most_samples, step_in_range}
 use Rattle.crossing_places.specs.Reading.{counted, counted_times}
-use Rattle.record_list.specs.declared.Listed.{Listed}
-use Rattle.record_list.specs.declared.Listed.TheVariants as listing
 use Rattle.record_list.specs.Answers as lists
-use Rattle.record_state.specs.declared.RecordAnswer.{RecordAnswer}
-use Rattle.record_state.specs.declared.RecordAnswer.TheVariants as read
 use Rattle.record_state.specs.declared.Record.{Record}
 use Rattle.record_state.specs.Answers.{opened}
 use Rattle.record_state.specs.State.{sound, state_of, too_short}
 use Rattle.record_step.specs.Step.{stepped}
 use Rattle.record_feed.specs.Answers.{fed}
-use Rattle.record_end.specs.declared.Ended.{Ended}
-use Rattle.record_end.specs.declared.Ended.TheVariants as ended
 use Rattle.record_end.specs.declared.Outcome.{Outcome}
-use Rattle.record_end.specs.declared.Result.{Result}
+use Rattle.record_end.specs.declared.RecordResult.{RecordResult}
 use Rattle.record_end.specs.Result.{ending, outcome_of}
 use Rattle.record_end.specs.Result as results
-use Rattle.campaign_state.specs.declared.CampaignAnswer.{CampaignAnswer}
-use Rattle.campaign_state.specs.declared.CampaignAnswer.TheVariants as campaigned
 use Rattle.campaign_state.specs.declared.Campaign.{Campaign}
 use Rattle.campaign_state.specs.Answers as campaigns
 use Rattle.campaign_state.specs.Answers.{entering, outcome_kept}
@@ -58,8 +50,6 @@ use Rattle.campaign_verdict.specs.declared.Rates.{Rates}
 use Rattle.campaign_verdict.specs.declared.Verdict.{Verdict}
 use Rattle.campaign_verdict.specs.declared.Verdict.TheVariants.{Accept, Continue, NoRecord, Reject}
 use Rattle.campaign_verdict.specs.Figures.{rates_of, verdict_of}
-use Rattle.binomial_sum.specs.declared.SumAnswer.{SumAnswer}
-use Rattle.binomial_sum.specs.declared.SumAnswer.TheVariants as summed
 use Rattle.binomial_sum.specs.declared.Sum.{Sum}
 use Rattle.binomial_sum.specs.Answers as adding
 use Rattle.binomial_sum.specs.State as sums
@@ -67,8 +57,6 @@ use Rattle.binomial_bounds.specs.Answers.{bounding, recorded}
 use Rattle.binomial_bounds.specs.Bounds.{bounds_of}
 use Rattle.binomial_bounds.specs.Bounds as spread
 use Rattle.poisson.specs.Rows as quantiles
-use Rattle.bureau_table.specs.declared.TableAnswer.{TableAnswer}
-use Rattle.bureau_table.specs.declared.TableAnswer.TheVariants as answered
 use Rattle.bureau_table.specs.declared.Ask.{Ask}
 use Rattle.bureau_table.specs.declared.Ask.TheVariants.{On, Take}
 use Rattle.bureau_table.specs.declared.Work.TheVariants.{Enter, GiveBack, Judge, Rate}
@@ -76,27 +64,21 @@ use Rattle.bureau_table.specs.Table.{at, jobs, lowest_free, most_jobs}
 use Rattle.bureau_table.specs.Calls.{called}
 use Rattle.campaign_condition.specs.Standing.{standing}
 use Rattle.campaign_report.specs.Report.{report_text}
-use Rattle.sheet_line.specs.declared.Sheet.{Sheet as Standing}
+use Rattle.sheet_line.specs.declared.Sheet.{Sheet as Standing, Sheet}
 use Rattle.sheet_line.specs.declared.Sheet.TheVariants.{Fresh, Open}
-use Rattle.sheet_line.specs.declared.Step.{Step}
-use Rattle.sheet_line.specs.declared.Step.TheVariants.{Next, Stop}
 use Rattle.sheet_line.specs.Line.{stepping}
 use Rattle.sheet_text.specs.declared.Reading.{Reading as Ending}
 use Rattle.sheet_text.specs.declared.Reading.TheVariants as sheet
 use Rattle.sheet_text.specs.Sheet.{after_step, meaning, reading_sheet}
 use Rattle.sheet_records.specs.Ledger.{sheet_text}
-use Rattle.sheet_records.specs.declared.Resumed.TheVariants as resumed
 use Rattle.sheet_records.specs.Records.{filled_by, records_of, resuming}
 use Rattle.text.specs.Write.{laid_by}
 use Rattle.decimal.specs.Lines.{lines_of}
 use Rattle.comma_line.specs.Text.{samples_of, text_of}
 use Rattle.comma_read.specs.Answers as intake
 use Rattle.peak_groups.specs.Peaks.{handed}
-use Rattle.peak_envelope.specs.declared.PeaksFound.{PeaksFound}
 use Rattle.peak_machine.specs.Step.{moment_of, size_of}
 use Rattle.peak_envelope.specs.Answers as envelope
-use Rattle.peak_tail.specs.declared.Fitted.{Fitted}
-use Rattle.peak_tail.specs.declared.Fitted.TheVariants as fitted
 use Rattle.peak_tail.specs.Fitting.{Leaves, Summed}
 use Rattle.demands.proofs.Demand1.{Decides, Test, demand_1, item_tests, list_tests, result_tests}
 use Rattle.demands.proofs.Demand1.{◌gives◌, end, here, not_it}
@@ -142,6 +124,9 @@ use Rattle.demands_c.specs.History.{made}
 use Rattle.demands_c.proofs.Request9.{rows_9}
 use Rattle.demands_c.proofs.Telling.{Left, Names, Tells, both_ways, left, names, refusal, some_number, taken}
 use Rattle.demands_c.proofs.Telling.{tells, tested_first}
+use Rattle.bureau_table.specs.declared.Reply.TheVariants.{Placed, Entered, Judged, Rated, Freed}
+use Rattle.bureau_table.specs.declared.Reply.{Reply}
+use Rattle.std.specs.Prelude.{Some, None, Result, Ok, Err}
 
 -- ---- the statement
 -- what C is told where one array of numbers was lent; where none was, `nothing` stands for it
@@ -165,13 +150,13 @@ feed_tests r xs ys =
     ∷ [])))
 
 -- what a call leaves of a record, of a campaign
-abbrev pub record_left : RecordAnswer → Record → Record
-record_left (read.Taken t) r = t
-record_left (read.Refused f) r = r
+abbrev pub record_left : Result Record Refusal → Record → Record
+record_left (Ok t) r = t
+record_left (Err f) r = r
 
-abbrev pub campaign_left : CampaignAnswer → Campaign → Campaign
-campaign_left (campaigned.Taken d) c = d
-campaign_left (campaigned.Refused f) c = c
+abbrev pub campaign_left : Result Campaign Refusal → Campaign → Campaign
+campaign_left (Ok d) c = d
+campaign_left (Err f) c = c
 
 -- ---- a record
 pub record Records : Type 0 where
@@ -198,7 +183,7 @@ pub record Records : Type 0 where
       (other_length x result_numbers (not (sound (record_of s)) gives BrokenState ∷
       (too_short (record_of s) gives TooShort ∷ [])))
       x 0 (of_result (results.result_of (record_of s))) (array (record_ended s x))
-  pub end_stands : (s x : List ℕ) (y : Result) → length x ≡ result_numbers → ending (record_of s) ≡ ended.Given y
+  pub end_stands : (s x : List ℕ) (y : RecordResult) → length x ≡ result_numbers → ending (record_of s) ≡ Ok y
       → result_of (record_ended s x).lent ≡ y
   -- chim_record_list: 1, 12, 2, 3, 4, 7
   pub list :
@@ -248,7 +233,7 @@ pub record Campaigns : Type 0 where
       → campaign_result_entered s x ≡ campaign_result_entered s y
   -- closing in two ([4]): what ending left, entered, is what entering answers of that result
   pub in_two :
-      (s x c : List ℕ) (y : Result) → length x ≡ result_numbers → ending (record_of s) ≡ ended.Given y
+      (s x c : List ℕ) (y : RecordResult) → length x ≡ result_numbers → ending (record_of s) ≡ Ok y
       → campaign_result_entered c (record_ended s x).lent ≡ campaign_kept (entering (campaign_of c) (outcome_of y)) c
 
 -- ---- what a campaign says: 8, and the campaign is read and not changed
@@ -287,9 +272,9 @@ pub record Verdicts : Type 0 where
       (rated (campaign_rated s y))
 
 -- ---- a sum: 8 covers an array of another length, which holds no sum
-abbrev pub sum_left : SumAnswer → Sum → Sum
-sum_left (summed.Taken t) s = t
-sum_left (summed.Refused f) s = s
+abbrev pub sum_left : Result Sum Refusal → Sum → Sum
+sum_left (Ok t) s = t
+sum_left (Err f) s = s
 
 pub record Sums : Type 0 where
   -- chim_sum_open: 8 (the array's length), 1
@@ -515,16 +500,16 @@ module _ {A : Type 0} (s : List ℕ) (n : ℕ) (tell : A → Told) (a : A) where
 
 -- two answers that differ only in what stands beside them
 module _ (s : List ℕ) where
-  tell_record : RecordAnswer → Left (List ℕ)
+  tell_record : Result Record Refusal → Left (List ℕ)
   tell_record a = array (record_told a s)
 
-  tell_campaign : CampaignAnswer → Left (List ℕ)
+  tell_campaign : Result Campaign Refusal → Left (List ℕ)
   tell_campaign a = array (campaign_told a s)
 
-  tell_result : Ended → Left (List ℕ)
+  tell_result : Result RecordResult Refusal → Left (List ℕ)
   tell_result a = array (result_told a s)
 
-  tell_list : List ℕ → Listed → Left (List ℕ)
+  tell_list : List ℕ → Result ℕ Refusal → Left (List ℕ)
   tell_list times a = array (list_told a (lists.written a times s))
 
 -- an array that holds no state needs no test of its length: 8 is given all the same
@@ -538,19 +523,19 @@ module _ {A : Type 0} (s : List ℕ) (n : ℕ) (tell : A → Told) (refused : Re
       go false e = rw (e, h e) (sym (on-refused BrokenState))
 
 module _ (s : List ℕ) where
-  on_record : (r : Refusal) → tell_record s (read.Refused r) ≡ refusal s r
+  on_record : (r : Refusal) → tell_record s (Err r) ≡ refusal s r
   unfolding tell_record record_told
   on_record r = refl
 
-  on_campaign : (r : Refusal) → tell_campaign s (campaigned.Refused r) ≡ refusal s r
+  on_campaign : (r : Refusal) → tell_campaign s (Err r) ≡ refusal s r
   unfolding tell_campaign campaign_told
   on_campaign r = refl
 
-  on_result : (r : Refusal) → tell_result s (ended.Refused r) ≡ refusal s r
+  on_result : (r : Refusal) → tell_result s (Err r) ≡ refusal s r
   unfolding tell_result result_told
   on_result r = refl
 
-  on_list : (times : List ℕ) (r : Refusal) → tell_list s times (listing.Refused r) ≡ refusal s r
+  on_list : (times : List ℕ) (r : Refusal) → tell_list s times (Err r) ≡ refusal s r
   unfolding tell_list list_told lists.written
   on_list times r = refl
 
@@ -562,36 +547,36 @@ no_campaign : (s : List ℕ) → eqb (length s) campaign_numbers ≡ false → i
 no_campaign s e = rw e
 
 fed_other : (s : List ℕ) (xs ys : List ℤ) → eqb (length s) record_numbers ≡ false → fed (record_of s) xs ys
-    ≡ read.Refused BrokenState
+    ≡ Err BrokenState
 unfolding fed
 fed_other s xs ys e = rw (other_record s (no_record_lem s e))
 
 entered_other : (s : List ℕ) (o : Outcome) → eqb (length s) campaign_numbers ≡ false → entering (campaign_of s) o
-    ≡ campaigned.Refused BrokenState
+    ≡ Err BrokenState
 unfolding entering
 entered_other s o e = rw (other_campaign s (no_campaign s e))
 
 -- what arrays stand for afterwards
-left_record : (a : RecordAnswer) (s : List ℕ) → ((t : Record) → a ≡ read.Taken t → sound t ≡ true)
+left_record : (a : Result Record Refusal) (s : List ℕ) → ((t : Record) → a ≡ Ok t → sound t ≡ true)
     → record_of (record_told a s).lent ≡ record_left a (record_of s)
 unfolding record_told
-left_record (read.Taken t) s good = record_back t (good t refl)
-left_record (read.Refused f) s good = refl
+left_record (Ok t) s good = record_back t (good t refl)
+left_record (Err f) s good = refl
 
-left_campaign : (a : CampaignAnswer) (s : List ℕ) → campaign_of (campaign_told a s).lent ≡ campaign_left a (campaign_of s)
+left_campaign : (a : Result Campaign Refusal) (s : List ℕ) → campaign_of (campaign_told a s).lent ≡ campaign_left a (campaign_of s)
 unfolding campaign_told
-left_campaign (campaigned.Taken d) s = campaign_back d
-left_campaign (campaigned.Refused f) s = refl
+left_campaign (Ok d) s = campaign_back d
+left_campaign (Err f) s = refl
 
-stands_record : (a : RecordAnswer) (s : List ℕ) → ((t : Record) → a ≡ read.Taken t → sound t ≡ true)
-    → (eqb (length s) record_numbers ≡ false → a ≡ read.Refused BrokenState)
+stands_record : (a : Result Record Refusal) (s : List ℕ) → ((t : Record) → a ≡ Ok t → sound t ≡ true)
+    → (eqb (length s) record_numbers ≡ false → a ≡ Err BrokenState)
     → record_of (record_kept a s).lent ≡ record_left a (record_of s)
 unfolding record_kept
 stands_record a s good other = by_test (eqb (length s) record_numbers) (λ e. rw e (left_record a s good))
     (λ e. rw (e, other e))
 
-stands_campaign : (a : CampaignAnswer) (s : List ℕ)
-    → (eqb (length s) campaign_numbers ≡ false → a ≡ campaigned.Refused BrokenState)
+stands_campaign : (a : Result Campaign Refusal) (s : List ℕ)
+    → (eqb (length s) campaign_numbers ≡ false → a ≡ Err BrokenState)
     → campaign_of (campaign_kept a s).lent ≡ campaign_left a (campaign_of s)
 unfolding campaign_kept
 stands_campaign a s other = by_test (eqb (length s) campaign_numbers) (λ e. rw e (left_campaign a s))
@@ -601,7 +586,7 @@ stands_campaign a s other = by_test (eqb (length s) campaign_numbers) (λ e. rw 
 not_other : {A : Type 0} {n m : ℕ} → n ≡ m → eqb n m ≡ false → A
 not_other {n = n} {m} e f = absurd (true≢false (sym (eq-eqb n m e) ∙ f))
 
-ended_array : (s x : List ℕ) (y : Result) → length x ≡ result_numbers → ending (record_of s) ≡ ended.Given y
+ended_array : (s x : List ℕ) (y : RecordResult) → length x ≡ result_numbers → ending (record_of s) ≡ Ok y
     → (record_ended s x).lent ≡ of_result y
 unfolding result_kept result_told
 ended_array s x y l e = rw (eq-eqb (length x) result_numbers l, e)
@@ -618,7 +603,7 @@ records =
       feed =
           λ s xs ys.
           tells (demand_1.feed (record_of s) xs ys) (tell_record s) s 0 _ _ (on_record s) refl
-          (unneeded s record_numbers (λ x. record_told x s) read.Refused (on_record s) (fed (record_of s) xs ys)
+          (unneeded s record_numbers (λ x. record_told x s) Err (on_record s) (fed (record_of s) xs ys)
           (fed_other s xs ys));
       feed_channel = λ s xs ys. names (demand_1.feed (record_of s) xs ys) channel_in (λ r. refl) refl;
       feed_stands = λ s xs ys. stands_record (fed (record_of s) xs ys) s (request_5.handed (record_of s) xs ys)
@@ -637,7 +622,7 @@ records =
 
 -- an array that holds no result
 no_result_lem : (x : List ℕ) (c : Campaign) → eqb (length x) result_numbers ≡ false → entering c (outcome_of (result_of x))
-    ≡ campaigned.Refused BrokenState
+    ≡ Err BrokenState
 unfolding entering result_of
 no_result_lem x c e = by_test (campaigning.sound c) (λ h. rw (e, h)) (λ h. rw h)
 
@@ -659,7 +644,7 @@ module _ (s : List ℕ) (o : Outcome) where
   unfolding campaign_kept campaign_told tell_campaign
   enters =
       tells (demand_1.enter (campaign_of s) o) (tell_campaign s) s 0 _ _ (on_campaign s) refl
-      (unneeded s campaign_numbers (λ x. campaign_told x s) campaigned.Refused (on_campaign s) (entering (campaign_of s) o)
+      (unneeded s campaign_numbers (λ x. campaign_told x s) Err (on_campaign s) (entering (campaign_of s) o)
       (entered_other s o))
 
   enters_stands : campaign_of (campaign_kept (entering (campaign_of s) o) s).lent
@@ -667,7 +652,7 @@ module _ (s : List ℕ) (o : Outcome) where
   enters_stands = stands_campaign (entering (campaign_of s) o) s (entered_other s o)
 
 -- an answer that is refused by 8 is told so, whatever the array
-kept_broken : (a : CampaignAnswer) (s : List ℕ) → a ≡ campaigned.Refused BrokenState → array (campaign_kept a s)
+kept_broken : (a : Result Campaign Refusal) (s : List ℕ) → a ≡ Err BrokenState → array (campaign_kept a s)
     ≡ refusal s BrokenState
 unfolding campaign_kept campaign_told
 kept_broken a s e = by_test (eqb (length s) campaign_numbers) (λ h. rw (h, e)) (λ h. rw h)
@@ -733,22 +718,22 @@ sum_back : (t : Sum) → sum_of (of_sum t) ≡ t
 unfolding sum_of
 sum_back t = refl
 
-left_sum : (a : SumAnswer) (s : List ℕ) → sum_of (sum_told a s).lent ≡ sum_left a (sum_of s)
+left_sum : (a : Result Sum Refusal) (s : List ℕ) → sum_of (sum_told a s).lent ≡ sum_left a (sum_of s)
 unfolding sum_told
-left_sum (summed.Taken t) s = sum_back t
-left_sum (summed.Refused f) s = refl
+left_sum (Ok t) s = sum_back t
+left_sum (Err f) s = refl
 
-stands_sum : (a : SumAnswer) (s : List ℕ) → (eqb (length s) sum_numbers ≡ false → a ≡ summed.Refused BrokenState)
+stands_sum : (a : Result Sum Refusal) (s : List ℕ) → (eqb (length s) sum_numbers ≡ false → a ≡ Err BrokenState)
     → sum_of (sum_kept a s).lent ≡ sum_left a (sum_of s)
 unfolding sum_kept
 stands_sum a s other = by_test (eqb (length s) sum_numbers) (λ e. rw e (left_sum a s)) (λ e. rw (e, other e))
 
-on_sum : (s : List ℕ) (r : Refusal) → array (sum_told (summed.Refused r) s) ≡ refusal s r
+on_sum : (s : List ℕ) (r : Refusal) → array (sum_told (Err r) s) ≡ refusal s r
 unfolding sum_told
 on_sum s r = refl
 
 added_other : (s : List ℕ) (r : Record) → eqb (length s) sum_numbers ≡ false → adding.adding (sum_of s) r
-    ≡ summed.Refused BrokenState
+    ≡ Err BrokenState
 unfolding adding.adding sum_of sums.sound
 added_other s r e = rw e
 
@@ -764,7 +749,7 @@ sums_told =
       add =
           λ s r.
           tells (request_7.add (sum_of s) (record_of r)) (λ x. array (sum_told x s)) s 0 _ _ (on_sum s) refl
-          (unneeded s sum_numbers (λ x. sum_told x s) summed.Refused (on_sum s) (adding.adding (sum_of s) (record_of r))
+          (unneeded s sum_numbers (λ x. sum_told x s) Err (on_sum s) (adding.adding (sum_of s) (record_of r))
           (added_other s (record_of r)));
       add_stands = λ s r. stands_sum (adding.adding (sum_of s) (record_of r)) s (added_other s (record_of r));
       bounds =
@@ -795,22 +780,22 @@ ends_lines [] Fresh = stopped 1 0 (Line 1)
 ends_lines [] (Open c) = cleanly c
 ends_lines (line ∷ lines) s = go (stepping s line) (ends_lines lines)
   where
-    go : (x : Step) → ((t : Standing) → Ends (reading_sheet false lines t).end)
+    go : (x : Result Sheet (ℕ × ℕ × Refusal)) → ((t : Standing) → Ends (reading_sheet false lines t).end)
         → Ends (after_step x (reading_sheet false lines)).end
-    go (Next t) rest = rest t
-    go (Stop at column r) rest = stopped at column r
+    go (Ok t) rest = rest t
+    go (Err (at, column, r)) rest = stopped at column r
 
 ends_text : (text : List ℕ) → Ends (meaning text).end
 unfolding meaning
 ends_text text = ends_lines (lines_of text) Fresh
 
 module _ (text : List ℕ) (slice : List ℤ) where
-  records_refused : (line column : ℕ) (r : Refusal) → resuming text (length slice) ≡ resumed.Stopped line column r
+  records_refused : (line column : ℕ) (r : Refusal) → resuming text (length slice) ≡ Err (line, column, r)
       → SheetRecords text slice (refusal slice r) 0 line column
   unfolding ledgers.read_told filled_by
   records_refused line column r e = record { told = rw e; standard = rw e; line = rw e; column = rw e }
 
-  records_read_lem : (q n : ℕ) → resuming text (length slice) ≡ resumed.Records q n
+  records_read_lem : (q n : ℕ) → resuming text (length slice) ≡ Ok (q, n)
       → SheetRecords text slice (taken n (records_of text ++ drop n slice)) q 0 0
   unfolding ledgers.read_told filled_by
   records_read_lem q n e = record { told = rw e; standard = rw e; line = rw e; column = rw e }
@@ -861,22 +846,22 @@ commas_told =
 
 -- ---- peaks
 module _ (sizes times figures moments : List ℕ) where
-  tell_found : PeaksFound → Left Slices
+  tell_found : Result ℕ Refusal → Left Slices
   tell_found a =
       let x = found_told a (envelope.written a figures sizes) in
       left x.number x.carried (slices x.lent (envelope.written a moments times))
 
 module _ (peaks : List ℕ) (k : ℕ) (before : List ℕ) (n c : ℕ) (after : List ℕ) where
-  fit_refused : (a : Fitted) (r : Refusal) → a ≡ fitted.Refused r → telling.told n c after ≡ fit_told a after
+  fit_refused : (a : Result ℕ Refusal) (r : Refusal) → a ≡ Err r → telling.told n c after ≡ fit_told a after
       → Leaves peaks k before a after
       → left n c after ≡ refusal before r
-  fit_refused (fitted.Sum s) r e t l = impossible (cc)
-  fit_refused (fitted.Refused f) r e t l = let g : f ≡ r = cc in ap array t ∙ rw (l, g)
+  fit_refused (Ok s) r e t l = impossible (cc)
+  fit_refused (Err f) r e t l = let g : f ≡ r = cc in ap array t ∙ rw (l, g)
 
-  fit_taken : (a : Fitted) (s : ℕ) → a ≡ fitted.Sum s → telling.told n c after ≡ fit_told a after → left n c after
+  fit_taken : (a : Result ℕ Refusal) (s : ℕ) → a ≡ Ok s → telling.told n c after ≡ fit_told a after → left n c after
       ≡ taken c after
-  fit_taken (fitted.Sum u) s e t = ap (λ (m : ℕ). left m c after) (ap (λ (x : Told). x.number) t)
-  fit_taken (fitted.Refused f) s e t = impossible (cc)
+  fit_taken (Ok u) s e t = ap (λ (m : ℕ). left m c after) (ap (λ (x : Told). x.number) t)
+  fit_taken (Err f) s e t = impossible (cc)
 
   fits : FitTold peaks k before n c after → Tells (tail_tests peaks k (length before)) before c after (left n c after)
   fits h =
@@ -885,11 +870,11 @@ module _ (peaks : List ℕ) (k : ℕ) (before : List ℕ) (n c : ℕ) (after : L
       (λ r f. fit_refused h.answer r (h.fits.answers ∙ d.refuses r f) h.tells h.fits.leaves)
       (λ none. fit_taken h.answer h.fits.sum (h.fits.answers ∙ d.answers none) h.tells)
 
-fit_sum : (peaks : List ℕ) (k : ℕ) (before : List ℕ) (c : ℕ) (after : List ℕ) (a : Fitted) → telling.told 0 c after
+fit_sum : (peaks : List ℕ) (k : ℕ) (before : List ℕ) (c : ℕ) (after : List ℕ) (a : Result ℕ Refusal) → telling.told 0 c after
     ≡ fit_told a after → Leaves peaks k before a after
     → Summed peaks k before c after
-fit_sum peaks k before c after (fitted.Sum s) t l = rw (ap (λ (x : Told). x.carried) t) l
-fit_sum peaks k before c after (fitted.Refused f) t l =
+fit_sum peaks k before c after (Ok s) t l = rw (ap (λ (x : Told). x.carried) t) l
+fit_sum peaks k before c after (Err f) t l =
     let e : 0 ≡ number_of f = ap (λ (x : Told). x.number) t in
     absurd (omega (arith, some_number f))
 
@@ -912,33 +897,33 @@ peaks_told =
 
 -- ---- the table of two bureaus
 -- an answer told with the rows that the call left, beside what else was lent
-module _ {L : Type 0} (rows : List (List ℕ)) (b : ℕ) (a : Ask) (say : TableAnswer → List (List ℕ) → Left L)
+module _ {L : Type 0} (rows : List (List ℕ)) (b : ℕ) (a : Ask) (say : Result Reply Refusal → List (List ℕ) → Left L)
     (before : L) where
-  bench_tells : {ts : List Test} {proper : TableAnswer} → Decides answered.Refused ts proper (made rows b a).answer
-      → ((r : Refusal) → say (answered.Refused r) rows ≡ refusal before r)
+  bench_tells : {ts : List Test} {proper : (Result Reply Refusal)} → Decides Err ts proper (made rows b a).answer
+      → ((r : Refusal) → say (Err r) rows ≡ refusal before r)
       → (answer : ℕ) (after : L) → say proper (made rows b a).rows ≡ taken answer after
       → Tells ts before answer after (say (made rows b a).answer (made rows b a).rows)
   bench_tells {ts} d on-refused answer after on-proper =
       both_ways ts before answer after (say (made rows b a).answer (made rows b a).rows)
       (λ r f.
       let e = d.refuses r f in
-      ap (λ (x : TableAnswer). say x (made rows b a).rows) e
-      ∙ ap (say (answered.Refused r)) ((rows_9.call rows b).refusal_leaves a r e)
+      ap (λ (x : Result Reply Refusal). say x (made rows b a).rows) e
+      ∙ ap (say (Err r)) ((rows_9.call rows b).refusal_leaves a r e)
       ∙ on-refused r)
-      (λ n. ap (λ (x : TableAnswer). say x (made rows b a).rows) (d.answers n) ∙ on-proper)
+      (λ n. ap (λ (x : Result Reply Refusal). say x (made rows b a).rows) (d.answers n) ∙ on-proper)
 
-say_plain : TableAnswer → List (List ℕ) → Left (List (List ℕ))
+say_plain : Result Reply Refusal → List (List ℕ) → Left (List (List ℕ))
 say_plain x after = left (plain x).number (plain x).carried after
 
-say_verdict : Float → Float → TableAnswer → List (List ℕ) → Left (Beside Two)
+say_verdict : Float → Float → Result Reply Refusal → List (List ℕ) → Left (Beside Two)
 say_verdict x y a after = let j = bench-told.judged a x y in left j.number j.carried
     (beside (two j.lower j.upper) after)
 
-say_rates : Rates → TableAnswer → List (List ℕ) → Left (Beside Rates)
+say_rates : Rates → Result Reply Refusal → List (List ℕ) → Left (Beside Rates)
 say_rates y a after = let r = bench-told.rated a y in left r.number r.carried (beside r.rates after)
 
 verdict_beside : (v : Verdict) (rows : List (List ℕ)) (x y : Float)
-    → say_verdict x y (answered.Judged v) rows
+    → say_verdict x y (Ok (Judged v)) rows
     ≡ taken (verdict_told v).carried (beside (two (verdict_told v).lower (verdict_told v).upper) rows)
 unfolding say_verdict bench-told.judged verdict_told
 verdict_beside NoRecord rows x y = refl
@@ -958,14 +943,14 @@ benches_told rows b =
       verdict =
           λ i x y.
           bench_tells rows b (On i Judge) (say_verdict x y) (beside (two x y) rows) (order.verdict i) (λ r. refl) _ _
-          (ap (say_verdict x y (answered.Judged (verdict_of (at (places_of rows) i).campaign)))
+          (ap (say_verdict x y (Ok (Judged (verdict_of (at (places_of rows) i).campaign))))
           ((rows_9.call rows b).verdict_leaves i)
           ∙ verdict_beside (verdict_of (at (places_of rows) i).campaign) rows x y);
       rates =
           λ i y.
           let c = (at (places_of rows) i).campaign in
           bench_tells rows b (On i Rate) (say_rates y) (beside y rows) (order.rates i) (λ r. refl) _ _
-          (ap (say_rates y (answered.Rated (not (eqb c.records 0)) (rates_of c)))
+          (ap (say_rates y (Ok (Rated (cond (not (eqb c.records 0)) (Some (rates_of c)) None))))
           ((rows_9.call rows b).rates_leave i));
     }
 

@@ -22,7 +22,7 @@ use Rattle.refusal.specs.declared.Refusal.TheVariants.{BureauFull, NotItsOwn, Ta
 use Rattle.refusal.specs.declared.Refusal.TheVariants.{Acceleration, LowLevel, NoSpread, TimedSamples}
 use Rattle.record_state.specs.declared.Record.{Record}
 use Rattle.record_state.specs.State as recording
-use Rattle.record_end.specs.declared.Result.{Result}
+use Rattle.record_end.specs.declared.RecordResult.{RecordResult}
 use Rattle.campaign_state.specs.declared.Campaign.{Campaign}
 use Rattle.campaign_state.specs.State as campaigning
 use Rattle.campaign_verdict.specs.declared.Verdict.TheVariants.{Accept, Continue, NoRecord, Reject}
@@ -88,7 +88,7 @@ pub record RecordPlaces (r : Record) : Type 0 where
   pub acceleration : number_at (of_record r) 13 ≡ code_of r.last.acceleration
 
 -- "a result, 5 numbers"
-pub record ResultPlaces (x : Result) : Type 0 where
+pub record ResultPlaces (x : RecordResult) : Type 0 where
   pub long : length (of_result x) ≡ CHIM_RESULT_NUMBERS
   pub crossings : number_at (of_result x) CHIM_CROSSINGS ≡ x.crossings
   pub counted : number_at (of_result x) CHIM_COUNTED ≡ x.counted
@@ -230,7 +230,7 @@ pub record Exactly : Type 0 where
 
 pub record Header : Type 0 where
   pub a_record : (r : Record) → RecordPlaces r
-  pub a_result : (x : Result) → ResultPlaces x
+  pub a_result : (x : RecordResult) → ResultPlaces x
   pub a_campaign : (c : Campaign) → CampaignPlaces c
   pub a_sum : (s : Sum) → SumPlaces s
   pub bounds : (b : Bounds) → BoundsPlaces b

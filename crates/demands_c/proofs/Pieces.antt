@@ -22,13 +22,7 @@ use Rattle.sample_range.specs.Range.{first_bad}
 use Rattle.sample_items.specs.Limits.{decorrelation_in_range, most_in_range, ramp_in_range, step_in_range}
 use Rattle.peak_groups.specs.Peaks.{short}
 use Rattle.peak_machine.specs.Step.{moment_of, size_of}
-use Rattle.peak_stream.specs.declared.Handed.{Handed}
-use Rattle.peak_stream.specs.declared.Handed.TheVariants as handing
 use Rattle.peak_stream.specs.declared.Handing.{Handing}
-use Rattle.peak_stream.specs.declared.Last.{Last}
-use Rattle.peak_stream.specs.declared.Last.TheVariants as last
-use Rattle.peak_stream.specs.declared.Surveyed.{Surveyed}
-use Rattle.peak_stream.specs.declared.Surveyed.TheVariants as survey
 use Rattle.peak_stream.specs.declared.Surveying.{Surveying}
 use Rattle.peak_stream.specs.Hands.{Pieces, closed_by, hands_on, last_of, moved, noted, ready, waiting}
 use Rattle.peak_stream.specs.Survey.{none, sound, surveyed, taken}
@@ -46,6 +40,8 @@ use Rattle.capi_peaks.specs.Told.{peaks_surveyed, peaks_taken, survey_kept, surv
 use Rattle.demands_c.proofs.Entries.{array, in_array, other_length}
 use Rattle.demands_c.proofs.Telling.{Left, Tells, left, refusal, tells}
 use Rattle.demands_c.proofs.Telling as telling
+use Rattle.peak_groups.specs.declared.Peak.{Peak}
+use Rattle.std.specs.Prelude.{Option, Some, Result, Ok, Err}
 
 -- ---- the statement
 -- 1, the lowest of items 1 and 2
@@ -159,38 +155,38 @@ pub record InPiecesTold : Type 0 where
       → InPieces n sizes times a b D R τ xs s h ps qs
 
 -- ---- the proof
-opened_decides : (D R : ℕ) → Decides survey.Refused (survey_tests D R) (survey.Taken (none D)) (opened_at D R)
+opened_decides : (D R : ℕ) → Decides Err (survey_tests D R) (Ok (none D)) (opened_at D R)
 unfolding decide opened_at
-opened_decides D R = decided survey.Refused (survey.Taken (none D)) (λ r s e. cc) (λ r e. impossible (cc)) _
+opened_decides D R = decided Err (Ok (none D)) (λ r s e. cc) (λ r e. impossible (cc)) _
     (opened_at D R) refl
 
 take_is : (t : Surveying) (L : ℕ) (xs : List ℤ)
-    → taken_in t L xs ≡ decide survey.Refused (take_tests t L xs) (survey.Taken (foldl surveyed t (drop L xs)))
+    → taken_in t L xs ≡ decide Err (take_tests t L xs) (Ok (foldl surveyed t (drop L xs)))
 unfolding decide taken_in taken
 take_is t L xs = by_test (sound t) (λ e. rw e refl) (λ e. rw e refl)
 
 take_decides : (t : Surveying) (L : ℕ) (xs : List ℤ)
-    → Decides survey.Refused (take_tests t L xs) (survey.Taken (foldl surveyed t (drop L xs))) (taken_in t L xs)
-take_decides t L xs = decided survey.Refused (survey.Taken (foldl surveyed t (drop L xs))) (λ r s e. cc)
+    → Decides Err (take_tests t L xs) (Ok (foldl surveyed t (drop L xs))) (taken_in t L xs)
+take_decides t L xs = decided Err (Ok (foldl surveyed t (drop L xs))) (λ r s e. cc)
     (λ r e. impossible (cc)) (take_tests t L xs) (taken_in t L xs) (take_is t L xs)
 
 begin_decides : (t : Surveying) (τ : ℕ)
-    → Decides handing.Refused (begin_tests t τ) (handing.Taken (waiting t.reading.step τ t.number t.sum) 0)
+    → Decides Err (begin_tests t τ) (Ok (waiting t.reading.step τ t.number t.sum, 0))
     (begun_from t τ)
 unfolding decide begun_from
-begin_decides t τ = decided handing.Refused (handing.Taken (waiting t.reading.step τ t.number t.sum) 0)
+begin_decides t τ = decided Err (Ok (waiting t.reading.step τ t.number t.sum, 0))
     (λ r s e. cc) (λ r e. impossible (cc)) _ (begun_from t τ) refl
 
 module _ (h : Handing) (L : ℕ) (xs : List ℤ) (sizes times : ℕ) where
-  abbrev gone : Handed
-  gone = handing.Taken (foldl moved h (drop L xs)) (length (closed_by h (drop L xs)))
+  abbrev gone : Result (Handing × ℕ) Refusal
+  gone = Ok (foldl moved h (drop L xs), length (closed_by h (drop L xs)))
 
-  hand_is : handed_in h L xs sizes times ≡ decide handing.Refused (hand_tests h L xs sizes times) gone
+  hand_is : handed_in h L xs sizes times ≡ decide Err (hand_tests h L xs sizes times) gone
   unfolding decide handed_in hands_on
   hand_is = by_test (ready h) (λ e. rw e refl) (λ e. rw e refl)
 
-  hand_decides : Decides handing.Refused (hand_tests h L xs sizes times) gone (handed_in h L xs sizes times)
-  hand_decides = decided handing.Refused gone (λ r s e. cc) (λ r e. impossible (cc)) (hand_tests h L xs sizes times)
+  hand_decides : Decides Err (hand_tests h L xs sizes times) gone (handed_in h L xs sizes times)
+  hand_decides = decided Err gone (λ r s e. cc) (λ r e. impossible (cc)) (hand_tests h L xs sizes times)
       (handed_in h L xs sizes times) hand_is
 
 -- an array of another length holds no pass, and needs no test of its length
@@ -201,54 +197,54 @@ no_handing : (s : List ℕ) → eqb (length s) handing_numbers ≡ false → is_
 no_handing s e = rw e
 
 take_other : (s : List ℕ) (L : ℕ) (xs : List ℤ) → eqb (length s) survey_numbers ≡ false
-    → taken_in (survey_of s) L xs ≡ survey.Refused BrokenState
+    → taken_in (survey_of s) L xs ≡ Err BrokenState
 unfolding taken_in
 take_other s L xs e = rw (other_survey s (no_survey s e))
 
 hand_other : (s : List ℕ) (L : ℕ) (xs : List ℤ) (sizes times : ℕ) → eqb (length s) handing_numbers ≡ false
-    → handed_in (handing_of s) L xs sizes times ≡ handing.Refused BrokenState
+    → handed_in (handing_of s) L xs sizes times ≡ Err BrokenState
 unfolding handed_in
 hand_other s L xs sizes times e = rw (other_handing s (no_handing s e))
 
-survey_kept_lem : (a : Surveyed) (R L : ℕ) (s : List ℕ)
-    → (eqb (length s) survey_numbers ≡ false → a ≡ survey.Refused BrokenState)
+survey_kept_lem : (a : Result Surveying Refusal) (R L : ℕ) (s : List ℕ)
+    → (eqb (length s) survey_numbers ≡ false → a ≡ Err BrokenState)
     → survey_kept a R L s ≡ survey_told a R L s
 unfolding survey_kept survey_told
 survey_kept_lem a R L s f = by_test (eqb (length s) survey_numbers) (λ e. rw e refl) (λ e. rw (e, f e) refl)
 
-handing_kept_lem : (a : Handed) (L : ℕ) (s : List ℕ)
-    → (eqb (length s) handing_numbers ≡ false → a ≡ handing.Refused BrokenState)
+handing_kept_lem : (a : Result (Handing × ℕ) Refusal) (L : ℕ) (s : List ℕ)
+    → (eqb (length s) handing_numbers ≡ false → a ≡ Err BrokenState)
     → handing_kept a L s ≡ handing_told a L s
 unfolding handing_kept handing_told
 handing_kept_lem a L s f = by_test (eqb (length s) handing_numbers) (λ e. rw e refl) (λ e. rw (e, f e) refl)
 
 -- a piece handed over
 module _ (s sizes times figures moments : List ℕ) (L : ℕ) where
-  tell_handed : Handed → Left Lent
+  tell_handed : Result (Handing × ℕ) Refusal → Left Lent
   tell_handed a =
       let x = handing_told a L s in
       left x.number x.carried (lent x.lent (noted a figures sizes) (noted a moments times))
 
-  on_handed : (r : Refusal) → tell_handed (handing.Refused r) ≡ refusal (lent s sizes times) r
+  on_handed : (r : Refusal) → tell_handed (Err r) ≡ refusal (lent s sizes times) r
   unfolding tell_handed handing_told noted
   on_handed r = refl
 
 -- the end
-said_zero : (a : Last) → (last_said a).number ≡ 0
+said_zero : (a : Option Peak) → (last_said a).number ≡ 0
 unfolding last_said
-said_zero (last.One p) = refl
-said_zero last.None = refl
+said_zero (Some p) = refl
+said_zero None = refl
 
-tell_last : LastTold → ℕ → ℕ → Handed → Left Two
-tell_last a x t (handing.Taken h k) = telling.taken a.carried (two a.size a.time)
-tell_last a x t (handing.Refused f) = refusal (two x t) f
+tell_last : LastTold → ℕ → ℕ → Result (Handing × ℕ) Refusal → Left Two
+tell_last a x t (Ok (h, k)) = telling.taken a.carried (two a.size a.time)
+tell_last a x t (Err f) = refusal (two x t) f
 
 last-is : (s : List ℕ) (x t : ℕ)
     → let a = last_said (last_of (handing_of s)) in
     let y = peak_last s x t in
     left y.number y.carried (two y.size y.time)
-    ≡ tell_last a x t (decide handing.Refused (not (ready (handing_of s)) gives BrokenState ∷ [])
-    (handing.Taken (handing_of s) 0))
+    ≡ tell_last a x t (decide Err (not (ready (handing_of s)) gives BrokenState ∷ [])
+    (Ok (handing_of s, 0)))
 unfolding peak_last tell_last decide
 last-is s x t =
     let a = last_said (last_of (handing_of s)) in
@@ -258,8 +254,8 @@ last-is s x t =
 
 last_decides : (h : Handing)
     → let ts = not (ready h) gives BrokenState ∷ [] in
-    Decides handing.Refused ts (handing.Taken h 0) (decide handing.Refused ts (handing.Taken h 0))
-last_decides h = decided handing.Refused (handing.Taken h 0) (λ r s e. cc) (λ r e. impossible (cc)) _ _ refl
+    Decides Err ts (Ok (h, 0)) (decide Err ts (Ok (h, 0)))
+last_decides h = decided Err (Ok (h, 0)) (λ r s e. cc) (λ r e. impossible (cc)) _ _ refl
 
 -- ---- each entry
 tells_survey : (D R : ℕ) (s : List ℕ)

@@ -10,8 +10,6 @@ use Prim.Native.Nat.{ℕ, ◌<◌}
 use lib.ListN.{get_or, length, length-set}
 use Rattle.refusal.specs.declared.Refusal.{Refusal}
 use Rattle.record_end.specs.declared.Outcome.{Outcome}
-use Rattle.bureau_table.specs.declared.TableAnswer.{TableAnswer}
-use Rattle.bureau_table.specs.declared.TableAnswer.TheVariants.{Placed, Refused}
 use Rattle.bureau_table.specs.declared.Ask.{Ask}
 use Rattle.bureau_table.specs.declared.Ask.TheVariants.{On, Take}
 use Rattle.bureau_table.specs.declared.Call.{Call}
@@ -29,6 +27,9 @@ use Rattle.capi_bureau.specs.Rows.{places_of, rows_left}
 use Rattle.capi_bureau.proofs.Rows.{row_stays, rows_length, rows_stand, rows_stay}
 use Rattle.demands.proofs.Request9.{Holds, request_9}
 use Rattle.demands_c.specs.History.{after, answers, answers_from, empty_rows, entries_at, freed_at, made}
+use Rattle.bureau_table.specs.declared.Reply.TheVariants.{Placed}
+use Rattle.bureau_table.specs.declared.Reply.{Reply}
+use Rattle.std.specs.Prelude.{Result, Ok, Err}
 
 -- ---- the statement
 -- of any rows, any number for a bureau and anything asked
@@ -36,7 +37,7 @@ pub record EachCall (rows : List (List ℕ)) (b : ℕ) : Type 0 where
   -- what stands in the rows after the call is what the call left, so that the next one finds that
   pub stands : (a : Ask) → places_of (made rows b a).rows ≡ (called (places_of rows) b a).table
   -- every number is as it was after a refusal, a verdict, rates; and in the rows of another bureau after any call
-  pub refusal_leaves : (a : Ask) (r : Refusal) → (made rows b a).answer ≡ Refused r → (made rows b a).rows ≡ rows
+  pub refusal_leaves : (a : Ask) (r : Refusal) → (made rows b a).answer ≡ Err r → (made rows b a).rows ≡ rows
   pub verdict_leaves : (i : ℕ) → (made rows b (On i Judge)).rows ≡ rows
   pub rates_leave : (i : ℕ) → (made rows b (On i Rate)).rows ≡ rows
   pub others :
@@ -69,7 +70,7 @@ pub record Rows9 : Type 0 where
   -- entered there, and demands 2 and 3 hold for it
   pub life :
       (rows : List (List ℕ)) (b q i : ℕ) (cs : List Call)
-      → (made rows b (Take q)).answer ≡ Placed i
+      → (made rows b (Take q)).answer ≡ Ok (Placed i)
       → freed_at i (made rows b (Take q)).rows cs ≡ false
       → Holds (places_of (after (made rows b (Take q)).rows cs)) b q i (entries_at i (made rows b (Take q)).rows cs)
 
@@ -112,7 +113,7 @@ unfolding answers places.answers
 over_places b rows book [] = refl
 over_places b rows book (mine a ∷ ms) =
     let d = called (places_of rows) b (sent book a) in
-    ap (λ (l : List TableAnswer). aside d.answer ∷ l)
+    ap (λ (l : List (Result Reply Refusal)). aside d.answer ∷ l)
     (over_places b (rows_left rows d.table) (noted book a d.answer) ms
     ∙ ap (λ (t : List Place). places.answers b t (noted book a d.answer) ms) (left_stands rows b (sent book a)))
 over_places b rows book (other c n a ∷ ms) =
@@ -148,7 +149,7 @@ freed_places i rows (c ∷ cs) =
     ∙ ap (λ (t : List Place). places.freed_at i t cs) (left_stands rows c.bureau c.ask))
 
 module _ (rows : List (List ℕ)) (b q i : ℕ) (cs : List Call) where
-  life : (made rows b (Take q)).answer ≡ Placed i → freed_at i (made rows b (Take q)).rows cs ≡ false
+  life : (made rows b (Take q)).answer ≡ Ok (Placed i) → freed_at i (made rows b (Take q)).rows cs ≡ false
       → Holds (places_of (after (made rows b (Take q)).rows cs)) b q i (entries_at i (made rows b (Take q)).rows cs)
   life e f =
       let s = left_stands rows b (Take q) in

@@ -1,9 +1,8 @@
 -- Document 02, [9], over the table that bureaus have: rows of numbers (capi_bench's specs, Rows). Calls from C one
 -- after the other, each finding the rows as the last one left them; bench's History has the same over places. Assumes
 -- nothing.
-use Rattle.std.specs.Prelude.{Bool, false, ◌||◌, List, [], ◌∷◌, ◌++◌, ℕ, replicate}
+use Rattle.std.specs.Prelude.{Bool, false, ◌||◌, List, [], ◌∷◌, ◌++◌, ℕ, replicate, Result}
 use Rattle.record_end.specs.declared.Outcome.{Outcome}
-use Rattle.bureau_table.specs.declared.TableAnswer.{TableAnswer}
 use Rattle.bureau_table.specs.declared.Ask.{Ask}
 use Rattle.bureau_table.specs.declared.Call.{Call}
 use Rattle.bureau_table.specs.Table.{places}
@@ -11,6 +10,8 @@ use Rattle.bureau_table.specs.Calls.{called}
 use Rattle.bureau_table.specs.Calls as bench
 use Rattle.bureau_table.specs.History.{Move, aside, enters, frees, mine, noted, other, own_places, sent}
 use Rattle.capi_bureau.specs.Rows.{places_of, rows_left}
+use Rattle.refusal.specs.declared.Refusal.{Refusal}
+use Rattle.bureau_table.specs.declared.Reply.{Reply}
 
 -- 32 rows of six zeros: an empty bench
 abbrev pub empty_rows : List (List ℕ)
@@ -18,7 +19,7 @@ empty_rows = replicate places (replicate 6 0)
 
 -- ---- a call: its answer, and the rows that it leaves
 pub record Done : Type 0 where
-  pub answer : TableAnswer
+  pub answer : Result Reply Refusal
   pub rows : List (List ℕ)
 
 abbrev pub made : List (List ℕ) → ℕ → Ask → Done
@@ -28,7 +29,7 @@ made rows b a =
 
 -- ---- bureau b's script among the other's calls
 -- what it is answered, place numbers aside, from these rows and a book on
-unfoldable pub answers : (b : ℕ) → List (List ℕ) → List ℕ → List (Move b) → List TableAnswer
+unfoldable pub answers : (b : ℕ) → List (List ℕ) → List ℕ → List (Move b) → List (Result Reply Refusal)
 answers b rows book [] = []
 answers b rows book (mine a ∷ ms) =
     let d : Done = made rows b (sent book a) in
@@ -36,7 +37,7 @@ answers b rows book (mine a ∷ ms) =
 answers b rows book (other c n a ∷ ms) = answers b (made rows c a).rows book ms
 
 -- from rows on
-abbrev pub answers_from : (b : ℕ) → List (List ℕ) → List (Move b) → List TableAnswer
+abbrev pub answers_from : (b : ℕ) → List (List ℕ) → List (Move b) → List (Result Reply Refusal)
 answers_from b rows ms = answers b rows (own_places b 0 (places_of rows)) ms
 
 -- ---- any calls, and what they do to row i

@@ -7,8 +7,6 @@ use lib.ListN.{length}
 use lib.Dec.{eqb}
 use lib.IntN.{ℤ, pos, negsuc}
 use Rattle.poisson.specs.Tables.{l, u}
-use Rattle.campaign_state.specs.declared.CampaignAnswer.{CampaignAnswer}
-use Rattle.campaign_state.specs.declared.CampaignAnswer.TheVariants.{Refused, Taken}
 use Rattle.campaign_state.specs.declared.Campaign.{Campaign}
 use Rattle.campaign_state.specs.Answers.{entering}
 use Rattle.campaign_verdict.specs.Figures.{verdict_of}
@@ -17,6 +15,8 @@ use Rattle.sample_channels.specs.declared.Moment.{Moment}
 use Rattle.sample_channels.specs.Channels.{moments}
 use Rattle.sample_items.specs.declared.Items.{Items}
 use Rattle.crossing_places.specs.Reading.{time_at, crossings, groups, counted_times, largest_set, full_time}
+use Rattle.refusal.specs.declared.Refusal.{Refusal}
+use Rattle.std.specs.Prelude.{Result, Ok, Err}
 
 -- a marked case
 pub data Row : Type 0 where
@@ -40,9 +40,9 @@ same (x ∷ xs) [] = false
 same (x ∷ xs) (y ∷ ys) = eqb x y && same xs ys
 
 -- 0 where the record was refused
-abbrev pub letter_after : CampaignAnswer → ℕ
-letter_after (Taken c) = letter_of letter_e (verdict_of c)
-letter_after (Refused r) = 0
+abbrev pub letter_after : Result Campaign Refusal → ℕ
+letter_after (Ok c) = letter_of letter_e (verdict_of c)
+letter_after (Err r) = 0
 
 -- a one-channel job lends zeros for the other
 abbrev pub zeros : List ℤ → List ℤ

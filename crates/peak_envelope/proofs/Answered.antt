@@ -16,7 +16,6 @@ use Rattle.refusal.specs.declared.Refusal.TheVariants.{Item, Sample, TooLong, To
 use Rattle.sample_items.specs.Limits.{most_samples}
 use Rattle.sample_range.specs.Range.{first_bad}
 use Rattle.crossing_places.specs.Reading.{too_few}
-use Rattle.record_whole.specs.declared.Size.TheVariants as size
 use Rattle.record_whole.specs.Tests.{tested}
 use Rattle.record_whole.proofs.Judged.{Fitting}
 use Rattle.peak_groups.specs.declared.Peak.{Peak}
@@ -24,10 +23,9 @@ use Rattle.peak_groups.specs.Groups.{tops}
 use Rattle.peak_groups.specs.Runs.{peaks}
 use Rattle.peak_groups.specs.Peaks.{sum, kept, close, handed, short}
 use Rattle.peak_machine.specs.Step.{size_of, moment_of}
-use Rattle.peak_envelope.specs.declared.PeaksFound.{PeaksFound}
-use Rattle.peak_envelope.specs.declared.PeaksFound.TheVariants.{Peaks, Refused}
 use Rattle.peak_envelope.specs.Step.{chosen}
 use Rattle.peak_envelope.specs.Answers.{unlevelled, item_asked, placed, found, written, HandsOut, FindsTo}
+use Rattle.std.specs.Prelude.{Result, Ok, Err}
 
 -- what a pass hands out with the peaks' own number and sum
 pub chosen_kept : (n s D τ : ℕ) (xs : List ℤ) → n ≡ length (peaks D xs) → s ≡ sum (peaks D xs) → chosen n s D τ xs ≡ tops (close τ) (kept (peaks D xs))
@@ -35,16 +33,16 @@ unfolding chosen
 chosen_kept n s D τ xs p q = rw (p, q)
 
 module _ (l : List Peak) (sizes times : List ℕ) where
-  pub no_room : short (length sizes) (length times) (length l) ≡ true → HandsOut l sizes times (Refused (Room (length l))) sizes times
+  pub no_room : short (length sizes) (length times) (length l) ≡ true → HandsOut l sizes times (Err (Room (length l))) sizes times
   unfolding placed written
   no_room e = record { answers = rw e; sizes_left = refl; times_left = refl }
 
   -- the figures, put from a slice's start on
-  put : (f : Peak → ℕ) (slice : List ℕ) → length l ≤ length slice → sets slice 0 (map f l) ≡ written (Peaks (length l)) (map f l) slice
+  put : (f : Peak → ℕ) (slice : List ℕ) → length l ≤ length slice → sets slice 0 (map f l) ≡ written (Ok (length l)) (map f l) slice
   unfolding written
   put f slice k = let m = length-map l f in sets-eq (map f l) slice 0 (omega arith) ∙ rw (zero-add, m)
 
-  pub all_placed : short (length sizes) (length times) (length l) ≡ false → HandsOut l sizes times (Peaks (length l)) (sets sizes 0 (map size_of l)) (sets times 0 (map moment_of l))
+  pub all_placed : short (length sizes) (length times) (length l) ≡ false → HandsOut l sizes times (Ok (length l)) (sets sizes 0 (map size_of l)) (sets times 0 (map moment_of l))
   unfolding placed
   all_placed e =
       let o = neither (ltb (length sizes) (length l)) (ltb (length times) (length l)) e in
@@ -58,7 +56,7 @@ twice false = refl
 -- ---- the whole call
 module _ (D R τ : ℕ) (xs : List ℤ) (sizes times : List ℕ) where
   -- a refusal of the tests that listing has
-  pub finds_refused : (f : Refusal) → tested (unlevelled D R τ) xs xs ≡ size.Refused f → FindsTo D R τ xs sizes times (Refused f) sizes times
+  pub finds_refused : (f : Refusal) → tested (unlevelled D R τ) xs xs ≡ Err f → FindsTo D R τ xs sizes times (Err f) sizes times
   unfolding tested found written
   finds_refused f e = record {
     answers = go (eqb (item_asked D R τ) 0) (ltb (first_bad xs) (length xs))
@@ -73,10 +71,10 @@ module _ (D R τ : ℕ) (xs : List ℤ) (sizes times : List ℕ) where
   }
     where
       go : (i b l s : Bool)
-          → cond (not i) (size.Refused (Item (item_asked D R τ))) (cond b (size.Refused (Sample (first_bad xs)))
-          (cond l (size.Refused TooLong) (cond s (size.Refused TooShort) size.Fits))) ≡ size.Refused f
-          → Refused f ≡ cond (not i) (Refused (Item (item_asked D R τ))) (cond b (Refused (Sample (first_bad xs)))
-          (cond l (Refused TooLong) (cond s (Refused TooShort) (placed (length sizes) (length times)
+          → cond (not i) (Err (Item (item_asked D R τ))) (cond b (Err (Sample (first_bad xs)))
+          (cond l (Err TooLong) (cond s (Err TooShort) (Ok tt)))) ≡ Err f
+          → Err f ≡ cond (not i) (Err (Item (item_asked D R τ))) (cond b (Err (Sample (first_bad xs)))
+          (cond l (Err TooLong) (cond s (Err TooShort) (placed (length sizes) (length times)
           (length (handed D R τ xs))))))
       go false b l s e = cc
       go true true l s e = cc
@@ -85,12 +83,12 @@ module _ (D R τ : ℕ) (xs : List ℤ) (sizes times : List ℕ) where
       go true false false false e = impossible (cc)
 
   module _ (f : Fitting (unlevelled D R τ) (length xs) (length xs)) where
-    pub finds_bad : first_bad xs < length xs → FindsTo D R τ xs sizes times (Refused (Sample (first_bad xs))) sizes times
+    pub finds_bad : first_bad xs < length xs → FindsTo D R τ xs sizes times (Err (Sample (first_bad xs))) sizes times
     unfolding found written
     finds_bad b = record { answers = rw (eq-eqb _ _ f.ranged, lt-ltb _ _ b); sizes_left = refl; times_left = refl }
 
     -- what the timed samples hand out is the record's
-    pub finds_good : length xs ≤ first_bad xs → {answer : PeaksFound} {sizesAfter timesAfter : List ℕ} →
+    pub finds_good : length xs ≤ first_bad xs → {answer : (Result ℕ Refusal)} {sizesAfter timesAfter : List ℕ} →
         HandsOut (handed D R τ xs) sizes times answer sizesAfter timesAfter → FindsTo D R τ xs sizes times answer
         sizesAfter timesAfter
     unfolding found

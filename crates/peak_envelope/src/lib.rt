@@ -16,16 +16,9 @@ ghost use Rattle.peak_envelope.specs.Answers.{HandsOut, FindsTo};
 
 use peak_groups::{Group, Peak, Run};
 use peak_machine::Envelope;
-use record_whole::Size;
 use refusal::Refusal;
 use sample_channels::Levels;
 use sample_items::Items;
-
-#[derive(Clone, Copy)]
-pub enum PeaksFound {
-    Peaks(u64),
-    Refused(Refusal),
-}
 
 // How many peaks there are, and their sum.
 #[derive(Clone, Copy)]
@@ -149,7 +142,7 @@ fn hand_out(
     timed: &[i32],
     sizes: &mut [u32],
     times: &mut [u32],
-) -> PeaksFound
+) -> Result<u64, Refusal>
     requires { (length timed.now ≤ 1 + 10000000 / step) × (decorrelation ≤ 10000000) }
     ensures { HandsOut (tops (close decorrelation) (kept (peaks step timed.now)))
         sizes.old times.old result sizes.new times.new }
@@ -162,10 +155,10 @@ fn hand_out(
     let mut spare = [0; 1];
     let needed = pass(step, number, sum, gap, timed, &mut scrap, &mut spare);
     if peak_groups::short(sizes.len(), times.len(), needed) {
-        return PeaksFound::Refused(Refusal::Room(needed));
+        return Err(Refusal::Room(needed));
     }
     pass(step, number, sum, gap, timed, sizes, times);
-    PeaksFound::Peaks(needed)
+    Ok(needed)
 }
 
 // The envelope peaks of a whole record: their magnitudes and times, in order, from the start of the two slices, whose
@@ -178,7 +171,7 @@ pub fn find(
     samples: &[i32],
     sizes: &mut [u32],
     times: &mut [u32],
-) -> PeaksFound
+) -> Result<u64, Refusal>
     ensures { FindsTo step ramp decorrelation samples.now sizes.old times.old
         result sizes.new times.new }
 {
@@ -192,12 +185,12 @@ pub fn find(
         decorrelation,
     };
     let size = record_whole::judge(items, samples, samples);
-    if let Size::Refused(f) = size {
-        return PeaksFound::Refused(f);
+    if let Err(f) = size {
+        return Err(f);
     }
     let bad = sample_range::first_bad(samples);
     if bad < samples.len() {
-        return PeaksFound::Refused(Refusal::Sample(bad as u64));
+        return Err(Refusal::Sample(bad as u64));
     }
     let from = ramp as usize;
     hand_out(step, decorrelation, &samples[from..], sizes, times)

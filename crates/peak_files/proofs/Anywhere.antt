@@ -32,17 +32,12 @@ use Rattle.comma_stream.proofs.Whole.{lines_few, all_right, one_wrong}
 use Rattle.peak_groups.specs.Peaks.{handed, short}
 use Rattle.peak_lines.specs.Lines.{peaks_text}
 use Rattle.peak_stream.specs.declared.Surveying.{Surveying}
-use Rattle.peak_stream.specs.declared.Surveyed.TheVariants as survey
 use Rattle.peak_stream.specs.declared.Handing.{Handing}
-use Rattle.peak_stream.specs.declared.Handed.{Handed}
-use Rattle.peak_stream.specs.declared.Handed.TheVariants.{Taken}
 use Rattle.peak_stream.specs.Survey.{none, started, Small}
 use Rattle.peak_stream.specs.Hands.{waiting, begun, moved, closed_by, hands_on, Pieces}
 use Rattle.peak_stream.proofs.Coming.{Set, set_out, ready_set}
 use Rattle.peak_stream.proofs.Over.{no_refusal}
 use Rattle.peak_stream.proofs.Anywhere.{set_fold, both_long, fresh_ready}
-use Rattle.comma_peaks.specs.declared.Judged.{Judged}
-use Rattle.comma_peaks.specs.declared.Judged.TheVariants.{Refused, Peaks}
 use Rattle.comma_peaks.specs.Timed.{timed_of, blocks, handing_blocks}
 use Rattle.comma_peaks.specs.Judged.{comes_to, judging, alike}
 use Rattle.comma_peaks.proofs.Judges.{right_judged, wrong_judged}
@@ -56,11 +51,13 @@ use Rattle.peak_files.specs.Passing.{fresh, opening, again, begins, begun_by, la
 use Rattle.peak_files.specs.Reading.{Run, starting, running, finished_by, wrote, Twice, one_of, two_of, both_wrote, ReadTwice, files_wrote, AllTwice}
 use Rattle.peak_files.proofs.Front.{Done, at_start}
 use Rattle.peak_files.proofs.Runs.{Ran, ran, on_blocks, given_all}
+use Rattle.refusal.specs.declared.Refusal.{Refusal}
+use Rattle.std.specs.Prelude.{Result, Ok, Err}
 
 -- ---- a second reading hands out what `handing_blocks` says, since nothing is refused
 module _ (R : ℕ) where
   given_all_lem : (cs : List (List ℤ)) (lines : ℕ) (h : Handing) (k : ℕ) → Pieces 1024 cs → Set h (length (drop (R - lines) (together cs)))
-      → given_all R lines cs (Taken h k) ≡ handing_blocks R 1024 1024 lines cs (Taken h k)
+      → given_all R lines cs (Ok (h, k)) ≡ handing_blocks R 1024 1024 lines cs (Ok (h, k))
   unfolding given_all handing_blocks
   given_all_lem [] lines h k w g = refl
   given_all_lem (x ∷ cs) lines h k w g =
@@ -73,12 +70,12 @@ module _ (R : ℕ) where
       let s : Set h (length A + length B) = subst (Set h) j g in
       let t : T ≡ A = take_all (most_in_range h.reading.step 0 - h.reading.n) A (omega (arith, s.room)) in
       let z = length-replicate {A = ℕ} 1024 0 in
-      let r : Taken (foldl moved h A) (length (closed_by h A)) ≡ hands_on h A 1024 1024 =
+      let r : Ok (foldl moved h A, length (closed_by h A)) ≡ hands_on h A 1024 1024 =
       no_refusal h A (replicate 1024 0) (replicate 1024 0) (ready_set h (length A + length B) s)
       (omega (arith, s.room)) (both_long 1024 _ _ (length A) (omega (arith, w.0, length-drop (R - lines) x))
       (omega (arith, z)) (omega (arith, z)))
       ∙ ap (λ m. hands_on h A m m) z in
-      let q : hands_on h T 1024 1024 ≡ Taken (foldl moved h A) (length (closed_by h A)) = ap (λ l. hands_on h l 1024 1024) t ∙ sym r in
+      let q : hands_on h T 1024 1024 ≡ Ok (foldl moved h A, length (closed_by h A)) = ap (λ l. hands_on h l 1024 1024) t ∙ sym r in
       let f = foldl moved h A in
       let c = length (closed_by h A) in
       ap (λ a. unless_refused a (closed_by h T) ++ given_all R (lines + length x) cs a) q
@@ -87,11 +84,11 @@ module _ (R : ℕ) where
 
 -- ---- a file
 module _ (D R τ file : ℕ) (step : step_in_range D ≡ true) (late : decorrelation_in_range τ ≡ true) where
-  started-is : started D ≡ survey.Taken (none D)
+  started-is : started D ≡ Ok (none D)
   unfolding started
   started-is = rw step
 
-  begun_is : (N S : ℕ) → begun D τ N S ≡ Taken (waiting D τ N S) 0
+  begun_is : (N S : ℕ) → begun D τ N S ≡ Ok (waiting D τ N S, 0)
   unfolding begun
   begun_is N S = rw (step, late)
 
@@ -158,13 +155,13 @@ module _ (D R τ file : ℕ) (step : step_in_range D ≡ true) (late : decorrela
     few = subst (λ l. length (drop R (samples_of l)) ≤ most_in_range D 0) text_is (samples_few D R (text ∷ []) step fine_one)
 
     -- the blocks of a reading that is over
-    block_samples : {handing : Handed} {bytes : List ℕ} {r : Run} (q : Ran D file R 0 (started D) handing bytes text [] r) → together q.cs ≡ X
+    block_samples : {handing : (Result (Handing × ℕ) Refusal)} {bytes : List ℕ} {r : Run} (q : Ran D file R 0 (started D) handing bytes text [] r) → together q.cs ≡ X
     block_samples {r = r} q = q.samples ∙ ap (λ us. map held (samples_of us)) (done_right r.pass text q.vs q.end ok).1 ∙ held_same X (all_good text ok)
 
-    counted_is : {handing : Handed} {bytes : List ℕ} {r : Run} (q : Ran D file R 0 (started D) handing bytes text [] r) → r.pass.counted ≡ survey.Taken (blocks R 0 (none D) q.cs)
+    counted_is : {handing : (Result (Handing × ℕ) Refusal)} {bytes : List ℕ} {r : Run} (q : Ran D file R 0 (started D) handing bytes text [] r) → r.pass.counted ≡ Ok (blocks R 0 (none D) q.cs)
     counted_is q = q.counts ∙ ap (on_blocks R 0 q.cs) started-is
 
-    module _ {h₁ h₂ : Handed} {b₁ b₂ : List ℕ} {one two : Run} (p : Ran D file R 0 (started D) h₁ b₁ text [] one) (q : Ran D file R 0 (started D) h₂ b₂ text [] two) where
+    module _ {h₁ h₂ : (Result (Handing × ℕ) Refusal)} {b₁ b₂ : List ℕ} {one two : Run} (p : Ran D file R 0 (started D) h₁ b₁ text [] one) (q : Ran D file R 0 (started D) h₂ b₂ text [] two) where
       same : same_file one.pass two.pass ≡ true
       same =
           let x = block_samples p in
@@ -178,11 +175,11 @@ module _ (D R τ file : ℕ) (step : step_in_range D ≡ true) (late : decorrela
           (c.sum ∙ ap (λ l. Rattle.peak_groups.specs.Peaks.sum (Rattle.peak_groups.specs.Runs.peaks D (drop R l))) z ∙ sym d.sum) in
           both_true
           (ap (λ s. alike_by one.pass.follow s two.pass.follow two.pass.counted) (counted_is p) ∙ ap
-          (λ s. alike_by one.pass.follow (survey.Taken (blocks R 0 (none D) p.cs)) two.pass.follow s)
+          (λ s. alike_by one.pass.follow (Ok (blocks R 0 (none D) p.cs)) two.pass.follow s)
           (counted_is q) ∙ a)
           (ap not (done_right two.pass text q.vs q.end ok).0)
 
-    module _ {h₁ : Handed} {b₁ : List ℕ} {one two : Run} (p : Ran D file R 0 (started D) h₁ b₁ text [] one) (q : Ran D file R 0 (started D) (begun_by D τ one.pass.counted) [] text [] two) where
+    module _ {h₁ : (Result (Handing × ℕ) Refusal)} {b₁ : List ℕ} {one two : Run} (p : Ran D file R 0 (started D) h₁ b₁ text [] one) (q : Ran D file R 0 (started D) (begun_by D τ one.pass.counted) [] text [] two) where
       abbrev N : ℕ
       N = (blocks R 0 (none D) p.cs).number
 
@@ -257,11 +254,11 @@ module _ (D R τ file : ℕ) (step : step_in_range D ≡ true) (late : decorrela
         ∙ ap (λ x. judged_said file nothing (judging one.pass.follow x one.pass.wrong)) first_ran.ramp_is
         ∙ ap (judged_said file nothing) (done_judged one.pass t.text first_ran.vs first_ran.end)
 
-    by_judged : (j : Judged) → comes_to D R (lines_of t.text) ≡ j
+    by_judged : (j : Result (Unit {0}) (ℕ × Refusal)) → comes_to D R (lines_of t.text) ≡ j
         → wrote one (two_of D R τ file t) ≡ judged_said file (peaks_read file (handed D R τ (samples_of (lines_of t.text)))) j
     unfolding then_said
-    by_judged (Refused line r) e = ap (λ s. then_said s (finished_by one (two_of D R τ file t))) (judged_is ∙ ap (judged_said file nothing) e)
-    by_judged Peaks e =
+    by_judged (Err (line, r)) e = ap (λ s. then_said s (finished_by one (two_of D R τ file t))) (judged_is ∙ ap (judged_said file nothing) e)
+    by_judged (Ok tt) e =
         let n : judged one.pass ≡ nothing = judged_is ∙ ap (judged_said file nothing) e in
         ap (λ s. then_said s (finished_by one (two_of D R τ file t))) n
         ∙ ap (λ r. then_said nothing (finished_by one r)) two_is

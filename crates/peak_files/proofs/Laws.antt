@@ -22,8 +22,6 @@ use Rattle.peak_machine.specs.Step.{size_of, moment_of}
 use Rattle.peak_lines.specs.Lines.{peak_lines, peaks_text, lines_place, lines_left, roomy}
 use Rattle.peak_lines.proofs.Laws.{lines_few, lines_of, lines_none, all_room}
 use Rattle.peak_stream.specs.declared.Handing.{Handing}
-use Rattle.peak_stream.specs.declared.Handed.{Handed}
-use Rattle.peak_stream.specs.declared.Handed.TheVariants.{Taken, Refused}
 use Rattle.peak_stream.specs.Hands.{hands_on, moved, ready, closed_by, noted, HandsOver}
 use Rattle.peak_groups.specs.Peaks.{short}
 use Rattle.refusal.specs.declared.Refusal.TheVariants.{Item, TooLong, Room, BrokenState}
@@ -31,8 +29,6 @@ use Rattle.comma_stream.specs.declared.Follow.{Follow}
 use Rattle.comma_stream.specs.declared.Rest.{Rest}
 use Rattle.comma_stream.specs.declared.Rest.TheVariants.{Waits, Over, Wrong}
 use Rattle.comma_line.specs.Text.{samples_of}
-use Rattle.comma_stream.specs.declared.Followed.{Followed}
-use Rattle.comma_stream.specs.declared.Followed.TheVariants as followed
 use Rattle.comma_stream.specs.Follow.{bytes_of, held, right_lines, after_lines, resting, taking, leaving}
 use Rattle.comma_count.proofs.Way.{took, never_refused}
 use Rattle.comma_peaks.specs.Timed.{timed_of}
@@ -40,6 +36,7 @@ use Rattle.peak_files.specs.declared.Pass.{Pass}
 use Rattle.peak_files.specs.declared.Took.{Took}
 use Rattle.peak_files.specs.Passing.{hands_over, hands_out, unless_refused, number_of, Gives, Passes, with_samples, given_text, ended_as}
 use Rattle.peak_files.specs.Passing.{Called, rested, took_by, lines_in, samples_in, rest_of, calling, Calls}
+use Rattle.std.specs.Prelude.{Result, Ok, Err}
 
 -- ---- lines written from the start, with room for each
 module _ (file : ℕ) (sizes times out : List ℕ) (same : length sizes ≡ length times) (room : length sizes * 48 ≤ length out) (small : file < 18446744073709551616) where
@@ -64,17 +61,17 @@ unfolding peaks_text
 nothing_out file = refl
 
 -- ---- what a second reading hands out of some samples
-never : {q : Refusal} {f : Handing} {k : ℕ} → Refused q ≡ Taken f k → ⊥
+never : {q : Refusal} {f : Handing} {k : ℕ} → Err q ≡ Ok (f, k) → ⊥
 never e = impossible (cc)
 
-tests : (a b c : Bool) (x y z : Refusal) (g f : Handing) (i k : ℕ) → cond a (Refused x) (cond b (Refused y) (cond c (Refused z) (Taken g i))) ≡ Taken f k → i ≡ k
+tests : (a b c : Bool) (x y z : Refusal) (g f : Handing) (i k : ℕ) → cond a (Err x) (cond b (Err y) (cond c (Err z) (Ok (g, i)))) ≡ Ok (f, k) → i ≡ k
 tests true b c x y z g f i k e = absurd (never e)
 tests false true c x y z g f i k e = absurd (never e)
 tests false false true x y z g f i k e = absurd (never e)
 tests false false false x y z g f i k e = cc
 
 -- the number told is that of the peaks that were closed
-taken_number : (h f : Handing) (xs : List ℤ) (k m n : ℕ) → hands_on h xs m n ≡ Taken f k → k ≡ length (closed_by h xs)
+taken_number : (h f : Handing) (xs : List ℤ) (k m n : ℕ) → hands_on h xs m n ≡ Ok (f, k) → k ≡ length (closed_by h xs)
 unfolding hands_on
 taken_number h f xs k m n e =
     sym (tests (not (ready h)) (ltb (most_in_range h.reading.step 0) (h.reading.n + length xs))
@@ -91,27 +88,27 @@ module _ (h : Handing) (R lines : ℕ) (xs : List ℤ) where
   front_of f k slice e = take_at (map f (closed_by h T)) (drop k slice) k (length-map (closed_by h T) f ∙ sym e)
 
   module _ (sizes times : List ℕ) (ns : length sizes ≡ 1024) (nt : length times ≡ 1024) (few : length xs ≤ 1024) where
-    asked : {a : Handed} → a ≡ hands_on h T (length sizes) (length times) → a ≡ hands_over h R lines xs
+    asked : {a : (Result (Handing × ℕ) Refusal)} → a ≡ hands_on h T (length sizes) (length times) → a ≡ hands_over h R lines xs
     asked e = e ∙ ap (λ m. hands_on h T m (length times)) ns ∙ ap (λ m. hands_on h T 1024 m) nt
 
-    pub number_few : (a : Handed) {s t : List ℕ} → HandsOver h T sizes times a s t → number_of a ≤ 1024
-    number_few (Taken f k) o = omega (arith, taken_number h f T k _ _ (sym o.answers), o.few, timed_few)
-    number_few (Refused q) o = omega arith
+    pub number_few : (a : Result (Handing × ℕ) Refusal) {s t : List ℕ} → HandsOver h T sizes times a s t → number_of a ≤ 1024
+    number_few (Ok (f, k)) o = omega (arith, taken_number h f T k _ _ (sym o.answers), o.few, timed_few)
+    number_few (Err q) o = omega arith
 
-    pub lines_out : (file : ℕ) (a : Handed) {s t : List ℕ} → HandsOver h T sizes times a s t
+    pub lines_out : (file : ℕ) (a : Result (Handing × ℕ) Refusal) {s t : List ℕ} → HandsOver h T sizes times a s t
         → peak_lines file (take (number_of a) s) (take (number_of a) t) ≡ peaks_text file (hands_out h R lines xs)
     unfolding noted
-    lines_out file (Taken f k) o =
+    lines_out file (Ok (f, k)) o =
         let n = taken_number h f T k _ _ (sym o.answers) in
         let a = ap (take k) o.sizes_left ∙ front_of size_of k sizes n in
         let b = ap (take k) o.times_left ∙ front_of moment_of k times n in
         (λ j. peak_lines file (a j) (b j))
         ∙ lines_of file (closed_by h T)
         ∙ ap (λ x. peaks_text file (unless_refused x (closed_by h T))) (asked o.answers)
-    lines_out file (Refused q) o =
+    lines_out file (Err q) o =
         lines_none file _ ∙ sym (nothing_out file) ∙ ap (λ x. peaks_text file (unless_refused x (closed_by h T))) (asked o.answers)
 
-    pub gives : (file : ℕ) (out : List ℕ) (a : Handed) {s t : List ℕ} {n : ℕ} {later : List ℕ} → file < 18446744073709551616 → 49152 ≤ length out
+    pub gives : (file : ℕ) (out : List ℕ) (a : Result (Handing × ℕ) Refusal) {s t : List ℕ} {n : ℕ} {later : List ℕ} → file < 18446744073709551616 → 49152 ≤ length out
         → length s ≡ 1024 → length t ≡ 1024 → HandsOver h T sizes times a s t
         → n ≡ lines_place file (take (number_of a) s) (take (number_of a) t) out 0 → later ≡ lines_left file (take (number_of a) s) (take (number_of a) t) out 0
         → Gives (hands_over h R lines xs) (peaks_text file (hands_out h R lines xs)) out a n later
@@ -128,7 +125,7 @@ module _ (h : Handing) (R lines : ℕ) (xs : List ℤ) where
           fits = subst (λ x. length x ≤ length out) w p.2;
         }
 
-pub gives_none : (file : ℕ) (out : List ℕ) (q : Refusal) → Gives (Refused q) (peaks_text file []) out (Refused q) 0 out
+pub gives_none : (file : ℕ) (out : List ℕ) (q : Refusal) → Gives (Err q) (peaks_text file []) out (Err q) 0 out
 unfolding peaks_text
 gives_none file out q = record { next-is = refl; put_is = refl; left = sym (laid_none out 0); fits = omega arith }
 
@@ -147,7 +144,7 @@ unfolding calling
 staying p text more room o = rw o refl
 
 -- no more lines than places
-pub lines_few_enough : {r : Followed} {f : Follow} {bytes n : ℕ} (m : ℕ) → r ≡ followed.Taken f bytes n → Rattle.comma_stream.specs.Follow.number_of r ≤ m → n ≤ m
+pub lines_few_enough : {r : (Result (Follow × ℕ × ℕ) Refusal)} {f : Follow} {bytes n : ℕ} (m : ℕ) → r ≡ Ok (f, bytes, n) → Rattle.comma_stream.specs.Follow.number_of r ≤ m → n ≤ m
 unfolding Rattle.comma_stream.specs.Follow.number_of
 lines_few_enough m i h = let g = rw i at h in g
 
@@ -175,7 +172,7 @@ module _ (p : Pass) (text : List ℕ) (more : Bool) (out : List ℕ) where
       unfolding calling
       step_out s = rw (o, le-ltb (length out) 49152 room, s) refl
 
-      pub calls_refused : {r : Followed} {q : Refusal} → r ≡ taking p.follow text (length (replicate 1024 (pos 0))) → r ≡ followed.Refused q
+      pub calls_refused : {r : (Result (Follow × ℕ × ℕ) Refusal)} {q : Refusal} → r ≡ taking p.follow text (length (replicate 1024 (pos 0))) → r ≡ Err q
           → Calls C out (record { pass = ended_as true p; used = length text; put = 0 }) out
       calls_refused e i =
           by_test (step_in_range p.follow.step)
@@ -189,12 +186,12 @@ module _ (p : Pass) (text : List ℕ) (more : Bool) (out : List ℕ) where
       rests Over q at put bytes e l f = record { pass_is = refl; used_is = refl; put_is = e; left = l; fits = f }
       rests Wrong q at put bytes e l f = record { pass_is = refl; used_is = refl; put_is = e; left = l; fits = f }
 
-      never_taken : (places : ℕ) {r : Followed} {f : Follow} {bytes n : ℕ} → step_in_range p.follow.step ≡ false → r ≡ taking p.follow text places → r ≡ followed.Taken f bytes n → ⊥
+      never_taken : (places : ℕ) {r : (Result (Follow × ℕ × ℕ) Refusal)} {f : Follow} {bytes n : ℕ} → step_in_range p.follow.step ≡ false → r ≡ taking p.follow text places → r ≡ Ok (f, bytes, n) → ⊥
       unfolding taking
-      never_taken places s e i = let u : taking p.follow text places ≡ followed.Refused (Item 1) = rw s refl in impossible (cc (sym i ∙ e ∙ u))
+      never_taken places s e i = let u : taking p.follow text places ≡ Err (Item 1) = rw s refl in impossible (cc (sym i ∙ e ∙ u))
 
-      pub calls_taken : (slice : List ℤ) → length slice ≡ 1024 → {r : Followed} {f : Follow} {bytes n put : ℕ} {later : List ℤ} {q : Pass} {rest : Rest} {t : Took} {outLater : List ℕ}
-          → r ≡ taking p.follow text (length slice) → later ≡ leaving r text slice → r ≡ followed.Taken f bytes n
+      pub calls_taken : (slice : List ℤ) → length slice ≡ 1024 → {r : (Result (Follow × ℕ × ℕ) Refusal)} {f : Follow} {bytes n put : ℕ} {later : List ℤ} {q : Pass} {rest : Rest} {t : Took} {outLater : List ℕ}
+          → r ≡ taking p.follow text (length slice) → later ≡ leaving r text slice → r ≡ Ok (f, bytes, n)
           → Passes p f (take n later) out q put outLater → rest ≡ rest_of n (drop bytes text) more → t ≡ took_by rest q bytes (length text) put
           → Calls C out t outLater
       calls_taken slice long {r} {f} {bytes} {n} {put} {later} {q} {rest} {t} {outLater} e l i w g h =

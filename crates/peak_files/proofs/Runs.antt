@@ -21,9 +21,6 @@ use Rattle.comma_stream.specs.Follow.{bytes_of, held, right_lines, after_lines}
 use Rattle.peak_groups.specs.declared.Peak.{Peak}
 use Rattle.peak_lines.specs.Lines.{peaks_text}
 use Rattle.peak_lines.proofs.Laws.{text_append}
-use Rattle.peak_stream.specs.declared.Surveyed.{Surveyed}
-use Rattle.peak_stream.specs.declared.Surveyed.TheVariants as survey
-use Rattle.peak_stream.specs.declared.Handed.{Handed}
 use Rattle.peak_stream.specs.Hands.{Pieces}
 use Rattle.comma_peaks.specs.Timed.{blocks}
 use Rattle.peak_files.specs.declared.Pass.{Pass}
@@ -31,28 +28,32 @@ use Rattle.peak_files.specs.Passing.{counted_on, handed_on, given_by, last_by, w
 use Rattle.peak_files.specs.Reading.{Run, on_call, at_last, running}
 use Rattle.peak_files.proofs.Laws.{staying}
 use Rattle.peak_files.proofs.Front.{At, Done, call, on_is}
+use Rattle.refusal.specs.declared.Refusal.{Refusal}
+use Rattle.peak_stream.specs.declared.Surveying.{Surveying}
+use Rattle.peak_stream.specs.declared.Handing.{Handing}
+use Rattle.std.specs.Prelude.{Result, Ok, Err}
 
 -- ---- blocks, one after the other, from so many lines on
-abbrev pub on_blocks : ℕ → ℕ → List (List ℤ) → Surveyed → Surveyed
-on_blocks R lines cs (survey.Taken s) = survey.Taken (blocks R lines s cs)
-on_blocks R lines cs (survey.Refused q) = survey.Refused q
+abbrev pub on_blocks : ℕ → ℕ → List (List ℤ) → Result Surveying Refusal → Result Surveying Refusal
+on_blocks R lines cs (Ok s) = Ok (blocks R lines s cs)
+on_blocks R lines cs (Err q) = Err q
 
-blocks_none : (R lines : ℕ) (a : Surveyed) → a ≡ on_blocks R lines [] a
+blocks_none : (R lines : ℕ) (a : Result Surveying Refusal) → a ≡ on_blocks R lines [] a
 unfolding blocks
-blocks_none R lines (survey.Taken s) = refl
-blocks_none R lines (survey.Refused q) = refl
+blocks_none R lines (Ok s) = refl
+blocks_none R lines (Err q) = refl
 
-blocks_next : (R lines : ℕ) (x : List ℤ) (cs : List (List ℤ)) (a : Surveyed) → on_blocks R (lines + length x) cs (counted_on a R lines x) ≡ on_blocks R lines (x ∷ cs) a
+blocks_next : (R lines : ℕ) (x : List ℤ) (cs : List (List ℤ)) (a : Result Surveying Refusal) → on_blocks R (lines + length x) cs (counted_on a R lines x) ≡ on_blocks R lines (x ∷ cs) a
 unfolding blocks
-blocks_next R lines x cs (survey.Taken s) = refl
-blocks_next R lines x cs (survey.Refused q) = refl
+blocks_next R lines x cs (Ok s) = refl
+blocks_next R lines x cs (Err q) = refl
 
-unfoldable pub given_all : ℕ → ℕ → List (List ℤ) → Handed → List Peak
+unfoldable pub given_all : ℕ → ℕ → List (List ℤ) → Result (Handing × ℕ) Refusal → List Peak
 given_all R lines [] a = last_by a
 given_all R lines (x ∷ cs) a = given_by a R lines x ++ given_all R (lines + length x) cs (handed_on a R lines x)
 
 -- ---- what a reading came to, from a place on
-pub record Ran (D file R lines : ℕ) (counted : Surveyed) (handing : Handed) (bytes text : List ℕ) (us : List (List ℕ)) (r : Run) : Type 0 where
+pub record Ran (D file R lines : ℕ) (counted : Result Surveying Refusal) (handing : Result (Handing × ℕ) Refusal) (bytes text : List ℕ) (us : List (List ℕ)) (r : Run) : Type 0 where
   pub cs : List (List ℤ)
   pub vs : List (List ℕ)
   pub end : Done D r.pass text (us ++ vs)
@@ -88,7 +89,7 @@ module _ (D : ℕ) where
       subst (λ q. RanOf q bytes text us r) e (subst (λ b. RanOf r.pass b text us r) f (ran_over text us r (subst (λ q. Done D q text us) (sym e) d)))
 
   -- a block more before it
-  module _ (file R lines : ℕ) (counted : Surveyed) (handing : Handed) (bytes text : List ℕ) (us L : List (List ℕ)) (r : Run) where
+  module _ (file R lines : ℕ) (counted : Result Surveying Refusal) (handing : Result (Handing × ℕ) Refusal) (bytes text : List ℕ) (us L : List (List ℕ)) (r : Run) where
     abbrev xs : List ℤ
     xs = map held (samples_of L)
 

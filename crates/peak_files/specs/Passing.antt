@@ -1,6 +1,6 @@
 -- What the functions answer: where a reading stands, from its opening over the pieces of a text to what is written of
 -- it. Assumes nothing.
-use Rattle.std.specs.Prelude.{ℕ, ◌≤◌, ◌≡◌, Bool, true, false, cond, not, ◌&&◌, List, [], ◌∷◌, map, ltb, ℤ, length, take, drop}
+use Rattle.std.specs.Prelude.{ℕ, ◌≤◌, ◌≡◌, Bool, true, false, cond, not, ◌&&◌, List, [], ◌∷◌, map, ltb, ℤ, length, take, drop, Option, Some, None, Result, Ok, Err}
 use Rattle.refusal.specs.declared.Refusal.TheVariants.{BrokenState}
 use Rattle.sample_items.specs.Limits.{step_in_range}
 use Rattle.text.specs.Write.{laid}
@@ -8,12 +8,6 @@ use Rattle.peak_groups.specs.declared.Peak.{Peak}
 use Rattle.peak_lines.specs.Lines.{peaks_text}
 use Rattle.peak_stream.specs.declared.Surveying.{Surveying}
 use Rattle.peak_stream.specs.declared.Handing.{Handing}
-use Rattle.peak_stream.specs.declared.Surveyed.{Surveyed}
-use Rattle.peak_stream.specs.declared.Surveyed.TheVariants as survey
-use Rattle.peak_stream.specs.declared.Handed.{Handed}
-use Rattle.peak_stream.specs.declared.Handed.TheVariants.{Taken, Refused}
-use Rattle.peak_stream.specs.declared.Last.{Last}
-use Rattle.peak_stream.specs.declared.Last.TheVariants.{One, None}
 use Rattle.peak_stream.specs.Survey.{started}
 use Rattle.peak_stream.specs.Hands.{begun, hands_on, closed_by, at_end}
 use Rattle.comma_line.specs.Text.{samples_of}
@@ -27,12 +21,13 @@ use Rattle.desk_line.specs.Said.{Said, failed_digit}
 use Rattle.peak_files.specs.declared.Pass.{Pass}
 use Rattle.peak_files.specs.declared.Took.{Took}
 use Rattle.peak_files.specs.Said.{peaks_read, nothing, judged_said}
+use Rattle.refusal.specs.declared.Refusal.{Refusal}
 
 -- ---- opening
 abbrev pub fresh : ℕ → Follow
 fresh D = record { step = D; lines = 0; outside = 0 }
 
-abbrev pub begins : ℕ → ℕ → ℕ → Handed → Pass
+abbrev pub begins : ℕ → ℕ → ℕ → Result (Handing × ℕ) Refusal → Pass
 begins D R file h =
     record {
       follow = fresh D;
@@ -46,20 +41,20 @@ begins D R file h =
 
 -- a first reading hands nothing out
 abbrev pub opening : ℕ → ℕ → ℕ → Pass
-opening D R file = begins D R file (Refused BrokenState)
+opening D R file = begins D R file (Err BrokenState)
 
-abbrev pub begun_by : ℕ → ℕ → Surveyed → Handed
-begun_by D τ (survey.Taken s) = begun D τ s.number s.sum
-begun_by D τ (survey.Refused q) = Refused q
+abbrev pub begun_by : ℕ → ℕ → Result Surveying Refusal → Result (Handing × ℕ) Refusal
+begun_by D τ (Ok s) = begun D τ s.number s.sum
+begun_by D τ (Err q) = Err q
 
 -- a second reading of the same file, after what the first counted
 abbrev pub again : Pass → ℕ → Pass
 again p τ = begins p.follow.step p.ramp p.file (begun_by p.follow.step τ p.counted)
 
 -- ---- samples more, after so many lines: what they count, and what they hand out
-abbrev pub counted_on : Surveyed → ℕ → ℕ → List ℤ → Surveyed
-counted_on (survey.Taken s) R lines xs = survey.Taken (counting R lines s xs)
-counted_on (survey.Refused q) R lines xs = survey.Refused q
+abbrev pub counted_on : Result Surveying Refusal → ℕ → ℕ → List ℤ → Result Surveying Refusal
+counted_on (Ok s) R lines xs = Ok (counting R lines s xs)
+counted_on (Err q) R lines xs = Err q
 
 -- at most so many lines are taken at once, and so many bytes have room for their peaks
 abbrev pub most_lines : ℕ
@@ -68,30 +63,30 @@ most_lines = 1024
 abbrev pub room_asked : ℕ
 room_asked = 49152
 
-abbrev pub hands_over : Handing → ℕ → ℕ → List ℤ → Handed
+abbrev pub hands_over : Handing → ℕ → ℕ → List ℤ → Result (Handing × ℕ) Refusal
 hands_over h R lines xs = hands_on h (timed_of R lines h.reading xs) most_lines most_lines
 
-abbrev pub unless_refused : Handed → List Peak → List Peak
-unless_refused (Taken h k) l = l
-unless_refused (Refused q) l = []
+abbrev pub unless_refused : Result (Handing × ℕ) Refusal → List Peak → List Peak
+unless_refused (Ok (h, k)) l = l
+unless_refused (Err q) l = []
 
 abbrev pub hands_out : Handing → ℕ → ℕ → List ℤ → List Peak
 hands_out h R lines xs = unless_refused (hands_over h R lines xs) (closed_by h (timed_of R lines h.reading xs))
 
-abbrev pub handed_on : Handed → ℕ → ℕ → List ℤ → Handed
-handed_on (Taken h k) R lines xs = hands_over h R lines xs
-handed_on (Refused q) R lines xs = Refused q
+abbrev pub handed_on : Result (Handing × ℕ) Refusal → ℕ → ℕ → List ℤ → Result (Handing × ℕ) Refusal
+handed_on (Ok (h, k)) R lines xs = hands_over h R lines xs
+handed_on (Err q) R lines xs = Err q
 
-abbrev pub given_by : Handed → ℕ → ℕ → List ℤ → List Peak
-given_by (Taken h k) R lines xs = hands_out h R lines xs
-given_by (Refused q) R lines xs = []
+abbrev pub given_by : Result (Handing × ℕ) Refusal → ℕ → ℕ → List ℤ → List Peak
+given_by (Ok (h, k)) R lines xs = hands_out h R lines xs
+given_by (Err q) R lines xs = []
 
-abbrev pub number_of : Handed → ℕ
-number_of (Taken h k) = k
-number_of (Refused q) = 0
+abbrev pub number_of : Result (Handing × ℕ) Refusal → ℕ
+number_of (Ok (h, k)) = k
+number_of (Err q) = 0
 
 -- what is handed on, with the lines of some peaks at the start of what is lent
-pub record Gives (next : Handed) (bytes out : List ℕ) (h : Handed) (put : ℕ) (later : List ℕ) : Type 0 where
+pub record Gives (next : Result (Handing × ℕ) Refusal) (bytes out : List ℕ) (h : Result (Handing × ℕ) Refusal) (put : ℕ) (later : List ℕ) : Type 0 where
   pub next-is : h ≡ next
   pub put_is : put ≡ length bytes
   pub left : later ≡ laid out 0 bytes
@@ -181,25 +176,25 @@ pub record Calls (c : Called) (out : List ℕ) (t : Took) (later : List ℕ) : T
 unfoldable pub judged : Pass → Said
 judged p = judged_said p.file nothing (judging p.follow p.ramp p.wrong)
 
-abbrev pub alike_taken : Follow → Surveying → Follow → Surveyed → Bool
-alike_taken f s g (survey.Taken t) = alike f s g t
-alike_taken f s g (survey.Refused q) = false
+abbrev pub alike_taken : Follow → Surveying → Follow → Result Surveying Refusal → Bool
+alike_taken f s g (Ok t) = alike f s g t
+alike_taken f s g (Err q) = false
 
-abbrev pub alike_by : Follow → Surveyed → Follow → Surveyed → Bool
-alike_by f (survey.Taken s) g b = alike_taken f s g b
-alike_by f (survey.Refused q) g b = false
+abbrev pub alike_by : Follow → Result Surveying Refusal → Follow → Result Surveying Refusal → Bool
+alike_by f (Ok s) g b = alike_taken f s g b
+alike_by f (Err q) g b = false
 
 -- the second was like the first
 abbrev pub same_file : Pass → Pass → Bool
 same_file a b = alike_by a.follow a.counted b.follow b.counted && not b.wrong
 
-abbrev pub peak_in : Last → List Peak
-peak_in (One p) = p ∷ []
+abbrev pub peak_in : Option Peak → List Peak
+peak_in (Some p) = p ∷ []
 peak_in None = []
 
-abbrev pub last_by : Handed → List Peak
-last_by (Taken h k) = at_end h
-last_by (Refused q) = []
+abbrev pub last_by : Result (Handing × ℕ) Refusal → List Peak
+last_by (Ok (h, k)) = at_end h
+last_by (Err q) = []
 
 -- the line of the last peak; or nothing, and '2', where the file has changed
 unfoldable pub finishing : Pass → Pass → Said

@@ -1,6 +1,6 @@
 -- WHAT IS WRITTEN OF THE ENVELOPE PEAKS of comma files (document 02, [1] and [11]; docs/CLERK.md): the bytes and a
 -- digit, over the whole texts. D is the step, R the ramp, τ the decorrelation time. Assumes nothing.
-use Rattle.std.specs.Prelude.{ℕ, ◌+◌, cond, List, [], ◌∷◌, ◌++◌, eqb}
+use Rattle.std.specs.Prelude.{ℕ, ◌+◌, cond, List, [], ◌∷◌, ◌++◌, eqb, Result, Ok, Err}
 use Rattle.refusal.specs.declared.Refusal.TheVariants.{Item}
 use Rattle.sample_items.specs.declared.Items.{Items}
 use Rattle.sample_items.specs.Limits.{item_outside}
@@ -10,9 +10,8 @@ use Rattle.peak_lines.specs.Lines.{peaks_text}
 use Rattle.decimal.specs.Lines.{lines_of}
 use Rattle.comma_line.specs.Text.{samples_of}
 use Rattle.desk_line.specs.Said.{Said, read_digit, refused}
-use Rattle.comma_peaks.specs.declared.Judged.{Judged}
-use Rattle.comma_peaks.specs.declared.Judged.TheVariants.{Refused, Peaks}
 use Rattle.comma_peaks.specs.Judged.{comes_to}
+use Rattle.refusal.specs.declared.Refusal.{Refusal}
 
 -- the places of a refused line: of a file alone, whose number is 0, the line; of one among several its number first
 unfoldable pub places_of : ℕ → ℕ → List ℕ
@@ -25,9 +24,9 @@ peaks_read file l = record { line = peaks_text file l; end = read_digit }
 abbrev pub nothing : Said
 nothing = record { line = []; end = read_digit }
 
-abbrev pub judged_said : ℕ → Said → Judged → Said
-judged_said file peaks (Refused line r) = refused (places_of file line) r
-judged_said file peaks Peaks = peaks
+abbrev pub judged_said : ℕ → Said → Result (Unit {0}) (ℕ × Refusal) → Said
+judged_said file peaks (Err (line, r)) = refused (places_of file line) r
+judged_said file peaks (Ok tt) = peaks
 
 -- ONE FILE: 10, 2, 3, 4 with the line at fault or 0, or the lines of its envelope peaks
 unfoldable pub file_said : ℕ → ℕ → ℕ → ℕ → List ℕ → Said

@@ -15,11 +15,10 @@ ghost use Rattle.peak_files.specs.Passing.{handed_on, given_by, number_of, Gives
 ghost use Rattle.peak_files.specs.Passing.{calling, Calls, judged, alike_taken, alike_by, peak_in, last_by};
 ghost use Rattle.peak_files.specs.Passing.{finishing};
 
-use comma_peaks::Judged;
-use comma_stream::{Follow, Followed, Rest};
+use comma_stream::{Follow, Rest};
 use desk_line::Finished;
 use peak_groups::Peak;
-use peak_stream::{Handed, Handing, Last, Surveyed, Surveying};
+use peak_stream::{Handing, Surveying};
 use refusal::Refusal;
 use sample_channels::Levels;
 use sample_items::Items;
@@ -38,9 +37,9 @@ pub struct Pass {
     // Its number among several, 0 for a file alone.
     pub file: u64,
     // What the lines count, in either reading.
-    pub counted: Surveyed,
+    pub counted: Result<Surveying, Refusal>,
     // What the second reading hands out; the first hands out nothing.
-    pub handing: Handed,
+    pub handing: Result<(Handing, u64), Refusal>,
     // Nothing that follows is read, and whether that is for a line that is wrong.
     pub over: bool,
     pub wrong: bool,
@@ -84,7 +83,7 @@ pub fn judge_items(step: u64, ramp: u64, decorrelation: u64, out: &mut [u8]) -> 
     desk_line::refuse(0, Refusal::Item(item), out)
 }
 
-fn begins(step: u64, ramp: u64, file: u64, handing: Handed) -> Pass
+fn begins(step: u64, ramp: u64, file: u64, handing: Result<(Handing, u64), Refusal>) -> Pass
     ensures { result ≡ begins step ramp file handing }
 {
     Pass {
@@ -106,15 +105,19 @@ fn begins(step: u64, ramp: u64, file: u64, handing: Handed) -> Pass
 pub fn open(step: u64, ramp: u64, file: u64) -> Pass
     ensures { result ≡ opening step ramp file }
 {
-    begins(step, ramp, file, Handed::Refused(Refusal::BrokenState))
+    begins(step, ramp, file, Err(Refusal::BrokenState))
 }
 
-fn begun_by(step: u64, decorrelation: u64, counted: Surveyed) -> Handed
+fn begun_by(
+    step: u64,
+    decorrelation: u64,
+    counted: Result<Surveying, Refusal>,
+) -> Result<(Handing, u64), Refusal>
     ensures { result ≡ begun_by step decorrelation counted }
 {
     match counted {
-        Surveyed::Taken(s) => peak_stream::begin(step, decorrelation, s.number, s.sum),
-        Surveyed::Refused(q) => Handed::Refused(q),
+        Ok(s) => peak_stream::begin(step, decorrelation, s.number, s.sum),
+        Err(q) => Err(q),
     }
 }
 
@@ -132,29 +135,34 @@ pub fn again(p: Pass, decorrelation: u64) -> Pass
     )
 }
 
-fn counted_on(counted: Surveyed, ramp: u64, lines: u64, samples: &[i32]) -> Surveyed
+fn counted_on(
+    counted: Result<Surveying, Refusal>,
+    ramp: u64,
+    lines: u64,
+    samples: &[i32],
+) -> Result<Surveying, Refusal>
     ensures { result ≡ counted_on counted ramp lines samples.now }
 {
     match counted {
-        Surveyed::Taken(s) => Surveyed::Taken(comma_peaks::count(s, ramp, lines, samples)),
-        Surveyed::Refused(q) => Surveyed::Refused(q),
+        Ok(s) => Ok(comma_peaks::count(s, ramp, lines, samples)),
+        Err(q) => Err(q),
     }
 }
 
 // How many peaks were handed out.
-fn number_of(h: Handed) -> usize
+fn number_of(h: Result<(Handing, u64), Refusal>) -> usize
     ensures { result ≡ number_of h }
 {
     match h {
-        Handed::Taken(_, k) => k as usize,
-        Handed::Refused(_) => 0,
+        Ok((_, k)) => k as usize,
+        Err(_) => 0,
     }
 }
 
 // What is handed out after some samples, and how many bytes were written.
 #[derive(Clone, Copy)]
 struct Gave {
-    handing: Handed,
+    handing: Result<(Handing, u64), Refusal>,
     put: usize,
 }
 
@@ -173,16 +181,23 @@ fn hand(file: u64, h: Handing, ramp: u64, lines: u64, samples: &[i32], out: &mut
     Gave { handing, put }
 }
 
-fn handed_on(file: u64, a: Handed, ramp: u64, lines: u64, samples: &[i32], out: &mut [u8]) -> Gave
+fn handed_on(
+    file: u64,
+    a: Result<(Handing, u64), Refusal>,
+    ramp: u64,
+    lines: u64,
+    samples: &[i32],
+    out: &mut [u8],
+) -> Gave
     requires { (length samples.now ≤ 1024) × (49152 ≤ length out.old) }
     ensures { Gives (handed_on a ramp lines samples.now)
         (peaks_text file (given_by a ramp lines samples.now))
         out.old result.handing result.put out.new }
 {
     match a {
-        Handed::Taken(h, _) => hand(file, h, ramp, lines, samples, out),
-        Handed::Refused(q) => Gave {
-            handing: Handed::Refused(q),
+        Ok((h, _)) => hand(file, h, ramp, lines, samples, out),
+        Err(q) => Gave {
+            handing: Err(q),
             put: 0,
         },
     }
@@ -279,7 +294,7 @@ fn lines(p: Pass, text: &[u8], more: bool, out: &mut [u8]) -> Took
     let mut samples = [0i32; LINES];
     let all = text.len();
     let before = p.follow;
-    let Followed::Taken(f, bytes, n) = comma_stream::take(before, text, &mut samples) else {
+    let Ok((f, bytes, n)) = comma_stream::take(before, text, &mut samples) else {
         return Took {
             pass: ended(p, true),
             used: all,
@@ -327,13 +342,13 @@ fn refuse_at(file: u64, line: u64, r: Refusal, out: &mut [u8]) -> Finished
     desk_line::refuse_in(file, line, r, out)
 }
 
-fn put_judged(file: u64, j: Judged, out: &mut [u8]) -> Finished
+fn put_judged(file: u64, j: Result<(), (u64, Refusal)>, out: &mut [u8]) -> Finished
     requires { longest_said ≤ length out.old }
     ensures { Puts (judged_said file nothing j) out.old result out.new }
 {
     match j {
-        Judged::Refused(line, r) => refuse_at(file, line, r, out),
-        Judged::Peaks => Finished {
+        Err((line, r)) => refuse_at(file, line, r, out),
+        Ok(()) => Finished {
             put: 0,
             end: desk_line::READ,
         },
@@ -357,31 +372,36 @@ pub fn judge(p: Pass, out: &mut [u8]) -> Finished
     put_judged(p.file, comma_peaks::judge(f, p.ramp, p.wrong), out)
 }
 
-fn alike_taken(f: Follow, s: Surveying, g: Follow, b: Surveyed) -> bool
+fn alike_taken(f: Follow, s: Surveying, g: Follow, b: Result<Surveying, Refusal>) -> bool
     ensures { result ≡ alike_taken f s g b }
 {
     match b {
-        Surveyed::Taken(t) => comma_peaks::alike(f, s, g, t),
-        Surveyed::Refused(_) => false,
+        Ok(t) => comma_peaks::alike(f, s, g, t),
+        Err(_) => false,
     }
 }
 
-fn alike_by(f: Follow, a: Surveyed, g: Follow, b: Surveyed) -> bool
+fn alike_by(
+    f: Follow,
+    a: Result<Surveying, Refusal>,
+    g: Follow,
+    b: Result<Surveying, Refusal>,
+) -> bool
     ensures { result ≡ alike_by f a g b }
 {
     match a {
-        Surveyed::Taken(s) => alike_taken(f, s, g, b),
-        Surveyed::Refused(_) => false,
+        Ok(s) => alike_taken(f, s, g, b),
+        Err(_) => false,
     }
 }
 
-fn put_peak(file: u64, last: Last, out: &mut [u8]) -> Finished
+fn put_peak(file: u64, last: Option<Peak>, out: &mut [u8]) -> Finished
     requires { longest_said ≤ length out.old }
     ensures { Puts (peaks_read file (peak_in last)) out.old result out.new }
 {
     match last {
-        Last::One(p) => put_one(file, p, out),
-        Last::None => Finished {
+        Some(p) => put_one(file, p, out),
+        None => Finished {
             put: 0,
             end: desk_line::READ,
         },
@@ -401,13 +421,13 @@ fn put_one(file: u64, p: Peak, out: &mut [u8]) -> Finished
     }
 }
 
-fn put_last(file: u64, a: Handed, out: &mut [u8]) -> Finished
+fn put_last(file: u64, a: Result<(Handing, u64), Refusal>, out: &mut [u8]) -> Finished
     requires { longest_said ≤ length out.old }
     ensures { Puts (peaks_read file (last_by a)) out.old result out.new }
 {
     match a {
-        Handed::Taken(h, _) => put_peak(file, peak_stream::finish(h), out),
-        Handed::Refused(_) => Finished {
+        Ok((h, _)) => put_peak(file, peak_stream::finish(h), out),
+        Err(_) => Finished {
             put: 0,
             end: desk_line::READ,
         },

@@ -21,14 +21,13 @@ use Rattle.peak_tail.proofs.Order as tail
 use Rattle.peak_tail.proofs.Summing.{figures_most, near_sum}
 use Rattle.peak_reach.specs.declared.Times.{Times}
 use Rattle.peak_reach.specs.declared.Letter.{Letter}
-use Rattle.peak_reach.specs.declared.Extrapolated.{Extrapolated}
-use Rattle.peak_reach.specs.declared.Extrapolated.TheVariants.{Found, Refused}
 use Rattle.peak_reach.specs.Answers.{Right, Told, extrapolated, first_out, item_outside, letter_for, no_spread}
 use Rattle.peak_reach.specs.Answers.{reached, samples_outside, standard_in_range, times}
 use Rattle.peak_reach.specs.Figures.{full_sum}
 use Rattle.peak_reach.specs.Steps.{Judged, Ready}
 use Rattle.peak_reach.proofs.Downwards.{in_range, inside, lies_downwards}
 use Rattle.peak_reach.proofs.Rightly.{right}
+use Rattle.std.specs.Prelude.{Result, Ok, Err}
 
 some_of : (n : ℕ) → (n ≡ 0 → ⊥) → 1 ≤ n
 some_of n f = by_order 0 n (λ l. l) (λ l. absurd (f (omega arith)))
@@ -108,40 +107,40 @@ module _ (ys : List ℕ) (k c D : ℕ) (j : Judged ys k c D) where
 
 -- ---- what the code answers, test by test
 module _ (ys : List ℕ) (k c D P q : ℕ) where
-  pub refuses_samples : within k 100000000 P ≡ false → Refused TimedSamples ≡ reached ys k c D P q
+  pub refuses_samples : within k 100000000 P ≡ false → Err TimedSamples ≡ reached ys k c D P q
   unfolding reached
   refuses_samples e = rw e
 
   module _ (s : within k 100000000 P ≡ true) where
-    pub refuses_level : c < kth ys k → Refused (LowLevel (kth ys k)) ≡ reached ys k c D P q
+    pub refuses_level : c < kth ys k → Err (LowLevel (kth ys k)) ≡ reached ys k c D P q
     unfolding reached
     refuses_level l = rw (s, lt-ltb c (kth ys k) l)
 
     module _ (l : kth ys k ≤ c) where
-      pub refuses_spread : no_spread k (hill_sum ys k) (our_figure c (kth ys k)) ≡ true → Refused NoSpread ≡ reached ys k c D P q
+      pub refuses_spread : no_spread k (hill_sum ys k) (our_figure c (kth ys k)) ≡ true → Err NoSpread ≡ reached ys k c D P q
       unfolding reached
       refuses_spread e = rw (s, le-ltb c (kth ys k) l, e)
 
       pub finds : no_spread k (hill_sum ys k) (our_figure c (kth ys k)) ≡ false → (t : Times) (x : Letter) → t ≡ times ys k c D P
-          → x ≡ letter_for q t → Found t x ≡ reached ys k c D P q
+          → x ≡ letter_for q t → Ok (t, x) ≡ reached ys k c D P q
       unfolding reached
       finds e t x is letter = rw (s, le-ltb c (kth ys k) l, e, letter, is)
 
-  pub refuses_item : (n : ℕ) → n ≡ item_outside D c q → (n ≡ 0 → ⊥) → Refused (Item n) ≡ extrapolated ys k c D P q
+  pub refuses_item : (n : ℕ) → n ≡ item_outside D c q → (n ≡ 0 → ⊥) → Err (Item n) ≡ extrapolated ys k c D P q
   unfolding extrapolated
   refuses_item n e h = rw (← e, ne_eqb n 0 h)
 
   module _ (items : item_outside D c q ≡ 0) where
-    pub refuses_tail : tail_outside (length ys) k ≡ true → Refused Tail ≡ extrapolated ys k c D P q
+    pub refuses_tail : tail_outside (length ys) k ≡ true → Err Tail ≡ extrapolated ys k c D P q
     unfolding extrapolated
     refuses_tail e = rw (items, e)
 
     module _ (tail : tail_outside (length ys) k ≡ false) where
-      pub refuses_peak : (n : ℕ) → n ≡ first_out ys → n < length ys → Refused (Peak n) ≡ extrapolated ys k c D P q
+      pub refuses_peak : (n : ℕ) → n ≡ first_out ys → n < length ys → Err (Peak n) ≡ extrapolated ys k c D P q
       unfolding extrapolated
       refuses_peak n e l = rw (items, tail, ← e, lt-ltb n (length ys) l)
 
-      pub goes_on : length ys ≤ first_out ys → (x : Extrapolated) → x ≡ reached ys k c D P q → x ≡ extrapolated ys k c D P q
+      pub goes_on : length ys ≤ first_out ys → (x : Result (Times × Letter) Refusal) → x ≡ reached ys k c D P q → x ≡ extrapolated ys k c D P q
       unfolding extrapolated
       goes_on l x e = rw (items, tail, le-ltb (first_out ys) (length ys) l) e
 
@@ -158,7 +157,7 @@ unfolding hill_within
 hill_within_lem ys k e = rw e
 
 -- ---- an answer with times passed every test
-passed : (b : Bool) (r : Refusal) (x : Extrapolated) {t : Times} {l : Letter} → cond b (Refused r) x ≡ Found t l → (b ≡ false) × (x ≡ Found t l)
+passed : (b : Bool) (r : Refusal) (x : Result (Times × Letter) Refusal) {t : Times} {l : Letter} → cond b (Err r) x ≡ Ok (t, l) → (b ≡ false) × (x ≡ Ok (t, l))
 passed true r x e = impossible (cc)
 passed false r x e = (refl, e)
 
@@ -172,13 +171,13 @@ pub record Answered (ys : List ℕ) (k c D P q : ℕ) (t : Times) (l : Letter) :
   pub letter : l ≡ letter_for q t
 
 module _ (ys : List ℕ) (k c D P q : ℕ) (t : Times) (l : Letter) where
-  given : Found (times ys k c D P) (letter_for q (times ys k c D P)) ≡ Found t l → (t ≡ times ys k c D P) × (l ≡ letter_for q t)
+  given : Ok (times ys k c D P, letter_for q (times ys k c D P)) ≡ Ok (t, l) → (t ≡ times ys k c D P) × (l ≡ letter_for q t)
   given e =
       let d : times ys k c D P ≡ t = cc in
       let f : letter_for q (times ys k c D P) ≡ l = cc in
       (cc, rw (← d) cc)
 
-  pub answered : extrapolated ys k c D P q ≡ Found t l → Answered ys k c D P q t l
+  pub answered : extrapolated ys k c D P q ≡ Ok (t, l) → Answered ys k c D P q t l
   unfolding extrapolated reached
   answered e =
       let (items, e₁) = passed (not (eqb (item_outside D c q) 0)) _ _ e in
@@ -201,7 +200,7 @@ module _ (ys : List ℕ) (k c D P q : ℕ) (t : Times) (l : Letter) where
       }
 
   -- and at any other standard the same times are answered
-  pub at_another : Answered ys k c D P q t l → (p : ℕ) → standard_in_range p ≡ true → extrapolated ys k c D P p ≡ Found t (letter_for p t)
+  pub at_another : Answered ys k c D P q t l → (p : ℕ) → standard_in_range p ≡ true → extrapolated ys k c D P p ≡ Ok (t, letter_for p t)
   unfolding extrapolated reached item_outside
   at_another a p e =
       rw (
@@ -214,11 +213,11 @@ module _ (ys : List ℕ) (k c D P q : ℕ) (t : Times) (l : Letter) where
         le-ltb c (kth ys k) a.is_ready.above,
         a.spread,
       )
-      (ap (λ (x : Times). Found x (letter_for p x)) (sym a.is))
+      (ap (λ (x : Times). Ok (x, letter_for p x)) (sym a.is))
 
   pub answered_right : Answered ys k c D P q t l → Right ys k c P D t
   answered_right a = rw a.is (right ys k c (hill_sum ys k) D P (hill ys k c D a.judged) a.is_ready)
 
-pub told : (ys : List ℕ) (k c D P q : ℕ) (x : Extrapolated) → x ≡ extrapolated ys k c D P q → Told ys k c P D x
-told ys k c D P q (Found t l) e = answered_right ys k c D P q t l (answered ys k c D P q t l (sym e))
-told ys k c D P q (Refused r) e = tt
+pub told : (ys : List ℕ) (k c D P q : ℕ) (x : Result (Times × Letter) Refusal) → x ≡ extrapolated ys k c D P q → Told ys k c P D x
+told ys k c D P q (Ok (t, l)) e = answered_right ys k c D P q t l (answered ys k c D P q t l (sym e))
+told ys k c D P q (Err r) e = tt

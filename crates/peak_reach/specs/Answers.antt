@@ -1,6 +1,6 @@
 -- [14]: what the entry answers, in the request's order of refusals, and what its times and its letter say. Assumes
 -- nothing.
-use Rattle.std.specs.Prelude.{◌≡◌, Bool, cond, not, ◌&&◌, ◌||◌, List, [], ◌∷◌, ℕ, suc, ◌+◌, ◌-◌, ◌*◌, ◌≤◌, ◌<◌, eqb, leb, ltb, length}
+use Rattle.std.specs.Prelude.{◌≡◌, Bool, cond, not, ◌&&◌, ◌||◌, List, [], ◌∷◌, ℕ, suc, ◌+◌, ◌-◌, ◌*◌, ◌≤◌, ◌<◌, eqb, leb, ltb, length, Result, Ok, Err}
 use Rattle.refusal.specs.declared.Refusal.TheVariants.{Item, LowLevel, NoSpread, Peak, Tail, TimedSamples}
 use Rattle.sample_items.specs.Limits.{level_in_range, step_in_range, within}
 use Rattle.poisson.specs.Rows.{million}
@@ -10,10 +10,9 @@ use Rattle.peak_tail.specs.Hill.{hill_sum, kth}
 use Rattle.peak_reach.specs.declared.Times.{Times}
 use Rattle.peak_reach.specs.declared.Letter.{Letter}
 use Rattle.peak_reach.specs.declared.Letter.TheVariants.{Accept, Reject, Continue}
-use Rattle.peak_reach.specs.declared.Extrapolated.{Extrapolated}
-use Rattle.peak_reach.specs.declared.Extrapolated.TheVariants.{Found, Refused}
 use Rattle.peak_reach.specs.Figures.{count_width, full_sum, longest_standard, shape_width, times_of}
 use Rattle.peak_reach.specs.Reach.{Accepted, AcceptedWell, AtMostEstimate, Rejected, RejectedWell}
+use Rattle.refusal.specs.declared.Refusal.{Refusal}
 
 -- item 5, the standard
 abbrev pub standard_in_range : ℕ → Bool
@@ -49,19 +48,19 @@ abbrev pub times : List ℕ → ℕ → ℕ → ℕ → ℕ → Times
 times ys k c D P = times_of (kth ys k) c k (hill_sum ys k) D P
 
 -- the list is judged: 19, 20, 21 or the times and the letter
-unfoldable pub reached : List ℕ → ℕ → ℕ → ℕ → ℕ → ℕ → Extrapolated
+unfoldable pub reached : List ℕ → ℕ → ℕ → ℕ → ℕ → ℕ → Result (Times × Letter) Refusal
 reached ys k c D P q =
-    cond (samples_outside k P) (Refused TimedSamples)
-    (cond (ltb c (kth ys k)) (Refused (LowLevel (kth ys k)))
-    (cond (no_spread k (hill_sum ys k) (our_figure c (kth ys k))) (Refused NoSpread)
-    (Found (times ys k c D P) (letter_for q (times ys k c D P)))))
+    cond (samples_outside k P) (Err TimedSamples)
+    (cond (ltb c (kth ys k)) (Err (LowLevel (kth ys k)))
+    (cond (no_spread k (hill_sum ys k) (our_figure c (kth ys k))) (Err NoSpread)
+    (Ok (times ys k c D P, letter_for q (times ys k c D P)))))
 
 -- 1 with the lowest item, 16, 17, and what the list comes to
-unfoldable pub extrapolated : List ℕ → ℕ → ℕ → ℕ → ℕ → ℕ → Extrapolated
+unfoldable pub extrapolated : List ℕ → ℕ → ℕ → ℕ → ℕ → ℕ → Result (Times × Letter) Refusal
 extrapolated ys k c D P q =
-    cond (not (eqb (item_outside D c q) 0)) (Refused (Item (item_outside D c q)))
-    (cond (tail_outside (length ys) k) (Refused Tail)
-    (cond (ltb (first_out ys) (length ys)) (Refused (Peak (first_out ys)))
+    cond (not (eqb (item_outside D c q) 0)) (Err (Item (item_outside D c q)))
+    (cond (tail_outside (length ys) k) (Err Tail)
+    (cond (ltb (first_out ys) (length ys)) (Err (Peak (first_out ys)))
     (reached ys k c D P q)))
 
 -- ---- what the times say, by the definitions that have no figure of ours in them
@@ -90,10 +89,10 @@ pub record CountedTimes (k h w r : ℕ) (t : Times) : Type 0 where
       → (1 ≤ t.rejected) × (t.rejected ≤ q)
 
 -- of a refusal nothing is left to say
-abbrev pub Told : List ℕ → ℕ → ℕ → ℕ → ℕ → Extrapolated → Type 0
-Told ys k c P D (Found t l) = Right ys k c P D t
-Told ys k c P D (Refused r) = Unit {0}
+abbrev pub Told : List ℕ → ℕ → ℕ → ℕ → ℕ → Result (Times × Letter) Refusal → Type 0
+Told ys k c P D (Ok (t, l)) = Right ys k c P D t
+Told ys k c P D (Err r) = Unit {0}
 
-pub record ExtrapolatesTo (ys : List ℕ) (k c D P q : ℕ) (x : Extrapolated) : Type 0 where
+pub record ExtrapolatesTo (ys : List ℕ) (k c D P q : ℕ) (x : Result (Times × Letter) Refusal) : Type 0 where
   pub answers : x ≡ extrapolated ys k c D P q
   pub told : Told ys k c P D x

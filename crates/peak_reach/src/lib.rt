@@ -35,12 +35,6 @@ pub enum Letter {
     Continue,
 }
 
-#[derive(Clone, Copy)]
-pub enum Extrapolated {
-    Found(Times, Letter),
-    Refused(Refusal),
-}
-
 fn between(low: u64, high: u64, x: u64) -> bool
     ensures { result ≡ within low high x }
 {
@@ -201,26 +195,33 @@ fn letter_for(standard: u64, t: Times) -> Letter
 }
 
 // What a list comes to that 1, 16 and 17 are passed for.
-fn reach(peaks: &[u32], k: u64, level: u64, step: u64, samples: u64, standard: u64) -> Extrapolated
+fn reach(
+    peaks: &[u32],
+    k: u64,
+    level: u64,
+    step: u64,
+    samples: u64,
+    standard: u64,
+) -> Result<(Times, Letter), Refusal>
     requires { Judged peaks.now k level step }
     ensures { result ≡ reached peaks.now k level step samples standard }
 {
     let last = (k - 1) as usize;
     let u = peaks[last];
     if !between(k, MOST_SAMPLES, samples) {
-        return Extrapolated::Refused(Refusal::TimedSamples);
+        return Err(Refusal::TimedSamples);
     }
     let c = level as u32;
     if c < u {
-        return Extrapolated::Refused(Refusal::LowLevel(u as u64));
+        return Err(Refusal::LowLevel(u as u64));
     }
     let g = logarithm::log2(c, u);
     let sum = peak_tail::hill_sum(peaks, k);
     if no_spread(k, sum, g) {
-        return Extrapolated::Refused(Refusal::NoSpread);
+        return Err(Refusal::NoSpread);
     }
     let t = three(u, c, k, sum, step, samples, g);
-    Extrapolated::Found(t, letter_for(standard, t))
+    Ok((t, letter_for(standard, t)))
 }
 
 // The times beyond the records and the letter for a standard, from peaks that lie downwards; or refusal 1 (items 1, 3
@@ -232,20 +233,20 @@ pub fn extrapolate(
     step: u64,
     samples: u64,
     standard: u64,
-) -> Extrapolated
+) -> Result<(Times, Letter), Refusal>
     ensures { ExtrapolatesTo peaks.now k level step samples standard result }
 {
     let item = item_outside(step, level, standard);
     if item != 0 {
-        return Extrapolated::Refused(Refusal::Item(item));
+        return Err(Refusal::Item(item));
     }
     let n = peaks.len();
     if peak_tail::tail_outside(n as u64, k) {
-        return Extrapolated::Refused(Refusal::Tail);
+        return Err(Refusal::Tail);
     }
     let out = first_out(peaks);
     if out < n {
-        return Extrapolated::Refused(Refusal::Peak(out as u64));
+        return Err(Refusal::Peak(out as u64));
     }
     reach(peaks, k, level, step, samples, standard)
 }

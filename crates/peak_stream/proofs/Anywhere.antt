@@ -15,19 +15,18 @@ use Rattle.sample_items.specs.Limits.{step_in_range, decorrelation_in_range, mos
 use Rattle.peak_groups.specs.declared.Peak.{Peak}
 use Rattle.peak_groups.specs.Peaks.{handed, short}
 use Rattle.peak_stream.specs.declared.Surveying.{Surveying}
-use Rattle.peak_stream.specs.declared.Surveyed.TheVariants as surveyed
 use Rattle.peak_stream.specs.declared.Handing.{Handing}
-use Rattle.peak_stream.specs.declared.Handed.{Handed}
-use Rattle.peak_stream.specs.declared.Handed.TheVariants.{Taken}
 use Rattle.peak_stream.specs.Survey.{started, onwards, Totalled, Small}
 use Rattle.peak_stream.specs.Hands.{waiting, begun, moved, closed_by, ready, hands_on, handing_out, Pieces}
 use Rattle.peak_stream.proofs.Pieces.{survey_anywhere}
 use Rattle.peak_stream.proofs.Coming.{Set, set_out, set_next, ready_set, outs, handed_anywhere}
 use Rattle.peak_stream.proofs.Over.{no_refusal}
+use Rattle.refusal.specs.declared.Refusal.{Refusal}
+use Rattle.std.specs.Prelude.{Result, Ok}
 
 -- both passes
 pub peaks_anywhere : (D τ : ℕ) (ps qs : List (List ℤ)) → together ps ≡ together qs → step_in_range D ≡ true → Small (together ps) → length (together ps) ≤ most_in_range D 0
-    → (s : Surveying) × (onwards ps (started D) ≡ surveyed.Taken s) × (outs (waiting D τ s.number s.sum) qs ≡ handed D 0 τ (together ps))
+    → (s : Surveying) × (onwards ps (started D) ≡ Ok s) × (outs (waiting D τ s.number s.sum) qs ≡ handed D 0 τ (together ps))
 peaks_anywhere D τ ps qs same e m l =
     let a = survey_anywhere D ps e m l in
     (a.0, a.1, handed_anywhere D τ qs a.0 (subst (λ (xs : List ℤ). Totalled D xs a.0) same a.2) ∙ ap (handed D 0 τ) (sym same))
@@ -35,7 +34,7 @@ peaks_anywhere D τ ps qs same e m l =
 -- ---- each piece is answered
 abbrev pub AllTaken : Handing → List (List ℤ) → ℕ → ℕ → Type 0
 AllTaken h [] sizes times = Unit {0}
-AllTaken h (p ∷ ps) sizes times = (Taken (foldl moved h p) (length (closed_by h p)) ≡ hands_on h p sizes times) × AllTaken (foldl moved h p) ps sizes times
+AllTaken h (p ∷ ps) sizes times = (Ok (foldl moved h p, length (closed_by h p)) ≡ hands_on h p sizes times) × AllTaken (foldl moved h p) ps sizes times
 
 pub set_fold : (h : Handing) (xs : List ℤ) (k : ℕ) → Set h (length xs + k) → Set (foldl moved h xs) k
 set_fold h [] k g = subst (Set h) (omega arith) g
@@ -63,17 +62,17 @@ module _ (n : ℕ) (sizes times : List ℕ) (a : n ≤ length sizes) (b : n ≤ 
 
   -- what the answers hand out is what the states do
   out : (h : Handing) (k : ℕ) (ps : List (List ℤ)) → AllTaken h ps (length sizes) (length times)
-      → handing_out (length sizes) (length times) ps (Taken h k) ≡ outs h ps
+      → handing_out (length sizes) (length times) ps (Ok (h, k)) ≡ outs h ps
   unfolding handing_out outs
   out h k [] w = refl
   out h k (p ∷ ps) w =
-      ap (λ (a : Handed). closed_by h p ++ handing_out (length sizes) (length times) ps a) (sym w.0)
+      ap (λ (a : Result (Handing × ℕ) Refusal). closed_by h p ++ handing_out (length sizes) (length times) ps a) (sym w.0)
       ∙ ap (λ (l : List Peak). closed_by h p ++ l) (out (foldl moved h p) (length (closed_by h p)) ps w.1)
 
   -- both passes, answer by answer
   pub passes_anywhere : (D R τ : ℕ) (xs : List ℤ) (ps qs : List (List ℤ)) → together ps ≡ drop R xs → together qs ≡ drop R xs
       → step_in_range D ≡ true → decorrelation_in_range τ ≡ true → Small (drop R xs) → length (drop R xs) ≤ most_in_range D 0 → Pieces n qs
-      → (s : Surveying) × (onwards ps (started D) ≡ surveyed.Taken s)
+      → (s : Surveying) × (onwards ps (started D) ≡ Ok s)
       × (handing_out (length sizes) (length times) qs (begun D τ s.number s.sum) ≡ handed D R τ xs)
   unfolding begun
   passes_anywhere D R τ xs ps qs e f d t m l w =

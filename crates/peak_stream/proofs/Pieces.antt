@@ -18,22 +18,22 @@ use Rattle.peak_groups.specs.Groups.{larger}
 use Rattle.sample_items.specs.Limits.{step_in_range, most_in_range}
 use Rattle.peak_stream.specs.declared.Reading.{Reading}
 use Rattle.peak_stream.specs.declared.Surveying.{Surveying}
-use Rattle.peak_stream.specs.declared.Surveyed.TheVariants.{Taken, Refused}
 use Rattle.peak_stream.specs.Reading.{here, waits, stays, grown, read, closes, readable}
 use Rattle.peak_stream.specs.Survey.{none, started, surveyed, sound, taken, onwards, Totalled, Small}
 use Rattle.peak_stream.proofs.Passing.{Good, good, good_step, read_grows, totals}
+use Rattle.std.specs.Prelude.{Ok, Err}
 
 -- ---- the answers
 module _ (s : Surveying) (xs : List ℤ) where
-  pub taken_broken : sound s ≡ false → Refused BrokenState ≡ taken s xs
+  pub taken_broken : sound s ≡ false → Err BrokenState ≡ taken s xs
   unfolding taken
   taken_broken e = rw e
 
-  pub taken_long : sound s ≡ true → most_in_range s.reading.step 0 < s.reading.n + length xs → Refused TooLong ≡ taken s xs
+  pub taken_long : sound s ≡ true → most_in_range s.reading.step 0 < s.reading.n + length xs → Err TooLong ≡ taken s xs
   unfolding taken
   taken_long e h = rw (e, lt-ltb (most_in_range s.reading.step 0) (s.reading.n + length xs) h)
 
-  pub taken_all : sound s ≡ true → s.reading.n + length xs ≤ most_in_range s.reading.step 0 → Taken (foldl surveyed s xs) ≡ taken s xs
+  pub taken_all : sound s ≡ true → s.reading.n + length xs ≤ most_in_range s.reading.step 0 → Ok (foldl surveyed s xs) ≡ taken s xs
   unfolding taken
   taken_all e h = rw (e, le-ltb (most_in_range s.reading.step 0) (s.reading.n + length xs) h)
 
@@ -122,15 +122,15 @@ module _ (s : Surveying) (xs ys : List ℤ) (e : sound s ≡ true) (b : s.readin
       fit k =
           let g = room h in
           let w : most_in_range t.reading.step 0 ≡ most = ap (λ (D : ℕ). most_in_range D 0) g.step in
-          sym (taken_all t ys (sound_good t 0 g.state) (omega (arith, w, g.n, length-append xs ys))) ∙ ap Taken (sym (foldl-append surveyed s xs ys)) ∙ taken_all s (xs ++ ys) e k
+          sym (taken_all t ys (sound_good t 0 g.state) (omega (arith, w, g.n, length-append xs ys))) ∙ ap Ok (sym (foldl-append surveyed s xs ys)) ∙ taken_all s (xs ++ ys) e k
 
 -- ---- any number
-refused_stays : (ps : List (List ℤ)) (f : Refusal) → onwards ps (Refused f) ≡ Refused f
+refused_stays : (ps : List (List ℤ)) (f : Refusal) → onwards ps (Err f) ≡ Err f
 unfolding onwards
 refused_stays [] f = refl
 refused_stays (p ∷ ps) f = refl
 
-pub anywhere : (s : Surveying) (ps : List (List ℤ)) → sound s ≡ true → s.reading.best.size ≤ 4294967295 → Small (together ps) → onwards ps (Taken s) ≡ taken s (together ps)
+pub anywhere : (s : Surveying) (ps : List (List ℤ)) → sound s ≡ true → s.reading.best.size ≤ 4294967295 → Small (together ps) → onwards ps (Ok s) ≡ taken s (together ps)
 unfolding onwards
 anywhere s [] e b m = taken_all s [] e (omega (arith, fits s e))
 anywhere s (p ∷ ps) e b m = by_order (most_in_range s.reading.step 0) (s.reading.n + length p) long (fit (λ t. anywhere t ps))
@@ -139,7 +139,7 @@ anywhere s (p ∷ ps) e b m = by_order (most_in_range s.reading.step 0) (s.readi
     long h = ap (onwards ps) (sym (taken_long s p e h)) ∙ refused_stays ps TooLong ∙ taken_long s (p ++ together ps) e (omega (arith, length-append p (together ps)))
 
     fit : ((t : Surveying) → sound t ≡ true → t.reading.best.size ≤ 4294967295 → Small (together ps) → onwards ps
-        (Taken t) ≡ taken t (together ps)) → s.reading.n + length p ≤ most_in_range s.reading.step 0 → onwards ps
+        (Ok t) ≡ taken t (together ps)) → s.reading.n + length p ≤ most_in_range s.reading.step 0 → onwards ps
         (taken s p) ≡ taken s (p ++ together ps)
     fit rest h =
         let l = small_left p (together ps) m in
@@ -151,7 +151,7 @@ none_sound D = both_true (both_true (le-leb 0 (most_in_range D 0) (omega arith))
 
 -- the first pass, over the timed samples in pieces cut anywhere
 pub survey_anywhere : (D : ℕ) (ps : List (List ℤ)) → step_in_range D ≡ true → Small (together ps) → length (together ps) ≤ most_in_range D 0
-    → (s : Surveying) × (onwards ps (started D) ≡ Taken s) × Totalled D (together ps) s
+    → (s : Surveying) × (onwards ps (started D) ≡ Ok s) × Totalled D (together ps) s
 unfolding started
 survey_anywhere D ps e m h =
     let x = together ps in (
@@ -160,6 +160,6 @@ survey_anywhere D ps e m h =
       totals D x,
     )
 
-pub survey_too_long : (D : ℕ) (ps : List (List ℤ)) → step_in_range D ≡ true → Small (together ps) → most_in_range D 0 < length (together ps) → onwards ps (started D) ≡ Refused TooLong
+pub survey_too_long : (D : ℕ) (ps : List (List ℤ)) → step_in_range D ≡ true → Small (together ps) → most_in_range D 0 < length (together ps) → onwards ps (started D) ≡ Err TooLong
 unfolding started
 survey_too_long D ps e m h = rw e (anywhere (none D) ps (none_sound D) (omega arith) m ∙ sym (taken_long (none D) (together ps) (none_sound D) (omega arith)))

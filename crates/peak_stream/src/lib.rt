@@ -38,12 +38,6 @@ pub struct Surveying {
     pub sum: u64,
 }
 
-#[derive(Clone, Copy)]
-pub enum Surveyed {
-    Taken(Surveying),
-    Refused(Refusal),
-}
-
 fn same(a: bool, b: bool) -> bool
     ensures { result ≡ same a b }
 {
@@ -124,18 +118,18 @@ fn fresh(step: u32) -> Reading
 }
 
 // The first pass before the first timed sample; or refusal 1 with item 1.
-pub fn survey(step: u64) -> Surveyed
+pub fn survey(step: u64) -> Result<Surveying, Refusal>
     ensures { result ≡ started step }
 {
     if truth::both(1 <= step, step <= sample_items::LONGEST_STEP) {
         let reading = fresh(step as u32);
-        return Surveyed::Taken(Surveying {
+        return Ok(Surveying {
             reading,
             number: 0,
             sum: 0,
         });
     }
-    Surveyed::Refused(Refusal::Item(1))
+    Err(Refusal::Item(1))
 }
 
 // Whether a reading keeps its relations.
@@ -199,18 +193,18 @@ fn along(s: Surveying, samples: &[i32]) -> Surveying
 }
 
 // The first pass with a piece more; or refusal 8 for the state, or 3 for a piece that makes the record too long.
-pub fn take(s: Surveying, samples: &[i32]) -> Surveyed
+pub fn take(s: Surveying, samples: &[i32]) -> Result<Surveying, Refusal>
     ensures { result ≡ taken s samples.now }
 {
     if !sound(s) {
-        return Surveyed::Refused(Refusal::BrokenState);
+        return Err(Refusal::BrokenState);
     }
     let r = s.reading;
     let most = sample_items::most_samples(r.step as u64, 0);
     if most < r.n as u64 + samples.len() as u64 {
-        return Surveyed::Refused(Refusal::TooLong);
+        return Err(Refusal::TooLong);
     }
-    Surveyed::Taken(along(s, samples))
+    Ok(along(s, samples))
 }
 
 // The second pass: the runs, the stretches and the chains, and the decorrelation time, the number and the sum by which
@@ -222,12 +216,6 @@ pub struct Handing {
     pub decorrelation: u32,
     pub number: u32,
     pub sum: u64,
-}
-
-#[derive(Clone, Copy)]
-pub enum Handed {
-    Taken(Handing, u64),
-    Refused(Refusal),
 }
 
 // Whether a second pass keeps the relations for refusal 8.
@@ -328,49 +316,52 @@ fn through(h: Handing, samples: &[i32], sizes: &mut [u32], times: &mut [u32]) ->
 // The second pass with a piece more, and how many peaks it closed, which stand in the slices then; or refusal 8 for the
 // state, 3 for a piece that makes the record too long, 7 where a slice has fewer places than the piece has samples, and
 // the slices as they stood.
-pub fn hand_over(h: Handing, samples: &[i32], sizes: &mut [u32], times: &mut [u32]) -> Handed
+pub fn hand_over(
+    h: Handing,
+    samples: &[i32],
+    sizes: &mut [u32],
+    times: &mut [u32],
+) -> Result<(Handing, u64), Refusal>
     ensures { HandsOver h samples.now sizes.old times.old result
         sizes.new times.new }
 {
     if !ready(h) {
-        return Handed::Refused(Refusal::BrokenState);
+        return Err(Refusal::BrokenState);
     }
     let r = h.reading;
     if sample_items::most_samples(r.step as u64, 0) < r.n as u64 + samples.len() as u64 {
-        return Handed::Refused(Refusal::TooLong);
+        return Err(Refusal::TooLong);
     }
     if peak_groups::short(sizes.len(), times.len(), samples.len() as u64) {
-        return Handed::Refused(Refusal::Room(samples.len() as u64));
+        return Err(Refusal::Room(samples.len() as u64));
     }
     let gone = through(h, samples, sizes, times);
     let state = gone.state;
-    Handed::Taken(state, gone.peaks as u64)
-}
-
-// The peak that the end of the samples closes.
-#[derive(Clone, Copy)]
-pub enum Last {
-    One(Peak),
-    None,
+    Ok((state, gone.peaks as u64))
 }
 
 // The second pass before the first timed sample, with the number and the sum that the first pass found; or refusal 1
 // with item 1 or 4.
-pub fn begin(step: u64, decorrelation: u64, number: u32, sum: u64) -> Handed
+pub fn begin(
+    step: u64,
+    decorrelation: u64,
+    number: u32,
+    sum: u64,
+) -> Result<(Handing, u64), Refusal>
     ensures { result ≡ begun step decorrelation number sum }
 {
     if !truth::both(1 <= step, step <= sample_items::LONGEST_STEP) {
-        return Handed::Refused(Refusal::Item(1));
+        return Err(Refusal::Item(1));
     }
     if !truth::both(
         0 <= decorrelation,
         decorrelation <= sample_items::LONGEST_DECORRELATION,
     ) {
-        return Handed::Refused(Refusal::Item(4));
+        return Err(Refusal::Item(4));
     }
     let reading = fresh(step as u32);
     let envelope = peak_machine::fresh();
-    Handed::Taken(
+    Ok((
         Handing {
             reading,
             envelope,
@@ -379,18 +370,18 @@ pub fn begin(step: u64, decorrelation: u64, number: u32, sum: u64) -> Handed
             sum,
         },
         0,
-    )
+    ))
 }
 
 // What the end of the samples hands out: the largest of the open chain, if there is one.
-pub fn finish(h: Handing) -> Last
+pub fn finish(h: Handing) -> Option<Peak>
     ensures { result ≡ last_of h }
 {
     let e = h.envelope;
     let chains = e.chains;
     if 0 < chains.opened {
         let best = chains.best;
-        return Last::One(best);
+        return Some(best);
     }
-    Last::None
+    None
 }

@@ -9,25 +9,25 @@ use lib.ListN.{drop, length, take}
 use lib.Seq.{drop-append_seam, take-append_seam}
 use Rattle.truth.proofs.Laws.{neither}
 use Rattle.refusal.specs.declared.Refusal.TheVariants.{Tail, Peak, Room}
-use Rattle.peak_tail.specs.declared.Fitted.TheVariants.{Sum, Refused}
 use Rattle.peak_tail.specs.Fitting.{FitsTo, Summed, first_bad, fitted, longest_list, tail_outside}
+use Rattle.std.specs.Prelude.{Ok, Err}
 
 module _ (peaks : List ℕ) (k : ℕ) (before : List ℕ) where
-  pub refuses_tail : tail_outside (length peaks) k ≡ true → FitsTo peaks k before (Refused Tail) before
+  pub refuses_tail : tail_outside (length peaks) k ≡ true → FitsTo peaks k before (Err Tail) before
   unfolding fitted
   refuses_tail t = record { sum = 0; answers = rw t; leaves = refl }
 
   module _ (t : tail_outside (length peaks) k ≡ false) where
-    pub refuses_peak : first_bad peaks < length peaks → FitsTo peaks k before (Refused (Peak (first_bad peaks))) before
+    pub refuses_peak : first_bad peaks < length peaks → FitsTo peaks k before (Err (Peak (first_bad peaks))) before
     unfolding fitted
     refuses_peak h = record { sum = 0; answers = rw (t, lt-ltb _ _ h); leaves = refl }
 
     module _ (good : length peaks ≤ first_bad peaks) where
-      pub refuses_room : length before < length peaks → FitsTo peaks k before (Refused (Room (length peaks))) before
+      pub refuses_room : length before < length peaks → FitsTo peaks k before (Err (Room (length peaks))) before
       unfolding fitted
       refuses_room h = record { sum = 0; answers = rw (t, le-ltb _ _ good, lt-ltb _ _ h); leaves = refl }
 
-      pub sums_up : length peaks ≤ length before → {s : ℕ} {after : List ℕ} → Summed peaks k before s after → FitsTo peaks k before (Sum s) after
+      pub sums_up : length peaks ≤ length before → {s : ℕ} {after : List ℕ} → Summed peaks k before s after → FitsTo peaks k before (Ok s) after
       unfolding fitted
       sums_up h {s} x = record { sum = s; answers = rw (t, le-ltb _ _ good, le-ltb _ _ h); leaves = x }
 

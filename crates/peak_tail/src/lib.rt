@@ -14,12 +14,6 @@ pub const LONGEST_LIST: u64 = 4_096;
 
 pub const HIGHEST_PEAK: u32 = 1_000_000;
 
-#[derive(Clone, Copy)]
-pub enum Fitted {
-    Sum(u64),
-    Refused(Refusal),
-}
-
 // 16: a list of n peaks is too long, or k is outside 2 to n.
 pub fn tail_outside(n: u64, k: u64) -> bool
     ensures { result ≡ tail_outside n k }
@@ -96,21 +90,21 @@ fn sum_of_largest(y: &mut [u32], k: usize) -> u64
 
 // The Hill sum over the k largest peaks, which then stand sorted downwards from the start of `sorted`, whose rest
 // stays; or refusal 16, 17 with the first bad place, or 7 with the places needed, and `sorted` as it stood.
-pub fn fit(peaks: &[u32], k: u64, sorted: &mut [u32]) -> Fitted
+pub fn fit(peaks: &[u32], k: u64, sorted: &mut [u32]) -> Result<u64, Refusal>
     ensures { FitsTo peaks.now k sorted.old result sorted.new }
 {
     let n = peaks.len();
     if tail_outside(n as u64, k) {
-        return Fitted::Refused(Refusal::Tail);
+        return Err(Refusal::Tail);
     }
     let bad = first_bad(peaks);
     if bad < n {
-        return Fitted::Refused(Refusal::Peak(bad as u64));
+        return Err(Refusal::Peak(bad as u64));
     }
     if sorted.len() < n {
-        return Fitted::Refused(Refusal::Room(n as u64));
+        return Err(Refusal::Room(n as u64));
     }
     copy(peaks, sorted);
     let sum = sum_of_largest(&mut sorted[..n], k as usize);
-    Fitted::Sum(sum)
+    Ok(sum)
 }

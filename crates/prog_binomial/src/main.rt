@@ -4,15 +4,16 @@
 // file has one channel, so that any level in range will do for the other.
 #![tactic(auto)]
 
-use binomial_files::Added;
+use binomial_sum::Sum;
 use prog_desk::{Desk, NextFile};
+use refusal::Refusal;
 use sample_channels::Levels;
 use sample_items::Items;
 
 // The most bytes that are read at once, of a file and of the list of names.
 const BYTES: usize = 65_536;
 
-fn said(desk: &Desk, a: Added) -> u8 {
+fn said(desk: &Desk, a: Result<Sum, (u64, u64, Refusal)>) -> u8 {
     let mut out = [0u8; desk_line::LONGEST_LINE];
     let f = binomial_files::finish(a, &mut out);
     prog_desk::answer(desk, &out, f)
@@ -21,12 +22,12 @@ fn said(desk: &Desk, a: Added) -> u8 {
 // What a turn comes to: a file was added, and where the bytes of the next name are; or the program ends so.
 #[derive(Drop)]
 enum After {
-    On(Added, usize, usize),
+    On(Result<Sum, (u64, u64, Refusal)>, usize, usize),
     Ended(u8),
 }
 
 // There is no name more: the list is over, or could not be read.
-fn no_file(desk: &Desk, added: Added, f: NextFile) -> u8 {
+fn no_file(desk: &Desk, added: Result<Sum, (u64, u64, Refusal)>, f: NextFile) -> u8 {
     match f {
         NextFile::Over => said(desk, added),
         NextFile::Counted(_, _, _) => desk_line::FAILED,
@@ -38,7 +39,7 @@ fn no_file(desk: &Desk, added: Added, f: NextFile) -> u8 {
 fn turn(
     desk: &Desk,
     file: u64,
-    added: Added,
+    added: Result<Sum, (u64, u64, Refusal)>,
     items: Items,
     names: &mut [u8],
     text: &mut [u8],

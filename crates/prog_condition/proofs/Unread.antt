@@ -14,12 +14,12 @@ use Rattle.decimal.specs.Field.{line_feed}
 use Rattle.decimal.specs.Lines.{lines_of, start_line}
 use Rattle.sheet_line.specs.Form.{ends_line, longest_sheet_line}
 use Rattle.sheet_line.specs.declared.Sheet.{Sheet}
-use Rattle.sheet_line.specs.declared.Step.{Step}
-use Rattle.sheet_line.specs.declared.Step.TheVariants.{Next, Stop}
 use Rattle.sheet_line.specs.Line.{sound_sheet, stepping}
 use Rattle.sheet_text.specs.declared.Reading.{Reading}
 use Rattle.sheet_text.specs.Sheet.{Account, after_step, left_in, reading_sheet, reading_end, waits}
 use Rattle.sheet_text.proofs.Running.{last_left}
+use Rattle.refusal.specs.declared.Refusal.{Refusal}
+use Rattle.std.specs.Prelude.{Result, Ok, Err}
 
 -- the bytes of lines, and that a text has those of its lines
 bytes : List (List ℕ) → ℕ
@@ -48,9 +48,9 @@ waits_short more line w =
     let rest = (and-true more (not (ends_line line) && ltb (length line) longest_sheet_line) w).1 in
     ltb-true (length line) longest_sheet_line (and-true (not (ends_line line)) (ltb (length line) longest_sheet_line) rest).1
 
-step_few : (n k : ℕ) (step : Step) (go : Sheet → Account) → ((t : Sheet) → Few (go t).end n) → Few (after_step step go).end (k + n)
-step_few n k (Next t) go few = (omega (arith, (few t).0), (few t).1)
-step_few n k (Stop l c r) go few = (omega arith, omega arith)
+step_few : (n k : ℕ) (step : Result Sheet (ℕ × ℕ × Refusal)) (go : Sheet → Account) → ((t : Sheet) → Few (go t).end n) → Few (after_step step go).end (k + n)
+step_few n k (Ok t) go few = (omega (arith, (few t).0), (few t).1)
+step_few n k (Err (l, c, r)) go few = (omega arith, omega arith)
 
 lines_few : (more : Bool) (lines : List (List ℕ)) (s : Sheet) → Few (reading_sheet more lines s).end (bytes lines)
 unfolding reading_sheet bytes

@@ -11,8 +11,8 @@ ghost use Rattle.sheet_line.specs.Form.{longest_sheet_line};
 ghost use Rattle.prog_condition.specs.Left.{coming_by, kept_by};
 
 use campaign_state::Campaign;
-use condition_sheets::Situations;
 use prog_desk::Desk;
+use refusal::Refusal;
 use sheet_line::Sheet;
 use sheet_text::Reading;
 use std::io::Read;
@@ -110,7 +110,7 @@ fn waits(r: Reading) -> bool {
 
 // The report, or the refused line. `out` has room for the longest: 40 bytes and 28 for each situation, as
 // `campaign_report` shows.
-fn said(desk: &Desk, a: Situations, campaigns: [Campaign; 64]) -> u8 {
+fn said(desk: &Desk, a: Result<u64, (u64, u64, u64, Refusal)>, campaigns: [Campaign; 64]) -> u8 {
     let mut out = [0u8; 1832];
     let f = condition_sheets::finish(a, campaigns, &mut out);
     prog_desk::answer(desk, &out, f)

@@ -4,7 +4,6 @@
 ghost use Rattle.std.specs.Io.{ReadsAtMost};
 
 use crate::Desk;
-use decimal::Lead;
 use std::fs::{self, File, OpenOptions};
 use std::io::{self, Read, Seek, SeekFrom, Write};
 use std::os::unix::fs::{FileTypeExt, MetadataExt};
@@ -180,7 +179,7 @@ fn place_in(text: &[u8]) -> Option<u64> {
         return None;
     }
     match decimal::leading_at(text, PLACE.len()) {
-        Lead::Number(place, _) => Some(place),
-        Lead::Nothing => None,
+        Some((place, _)) => Some(place),
+        None => None,
     }
 }

@@ -11,11 +11,11 @@
 
 ghost use Rattle.std.specs.Prelude.{◌≤◌};
 
-use comma_peaks::Judged;
-use comma_stream::{Follow, Followed, Rest};
-use peak_stream::{Handed, Surveyed, Surveying};
+use comma_stream::{Follow, Rest};
+use peak_stream::Surveying;
 use prog_desk::{Desk, Got, Name};
-use reach_files::{Gathering, Job, Kept};
+use reach_files::{Gathered, Job, Kept};
+use refusal::Refusal;
 use std::fs::File;
 use std::io::{Seek, SeekFrom};
 
@@ -93,7 +93,7 @@ fn some_lines(j: Job, p: Pass, text: &[u8], at: usize, list: &mut [u32]) -> Reac
     let mut samples = [0i32; LINES];
     let from = least(at, text.len());
     match comma_stream::take(p.follow, &text[from..], &mut samples) {
-        Followed::Taken(f, bytes, n) => {
+        Ok((f, bytes, n)) => {
             let m = least(n, LINES);
             let pass = with_samples(j, p, f, &samples[..m], list);
             Reached {
@@ -101,7 +101,7 @@ fn some_lines(j: Job, p: Pass, text: &[u8], at: usize, list: &mut [u32]) -> Reac
                 at: past(from, bytes, text.len()),
             }
         }
-        Followed::Refused(_) => Reached { pass: p, at: from },
+        Err(_) => Reached { pass: p, at: from },
     }
 }
 
@@ -220,7 +220,7 @@ fn go_over(
 // What a file comes to: the gathering with it, or that it could not be read.
 #[derive(Drop)]
 enum Done {
-    Added(Gathering),
+    Added(Result<Gathered, (u64, u64, Refusal)>),
     Broken,
 }
 
@@ -242,7 +242,7 @@ fn second_pass(
     desk: &Desk,
     j: Job,
     file: u64,
-    a: Gathering,
+    a: Result<Gathered, (u64, u64, Refusal)>,
     peaks: u64,
     first: Pass,
     mut from: &File,
@@ -255,7 +255,7 @@ fn second_pass(
         return Done::Broken;
     }
     let s = first.counted;
-    let Surveyed::Taken(counted) = peak_stream::survey(j.step) else {
+    let Ok(counted) = peak_stream::survey(j.step) else {
         return Done::Broken;
     };
     let handed = peak_stream::begin(j.step, j.decorrelation, s.number, s.sum);
@@ -284,7 +284,7 @@ fn second_pass(
         return changed(desk);
     }
     let n = reach_files::last(p.kept, list);
-    Done::Added(reach_files::add(j, file, a, Judged::Peaks, f.lines, n))
+    Done::Added(reach_files::add(j, file, a, Ok(()), f.lines, n))
 }
 
 // A file that the first pass has gone over: refused, or gone over again from where it can be.
@@ -292,7 +292,7 @@ fn judged(
     desk: &Desk,
     j: Job,
     file: u64,
-    a: Gathering,
+    a: Result<Gathered, (u64, u64, Refusal)>,
     peaks: u64,
     p: Pass,
     from: &File,
@@ -302,15 +302,8 @@ fn judged(
 ) -> Done {
     let f = p.follow;
     match comma_peaks::judge(f, j.ramp, p.wrong) {
-        Judged::Refused(line, r) => Done::Added(reach_files::add(
-            j,
-            file,
-            a,
-            Judged::Refused(line, r),
-            f.lines,
-            peaks,
-        )),
-        Judged::Peaks => second_pass(desk, j, file, a, peaks, p, from, start, name, list),
+        Err((line, r)) => Done::Added(reach_files::add(j, file, a, Err((line, r)), f.lines, peaks)),
+        Ok(()) => second_pass(desk, j, file, a, peaks, p, from, start, name, list),
     }
 }
 
@@ -319,7 +312,7 @@ fn both_passes(
     desk: &Desk,
     j: Job,
     file: u64,
-    a: Gathering,
+    a: Result<Gathered, (u64, u64, Refusal)>,
     peaks: u64,
     first: Pass,
     mut from: &File,
@@ -341,10 +334,10 @@ fn both_passes(
     judged(desk, j, file, a, peaks, p, &copy, 0, name, list)
 }
 
-fn peaks_in(a: Gathering) -> u64 {
+fn peaks_in(a: Result<Gathered, (u64, u64, Refusal)>) -> u64 {
     match a {
-        Gathering::Of(g) => g.peaks,
-        Gathering::Refused(_, _, _) => 0,
+        Ok(g) => g.peaks,
+        Err((_, _, _)) => 0,
     }
 }
 
@@ -353,12 +346,12 @@ fn one(
     desk: &Desk,
     j: Job,
     file: u64,
-    a: Gathering,
+    a: Result<Gathered, (u64, u64, Refusal)>,
     from: &File,
     name: &[u8],
     list: &mut [u32],
 ) -> Done {
-    let Surveyed::Taken(counted) = peak_stream::survey(j.step) else {
+    let Ok(counted) = peak_stream::survey(j.step) else {
         return Done::Broken;
     };
     let peaks = peaks_in(a);
@@ -374,7 +367,14 @@ fn one(
 }
 
 // One file by its name.
-fn named(desk: &Desk, j: Job, file: u64, a: Gathering, name: &[u8], list: &mut [u32]) -> Done {
+fn named(
+    desk: &Desk,
+    j: Job,
+    file: u64,
+    a: Result<Gathered, (u64, u64, Refusal)>,
+    name: &[u8],
+    list: &mut [u32],
+) -> Done {
     match prog_desk::open_file(desk, name) {
         Ok(from) => one(desk, j, file, a, &from, name, list),
         Err(e) => {
@@ -384,14 +384,20 @@ fn named(desk: &Desk, j: Job, file: u64, a: Gathering, name: &[u8], list: &mut [
     }
 }
 
-fn said(desk: &Desk, j: Job, a: Gathering, list: &mut [u32]) -> u8 {
+fn said(desk: &Desk, j: Job, a: Result<Gathered, (u64, u64, Refusal)>, list: &mut [u32]) -> u8 {
     let mut out = [0u8; desk_line::LONGEST_LINE];
     let f = reach_files::finish(j, a, list, &mut out);
     prog_desk::answer(desk, &out, f)
 }
 
 // There is no name more: the list is over, or could not be read.
-fn listed(desk: &Desk, j: Job, a: Gathering, n: Name, list: &mut [u32]) -> u8 {
+fn listed(
+    desk: &Desk,
+    j: Job,
+    a: Result<Gathered, (u64, u64, Refusal)>,
+    n: Name,
+    list: &mut [u32],
+) -> u8 {
     match n {
         Name::Over => said(desk, j, a, list),
         Name::At(_, _, _) => desk_line::FAILED,
@@ -402,7 +408,7 @@ fn listed(desk: &Desk, j: Job, a: Gathering, n: Name, list: &mut [u32]) -> u8 {
 // What a turn comes to: a file was added, and where the bytes of the next name are; or the program ends so.
 #[derive(Drop)]
 enum Next {
-    On(Gathering, usize, usize),
+    On(Result<Gathered, (u64, u64, Refusal)>, usize, usize),
     Ended(u8),
 }
 
@@ -411,7 +417,7 @@ fn next_file(
     desk: &Desk,
     j: Job,
     file: u64,
-    a: Gathering,
+    a: Result<Gathered, (u64, u64, Refusal)>,
     names: &mut [u8],
     at: usize,
     end: usize,

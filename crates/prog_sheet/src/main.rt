@@ -13,8 +13,6 @@ use prog_desk::{Desk, Got, NextFile, NextPair};
 use refusal::Refusal;
 use sample_channels::Levels;
 use sample_items::Items;
-use sheet_after::TakenUp;
-use sheet_files::Filed;
 use sheet_pairs::FiledPairs;
 
 // The most bytes that are read at once, of a file and of the list of names.
@@ -193,7 +191,7 @@ fn each(
 // decides (`demands`' NextDay.first_bytes), and is free again when today's files come.
 #[derive(Drop)]
 enum Morning {
-    Up(TakenUp),
+    Up(Result<(u64, u64, u64), (u64, u64, Refusal)>),
     Broken,
 }
 
@@ -247,8 +245,8 @@ fn next_day(
         return desk_line::FAILED;
     };
     match t {
-        TakenUp::Refused(line, column, r) => sheet_refused(desk, line, column, r),
-        TakenUp::Records(q, n, failures) => {
+        Err((line, column, r)) => sheet_refused(desk, line, column, r),
+        Ok((q, n, failures)) => {
             if !agrees(desk, j.standard, q) {
                 return desk_line::FAILED;
             }
@@ -260,7 +258,7 @@ fn next_day(
             };
             let s = Start {
                 filed: FiledPairs {
-                    filed: Filed::Records(n, failures),
+                    filed: Ok((n, failures)),
                     channel: 0,
                 },
                 number: n.wrapping_add(1),

@@ -12,7 +12,7 @@ ghost use Rattle.prog_tally.specs.Kept.{kept_by};
 use prog_desk::Desk;
 use refusal::Refusal;
 use sheet_line::Sheet;
-use sheet_text::{Ran, Reading};
+use sheet_text::Reading;
 use std::io::Read;
 
 // What the program says of how it ended: the sheet was read to its end, was refused, or something could not be read or
@@ -113,7 +113,7 @@ fn work(desk: &Desk, s: Sheet, text: &mut [u8], end: usize, more: bool, out: &mu
     requires { end ≤ length text.old }
     ensures { kept_by result < longest_sheet_line }
 {
-    let Ran::Came(reading, put) = sheet_text::run(s, &text[..end], more, out) else {
+    let Ok((reading, put)) = sheet_text::run(s, &text[..end], more, out) else {
         return After::Over(FAILED);
     };
     if !prog_desk::write_out(desk, out, put) {

@@ -25,12 +25,9 @@ use Rattle.peak_stream.specs.Hands.{begun}
 use Rattle.text.specs.Pieces.{joined}
 use Rattle.decimal.specs.Lines.{lines_of}
 use Rattle.comma_line.specs.Text.{first_wrong, samples_of}
-use Rattle.comma_read.specs.declared.Reading.TheVariants as reading
 use Rattle.comma_read.specs.Answers.{reading_lines}
 use Rattle.comma_stream.specs.Pieces.{nothing, passing, ending}
 use Rattle.comma_stream.proofs.Pieces.{followed_whole}
-use Rattle.comma_peaks.specs.declared.Judged.{Judged}
-use Rattle.comma_peaks.specs.declared.Judged.TheVariants as judged
 use Rattle.comma_peaks.specs.Judged.{comes_to}
 use Rattle.comma_peaks.specs.Timed.{handing_blocks}
 use Rattle.comma_peaks.proofs.Files.{file_judged}
@@ -40,14 +37,13 @@ use Rattle.peak_tail.specs.Fitting.{longest_list, tail_outside}
 use Rattle.peak_reach.specs.Answers.{standard_in_range}
 use Rattle.reach_files.specs.declared.Job.{Job}
 use Rattle.reach_files.specs.declared.Gathered.{Gathered}
-use Rattle.reach_files.specs.declared.Gathering.{Gathering}
-use Rattle.reach_files.specs.declared.Gathering.TheVariants.{Of, Refused}
 use Rattle.reach_files.specs.Down.{downwards}
 use Rattle.reach_files.specs.Line.{list_said}
 use Rattle.reach_files.specs.Files.{items_of, most_timed, refused_in, peaks_of, timed_of, judged_then, grown_then, reach_from, reach_said}
 use Rattle.reach_files.specs.Gathering.{block, opened, grown_by, first_of, gathered_said}
 use Rattle.reach_files.specs.Readings.{Readings, Read, AllRead, Stands, Desk, passed, came_to, counted, second, files_after}
 use Rattle.reach_files.proofs.Second.{Gathers, gathers_begun}
+use Rattle.std.specs.Prelude.{Result, Ok, Err}
 
 abbrev pub text_of : Readings → List ℕ
 text_of r = joined r.pieces
@@ -57,18 +53,18 @@ said_of j d = gathered_said j d.gathered d.list
 
 -- what was refused stays
 refused_said : (j : Job) (rs : List Readings) (file first line : ℕ) (q : Refusal) (list : List ℕ)
-    → said_of j (files_after j file (record { gathered = Refused first line q; list = list }) rs) ≡ refused_in first line q
+    → said_of j (files_after j file (record { gathered = Err (first, line, q); list = list }) rs) ≡ refused_in first line q
 unfolding files_after
 refused_said j [] file first line q list = refl
 refused_said j (r ∷ rs) file first line q list = refused_said j rs (file + 1) first line q _
 
 -- ---- the lines of a file of which nothing is refused are all counted
-read_fine : (D R : ℕ) (lines : List (List ℕ)) → step_in_range D ≡ true → Fine D R lines → reading_lines D lines (length lines) ≡ reading.Samples (length lines)
+read_fine : (D R : ℕ) (lines : List (List ℕ)) → step_in_range D ≡ true → Fine D R lines → reading_lines D lines (length lines) ≡ Ok (length lines)
 unfolding reading_lines
 read_fine D R lines d ok =
     rw (d, le-ltb (first_wrong D 0 lines) (length lines) ok.right, le-ltb (first_bad (samples_of lines)) (length lines) ok.good, le-ltb (length lines) (length lines) (omega arith))
 
-counted_by : (b c : Bool) (m n : ℕ) (x y : Refusal) → cond b (cond c (reading.Samples m) (reading.Refused x)) (reading.Refused y) ≡ reading.Samples n → m ≡ n
+counted_by : (b c : Bool) (m n : ℕ) (x y : Refusal) → cond b (cond c (Ok m) (Err x)) (Err y) ≡ Ok n → m ≡ n
 counted_by true true m n x y e = cc
 counted_by true false m n x y e = impossible (cc)
 counted_by false c m n x y e = impossible (cc)
@@ -111,9 +107,9 @@ module _ (j : Job) (d : step_in_range j.step ≡ true) (t : decorrelation_in_ran
     judged_is : came_to j r ≡ comes_to j.step j.ramp lines
     judged_is = file_judged j.step r.pieces d j.ramp ok.lines
 
-    module _ (e : comes_to j.step j.ramp lines ≡ judged.Peaks) where
-      again : comes_to j.step j.ramp (lines_of (joined r.again)) ≡ judged.Peaks
-      again = subst (λ (text : List ℕ). comes_to j.step j.ramp (lines_of text) ≡ judged.Peaks) ok.same e
+    module _ (e : comes_to j.step j.ramp lines ≡ (Ok tt)) where
+      again : comes_to j.step j.ramp (lines_of (joined r.again)) ≡ (Ok tt)
+      again = subst (λ (text : List ℕ). comes_to j.step j.ramp (lines_of text) ≡ (Ok tt)) ok.same e
 
       abbrev Z : List ℕ
       Z = replicate {A = ℕ} block 0
@@ -147,7 +143,7 @@ module _ (j : Job) (d : step_in_range j.step ≡ true) (t : decorrelation_in_ran
   abbrev Later : ℕ → List Readings → Type 0
   Later files rs =
       (ys : List ℕ) (P : ℕ) (list : List ℕ) → Holds ys list → length ys ≤ longest_list
-      → said_of j (files_after j (files + 1) (record { gathered = Of (record { files = files; peaks = length ys; samples = P }); list = list }) rs)
+      → said_of j (files_after j (files + 1) (record { gathered = Ok (record { files = files; peaks = length ys; samples = P }); list = list }) rs)
       ≡ reach_from j files ys P (map text_of rs)
 
   module _ (r : Readings) (rs : List Readings) (ok : Read j.step r) (files : ℕ) (after : Later (files + 1) rs)
@@ -162,13 +158,13 @@ module _ (j : Job) (d : step_in_range j.step ≡ true) (t : decorrelation_in_ran
     time = P + timed_of j (lines r ok)
 
     -- the list and the gathering after a file that came to this
-    abbrev stands : Judged → Stands
+    abbrev stands : Result (Unit {0}) (ℕ × Refusal) → Stands
     stands came = judged_then (λ line q. record { peaks = length ys; list = list }) (second j (length ys) list r) came
 
-    abbrev desk : Judged → Desk
+    abbrev desk : Result (Unit {0}) (ℕ × Refusal) → Desk
     desk came =
         record {
-          gathered = judged_then (Refused (files + 1)) (grown_by j (files + 1) g (passed j r).stands.lines (stands came).peaks) came;
+          gathered = judged_then ((λ a b. Err ((files + 1), a, b))) (grown_by j (files + 1) g (passed j r).stands.lines (stands came).peaks) came;
           list = (stands came).list;
         }
 
@@ -178,7 +174,7 @@ module _ (j : Job) (d : step_in_range j.step ≡ true) (t : decorrelation_in_ran
     abbrev proper : Said
     proper = grown_then (refused_in (files + 1)) (length more) time (reach_from j (files + 1) more time (map text_of rs))
 
-    module _ (e : comes_to j.step j.ramp (lines r ok) ≡ judged.Peaks) where
+    module _ (e : comes_to j.step j.ramp (lines r ok) ≡ (Ok tt)) where
       abbrev s : Stands
       s = second j (length ys) list r
 
@@ -188,7 +184,7 @@ module _ (j : Job) (d : step_in_range j.step ≡ true) (t : decorrelation_in_ran
       long : length more ≡ length ys + length (peaks_of j (lines r ok))
       long = length-append ys (peaks_of j (lines r ok))
 
-      too_long : longest_list < length more → later (desk judged.Peaks) ≡ proper
+      too_long : longest_list < length more → later (desk (Ok tt)) ≡ proper
       too_long k =
           rw (lt-ltb longest_list (length more) k, lt-ltb longest_list s.peaks (G.many (omega (arith, k, long))))
           (refused_said j rs (files + 1 + 1) (files + 1) 0 Tail s.list)
@@ -199,33 +195,33 @@ module _ (j : Job) (d : step_in_range j.step ≡ true) (t : decorrelation_in_ran
 
         -- the figures of the program are those of the text
         stands_so : grown_by j (files + 1) g (passed j r).stands.lines s.peaks
-            ≡ grown_then (Refused (files + 1)) (length more) time (Of (record { files = files + 1; peaks = length more; samples = time }))
+            ≡ grown_then ((λ a b. Err ((files + 1), a, b))) (length more) time (Ok (record { files = files + 1; peaks = length more; samples = time }))
         stands_so =
             ap (λ (n : ℕ). grown_by j (files + 1) g n s.peaks) (file_lines r ok e)
             ∙ ap (λ (n : ℕ). grown_by j (files + 1) g (length (lines r ok)) n) f.0
 
         by_time : (b : Bool) → ltb most_timed time ≡ b
-            → later (record { gathered = cond b (Refused (files + 1) 0 TimedSamples) (Of (record { files = files + 1; peaks = length more; samples = time })); list = s.list })
+            → later (record { gathered = cond b (Err (files + 1, 0, TimedSamples)) (Ok (record { files = files + 1; peaks = length more; samples = time })); list = s.list })
             ≡ cond b (refused_in (files + 1) 0 TimedSamples) (reach_from j (files + 1) more time (map text_of rs))
         by_time true x = refused_said j rs (files + 1 + 1) (files + 1) 0 TimedSamples s.list
         by_time false x =
-            ap (λ (z : List ℕ). later (record { gathered = Of (record { files = files + 1; peaks = length more; samples = time }); list = z })) f.1
+            ap (λ (z : List ℕ). later (record { gathered = Ok (record { files = files + 1; peaks = length more; samples = time }); list = z })) f.1
             ∙ after more time (sets list (length ys) (peaks_of j (lines r ok))) (holds_more ys (peaks_of j (lines r ok)) list h (omega (arith, k, long))) k
 
-        in_order : later (desk judged.Peaks) ≡ proper
+        in_order : later (desk (Ok tt)) ≡ proper
         in_order =
-            ap (λ (x : Gathering). later (record { gathered = x; list = s.list })) stands_so
+            ap (λ (x : Result Gathered (ℕ × ℕ × Refusal)). later (record { gathered = x; list = s.list })) stands_so
             ∙ rw (le-ltb longest_list (length more) k) (by_time (ltb most_timed time) refl)
 
-      with_peaks : later (desk judged.Peaks) ≡ proper
+      with_peaks : later (desk (Ok tt)) ≡ proper
       with_peaks = by_order longest_list (length more) too_long in_order
 
-    by_came : (came : Judged) → comes_to j.step j.ramp (lines r ok) ≡ came → later (desk came) ≡ judged_then (refused_in (files + 1)) proper came
-    by_came (judged.Refused line q) e = refused_said j rs (files + 1 + 1) (files + 1) line q list
-    by_came judged.Peaks e = with_peaks e
+    by_came : (came : Result (Unit {0}) (ℕ × Refusal)) → comes_to j.step j.ramp (lines r ok) ≡ came → later (desk came) ≡ judged_then (refused_in (files + 1)) proper came
+    by_came (Err (line, q)) e = refused_said j rs (files + 1 + 1) (files + 1) line q list
+    by_came (Ok tt) e = with_peaks e
 
     one : later (desk (came_to j r)) ≡ judged_then (refused_in (files + 1)) proper (comes_to j.step j.ramp (lines r ok))
-    one = ap (λ (x : Judged). later (desk x)) (judged_is r ok) ∙ by_came (comes_to j.step j.ramp (lines r ok)) refl
+    one = ap (λ (x : Result (Unit {0}) (ℕ × Refusal)). later (desk x)) (judged_is r ok) ∙ by_came (comes_to j.step j.ramp (lines r ok)) refl
 
   from : (rs : List Readings) → AllRead j.step rs → (files : ℕ) → Later files rs
   unfolding files_after reach_from

@@ -19,7 +19,6 @@ use Rattle.peak_tail.specs.Hill.{hill_sum, kth}
 use Rattle.peak_reach.specs.declared.Times.{Times}
 use Rattle.peak_reach.specs.declared.Letter.{Letter}
 use Rattle.peak_reach.specs.declared.Letter.TheVariants.{Accept, Reject, Continue}
-use Rattle.peak_reach.specs.declared.Extrapolated.TheVariants.{Found}
 use Rattle.exponential.specs.Exponential.{one, past}
 use Rattle.exponential.specs.Ours.{down_times, up_times}
 use Rattle.peak_reach.specs.Figures.{lesser, longest_standard, longest_within, longest_by, rejected_by, shortest_above, shortest_after, no_lower_end}
@@ -27,6 +26,7 @@ use Rattle.peak_reach.specs.Figures.{exponent_down, exponent_up}
 use Rattle.peak_reach.proofs.Order.{answered}
 use Rattle.reach_files.specs.declared.Job.{Job}
 use Rattle.reach_files.specs.Line.{above_level, rejected_text, letter_text, figures_line, figures_of, extrapolated_for}
+use Rattle.std.specs.Prelude.{Ok}
 
 pub inside : (n k : ℕ) → tail_outside n k ≡ false → (n ≤ longest_list) × (2 ≤ k) × (k ≤ n)
 inside n k e =
@@ -75,7 +75,7 @@ letter_few Accept = omega arith
 letter_few Reject = omega arith
 letter_few Continue = omega arith
 
-pub figures_few : (j : Job) (files P : ℕ) (ys : List ℕ) (t : Times) (l : Letter) → Small files → extrapolated_for j P ys ≡ Found t l
+pub figures_few : (j : Job) (files P : ℕ) (ys : List ℕ) (t : Times) (l : Letter) → Small files → extrapolated_for j P ys ≡ Ok (t, l)
     → length (figures_line (figures_of j files P ys t l)) ≤ longest_said
 unfolding figures_line
 figures_few j files P ys t l h e =

@@ -18,13 +18,12 @@ use Rattle.sample_items.specs.Limits.{most_in_range}
 use Rattle.peak_groups.specs.Peaks.{short}
 use Rattle.peak_machine.specs.Step.{size_of}
 use Rattle.peak_stream.specs.declared.Handing.{Handing}
-use Rattle.peak_stream.specs.declared.Handed.{Handed}
-use Rattle.peak_stream.specs.declared.Handed.TheVariants.{Taken, Refused}
 use Rattle.peak_stream.specs.Hands.{ready, closed_by, at_end, last_of, hands_on, noted, HandsOver}
 use Rattle.comma_peaks.specs.Timed as timed
 use Rattle.peak_tail.specs.Fitting.{longest_list}
 use Rattle.reach_files.specs.Gathering.{counted_to, put_from, block, out_of, last_one}
 use Rattle.reach_files.specs.Steps.{kept_with, list_with, kept_on, list_on}
+use Rattle.std.specs.Prelude.{Result, Ok, Err}
 
 module _ (at : ℕ) (sizes list : List ℕ) where
   pub keep_none : longest_list < at → (at ≡ counted_to at (length sizes)) × (list ≡ put_from at sizes list)
@@ -50,26 +49,26 @@ first_part figures Z n e =
     ap (λ (k : ℕ). take k l) m ∙ take-append_seam figures (drop n Z)
 
 -- by the answer
-module _ (peaks : ℕ) (figures Z list : List ℕ) (a : Handed) where
+module _ (peaks : ℕ) (figures Z list : List ℕ) (a : Result (Handing × ℕ) Refusal) where
   abbrev Keeps : Type 0
   Keeps =
       (kept_with a peaks (noted a figures Z) ≡ record { handed = a; peaks = counted_to peaks (length (out_of a figures)) })
       × (list_with a peaks (noted a figures Z) list ≡ put_from peaks (out_of a figures) list)
 
-keeps_refused : (peaks : ℕ) (figures Z list : List ℕ) (f : Refusal) → Keeps peaks figures Z list (Refused f)
+keeps_refused : (peaks : ℕ) (figures Z list : List ℕ) (f : Refusal) → Keeps peaks figures Z list (Err f)
 unfolding noted
-keeps_refused peaks figures Z list f = (ap (λ (n : ℕ). record { handed = Refused f; peaks = n }) (counted_none peaks), put_none peaks list)
+keeps_refused peaks figures Z list f = (ap (λ (n : ℕ). record { handed = Err f; peaks = n }) (counted_none peaks), put_none peaks list)
 
-keeps_taken : (peaks : ℕ) (figures Z list : List ℕ) (h : Handing) (n : ℕ) → n ≡ length figures → Keeps peaks figures Z list (Taken h n)
+keeps_taken : (peaks : ℕ) (figures Z list : List ℕ) (h : Handing) (n : ℕ) → n ≡ length figures → Keeps peaks figures Z list (Ok (h, n))
 unfolding noted
 keeps_taken peaks figures Z list h n e =
     let p = first_part figures Z n e in (
-      ap (λ (l : List ℕ). record { handed = Taken h n; peaks = counted_to peaks (length l) }) p,
+      ap (λ (l : List ℕ). record { handed = Ok (h, n); peaks = counted_to peaks (length l) }) p,
       ap (λ (l : List ℕ). put_from peaks l list) p,
     )
 
 keeps_by : (peaks : ℕ) (figures Z list : List ℕ) (b c d : Bool) (q r s : Refusal) (h : Handing) (n : ℕ) → n ≡ length figures
-    → Keeps peaks figures Z list (cond b (Refused q) (cond c (Refused r) (cond d (Refused s) (Taken h n))))
+    → Keeps peaks figures Z list (cond b (Err q) (cond c (Err r) (cond d (Err s) (Ok (h, n)))))
 keeps_by peaks figures Z list true c d q r s h n e = keeps_refused peaks figures Z list q
 keeps_by peaks figures Z list false true d q r s h n e = keeps_refused peaks figures Z list r
 keeps_by peaks figures Z list false false true q r s h n e = keeps_refused peaks figures Z list s
@@ -89,14 +88,14 @@ module _ (R lines : ℕ) (h : Handing) (peaks : ℕ) (xs : List ℤ) (list : Lis
       (ltb (most_in_range h.reading.step 0) (h.reading.n + length t)) (short block block (length t)) BrokenState
       TooLong (Room (length t)) _ (length (closed_by h t)) (sym (length-map (closed_by h t) size_of))
 
-  pub block_kept : (Z W : List ℕ) → length Z ≡ block → length W ≡ block → {a : Handed} {sizes times : List ℕ} → HandsOver h t Z W a sizes times
+  pub block_kept : (Z W : List ℕ) → length Z ≡ block → length W ≡ block → {a : (Result (Handing × ℕ) Refusal)} {sizes times : List ℕ} → HandsOver h t Z W a sizes times
       → (kept_with a peaks sizes ≡ kept_on R lines h peaks xs) × (list_with a peaks sizes list ≡ list_on R lines h peaks xs list)
   block_kept Z W z w {a} {sizes} {times} o =
       let e : a ≡ hands_on h t block block = o.answers ∙ ap (λ (n : ℕ). hands_on h t n (length W)) z ∙ ap (λ (n : ℕ). hands_on h t block n) w in
-      let s : sizes ≡ noted (hands_on h t block block) figures_of_lem Z = o.sizes_left ∙ ap (λ (x : Handed). noted x figures_of_lem Z) e in
+      let s : sizes ≡ noted (hands_on h t block block) figures_of_lem Z = o.sizes_left ∙ ap (λ (x : Result (Handing × ℕ) Refusal). noted x figures_of_lem Z) e in
       let k = keeps Z in (
-        ap (λ (x : Handed). kept_with x peaks sizes) e ∙ ap (λ (l : List ℕ). kept_with (hands_on h t block block) peaks l) s ∙ k.0,
-        ap (λ (x : Handed). list_with x peaks sizes list) e ∙ ap (λ (l : List ℕ). list_with (hands_on h t block block) peaks l list) s ∙ k.1,
+        ap (λ (x : Result (Handing × ℕ) Refusal). kept_with x peaks sizes) e ∙ ap (λ (l : List ℕ). kept_with (hands_on h t block block) peaks l) s ∙ k.0,
+        ap (λ (x : Result (Handing × ℕ) Refusal). list_with x peaks sizes list) e ∙ ap (λ (l : List ℕ). list_with (hands_on h t block block) peaks l list) s ∙ k.1,
       )
 
 -- ---- the end

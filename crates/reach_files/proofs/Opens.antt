@@ -16,27 +16,27 @@ use Rattle.peak_tail.specs.Fitting.{longest_list, tail_outside}
 use Rattle.peak_reach.specs.Answers.{standard_in_range}
 use Rattle.reach_files.specs.declared.Job.{Job}
 use Rattle.reach_files.specs.declared.Gathered.{Gathered}
-use Rattle.reach_files.specs.declared.Gathering.TheVariants.{Of, Refused}
 use Rattle.reach_files.specs.Files.{items_of, most_timed}
 use Rattle.reach_files.specs.Line.{low, refused_list}
 use Rattle.reach_files.specs.Gathering.{nothing, opened, grown_by}
+use Rattle.std.specs.Prelude.{Ok, Err}
 
 module _ (j : Job) where
-  pub opens_item : {n : ℕ} → n ≡ item_outside (items_of j) → (n ≡ 0 → ⊥) → Refused 0 0 (Item n) ≡ opened j
+  pub opens_item : {n : ℕ} → n ≡ item_outside (items_of j) → (n ≡ 0 → ⊥) → Err (0, 0, Item n) ≡ opened j
   unfolding opened
   opens_item e f = rw (← e, ne_eqb _ 0 f)
 
   module _ (e : item_outside (items_of j) ≡ 0) where
-    pub opens_standard : standard_in_range j.standard ≡ false → Refused 0 0 (Item 5) ≡ opened j
+    pub opens_standard : standard_in_range j.standard ≡ false → Err (0, 0, Item 5) ≡ opened j
     unfolding opened
     opens_standard s = rw (e, s)
 
     module _ (s : standard_in_range j.standard ≡ true) where
-      pub opens_tail : tail_outside longest_list j.tail ≡ true → Refused 0 0 Tail ≡ opened j
+      pub opens_tail : tail_outside longest_list j.tail ≡ true → Err (0, 0, Tail) ≡ opened j
       unfolding opened
       opens_tail t = rw (e, s, t)
 
-      pub opens : tail_outside longest_list j.tail ≡ false → Of nothing ≡ opened j
+      pub opens : tail_outside longest_list j.tail ≡ false → Ok nothing ≡ opened j
       unfolding opened
       opens t = rw (e, s, t)
 
@@ -54,15 +54,15 @@ few_left samples more e = by_order most_timed (samples + more) (λ l. absurd (no
     no e = Rattle.truth.proofs.Laws.true≢false e
 
 module _ (j : Job) (file : ℕ) (g : Gathered) (lines peaks : ℕ) where
-  pub grows_long : longest_list < peaks → Refused file 0 Tail ≡ grown_by j file g lines peaks
+  pub grows_long : longest_list < peaks → Err (file, 0, Tail) ≡ grown_by j file g lines peaks
   grows_long h = rw (lt-ltb longest_list peaks h)
 
   module _ (h : peaks ≤ longest_list) where
-    pub grows_full : {m : ℕ} → m ≡ lines - j.ramp → ltb most_timed (g.samples + m) ≡ true → Refused file 0 TimedSamples ≡ grown_by j file g lines peaks
+    pub grows_full : {m : ℕ} → m ≡ lines - j.ramp → ltb most_timed (g.samples + m) ≡ true → Err (file, 0, TimedSamples) ≡ grown_by j file g lines peaks
     grows_full e f = rw (le-ltb longest_list peaks h, ← e, f)
 
     pub grows : {m : ℕ} → m ≡ lines - j.ramp → ltb most_timed (g.samples + m) ≡ false
-        → Of (record { files = file; peaks = peaks; samples = g.samples + m }) ≡ grown_by j file g lines peaks
+        → Ok (record { files = file; peaks = peaks; samples = g.samples + m }) ≡ grown_by j file g lines peaks
     grows e f = rw (le-ltb longest_list peaks h, ← e, f)
 
 -- ---- the refused line after the files

@@ -16,8 +16,6 @@ use Rattle.sample_items.specs.Limits.{most_in_range, step_in_range, decorrelatio
 use Rattle.peak_groups.specs.declared.Peak.{Peak}
 use Rattle.peak_machine.specs.Step.{size_of}
 use Rattle.peak_stream.specs.declared.Handing.{Handing}
-use Rattle.peak_stream.specs.declared.Handed.{Handed}
-use Rattle.peak_stream.specs.declared.Handed.TheVariants.{Taken}
 use Rattle.peak_stream.specs.Hands.{waiting, begun, moved, closed_by, at_end, hands_on, Pieces}
 use Rattle.peak_stream.proofs.Coming.{Set, set_out, ready_set}
 use Rattle.peak_stream.proofs.Over.{no_refusal}
@@ -27,6 +25,8 @@ use Rattle.comma_peaks.proofs.Blocks.{drop_join}
 use Rattle.peak_tail.specs.Fitting.{longest_list}
 use Rattle.reach_files.specs.Gathering.{block, counted_to, put_from, out_of}
 use Rattle.reach_files.specs.Readings.{Stands, second_from}
+use Rattle.refusal.specs.declared.Refusal.{Refusal}
+use Rattle.std.specs.Prelude.{Result, Ok}
 
 -- figures put into a list that has `at` already
 pub record Gathers (at : ℕ) (list figures : List ℕ) (peaks : ℕ) (later : List ℕ) : Type 0 where
@@ -71,7 +71,7 @@ gathers_on at list f p l g q m a b =
 
 -- ---- block after block
 no_block_refused : (h : Handing) (A : List ℤ) (k : ℕ) → Set h (length A + k) → length A ≤ block
-    → Taken (foldl moved h A) (length (closed_by h A)) ≡ hands_on h A block block
+    → Ok (foldl moved h A, length (closed_by h A)) ≡ hands_on h A block block
 no_block_refused h A k s l =
     let Z = replicate {A = ℕ} block 0 in
     let z = length-replicate {A = ℕ} block 0 in
@@ -79,11 +79,11 @@ no_block_refused h A k s l =
     r ∙ ap (λ (n : ℕ). hands_on h A n n) z
 
 module _ (R : ℕ) where
-  abbrev Second : ℕ → List (List ℤ) → Handed → ℕ → List ℕ → Stands
+  abbrev Second : ℕ → List (List ℤ) → Result (Handing × ℕ) Refusal → ℕ → List ℕ → Stands
   Second lines bs a at list = second_from R lines (record { handed = a; peaks = at }) list bs
 
   pub gathers_blocks : (bs : List (List ℤ)) (lines : ℕ) (h : Handing) (k at : ℕ) (list : List ℕ) → Pieces block bs → Set h (length (drop (R - lines) (together bs)))
-      → let s = Second lines bs (Taken h k) at list in Gathers at list (map size_of (handing_blocks R block block lines bs (Taken h k))) s.peaks s.list
+      → let s = Second lines bs (Ok (h, k)) at list in Gathers at list (map size_of (handing_blocks R block block lines bs (Ok (h, k)))) s.peaks s.list
   unfolding second_from handing_blocks
   gathers_blocks [] lines h k at list w g = gathers_one at list (map size_of (at_end h))
   gathers_blocks (x ∷ bs) lines h k at list w g =
@@ -95,16 +95,16 @@ module _ (R : ℕ) where
       ap length (drop_join (R - lines) x (together bs)) ∙ length-append A (drop (R - lines - length x) (together bs)) ∙ ap (λ (m : ℕ). length A + length (drop m (together bs))) (sym i) in
       let s : Set h (length A + length B) = subst (Set h) j g in
       let t : T ≡ A = take_all (most_in_range h.reading.step 0 - h.reading.n) A (omega (arith, s.room)) in
-      let r : Taken (foldl moved h T) (length (closed_by h T)) ≡ hands_on h T block block =
-      subst (λ (l : List ℤ). Taken (foldl moved h l) (length (closed_by h l)) ≡ hands_on h l block block) (sym t)
+      let r : Ok (foldl moved h T, length (closed_by h T)) ≡ hands_on h T block block =
+      subst (λ (l : List ℤ). Ok (foldl moved h l, length (closed_by h l)) ≡ hands_on h l block block) (sym t)
       (no_block_refused h A (length B) s (omega (arith, w.0, length-drop (R - lines) x))) in
       let next : Set (foldl moved h T) (length B) = subst (λ (l : List ℤ). Set (foldl moved h l) (length B)) (sym t) (set_fold h A (length B) s) in
       let F = map size_of (closed_by h T) in
       let rest = gathers_blocks bs (lines + length x) (foldl moved h T) (length (closed_by h T)) (counted_to at (length F)) (put_from at F list) w.1 next in
-      subst (λ (a : Handed).
+      subst (λ (a : Result (Handing × ℕ) Refusal).
       let u = Second (lines + length x) bs a (counted_to at (length (out_of a F))) (put_from at (out_of a F) list) in
       Gathers at list (map size_of (closed_by h T ++ handing_blocks R block block (lines + length x) bs a)) u.peaks u.list) r
-      (joined_up at list (closed_by h T) (handing_blocks R block block (lines + length x) bs (Taken (foldl moved h T) (length (closed_by h T)))) _ _ rest)
+      (joined_up at list (closed_by h T) (handing_blocks R block block (lines + length x) bs (Ok (foldl moved h T, length (closed_by h T)))) _ _ rest)
     where
       joined_up : (at : ℕ) (list : List ℕ) (f g : List Peak) (q : ℕ) (m : List ℕ)
           → Gathers (counted_to at (length (map size_of f))) (put_from at (map size_of f) list) (map size_of g) q m → Gathers at list (map size_of (f ++ g)) q m

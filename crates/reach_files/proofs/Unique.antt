@@ -9,16 +9,17 @@ use lib.ListN.{length}
 use Rattle.truth.proofs.Unique.{settled}
 use Rattle.desk_line.specs.declared.Finished.{Finished}
 use Rattle.desk_line.specs.Said.{putting, put_left}
-use Rattle.comma_peaks.specs.declared.Judged.{Judged}
 use Rattle.reach_files.specs.declared.Job.{Job}
-use Rattle.reach_files.specs.declared.Gathering.{Gathering}
 use Rattle.reach_files.specs.declared.Kept.{Kept}
 use Rattle.reach_files.specs.Gathering.{opened, counted_to, put_from, kept_by, list_by, last_sizes, added_in, is_over, gathered_said, list_left}
+use Rattle.refusal.specs.declared.Refusal.{Refusal}
+use Rattle.reach_files.specs.declared.Gathered.{Gathered}
+use Rattle.std.specs.Prelude.{Result}
 
-pub open_unique : (j : Job) (a b : Gathering) → a ≡ opened j → b ≡ opened j → a ≡ b
+pub open_unique : (j : Job) (a b : Result Gathered (ℕ × ℕ × Refusal)) → a ≡ opened j → b ≡ opened j → a ≡ b
 open_unique j a b = settled
 
-pub is_over_unique : (g : Gathering) (a b : Bool) → a ≡ is_over g → b ≡ is_over g → a ≡ b
+pub is_over_unique : (g : Result Gathered (ℕ × ℕ × Refusal)) (a b : Bool) → a ≡ is_over g → b ≡ is_over g → a ≡ b
 is_over_unique g a b = settled
 
 module _ (R lines : ℕ) (k : Kept) (xs : List ℤ) (list : List ℕ) where
@@ -35,11 +36,11 @@ module _ (k : Kept) (list : List ℕ) where
   pub last_list_unique : (later other : List ℕ) → later ≡ put_from k.peaks (last_sizes k.handed) list → other ≡ put_from k.peaks (last_sizes k.handed) list → later ≡ other
   last_list_unique later other = settled
 
-pub add_unique : (j : Job) (file : ℕ) (g : Gathering) (came : Judged) (lines peaks : ℕ) (a b : Gathering)
+pub add_unique : (j : Job) (file : ℕ) (g : Result Gathered (ℕ × ℕ × Refusal)) (came : Result (Unit {0}) (ℕ × Refusal)) (lines peaks : ℕ) (a b : Result Gathered (ℕ × ℕ × Refusal))
     → a ≡ added_in j file g came lines peaks → b ≡ added_in j file g came lines peaks → a ≡ b
 add_unique j file g came lines peaks a b = settled
 
-module _ (j : Job) (g : Gathering) (list out : List ℕ) where
+module _ (j : Job) (g : Result Gathered (ℕ × ℕ × Refusal)) (list out : List ℕ) where
   pub finish_unique : (a b : Finished) → a ≡ putting (gathered_said j g list) out → b ≡ putting (gathered_said j g list) out → a ≡ b
   finish_unique a b = settled
 

@@ -1,7 +1,7 @@
 -- WHAT IS SAID OF SEVERAL FILES ([14]; docs/CLERK.md, "Hulls that never reach the level"): one line and a digit, over
 -- the whole texts, file by file in their order: each file's envelope peaks by its own mean ([11]), all of them in one
 -- list, and its timed samples added up; then the list downwards, and what it comes to. Assumes nothing.
-use Rattle.std.specs.Prelude.{ℕ, ◌+◌, ◌-◌, cond, not, List, [], ◌∷◌, ◌++◌, map, eqb, ltb, length}
+use Rattle.std.specs.Prelude.{ℕ, ◌+◌, ◌-◌, cond, not, List, [], ◌∷◌, ◌++◌, map, eqb, ltb, length, Result, Ok, Err}
 use Rattle.refusal.specs.declared.Refusal.{Refusal}
 use Rattle.refusal.specs.declared.Refusal.TheVariants.{Item, Tail, TimedSamples}
 use Rattle.sample_items.specs.declared.Items.{Items}
@@ -11,8 +11,6 @@ use Rattle.peak_machine.specs.Step.{size_of}
 use Rattle.decimal.specs.Lines.{lines_of}
 use Rattle.comma_line.specs.Text.{samples_of}
 use Rattle.desk_line.specs.Said.{Said, refused}
-use Rattle.comma_peaks.specs.declared.Judged.{Judged}
-use Rattle.comma_peaks.specs.declared.Judged.TheVariants as judged
 use Rattle.comma_peaks.specs.Judged.{comes_to}
 use Rattle.peak_tail.specs.Fitting.{longest_list, tail_outside}
 use Rattle.peak_reach.specs.Answers.{standard_in_range}
@@ -46,9 +44,9 @@ abbrev pub timed_of : Job → List (List ℕ) → ℕ
 timed_of j lines = length lines - j.ramp
 
 -- what a file comes to: 10, 2, 3, 4 with the line at fault or 0, or it goes on
-abbrev pub judged_then : {X : Type 0} → (ℕ → Refusal → X) → X → Judged → X
-judged_then refuse proper (judged.Refused line r) = refuse line r
-judged_then refuse proper judged.Peaks = proper
+abbrev pub judged_then : {X : Type 0} → (ℕ → Refusal → X) → X → Result (Unit {0}) (ℕ × Refusal) → X
+judged_then refuse proper (Err (line, r)) = refuse line r
+judged_then refuse proper (Ok tt) = proper
 
 -- a file more, after whose peaks the list has n, and after whose samples there are P: 16, 19, or it goes on
 abbrev pub grown_then : {X : Type 0} → (ℕ → Refusal → X) → ℕ → ℕ → X → X

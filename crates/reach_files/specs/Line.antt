@@ -1,7 +1,7 @@
 -- THE LINE ([14]; docs/CLERK.md, "Hulls that never reach the level"): files, peaks, timed samples, k, the k-th peak,
 -- the Hill sum, the peaks above the level, the estimated mean time between failures, the longest standard accepted, the
 -- shortest rejected or a dash, and the letter. And the refused line, which after 20 has the k-th peak. Assumes nothing.
-use Rattle.std.specs.Prelude.{ℕ, ◌+◌, cond, List, [], ◌∷◌, ◌++◌, eqb, ltb, length}
+use Rattle.std.specs.Prelude.{ℕ, ◌+◌, cond, List, [], ◌∷◌, ◌++◌, eqb, ltb, length, Result, Ok, Err}
 use Rattle.refusal.specs.declared.Refusal.{Refusal}
 use Rattle.refusal.specs.Numbers.{number_of, value_of}
 use Rattle.decimal.specs.Field.{tab, line_feed, field_text}
@@ -10,8 +10,6 @@ use Rattle.peak_tail.specs.Hill.{hill_sum, kth}
 use Rattle.peak_reach.specs.declared.Times.{Times}
 use Rattle.peak_reach.specs.declared.Letter.{Letter}
 use Rattle.peak_reach.specs.declared.Letter.TheVariants.{Accept, Reject, Continue}
-use Rattle.peak_reach.specs.declared.Extrapolated.{Extrapolated}
-use Rattle.peak_reach.specs.declared.Extrapolated.TheVariants as found
 use Rattle.peak_reach.specs.Answers.{extrapolated}
 use Rattle.reach_files.specs.declared.Job.{Job}
 use Rattle.reach_files.specs.declared.Figures.{Figures}
@@ -75,12 +73,12 @@ figures_of j files P ys t l =
       letter = l;
     }
 
-abbrev pub extrapolated_for : Job → ℕ → List ℕ → Extrapolated
+abbrev pub extrapolated_for : Job → ℕ → List ℕ → Result (Times × Letter) Refusal
 extrapolated_for j P ys = extrapolated ys j.tail j.level j.step P j.standard
 
-abbrev pub said_by : Job → ℕ → ℕ → List ℕ → Extrapolated → Said
-said_by j files P ys (found.Found t l) = told (figures_of j files P ys t l)
-said_by j files P ys (found.Refused r) = refused_list r
+abbrev pub said_by : Job → ℕ → ℕ → List ℕ → Result (Times × Letter) Refusal → Said
+said_by j files P ys (Ok (t, l)) = told (figures_of j files P ys t l)
+said_by j files P ys (Err r) = refused_list r
 
 abbrev pub list_said : Job → ℕ → ℕ → List ℕ → Said
 list_said j files P ys = said_by j files P ys (extrapolated_for j P ys)

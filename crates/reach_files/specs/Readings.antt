@@ -1,6 +1,6 @@
 -- Two readings of each of several files, as a program makes them: a file comes in pieces, which may be others at the
 -- second reading, and its samples in blocks, cut anywhere. Assumes nothing.
-use Rattle.std.specs.Prelude.{ℕ, zero, suc, ◌+◌, ◌<◌, ◌≡◌, cond, not, List, [], ◌∷◌, ◌++◌, map, eqb, ℤ, length, take, drop}
+use Rattle.std.specs.Prelude.{ℕ, zero, suc, ◌+◌, ◌<◌, ◌≡◌, cond, not, List, [], ◌∷◌, ◌++◌, map, eqb, ℤ, length, take, drop, Result}
 use Rattle.crossing_sets.specs.Parting.{together}
 use Rattle.text.specs.Pieces.{joined}
 use Rattle.decimal.specs.Lines.{lines_of}
@@ -10,14 +10,14 @@ use Rattle.peak_stream.specs.Hands.{begun, Pieces}
 use Rattle.comma_line.specs.Text.{samples_of}
 use Rattle.comma_stream.specs.Follow.{held, right_lines}
 use Rattle.comma_stream.specs.Pieces.{Passed, nothing, passing, with_piece}
-use Rattle.comma_peaks.specs.declared.Judged.{Judged}
 use Rattle.comma_peaks.specs.Timed.{blocks}
 use Rattle.comma_peaks.specs.Judged.{judging}
 use Rattle.reach_files.specs.declared.Job.{Job}
-use Rattle.reach_files.specs.declared.Gathering.{Gathering}
 use Rattle.reach_files.specs.declared.Kept.{Kept}
 use Rattle.reach_files.specs.Files.{judged_then}
 use Rattle.reach_files.specs.Gathering.{block, kept_by, list_by, last_sizes, counted_to, put_from, added_in}
+use Rattle.refusal.specs.declared.Refusal.{Refusal}
+use Rattle.reach_files.specs.declared.Gathered.{Gathered}
 
 pub record Readings : Type 0 where
   pub pieces : List (List ℕ)
@@ -89,7 +89,7 @@ second_from R lines k list (xs ∷ bs) =
 abbrev pub passed : Job → Readings → Passed
 passed j r = passing (nothing j.step) r.pieces
 
-abbrev pub came_to : Job → Readings → Judged
+abbrev pub came_to : Job → Readings → Result (Unit {0}) (ℕ × Refusal)
 came_to j r = judging (passed j r).stands j.ramp (not (eqb (length (passed j r).left) 0))
 
 abbrev pub counted : Job → Readings → Surveying
@@ -107,10 +107,10 @@ second_if j peaks list r =
 
 -- ---- the gathering and the list
 pub record Desk : Type 0 where
-  pub gathered : Gathering
+  pub gathered : Result Gathered (ℕ × ℕ × Refusal)
   pub list : List ℕ
 
-abbrev pub peaks_in : Gathering → ℕ
+abbrev pub peaks_in : Result Gathered (ℕ × ℕ × Refusal) → ℕ
 peaks_in (Rattle.reach_files.specs.declared.Gathering.TheVariants.Of g) = g.peaks
 peaks_in (Rattle.reach_files.specs.declared.Gathering.TheVariants.Refused file line q) = 0
 

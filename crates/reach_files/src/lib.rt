@@ -6,12 +6,11 @@
 // the theorem `Anywhere.reach_anywhere`.
 #![tactic(auto)]
 
-ghost use Rattle.std.specs.Prelude.{◌≡◌, cond, false, ◌+◌, ◌-◌, ◌≤◌, min, ltb, length, take};
+ghost use Rattle.std.specs.Prelude.{◌≡◌, cond, false, ◌+◌, ◌-◌, ◌≤◌, min, ltb, length, take, Ok, Err};
 ghost use Rattle.std.proofs.lemmas.List.Edits.{sets};
 ghost use Rattle.text.specs.Write.{written, place_after};
 ghost use Rattle.desk_line.specs.Said.{longest_said, Puts, putting, put_left};
 ghost use Rattle.peak_tail.specs.Fitting.{tail_outside};
-ghost use Rattle.peak_reach.specs.declared.Extrapolated.TheVariants.{Found};
 ghost use Rattle.sample_items.specs.Limits.{item_outside};
 ghost use Rattle.reach_files.specs.Files.{items_of, most_timed};
 ghost use Rattle.reach_files.specs.Line.{above_level, rejected_text, letter_text, figures_line, told, low};
@@ -20,12 +19,11 @@ ghost use Rattle.reach_files.specs.Gathering.{opened, counted_to, put_from, kept
 ghost use Rattle.reach_files.specs.Gathering.{grown_by, added_in, is_over, gathered_said, list_left};
 ghost use Rattle.reach_files.specs.Steps.{kept_with, list_with, kept_on, list_on};
 ghost use Rattle.reach_files.specs.Files.{judged_then};
-ghost use Rattle.reach_files.specs.declared.Gathering.TheVariants.{Of, Refused};
 
-use comma_peaks::Judged;
 use desk_line::Finished;
-use peak_reach::{Extrapolated, Letter, Times};
-use peak_stream::{Handed, Handing, Last};
+use peak_groups::Peak;
+use peak_reach::{Letter, Times};
+use peak_stream::Handing;
 use refusal::Refusal;
 use sample_channels::Levels;
 use sample_items::Items;
@@ -59,13 +57,6 @@ pub struct Gathered {
     pub samples: u64,
 }
 
-// The same; or the number of the file at fault, its line or 0, and the refusal.
-#[derive(Clone, Copy)]
-pub enum Gathering {
-    Of(Gathered),
-    Refused(u64, u64, Refusal),
-}
-
 // What the line tells.
 #[derive(Clone, Copy)]
 pub struct Figures {
@@ -96,20 +87,20 @@ fn items_outside(j: Job) -> u64
 }
 
 // No files yet; or 1 with the lowest item outside its range, 16 for a k that no list has. Neither is a file's.
-pub fn open(j: Job) -> Gathering
+pub fn open(j: Job) -> Result<Gathered, (u64, u64, Refusal)>
     ensures { result ≡ opened j }
 {
     let item = items_outside(j);
     if item != 0 {
-        return Gathering::Refused(0, 0, Refusal::Item(item));
+        return Err((0, 0, Refusal::Item(item)));
     }
     if !truth::both(1 <= j.standard, j.standard <= peak_reach::LONGEST_STANDARD) {
-        return Gathering::Refused(0, 0, Refusal::Item(5));
+        return Err((0, 0, Refusal::Item(5)));
     }
     if peak_tail::tail_outside(peak_tail::LONGEST_LIST, j.tail) {
-        return Gathering::Refused(0, 0, Refusal::Tail);
+        return Err((0, 0, Refusal::Tail));
     }
-    Gathering::Of(Gathered {
+    Ok(Gathered {
         files: 0,
         peaks: 0,
         samples: 0,
@@ -117,19 +108,19 @@ pub fn open(j: Job) -> Gathering
 }
 
 // Whether a file was refused: nothing that follows changes it.
-pub fn is_over(a: Gathering) -> bool
+pub fn is_over(a: Result<Gathered, (u64, u64, Refusal)>) -> bool
     ensures { result ≡ is_over a }
 {
     match a {
-        Gathering::Of(_) => false,
-        Gathering::Refused(_, _, _) => true,
+        Ok(_) => false,
+        Err((_, _, _)) => true,
     }
 }
 
 // The second reading of a file: where it stands, and how many peaks the list has, those of the files before with it.
 #[derive(Clone, Copy)]
 pub struct Kept {
-    pub handed: Handed,
+    pub handed: Result<(Handing, u64), Refusal>,
     pub peaks: u64,
 }
 
@@ -165,23 +156,23 @@ fn least(a: u64, b: usize) -> usize
 }
 
 // The peaks of a block that a pass has closed, which are the first of `sizes`.
-fn kept_by(a: Handed, peaks: u64, sizes: &[u32], list: &mut [u32]) -> Kept
+fn kept_by(a: Result<(Handing, u64), Refusal>, peaks: u64, sizes: &[u32], list: &mut [u32]) -> Kept
     requires { length sizes.now ≤ 1024 }
     ensures value { result ≡ kept_with a peaks sizes.now }
     ensures list_after { list.new
         ≡ list_with a peaks sizes.now list.old }
 {
     match a {
-        Handed::Taken(next, k) => {
+        Ok((next, k)) => {
             let n = least(k, sizes.len());
             let kept = keep(peaks, &sizes[..n], list);
             Kept {
-                handed: Handed::Taken(next, k),
+                handed: Ok((next, k)),
                 peaks: kept,
             }
         }
-        Handed::Refused(q) => Kept {
-            handed: Handed::Refused(q),
+        Err(q) => Kept {
+            handed: Err(q),
             peaks,
         },
     }
@@ -206,24 +197,24 @@ pub fn hand(k: Kept, ramp: u64, lines: u64, samples: &[i32], list: &mut [u32]) -
 {
     let a = k.handed;
     match a {
-        Handed::Taken(h, _) => hand_on(h, k.peaks, ramp, lines, samples, list),
-        Handed::Refused(q) => Kept {
-            handed: Handed::Refused(q),
+        Ok((h, _)) => hand_on(h, k.peaks, ramp, lines, samples, list),
+        Err(q) => Kept {
+            handed: Err(q),
             peaks: k.peaks,
         },
     }
 }
 
-fn put_last(l: Last, at: u64, list: &mut [u32]) -> u64
+fn put_last(l: Option<Peak>, at: u64, list: &mut [u32]) -> u64
     ensures value { result ≡ counted_to at (length (last_one l)) }
     ensures list_after { list.new ≡ put_from at (last_one l) list.old }
 {
     match l {
-        Last::One(p) => {
+        Some(p) => {
             let one = [p.size; 1];
             keep(at, &one, list)
         }
-        Last::None => at,
+        None => at,
     }
 }
 
@@ -235,8 +226,8 @@ pub fn last(k: Kept, list: &mut [u32]) -> u64
 {
     let a = k.handed;
     match a {
-        Handed::Taken(h, _) => put_last(peak_stream::finish(h), k.peaks, list),
-        Handed::Refused(_) => k.peaks,
+        Ok((h, _)) => put_last(peak_stream::finish(h), k.peaks, list),
+        Err(_) => k.peaks,
     }
 }
 
@@ -259,41 +250,61 @@ fn passes(samples: u64, more: u64) -> bool
     peak_reach::MOST_SAMPLES - samples < more
 }
 
-fn grown_by(j: Job, file: u64, g: Gathered, lines: u64, peaks: u64) -> Gathering
+fn grown_by(
+    j: Job,
+    file: u64,
+    g: Gathered,
+    lines: u64,
+    peaks: u64,
+) -> Result<Gathered, (u64, u64, Refusal)>
     ensures { result ≡ grown_by j file g lines peaks }
 {
     if peak_tail::LONGEST_LIST < peaks {
-        return Gathering::Refused(file, 0, Refusal::Tail);
+        return Err((file, 0, Refusal::Tail));
     }
     let more = timed(lines, j.ramp);
     if passes(g.samples, more) {
-        return Gathering::Refused(file, 0, Refusal::TimedSamples);
+        return Err((file, 0, Refusal::TimedSamples));
     }
-    Gathering::Of(Gathered {
+    Ok(Gathered {
         files: file,
         peaks,
         samples: g.samples + more,
     })
 }
 
-fn judged_by(j: Job, file: u64, g: Gathered, came: Judged, lines: u64, peaks: u64) -> Gathering
-    ensures { result ≡ judged_then (Refused file) (grown_by j file g lines peaks) came }
+fn judged_by(
+    j: Job,
+    file: u64,
+    g: Gathered,
+    came: Result<(), (u64, Refusal)>,
+    lines: u64,
+    peaks: u64,
+) -> Result<Gathered, (u64, u64, Refusal)>
+    ensures { result ≡ judged_then ((λ a b. Err (file, a, b))) (grown_by j file g lines peaks) came }
 {
     match came {
-        Judged::Refused(line, q) => Gathering::Refused(file, line, q),
-        Judged::Peaks => grown_by(j, file, g, lines, peaks),
+        Err((line, q)) => Err((file, line, q)),
+        Ok(()) => grown_by(j, file, g, lines, peaks),
     }
 }
 
 // The gathering with a file, the one of that number: what its first reading came to, its lines, and how many peaks the
 // list has after its second. Or 10, 2, 3, 4 with the line at fault; 16 for a list that is too long, 19 for too many
 // timed samples. What was refused stays.
-pub fn add(j: Job, file: u64, a: Gathering, came: Judged, lines: u64, peaks: u64) -> Gathering
+pub fn add(
+    j: Job,
+    file: u64,
+    a: Result<Gathered, (u64, u64, Refusal)>,
+    came: Result<(), (u64, Refusal)>,
+    lines: u64,
+    peaks: u64,
+) -> Result<Gathered, (u64, u64, Refusal)>
     ensures { result ≡ added_in j file a came lines peaks }
 {
     match a {
-        Gathering::Of(g) => judged_by(j, file, g, came, lines, peaks),
-        Gathering::Refused(first, line, q) => Gathering::Refused(first, line, q),
+        Ok(g) => judged_by(j, file, g, came, lines, peaks),
+        Err((first, line, q)) => Err((first, line, q)),
     }
 }
 
@@ -402,7 +413,7 @@ fn put_found(
     l: Letter,
     out: &mut [u8],
 ) -> Finished
-    requires { extrapolated_for j samples ys.now ≡ Found t l }
+    requires { extrapolated_for j samples ys.now ≡ Ok (t, l) }
     ensures value { result ≡ putting (told (figures_of j files samples ys.now t l)) out.old }
     ensures out_after { out.new ≡ put_left (told (figures_of j files samples ys.now t l)) out.old }
 {
@@ -452,7 +463,7 @@ fn put_answer(
     files: u64,
     samples: u64,
     ys: &[u32],
-    x: Extrapolated,
+    x: Result<(Times, Letter), Refusal>,
     out: &mut [u8],
 ) -> Finished
     requires { x ≡ extrapolated_for j samples ys.now }
@@ -460,8 +471,8 @@ fn put_answer(
     ensures out_after { out.new ≡ put_left (said_by j files samples ys.now x) out.old }
 {
     match x {
-        Extrapolated::Found(t, l) => put_found(j, files, samples, ys, t, l, out),
-        Extrapolated::Refused(q) => put_refused(q, out),
+        Ok((t, l)) => put_found(j, files, samples, ys, t, l, out),
+        Err(q) => put_refused(q, out),
     }
 }
 
@@ -474,9 +485,9 @@ fn put_sorted(j: Job, files: u64, samples: u64, ys: &[u32], out: &mut [u8]) -> F
 }
 
 fn put_list(j: Job, g: Gathered, list: &mut [u32], out: &mut [u8]) -> Finished
-    ensures value { result ≡ putting (gathered_said j (Of g) list.old) out.old }
-    ensures out_after { out.new ≡ put_left (gathered_said j (Of g) list.old) out.old }
-    ensures list_after { list.new ≡ list_left (Of g) list.old }
+    ensures value { result ≡ putting (gathered_said j (Ok g) list.old) out.old }
+    ensures out_after { out.new ≡ put_left (gathered_said j (Ok g) list.old) out.old }
+    ensures list_after { list.new ≡ list_left (Ok g) list.old }
 {
     let n = least(g.peaks, list.len());
     sorting::sort(&mut list[..n]);
@@ -488,13 +499,18 @@ fn put_list(j: Job, g: Gathered, list: &mut [u32], out: &mut [u8]) -> Finished
 // or refused, the number of the file at fault or 0, its line or 0, the refusal's number, after 1 the item, and after 20
 // the k-th peak. Without room for any line nothing is written, and the program ends as failed. The peaks are downwards
 // then.
-pub fn finish(j: Job, a: Gathering, list: &mut [u32], out: &mut [u8]) -> Finished
+pub fn finish(
+    j: Job,
+    a: Result<Gathered, (u64, u64, Refusal)>,
+    list: &mut [u32],
+    out: &mut [u8],
+) -> Finished
     ensures value { result ≡ putting (gathered_said j a list.old) out.old }
     ensures out_after { out.new ≡ put_left (gathered_said j a list.old) out.old }
     ensures list_after { list.new ≡ list_left a list.old }
 {
     match a {
-        Gathering::Of(g) => put_list(j, g, list, out),
-        Gathering::Refused(file, line, q) => desk_line::refuse_in(file, line, q, out),
+        Ok(g) => put_list(j, g, list, out),
+        Err((file, line, q)) => desk_line::refuse_in(file, line, q, out),
     }
 }

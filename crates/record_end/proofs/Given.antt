@@ -11,10 +11,9 @@ use Rattle.record_state.proofs.Times.{first_time_lem, whole_time_lem}
 use Rattle.sample_items.specs.Limits.{longest_time}
 use Rattle.record_state.specs.State.{failed, first_time, sound, too_short, whole_time}
 use Rattle.record_state.specs.declared.Record.{Record}
-use Rattle.record_end.specs.declared.Ended.{Ended}
-use Rattle.record_end.specs.declared.Ended.TheVariants.{Given, Refused}
-use Rattle.record_end.specs.declared.Result.{Result}
+use Rattle.record_end.specs.declared.RecordResult.{RecordResult}
 use Rattle.record_end.specs.Result.{ending, exposure_of, result_of}
+use Rattle.std.specs.Prelude.{Ok, Err}
 
 -- the exposure of a record that may be ended
 pub exposure_bounds : (r : Record) → sound r ≡ true → too_short r ≡ false → (1 ≤ exposure_of r) × (exposure_of r ≤ longest_time)
@@ -24,20 +23,20 @@ exposure_bounds r s l = go (failed r) (first_time_lem r s)
     go true f = f refl
     go false f = whole_time_lem r s l
 
-never : {r : Refusal} {x : Result} → ¬ (Refused r ≡ Given x)
+never : {r : Refusal} {x : RecordResult} → ¬ (Err r ≡ Ok x)
 never e = impossible (cc)
 
-pub record Comes (r : Record) (x : Result) : Type 0 where
+pub record Comes (r : Record) (x : RecordResult) : Type 0 where
   pub sound : sound r ≡ true
   pub long : too_short r ≡ false
   pub is : x ≡ result_of r
 
-pub given : (r : Record) (x : Result) → ending r ≡ Given x → Comes r x
+pub given : (r : Record) (x : RecordResult) → ending r ≡ Ok x → Comes r x
 unfolding ending
 given r x e =
     let p = past (not (sound r)) never e in
     let q = past (too_short r) never p.1 in
     record { sound = not-false _ p.0; long = q.0; is = cc }
 
-pub given_bounds : (r : Record) (x : Result) → ending r ≡ Given x → (1 ≤ x.exposure) × (x.exposure ≤ longest_time)
+pub given_bounds : (r : Record) (x : RecordResult) → ending r ≡ Ok x → (1 ≤ x.exposure) × (x.exposure ≤ longest_time)
 given_bounds r x e = let g = given r x e in rw g.is (exposure_bounds r g.sound g.long)

@@ -20,18 +20,12 @@ pub struct Outcome {
 // Crossings, counted failures, which are the groups, the place of the first failure, 0 for none, the exposure in ms,
 // and the largest set.
 #[derive(Clone, Copy)]
-pub struct Result {
+pub struct RecordResult {
     pub crossings: u64,
     pub counted: u64,
     pub first: u64,
     pub exposure: u64,
     pub largest: u64,
-}
-
-#[derive(Clone, Copy)]
-pub enum Ended {
-    Given(Result),
-    Refused(Refusal),
 }
 
 // The time of the first failure, or else the full time.
@@ -47,16 +41,16 @@ fn exposure_of(r: Record) -> u64
 }
 
 // The record's result; or refusal 8, 4 for a record that is too short.
-pub fn end(r: Record) -> Ended
+pub fn end(r: Record) -> Result<RecordResult, Refusal>
     ensures { result ≡ ending r }
 {
     if !record_state::sound(r) {
-        return Ended::Refused(Refusal::BrokenState);
+        return Err(Refusal::BrokenState);
     }
     if r.n < r.items.ramp + 2 {
-        return Ended::Refused(Refusal::TooShort);
+        return Err(Refusal::TooShort);
     }
-    Ended::Given(Result {
+    Ok(RecordResult {
         crossings: r.crossings,
         counted: r.groups,
         first: r.first,
@@ -65,7 +59,7 @@ pub fn end(r: Record) -> Ended
     })
 }
 
-impl Result {
+impl RecordResult {
     // What a campaign takes of it.
     pub fn outcome(self) -> Outcome
         ensures { result ≡ outcome_of self }

@@ -14,7 +14,6 @@ use Rattle.sample_channels.specs.Channels.{moments, AllInRange}
 use Rattle.sample_channels.proofs.Moments.{moments_length, moments_append}
 use Rattle.sample_channels.proofs.Range.{all_in}
 use Rattle.record_state.specs.declared.Record.{Record}
-use Rattle.record_state.specs.declared.RecordAnswer.TheVariants.{Taken}
 use Rattle.sample_items.specs.Limits.{most_samples}
 use Rattle.record_state.specs.State.{sound}
 use Rattle.record_step.specs.Step.{stepped}
@@ -23,6 +22,7 @@ use Rattle.record_feed.specs.Answers.{fed}
 use Rattle.record_step.proofs.Steps.{stepped_sound, stepped_n, stepped_most}
 use Rattle.sample_range.proofs.Bad.{good_left, bad_append}
 use Rattle.record_feed.proofs.Fed.{taken, fed_taken}
+use Rattle.std.specs.Prelude.{Ok}
 
 pub run_n : (r : Record) (p : List Moment) → (foldl stepped r p).n ≡ r.n + length p
 run_n r [] = sym (add-zero r.n)
@@ -40,7 +40,7 @@ run_sound r (x ∷ p) s g m =
 
 -- xs and ys are the slices of a piece, us and vs those of the next
 module _ (r : Record) (xs ys us vs : List ℤ) where
-  pub joins : {s t : Record} → fed r xs ys ≡ Taken s → fed s us vs ≡ Taken t → fed r (xs ++ us) (ys ++ vs) ≡ Taken t
+  pub joins : {s t : Record} → fed r xs ys ≡ Ok s → fed s us vs ≡ Ok t → fed r (xs ++ us) (ys ++ vs) ≡ Ok t
   joins {s} {t} e f =
       let a = taken r xs ys s e in
       let b = taken s us vs t f in
@@ -54,12 +54,12 @@ module _ (r : Record) (xs ys us vs : List ℤ) where
         bad_append ys vs a.acceleration,
         b.acceleration,
       )) (omega (arith, length-append xs us, b.room))
-      ∙ ap Taken (ap (foldl stepped r) (moments_append xs ys us vs a.equal) ∙ foldl-append stepped r
+      ∙ ap Ok (ap (foldl stepped r) (moments_append xs ys us vs a.equal) ∙ foldl-append stepped r
       (moments xs ys) (moments us vs) ∙ ap (λ (u : Record). foldl stepped u (moments us vs)) a.end ∙ b.end)
 
   -- both slices cut at the same place
-  pub splits : {t : Record} → length xs ≡ length ys → fed r (xs ++ us) (ys ++ vs) ≡ Taken t →
-      (fed r xs ys ≡ Taken (foldl stepped r (moments xs ys))) × (fed (foldl stepped r (moments xs ys)) us vs ≡ Taken t)
+  pub splits : {t : Record} → length xs ≡ length ys → fed r (xs ++ us) (ys ++ vs) ≡ Ok t →
+      (fed r xs ys ≡ Ok (foldl stepped r (moments xs ys))) × (fed (foldl stepped r (moments xs ys)) us vs ≡ Ok t)
   splits {t} i e =
       let a = taken r (xs ++ us) (ys ++ vs) t e in
       let l = length-append xs us in
@@ -72,5 +72,5 @@ module _ (r : Record) (xs ys us vs : List ℤ) where
       let s = run_sound r (moments xs ys) a.state (all_in xs ys g h) (omega (arith, a.room)) in (
         fed_taken r xs ys a.state i g h (omega (arith, a.room)),
         fed_taken (foldl stepped r (moments xs ys)) us vs s (omega (arith, a.equal)) g₂ h₂ (omega (arith, a.room, run_n r (moments xs ys), run_most r (moments xs ys)))
-            ∙ ap Taken (sym (foldl-append stepped r (moments xs ys) (moments us vs)) ∙ sym (ap (foldl stepped r) (moments_append xs ys us vs i)) ∙ a.end),
+            ∙ ap Ok (sym (foldl-append stepped r (moments xs ys) (moments us vs)) ∙ sym (ap (foldl stepped r) (moments_append xs ys us vs i)) ∙ a.end),
       )

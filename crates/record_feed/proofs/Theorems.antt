@@ -18,7 +18,6 @@ use Rattle.sample_channels.specs.declared.Moment.{Moment}
 use Rattle.sample_items.specs.declared.Items.{Items}
 use Rattle.sample_channels.specs.Channels.{moments}
 use Rattle.record_state.specs.declared.Record.{Record}
-use Rattle.record_state.specs.declared.RecordAnswer.TheVariants.{Taken, Refused}
 use Rattle.crossing_places.specs.Reading.{time_at, crosses_at, crossings, first_crossing, groups, counted, counted_times, largest_set}
 use Rattle.record_state.specs.State.{state_of, sound, failed}
 use Rattle.record_step.specs.Step.{stepped}
@@ -35,9 +34,10 @@ use Rattle.record_feed.proofs.Fed.{taken, fed_taken, not_broken}
 use Rattle.record_feed.proofs.Cutting.{run_sound, joins, splits}
 use Rattle.crossing_places.proofs.First.{searched}
 use Rattle.crossing_places.proofs.Places.{rising_passing, itself, apart_times}
+use Rattle.std.specs.Prelude.{Ok, Err}
 
 -- ---- what is handed out keeps the relations
-pub fed_sound : (r : Record) (xs ys : List ℤ) (t : Record) → fed r xs ys ≡ Taken t → sound t ≡ true
+pub fed_sound : (r : Record) (xs ys : List ℤ) (t : Record) → fed r xs ys ≡ Ok t → sound t ≡ true
 fed_sound r xs ys t e =
     let m = taken r xs ys t e in
     rw (← m.end) (run_sound r (moments xs ys) m.state (all_in xs ys m.roll m.acceleration) (omega (arith, moments_length xs ys m.equal, m.room)))
@@ -47,18 +47,18 @@ all_sound s end = s
 all_sound s (piece {r = r} {s = u} {p = p} e f) = all_sound (fed_sound r p.roll p.acceleration u e) f
 
 -- ---- an empty piece for a sound record is taken and changes nothing
-pub empty_taken : (r : Record) → sound r ≡ true → fed r [] [] ≡ Taken r
+pub empty_taken : (r : Record) → sound r ≡ true → fed r [] [] ≡ Ok r
 unfolding first_bad moments
 empty_taken r s = fed_taken r [] [] s refl refl refl (omega (arith, (kept_from r s).length))
 
 -- ---- pieces, each taken, cut anywhere: the joined list is taken as one piece and ends in the same state; and the other way round, both channels cut at the same places
-pub join_taken : {r t : Record} {ps : List Piece} → sound r ≡ true → AllTaken r ps t → fed r (joined ps).roll (joined ps).acceleration ≡ Taken t
+pub join_taken : {r t : Record} {ps : List Piece} → sound r ≡ true → AllTaken r ps t → fed r (joined ps).roll (joined ps).acceleration ≡ Ok t
 unfolding joined
 join_taken s (end {r = r}) = empty_taken r s
 join_taken s (piece {r = r} {s = u} {p = p} {ps = ps} e f) =
     joins r p.roll p.acceleration (joined ps).roll (joined ps).acceleration e (join_taken (fed_sound r p.roll p.acceleration u e) f)
 
-pub every_cutting : (r : Record) (ps : List Piece) (t : Record) → Even ps → fed r (joined ps).roll (joined ps).acceleration ≡ Taken t → AllTaken r ps t
+pub every_cutting : (r : Record) (ps : List Piece) (t : Record) → Even ps → fed r (joined ps).roll (joined ps).acceleration ≡ Ok t → AllTaken r ps t
 unfolding joined moments
 every_cutting r [] t none e = rw (taken r [] [] t e).end end
 every_cutting r (p ∷ ps) t (more i v) e =
@@ -66,7 +66,7 @@ every_cutting r (p ∷ ps) t (more i v) e =
     piece h.0 (every_cutting (foldl stepped r (samples_of p)) ps t v h.1)
 
 -- ---- the theorems on a record from its opening
-module _ (items : Items) (s : Record) (fresh : opened items ≡ Taken s) where
+module _ (items : Items) (s : Record) (fresh : opened items ≡ Ok s) where
   -- 1: pieces that are all taken end in the state of the joined list, whose figures are document 01's over that list
   pub pieces_whole : {ps : List Piece} {t : Record} → AllTaken s ps t → t ≡ state_of items (samples_of (joined ps))
   pieces_whole {ps} {t} f =
@@ -74,7 +74,7 @@ module _ (items : Items) (s : Record) (fresh : opened items ≡ Taken s) where
       sym e ∙ rw (← (opened_taken items s fresh).1) (state items (samples_of (joined ps)))
 
   -- 2: and none of their states is ever answered by refusal 8
-  pub never_broken : {ps : List Piece} {t : Record} → AllTaken s ps t → (xs ys : List ℤ) → fed t xs ys ≡ Refused BrokenState → ⊥
+  pub never_broken : {ps : List Piece} {t : Record} → AllTaken s ps t → (xs ys : List ℤ) → fed t xs ys ≡ Err BrokenState → ⊥
   never_broken {t = t} f xs ys = not_broken t xs ys (all_sound (opened_sound items s fresh) f)
 
 -- 3: the groups are the crossings' runs, and never exceed the largest set; the counted times are pairwise at least τ

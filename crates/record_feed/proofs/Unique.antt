@@ -4,8 +4,9 @@ use mathlib.Core.Path.{◌≡◌, sym, ◌∙◌}
 use mathlib.Core.List.{List}
 use lib.IntN.{ℤ}
 use Rattle.record_state.specs.declared.Record.{Record}
-use Rattle.record_state.specs.declared.RecordAnswer.{RecordAnswer}
 use Rattle.record_feed.specs.Answers.{fed}
+use Rattle.refusal.specs.declared.Refusal.{Refusal}
+use Rattle.std.specs.Prelude.{Result}
 
-pub feed_unique : (r : Record) (xs ys : List ℤ) (x y : RecordAnswer) → x ≡ fed r xs ys → y ≡ fed r xs ys → x ≡ y
+pub feed_unique : (r : Record) (xs ys : List ℤ) (x y : Result Record Refusal) → x ≡ fed r xs ys → y ≡ fed r xs ys → x ≡ y
 feed_unique r xs ys x y e f = e ∙ sym f

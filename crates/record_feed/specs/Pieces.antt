@@ -1,10 +1,9 @@
 -- Document 01, "Reading a record", with document 02's [8]: a record handed over in pieces of both channels. Assumes
 -- nothing.
-use Rattle.std.specs.Prelude.{◌≡◌, List, [], ◌∷◌, ◌++◌, ℤ, length}
+use Rattle.std.specs.Prelude.{◌≡◌, List, [], ◌∷◌, ◌++◌, ℤ, length, Ok}
 use Rattle.sample_channels.specs.declared.Moment.{Moment}
 use Rattle.sample_channels.specs.Channels.{moments}
 use Rattle.record_state.specs.declared.Record.{Record}
-use Rattle.record_state.specs.declared.RecordAnswer.TheVariants.{Taken}
 use Rattle.record_feed.specs.Answers.{fed}
 
 -- a slice of each channel
@@ -15,7 +14,7 @@ pub record Piece : Type 0 where
 -- the pieces, handed over one after the other from the state r, are all taken and end in the state t
 pub data AllTaken : Record → List Piece → Record → Type 0 where
   end : {r : Record} → AllTaken r [] r
-  piece : {r s t : Record} {p : Piece} {ps : List Piece} → fed r p.roll p.acceleration ≡ Taken s → AllTaken s ps t → AllTaken r (p ∷ ps) t
+  piece : {r s t : Record} {p : Piece} {ps : List Piece} → fed r p.roll p.acceleration ≡ Ok s → AllTaken s ps t → AllTaken r (p ∷ ps) t
 
 -- the joined record, channel by channel
 unfoldable pub joined : List Piece → Piece

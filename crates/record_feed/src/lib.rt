@@ -2,22 +2,21 @@
 // in the answer, so a refusal leaves the caller's as it stood.
 #![tactic(auto)]
 
-ghost use Rattle.std.specs.Prelude.{◌≡◌, true, false, cond, ◌+◌, ◌-◌, ◌≤◌, ◌<◌, min, length};
+ghost use Rattle.std.specs.Prelude.{◌≡◌, true, false, cond, ◌+◌, ◌-◌, ◌≤◌, ◌<◌, min, length, Err};
 ghost use mathlib.Core.List.{foldl, map};
 ghost use Rattle.refusal.specs.declared.Refusal.TheVariants.{TooLong};
 ghost use Rattle.sample_channels.specs.Channels.{above, moments, any_above, any_bad, bad_sample};
 ghost use Rattle.sample_items.specs.Limits.{most_samples};
 ghost use Rattle.sample_range.specs.Range.{first_bad};
-ghost use Rattle.record_state.specs.declared.RecordAnswer.TheVariants.{Refused};
 ghost use Rattle.record_state.specs.State.{sound};
 ghost use Rattle.record_feed.specs.Gap.{Gap};
 ghost use Rattle.record_feed.specs.Fits.{Fits};
 ghost use Rattle.record_step.specs.Step.{moved, far, counts, crossed, below, crosses, stepped};
 ghost use Rattle.record_feed.specs.Answers.{fed};
 
-use record_state::{Record, RecordAnswer};
+use record_state::Record;
 use refusal::Refusal;
-use sample_channels::{Look, Moment};
+use sample_channels::Moment;
 
 // How many samples after a place the decorrelation time has passed.
 fn gap_of(r: Record) -> u64
@@ -218,21 +217,21 @@ fn advance(r: Record, loud: bool, roll: &[i32], acceleration: &[i32]) -> Record
 }
 
 // The answer to a piece that is not taken: a bad sample of it goes before its length.
-fn fault(roll: &[i32], acceleration: &[i32]) -> RecordAnswer
+fn fault(roll: &[i32], acceleration: &[i32]) -> Result<Record, Refusal>
     requires { length roll.now ≡ length acceleration.now }
     ensures { result ≡ cond (any_bad roll.now acceleration.now)
-        (Refused (bad_sample (first_bad roll.now) (first_bad acceleration.now))) (Refused TooLong) }
+        (Err (bad_sample (first_bad roll.now) (first_bad acceleration.now))) (Err TooLong) }
 {
     let look = sample_channels::look_over(roll, acceleration);
-    if let Look::Bad(f) = look {
-        return RecordAnswer::Refused(f);
+    if let Err(f) = look {
+        return Err(f);
     }
-    RecordAnswer::Refused(Refusal::TooLong)
+    Err(Refusal::TooLong)
 }
 
 // The answer to a piece that there is room for, block by block. The ends of a block say whether a sample of it is out
 // of range, and whether one is above its level: a quiet block is passed over at the speed of `ends_of`.
-fn pass(r: Record, roll: &[i32], acceleration: &[i32]) -> RecordAnswer
+fn pass(r: Record, roll: &[i32], acceleration: &[i32]) -> Result<Record, Refusal>
     requires { (sound r ≡ true) × (length roll.now ≡ length acceleration.now)
         × (r.n + length roll.now ≤ most_samples r.items.step r.items.ramp) }
     ensures { result ≡ fed r roll.now acceleration.now }
@@ -256,19 +255,19 @@ fn pass(r: Record, roll: &[i32], acceleration: &[i32]) -> RecordAnswer
         );
         i = end;
     }
-    RecordAnswer::Taken(s)
+    Ok(s)
 }
 
 // The record after the piece; or refusal 8, then 12, then 2 with the lower bad place in the piece and its channel,
 // then 3.
-pub fn feed(r: Record, roll: &[i32], acceleration: &[i32]) -> RecordAnswer
+pub fn feed(r: Record, roll: &[i32], acceleration: &[i32]) -> Result<Record, Refusal>
     ensures { result ≡ fed r roll.now acceleration.now }
 {
     if !record_state::sound(r) {
-        return RecordAnswer::Refused(Refusal::BrokenState);
+        return Err(Refusal::BrokenState);
     }
     if roll.len() != acceleration.len() {
-        return RecordAnswer::Refused(Refusal::Unequal);
+        return Err(Refusal::Unequal);
     }
     let room = sample_items::most_samples(r.items.step, r.items.ramp) - r.n;
     if roll.len() as u64 <= room {

@@ -18,27 +18,25 @@ use Rattle.sample_items.specs.Limits.{item_outside, most_samples}
 use Rattle.sample_range.specs.Range.{first_bad}
 use Rattle.crossing_places.specs.Reading.{time_at, counted, counted_times, too_few, unramped}
 use Rattle.crossing_places.proofs.Timed.{timed_only}
-use Rattle.record_whole.specs.declared.Size.TheVariants as size
 use Rattle.record_whole.specs.Tests.{tested}
 use Rattle.record_whole.proofs.Judged.{Fitting}
-use Rattle.record_list.specs.declared.Listed.{Listed}
-use Rattle.record_list.specs.declared.Listed.TheVariants.{Times, Refused}
 use Rattle.record_list.specs.Answers.{listed, written, WritesTo, ListsTo}
+use Rattle.std.specs.Prelude.{Result, Ok, Err}
 
 -- ---- times written
 module _ (ts before : List ℕ) where
-  pub writes_room : length before < length ts → WritesTo ts before (Refused (Room (length ts))) before
+  pub writes_room : length before < length ts → WritesTo ts before (Err (Room (length ts))) before
   unfolding written
   writes_room l = record { answers = rw (lt-ltb _ _ l); leaves = refl }
 
-  pub writes_times : length ts ≤ length before → WritesTo ts before (Times (length ts)) (ts ++ drop (length ts) before)
+  pub writes_times : length ts ≤ length before → WritesTo ts before (Ok (length ts)) (ts ++ drop (length ts) before)
   unfolding written
   writes_times l = record { answers = rw (le-ltb _ _ l); leaves = refl }
 
 -- ---- the whole listing
 module _ (items : Items) (xs ys : List ℤ) (slice : List ℕ) where
   -- a refusal of the tests before the count
-  pub lists_refused : (f : Refusal) → tested items xs ys ≡ size.Refused f → ListsTo items xs ys slice (Refused f) slice
+  pub lists_refused : (f : Refusal) → tested items xs ys ≡ Err f → ListsTo items xs ys slice (Err f) slice
   unfolding tested listed written
   lists_refused f e = record {
     answers = go (eqb (item_outside items) 0) (eqb (length xs) (length ys)) (any_bad xs ys)
@@ -53,12 +51,12 @@ module _ (items : Items) (xs ys : List ℤ) (slice : List ℕ) where
       g = bad_sample (first_bad xs) (first_bad ys)
 
       go : (i m b l s : Bool)
-          → cond (not i) (size.Refused (Item (item_outside items))) (cond (not m) (size.Refused Unequal)
-          (cond b (size.Refused g) (cond l (size.Refused TooLong) (cond s (size.Refused TooShort) size.Fits))))
-          ≡ size.Refused f
-          → Refused f ≡ cond (not i) (Refused (Item (item_outside items))) (cond (not m) (Refused Unequal)
-          (cond b (Refused g) (cond l (Refused TooLong) (cond s (Refused TooShort) (cond (ltb (length slice) n)
-          (Refused (Room n)) (Times n))))))
+          → cond (not i) (Err (Item (item_outside items))) (cond (not m) (Err Unequal)
+          (cond b (Err g) (cond l (Err TooLong) (cond s (Err TooShort) (Ok tt)))))
+          ≡ Err f
+          → Err f ≡ cond (not i) (Err (Item (item_outside items))) (cond (not m) (Err Unequal)
+          (cond b (Err g) (cond l (Err TooLong) (cond s (Err TooShort) (cond (ltb (length slice) n)
+          (Err (Room n)) (Ok n))))))
       go false m b l s e = cc
       go true false b l s e = cc
       go true true true l s e = cc
@@ -67,7 +65,7 @@ module _ (items : Items) (xs ys : List ℤ) (slice : List ℕ) where
       go true true false false false e = impossible (cc)
 
   -- the number of times that is answered
-  pub times_number : {k : ℕ} → Times k ≡ listed items xs ys (length slice) → k ≡ length (counted items (moments xs ys))
+  pub times_number : {k : ℕ} → Ok k ≡ listed items xs ys (length slice) → k ≡ length (counted items (moments xs ys))
   unfolding listed
   times_number {k} e =
       go (eqb (item_outside items) 0) (eqb (length xs) (length ys)) (any_bad xs ys) (ltb (most_samples items.step
@@ -76,9 +74,9 @@ module _ (items : Items) (xs ys : List ℤ) (slice : List ℕ) where
       (length (counted items (moments xs ys))) e
     where
       go : (i m b l s r : Bool) (g : Refusal) (n : ℕ)
-          → Times k ≡ cond (not i) (Refused (Item (item_outside items))) (cond (not m) (Refused Unequal)
-          (cond b (Refused g) (cond l (Refused TooLong) (cond s (Refused TooShort) (cond r (Refused (Room n))
-          (Times n))))))
+          → Ok k ≡ cond (not i) (Err (Item (item_outside items))) (cond (not m) (Err Unequal)
+          (cond b (Err g) (cond l (Err TooLong) (cond s (Err TooShort) (cond r (Err (Room n))
+          (Ok n))))))
           → k ≡ n
       go false m b l s r g n e = impossible (cc)
       go true false b l s r g n e = impossible (cc)
@@ -89,12 +87,12 @@ module _ (items : Items) (xs ys : List ℤ) (slice : List ℕ) where
       go true true false false false false g n e = cc
 
   module _ (f : Fitting items (length xs) (length ys)) where
-    pub lists_bad : any_bad xs ys ≡ true → ListsTo items xs ys slice (Refused (bad_sample (first_bad xs) (first_bad ys))) slice
+    pub lists_bad : any_bad xs ys ≡ true → ListsTo items xs ys slice (Err (bad_sample (first_bad xs) (first_bad ys))) slice
     unfolding listed written
     lists_bad b = record { answers = rw (eq-eqb _ _ f.ranged, eq-eqb (length xs) (length ys) f.equal, b); leaves = refl }
 
     -- the times of the timed samples are the record's
-    pub lists_good : any_bad xs ys ≡ false → {answer : Listed} {after : List ℕ} →
+    pub lists_good : any_bad xs ys ≡ false → {answer : (Result ℕ Refusal)} {after : List ℕ} →
         WritesTo (counted_times (unramped items.step items.levels items.decorrelation)
         (moments (drop items.ramp xs) (drop items.ramp ys))) slice answer after → ListsTo items xs ys slice
         answer after

@@ -6,20 +6,18 @@
 // way, proofs/Walked that these are the counted times.
 #![tactic(auto)]
 
-ghost use Rattle.std.specs.Prelude.{◌≡◌, true, false, ◌+◌, ◌*◌, ◌≤◌, ◌<◌, length, set, take};
+ghost use Rattle.std.specs.Prelude.{◌≡◌, true, false, ◌+◌, ◌*◌, ◌≤◌, ◌<◌, length, set, take, Err};
 ghost use Rattle.record_list.specs.Walk.{starts, passed, start, noting, marked, noted, Ready};
 ghost use mathlib.Core.List.{foldl};
 ghost use Rattle.std.proofs.Math.Seq.{paste};
 ghost use Rattle.sample_channels.specs.Channels.{moments, any_above, any_bad, bad_sample};
 ghost use Rattle.crossing_places.specs.Reading.{counted_times, unramped};
 ghost use Rattle.sample_range.specs.Range.{first_bad};
-ghost use Rattle.record_list.specs.declared.Listed.TheVariants.{Refused};
 ghost use Rattle.record_list.specs.Pass.{Passes, Heard};
 ghost use Rattle.record_list.specs.Answers.{WritesTo, SettlesTo, ListsTo};
 
-use record_whole::Size;
 use refusal::Refusal;
-use sample_channels::{Levels, Look};
+use sample_channels::Levels;
 use sample_items::Items;
 
 // The walk before a timed sample: its time, whether a timed sample that is above in neither channel stands before it,
@@ -39,12 +37,6 @@ pub fn starts(w: Walk) -> bool
     w.due <= w.time
 }
 
-#[derive(Clone, Copy)]
-pub enum Listed {
-    Times(u64),
-    Refused(Refusal),
-}
-
 // How many times are kept aside: with a decorrelation time of 5 s or more no record has more.
 const KEPT: usize = 2_048;
 
@@ -53,20 +45,6 @@ const KEPT: usize = 2_048;
 const LOOK: usize = 1_024;
 
 const CROWD: u64 = 256;
-
-// How many groups are counted; or that a sample is bad.
-#[derive(Clone, Copy)]
-enum GroupCount {
-    Count(u64),
-    Bad,
-}
-
-// What the timed samples come to; or that one is bad, and nothing is written.
-#[derive(Clone, Copy)]
-enum Settled {
-    Done(Listed),
-    OutOfRange,
-}
 
 fn start() -> Walk
     ensures { result ≡ start }
@@ -211,7 +189,7 @@ fn pass(
     roll: &[i32],
     acceleration: &[i32],
     times: &mut [u32],
-) -> GroupCount
+) -> Option<u64>
     requires { Ready step decorrelation start (length roll.now)
         × (length roll.now ≡ length acceleration.now) }
     ensures { Passes step levels decorrelation roll.now acceleration.now
@@ -226,7 +204,7 @@ fn pass(
         let e = sample_block::ends_of(rolls);
         let f = sample_block::ends_of(accelerations);
         if sample_channels::outside(e, f) {
-            return GroupCount::Bad;
+            return None;
         }
         let loud = sample_channels::past(levels, e, f);
         w = advance(
@@ -241,7 +219,7 @@ fn pass(
         );
         i = end;
     }
-    GroupCount::Count(w.count)
+    Some(w.count)
 }
 
 // Copies the first k times.
@@ -267,7 +245,7 @@ fn write(
     count: u64,
     kept: &[u32],
     times: &mut [u32],
-) -> Listed
+) -> Result<u64, Refusal>
     requires { Ready step decorrelation start (length roll.now) × (length roll.now ≡ length acceleration.now)
         × (any_bad roll.now acceleration.now ≡ false)
         × (count ≡ length (counted_times (unramped step levels decorrelation) (moments roll.now acceleration.now)))
@@ -278,14 +256,14 @@ fn write(
         times.old result times.new }
 {
     if (times.len() as u64) < count {
-        return Listed::Refused(Refusal::Room(count));
+        return Err(Refusal::Room(count));
     }
     if count <= kept.len() as u64 {
         copy(kept, count as usize, times);
-        return Listed::Times(count);
+        return Ok(count);
     }
     pass(step, levels, decorrelation, roll, acceleration, times);
-    Listed::Times(count)
+    Ok(count)
 }
 
 // Whether the times are written straight into a slice of so many places. Room for half as many as samples it must
@@ -318,7 +296,7 @@ fn writes_at_once(
         &acceleration[half..half + LOOK],
         &mut first,
     );
-    if let GroupCount::Count(n) = found {
+    if let Some(n) = found {
         return CROWD <= n;
     }
     false
@@ -331,18 +309,18 @@ fn settle(
     decorrelation: u64,
     roll: &[i32],
     acceleration: &[i32],
-    found: GroupCount,
+    found: Option<u64>,
     kept: &[u32],
     times: &mut [u32],
-) -> Settled
+) -> Option<Result<u64, Refusal>>
     requires { Ready step decorrelation start (length roll.now) × (length roll.now ≡ length acceleration.now)
         × Heard step levels decorrelation roll.now acceleration.now found kept.now }
     ensures { SettlesTo step levels decorrelation roll.now acceleration.now
         times.old result times.new }
 {
     match found {
-        GroupCount::Bad => Settled::OutOfRange,
-        GroupCount::Count(n) => Settled::Done(write(
+        None => None,
+        Some(n) => Some(write(
             step,
             levels,
             decorrelation,
@@ -396,18 +374,18 @@ fn list_at_once(
     roll: &[i32],
     acceleration: &[i32],
     times: &mut [u32],
-) -> Settled
+) -> Option<Result<u64, Refusal>>
     requires { Ready step decorrelation start (length roll.now) × (length roll.now ≡ length acceleration.now)
         × (length roll.now ≤ 2 * length times.old + 1) }
     ensures { SettlesTo step levels decorrelation roll.now acceleration.now
         times.old result times.new }
 {
     let look = sample_channels::look_over(roll, acceleration);
-    if let Look::Bad(_) = look {
-        return Settled::OutOfRange;
+    if let Err(_) = look {
+        return None;
     }
     let w = walk_all(step, levels, decorrelation, roll, acceleration, times);
-    Settled::Done(Listed::Times(w.count))
+    Some(Ok(w.count))
 }
 
 // The timed samples, listed.
@@ -418,7 +396,7 @@ fn list_timed(
     roll: &[i32],
     acceleration: &[i32],
     times: &mut [u32],
-) -> Settled
+) -> Option<Result<u64, Refusal>>
     requires { Ready step decorrelation start (length roll.now)
         × (length roll.now ≡ length acceleration.now) }
     ensures { SettlesTo step levels decorrelation roll.now acceleration.now
@@ -442,31 +420,36 @@ fn list_timed(
 }
 
 // Refusal 2 of a record that has a bad sample, which is looked for from its start.
-fn fault(roll: &[i32], acceleration: &[i32]) -> Listed
+fn fault(roll: &[i32], acceleration: &[i32]) -> Result<u64, Refusal>
     requires { length roll.now ≡ length acceleration.now }
     ensures { any_bad roll.now acceleration.now ≡ true → result
-        ≡ Refused (bad_sample (first_bad roll.now) (first_bad acceleration.now)) }
+        ≡ Err (bad_sample (first_bad roll.now) (first_bad acceleration.now)) }
 {
     let look = sample_channels::look_over(roll, acceleration);
-    if let Look::Bad(f) = look {
-        return Listed::Refused(f);
+    if let Err(f) = look {
+        return Err(f);
     }
-    Listed::Refused(Refusal::TooShort)
+    Err(Refusal::TooShort)
 }
 
 // A whole record at once: the counted times, in order, from the start of `times`, whose rest stays, and their number;
 // or refusal 1, 12, 2, 3, 4 or 7 with the places needed, and `times` as it stood.
-pub fn list(items: Items, roll: &[i32], acceleration: &[i32], times: &mut [u32]) -> Listed
+pub fn list(
+    items: Items,
+    roll: &[i32],
+    acceleration: &[i32],
+    times: &mut [u32],
+) -> Result<u64, Refusal>
     ensures { ListsTo items roll.now acceleration.now
         times.old result times.new }
 {
     let size = record_whole::judge(items, roll, acceleration);
-    if let Size::Refused(f) = size {
-        return Listed::Refused(f);
+    if let Err(f) = size {
+        return Err(f);
     }
     let from = items.ramp as usize;
     let look = sample_channels::look_over(&roll[..from], &acceleration[..from]);
-    if let Look::Bad(_) = look {
+    if let Err(_) = look {
         return fault(roll, acceleration);
     }
     let settled = list_timed(
@@ -478,7 +461,7 @@ pub fn list(items: Items, roll: &[i32], acceleration: &[i32], times: &mut [u32])
         times,
     );
     match settled {
-        Settled::Done(l) => l,
-        Settled::OutOfRange => fault(roll, acceleration),
+        Some(l) => l,
+        None => fault(roll, acceleration),
     }
 }

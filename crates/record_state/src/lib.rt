@@ -29,12 +29,6 @@ pub struct Record {
     pub groups: u64,
 }
 
-#[derive(Clone, Copy)]
-pub enum RecordAnswer {
-    Taken(Record),
-    Refused(Refusal),
-}
-
 // The state of no samples.
 fn fresh(items: Items) -> Record
     ensures { result ≡ state_of items [] }
@@ -56,14 +50,14 @@ fn fresh(items: Items) -> Record
 }
 
 // The fresh record, or refusal 1 with the lowest item outside its range.
-pub fn open(items: Items) -> RecordAnswer
+pub fn open(items: Items) -> Result<Record, Refusal>
     ensures { result ≡ opened items }
 {
     let item = sample_items::item_outside(items);
     if item == 0 {
-        RecordAnswer::Taken(fresh(items))
+        Ok(fresh(items))
     } else {
-        RecordAnswer::Refused(Refusal::Item(item))
+        Err(Refusal::Item(item))
     }
 }
 

@@ -1,6 +1,6 @@
 -- Document 01, "Refusal numbers", with document 02's [8]: a whole record at once, xs of the roll and ys of the
 -- acceleration, is tested for 1, 12, 2, 3, 4, in that order. Assumes nothing.
-use Rattle.std.specs.Prelude.{ℕ, ◌+◌, Bool, cond, not, ◌&&◌, List, length, ltb, leb, eqb, ℤ}
+use Rattle.std.specs.Prelude.{ℕ, ◌+◌, Bool, cond, not, ◌&&◌, List, length, ltb, leb, eqb, ℤ, Result, Ok, Err}
 use Rattle.refusal.specs.declared.Refusal.{Refusal}
 use Rattle.refusal.specs.declared.Refusal.TheVariants.{Item, TooLong, TooShort, Unequal}
 use Rattle.sample_items.specs.declared.Items.{Items}
@@ -8,8 +8,6 @@ use Rattle.sample_channels.specs.Channels.{any_bad, bad_sample}
 use Rattle.sample_items.specs.Limits.{item_outside, most_samples}
 use Rattle.sample_range.specs.Range.{first_bad}
 use Rattle.crossing_places.specs.Reading.{too_few}
-use Rattle.record_whole.specs.declared.Size.{Size}
-use Rattle.record_whole.specs.declared.Size.TheVariants.{Fits, Refused}
 
 -- ---- whatever is answered of a whole record: the refusal of the first test that holds, or else what follows
 -- 1 for an item, 0 where none is outside its range
@@ -29,8 +27,8 @@ tests_then refuse items xs ys rest =
     (length_then refuse items.step items.ramp (length xs) rest)))
 
 -- ---- the tests alone
-unfoldable pub tested : Items → List ℤ → List ℤ → Size
-tested items xs ys = tests_then Refused items xs ys Fits
+unfoldable pub tested : Items → List ℤ → List ℤ → Result (Unit {0}) Refusal
+tested items xs ys = tests_then Err items xs ys (Ok tt)
 
 -- the items are in range, the slices are equally long, and n samples are neither too many nor too few
 abbrev pub in_size : Items → ℕ → ℕ → Bool
@@ -39,5 +37,5 @@ in_size items n m =
     && (eqb n m && (leb n (most_samples items.step items.ramp) && leb (items.ramp + 2) n))
 
 -- what is said before the samples are read: that the record fits, or its refusal
-unfoldable pub sized : Items → List ℤ → List ℤ → Size
-sized items xs ys = cond (in_size items (length xs) (length ys)) Fits (tested items xs ys)
+unfoldable pub sized : Items → List ℤ → List ℤ → Result (Unit {0}) Refusal
+sized items xs ys = cond (in_size items (length xs) (length ys)) (Ok tt) (tested items xs ys)

@@ -8,7 +8,7 @@ ghost use Rattle.std.specs.Prelude.{◌≤◌, length};
 ghost use Rattle.sheet_text.specs.Sheet.{left_in};
 
 use sheet_line::Sheet;
-use sheet_text::{Ran, Reading};
+use sheet_text::Reading;
 use std::io::{Read, Stdin};
 
 // What stands before a sheet.
@@ -43,11 +43,11 @@ fn piece(to: &impl Print, s: Sheet, text: &[u8], more: bool, out: &mut [u8]) -> 
     ensures { left_in result ≤ length text.now }
 {
     match sheet_text::run(s, text, more, out) {
-        Ran::Came(reading, put) => {
+        Ok((reading, put)) => {
             let _ = to.write_all(&out[..put]);
             reading
         }
-        Ran::Refused(r) => {
+        Err(r) => {
             let number = refusal::number(r);
             let carried = refusal::carried(r);
             let _ = println!(to; "{number}\t{carried}");

@@ -6,7 +6,7 @@
 
 ghost use Rattle.std.specs.Prelude.{◌<◌};
 
-use bureau_table::{Ask, Call, Place, TableAnswer, Work};
+use bureau_table::{Ask, Call, Place, Reply, Work};
 use campaign_state::Campaign;
 use campaign_verdict::Verdict;
 use record_end::Outcome;
@@ -44,14 +44,14 @@ fn refused(out: &impl Print, f: Refusal) {
 }
 
 // What a bureau is told; of a record that is entered, nothing.
-fn write_answer(out: &impl Print, a: TableAnswer) {
+fn write_answer(out: &impl Print, a: Result<Reply, Refusal>) {
     match a {
-        TableAnswer::Placed(i) => number(out, "\tplace ", i),
-        TableAnswer::Entered => text(out, ""),
-        TableAnswer::Judged(v) => letter(out, v),
-        TableAnswer::Rated(_, _) => text(out, "\trates"),
-        TableAnswer::Freed => text(out, "\tfree"),
-        TableAnswer::Refused(f) => refused(out, f),
+        Ok(Reply::Placed(i)) => number(out, "\tplace ", i),
+        Ok(Reply::Entered) => text(out, ""),
+        Ok(Reply::Judged(v)) => letter(out, v),
+        Ok(Reply::Rated(_)) => text(out, "\trates"),
+        Ok(Reply::Freed) => text(out, "\tfree"),
+        Err(f) => refused(out, f),
     }
 }
 

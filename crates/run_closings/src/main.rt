@@ -3,9 +3,9 @@
 // refusal. D = 500, a = 40,000. demands_slate has J and K of the definitions.
 #![tactic(auto)]
 
-use campaign_state::{Campaign, CampaignAnswer};
-use campaign_verdict::{Counted, Judged, Rated, Verdict};
-use record_end::{Ended, Outcome};
+use campaign_state::Campaign;
+use campaign_verdict::Verdict;
+use record_end::{Outcome, RecordResult};
 use record_state::Record;
 use refusal::Refusal;
 use sample_channels::{Levels, Moment};
@@ -63,8 +63,8 @@ fn refused(out: &impl Print, f: Refusal) {
 
 fn censored(out: &impl Print, c: Campaign) {
     match campaign_verdict::censored(c) {
-        Counted::Count(n) => number(out, " N* ", n),
-        Counted::Refused(f) => refused(out, f),
+        Ok(n) => number(out, " N* ", n),
+        Err(f) => refused(out, f),
     }
 }
 
@@ -79,21 +79,21 @@ fn letter(out: &impl Print, v: Verdict) {
 
 fn verdict(out: &impl Print, c: Campaign) {
     match campaign_verdict::judge(c) {
-        Judged::Given(v) => letter(out, v),
-        Judged::Refused(f) => refused(out, f),
+        Ok(v) => letter(out, v),
+        Err(f) => refused(out, f),
     }
 }
 
 fn known(out: &impl Print, c: Campaign) {
     match campaign_verdict::rate(c) {
-        Rated::Given(yes, _) => {
+        Ok(Given(yes, _)) => {
             if yes {
                 text(out, " rates");
             } else {
                 text(out, " no rates");
             }
         }
-        Rated::Refused(f) => refused(out, f),
+        Err(f) => refused(out, f),
     }
 }
 
@@ -106,10 +106,10 @@ fn figures(out: &impl Print, c: Campaign) {
     known(out, c);
 }
 
-fn answer(out: &impl Print, a: CampaignAnswer) {
+fn answer(out: &impl Print, a: Result<Campaign, Refusal>) {
     match a {
-        CampaignAnswer::Taken(c) => figures(out, c),
-        CampaignAnswer::Refused(f) => refused(out, f),
+        Ok(c) => figures(out, c),
+        Err(f) => refused(out, f),
     }
 }
 
@@ -149,10 +149,10 @@ fn fed(roll: &[i32], acceleration: &[i32]) -> Record {
         },
         decorrelation: 2000,
     };
-    let record_state::RecordAnswer::Taken(r) = record_state::open(items) else {
+    let Ok(r) = record_state::open(items) else {
         return broken();
     };
-    let record_state::RecordAnswer::Taken(s) = record_feed::feed(r, roll, acceleration) else {
+    let Ok(s) = record_feed::feed(r, roll, acceleration) else {
         return broken();
     };
     s
@@ -167,37 +167,41 @@ fn numbered(i: u64) -> Record {
     }
 }
 
-fn seen(out: &impl Print, a: Ended) {
+fn seen(out: &impl Print, a: Result<RecordResult, Refusal>) {
     match a {
-        Ended::Given(x) => {
+        Ok(x) => {
             number(out, " crossings ", x.crossings);
             number(out, " counted ", x.counted);
             number(out, " largest set ", x.largest);
             number(out, " first ", x.first);
             number(out, " exposure ", x.exposure);
         }
-        Ended::Refused(f) => refused(out, f),
+        Err(f) => refused(out, f),
     }
 }
 
 // What entering an outcome gives after an answer; a refusal stays.
-fn told(a: CampaignAnswer, o: Outcome) -> CampaignAnswer {
+fn told(a: Result<Campaign, Refusal>, o: Outcome) -> CampaignAnswer {
     match a {
-        CampaignAnswer::Taken(c) => c.enter(o),
-        CampaignAnswer::Refused(f) => CampaignAnswer::Refused(f),
+        Ok(c) => c.enter(o),
+        Err(f) => Err(f),
     }
 }
 
 // What entering a result gives after an answer; a refusal stays.
-fn then(a: CampaignAnswer, e: Ended) -> CampaignAnswer {
+fn then(a: Result<Campaign, Refusal>, e: Result<RecordResult, Refusal>) -> CampaignAnswer {
     match e {
-        Ended::Given(x) => told(a, x.outcome()),
-        Ended::Refused(f) => CampaignAnswer::Refused(f),
+        Ok(x) => told(a, x.outcome()),
+        Err(f) => Err(f),
     }
 }
 
 // The same result so many times over.
-fn again(a: CampaignAnswer, e: Ended, times: u64) -> CampaignAnswer {
+fn again(
+    a: Result<Campaign, Refusal>,
+    e: Result<RecordResult, Refusal>,
+    times: u64,
+) -> CampaignAnswer {
     let mut b = a;
     for _ in 0..times {
         b = then(b, e);
@@ -210,7 +214,7 @@ fn start(row: [u64; 9]) -> CampaignAnswer {
     if row[1] == 0 {
         return campaign_state::open(row[0]);
     }
-    CampaignAnswer::Taken(Campaign {
+    Ok(Campaign {
         standard: row[0],
         records: row[1],
         failures: row[2],
@@ -220,7 +224,7 @@ fn start(row: [u64; 9]) -> CampaignAnswer {
 }
 
 // One more, after an answer.
-fn more(row: [u64; 9], a: CampaignAnswer) -> CampaignAnswer {
+fn more(row: [u64; 9], a: Result<Campaign, Refusal>) -> CampaignAnswer {
     if row[7] == 9 {
         return a;
     }

@@ -3,8 +3,7 @@
 // definitions.
 #![tactic(auto)]
 
-use record_list::Listed;
-use record_state::{Record, RecordAnswer};
+use record_state::Record;
 use refusal::Refusal;
 use sample_channels::{Levels, Moment};
 use sample_items::Items;
@@ -115,23 +114,28 @@ fn figures(out: &impl Print, r: Record) {
     number(out, " last crossing ", r.last_crossing);
 }
 
-fn answer(out: &impl Print, a: RecordAnswer) {
+fn answer(out: &impl Print, a: Result<Record, Refusal>) {
     match a {
-        RecordAnswer::Taken(r) => figures(out, r),
-        RecordAnswer::Refused(f) => refused(out, f),
+        Ok(r) => figures(out, r),
+        Err(f) => refused(out, f),
     }
 }
 
 // What a piece gives after an answer; a refusal stays.
-fn then(a: RecordAnswer, roll: &[i32], acceleration: &[i32]) -> RecordAnswer {
+fn then(a: Result<Record, Refusal>, roll: &[i32], acceleration: &[i32]) -> RecordAnswer {
     match a {
-        RecordAnswer::Taken(r) => record_feed::feed(r, roll, acceleration),
-        RecordAnswer::Refused(f) => RecordAnswer::Refused(f),
+        Ok(r) => record_feed::feed(r, roll, acceleration),
+        Err(f) => Err(f),
     }
 }
 
 // The same piece so many times over.
-fn again(a: RecordAnswer, roll: &[i32], acceleration: &[i32], times: u64) -> RecordAnswer {
+fn again(
+    a: Result<Record, Refusal>,
+    roll: &[i32],
+    acceleration: &[i32],
+    times: u64,
+) -> RecordAnswer {
     let mut b = a;
     for _ in 0..times {
         b = then(b, roll, acceleration);
@@ -177,8 +181,8 @@ fn fed(out: &impl Print, row: [u64; 11], roll: &[i32], acceleration: &[i32]) {
 fn listed(out: &impl Print, row: [u64; 11], roll: &[i32], acceleration: &[i32], slice: &mut [u32]) {
     let l = record_list::list(items(row), roll, acceleration, slice);
     match l {
-        Listed::Times(k) => number(out, " times ", k),
-        Listed::Refused(f) => refused(out, f),
+        Ok(k) => number(out, " times ", k),
+        Err(f) => refused(out, f),
     }
     times(out, slice);
 }

@@ -7,8 +7,8 @@
 ghost use Rattle.std.specs.Float.Ieee.{is_nan};
 ghost use Rattle.std.specs.Prelude.{T, not, ◌≤◌, ◌<◌};
 
-use campaign_state::{Campaign, CampaignAnswer};
-use campaign_verdict::{Counted, Rated, Rates};
+use campaign_state::Campaign;
+use campaign_verdict::Rates;
 use record_end::Outcome;
 
 // Table 1, in ms.
@@ -158,10 +158,10 @@ fn write_rates(out: &impl Print, rates: Rates) {
 }
 
 fn write_line(out: &impl Print, c: Campaign) {
-    let Counted::Count(censored) = campaign_verdict::censored(c) else {
+    let Ok(censored) = campaign_verdict::censored(c) else {
         return;
     };
-    let Rated::Given(_, rates) = campaign_verdict::rate(c) else {
+    let Ok(Given(_, rates)) = campaign_verdict::rate(c) else {
         return;
     };
     write_number(out, c.records);
@@ -181,7 +181,7 @@ fn enter(out: &impl Print, c: Campaign, failed: bool, exposure: u64) -> Campaign
         failed: failed,
         exposure: exposure,
     };
-    let CampaignAnswer::Taken(next) = c.enter(o) else {
+    let Ok(next) = c.enter(o) else {
         return c;
     };
     write_line(out, next);
@@ -200,7 +200,7 @@ fn enter_interval(out: &impl Print, c: Campaign, interval: u64) -> Campaign {
 }
 
 fn main(rt: HostRuntime) {
-    let CampaignAnswer::Taken(empty) = campaign_state::open(STANDARD) else {
+    let Ok(empty) = campaign_state::open(STANDARD) else {
         return;
     };
     let mut c = empty;

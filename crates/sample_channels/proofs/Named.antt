@@ -14,9 +14,9 @@ use Rattle.refusal.specs.declared.Refusal.{Refusal}
 use Rattle.refusal.specs.declared.Refusal.TheVariants.{Sample, Acceleration}
 use Rattle.truth.proofs.Laws.{true≢false}
 use Rattle.sample_range.specs.Range.{sample_in_range, first_bad}
-use Rattle.sample_channels.specs.declared.Look.TheVariants.{Bad}
 use Rattle.sample_channels.specs.Channels.{has_bad, bad_sample, looked}
 use Rattle.sample_channels.proofs.Range.{looked_bad}
+use Rattle.std.specs.Prelude.{Err}
 
 -- a sample stands at i, and it is out of range
 pub record BadAt (xs : List ℤ) (i : ℕ) : Type 0 where
@@ -90,7 +90,7 @@ module _ (xs ys : List ℤ) where
           let l = leb-false (first_bad xs) (first_bad ys) h in
           acceleration (first-is ys f) (λ k m. before_first xs k (omega arith)) (before_first ys)
 
-  pub named : (f : Refusal) → looked xs ys ≡ Bad f → Names xs ys f
+  pub named : (f : Refusal) → looked xs ys ≡ Err f → Names xs ys f
   named f e = let b = looked_bad xs ys f e in rw (sym b.1) (go (has_bad xs) refl (has_bad ys) refl b.0)
     where
       both : Refusal
@@ -104,10 +104,10 @@ module _ (xs ys : List ℤ) where
       go false p false q h = absurd (true≢false (sym h))
 
 -- a roll of one sample, which is good, and a bad acceleration beyond it; and the other way round
-pub past_the_roll : looked (pos 0 ∷ []) (pos 0 ∷ pos 0 ∷ pos 2000000 ∷ []) ≡ Bad (Acceleration 2)
+pub past_the_roll : looked (pos 0 ∷ []) (pos 0 ∷ pos 0 ∷ pos 2000000 ∷ []) ≡ Err (Acceleration 2)
 unfolding looked first_bad
 past_the_roll = refl
 
-pub past_the_acceleration : looked (pos 0 ∷ pos 0 ∷ pos 2000000 ∷ []) (pos 0 ∷ []) ≡ Bad (Sample 2)
+pub past_the_acceleration : looked (pos 0 ∷ pos 0 ∷ pos 2000000 ∷ []) (pos 0 ∷ []) ≡ Err (Sample 2)
 unfolding looked first_bad
 past_the_acceleration = refl

@@ -17,8 +17,8 @@ use Rattle.sample_block.specs.Block as one-channel
 use Rattle.sample_range.specs.Range.{sample_limit, first_bad}
 use Rattle.sample_range.proofs.Bad.{good_head, bad_within, quiet_good, loud_bad, ends_bad}
 use Rattle.sample_channels.specs.declared.Moment.{Moment}
-use Rattle.sample_channels.specs.declared.Look.TheVariants.{Good, Bad}
 use Rattle.sample_channels.specs.Channels.{moments, AllInRange, outside_ends, has_bad, any_bad, bad_sample, bad_of, looked}
+use Rattle.std.specs.Prelude.{Ok, Err}
 
 pub all_in : (xs ys : List ℤ) → first_bad xs ≡ length xs → first_bad ys ≡ length ys → AllInRange (moments xs ys)
 unfolding moments AllInRange
@@ -63,19 +63,19 @@ ends_tell xs ys e f p q = rw (p.0, p.1, q.0, q.1, ends_bad xs, ends_bad ys, over
 
 -- back from what a look says
 module _ (xs ys : List ℤ) where
-  pub looked_bad : (f : Refusal) → looked xs ys ≡ Bad f → (any_bad xs ys ≡ true) × (bad_of xs ys ≡ f)
+  pub looked_bad : (f : Refusal) → looked xs ys ≡ Err f → (any_bad xs ys ≡ true) × (bad_of xs ys ≡ f)
   unfolding looked
   looked_bad f = go (any_bad xs ys)
     where
-      go : (b : Bool) → cond b (Bad (bad_of xs ys)) Good ≡ Bad f → (b ≡ true) × (bad_of xs ys ≡ f)
+      go : (b : Bool) → cond b (Err (bad_of xs ys)) (Ok (tt {0})) ≡ Err f → (b ≡ true) × (bad_of xs ys ≡ f)
       go true e = (refl, cc)
       go false e = impossible (cc)
 
-  pub looked_good : looked xs ys ≡ Good → any_bad xs ys ≡ false
+  pub looked_good : looked xs ys ≡ (Ok (tt {0})) → any_bad xs ys ≡ false
   unfolding looked
   looked_good = go (any_bad xs ys)
     where
-      go : (b : Bool) → cond b (Bad (bad_of xs ys)) Good ≡ Good → b ≡ false
+      go : (b : Bool) → cond b (Err (bad_of xs ys)) (Ok (tt {0})) ≡ (Ok (tt {0})) → b ≡ false
       go true e = impossible (cc)
       go false e = refl
 

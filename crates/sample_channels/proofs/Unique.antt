@@ -9,8 +9,9 @@ use lib.Seq.{paste}
 use Rattle.sample_block.specs.declared.Ends.{Ends}
 use Rattle.sample_channels.specs.declared.Levels.{Levels}
 use Rattle.sample_channels.specs.declared.Moment.{Moment}
-use Rattle.sample_channels.specs.declared.Look.{Look}
 use Rattle.sample_channels.specs.Channels.{still, above, moments, past_ends, outside_ends, any_above, looked}
+use Rattle.refusal.specs.declared.Refusal.{Refusal}
+use Rattle.std.specs.Prelude.{Result}
 
 pub above_unique : (a : Levels) (z : Moment) (x y : Bool) → x ≡ above a z → y ≡ above a z → x ≡ y
 above_unique a z x y e f = e ∙ sym f
@@ -32,5 +33,5 @@ pub mark_unique : (a : Levels) (xs ys : List ℤ) (ups x y : List Bool) → x �
     (map (above a) (moments xs ys)) (min (length ups) (length (moments xs ys))) → x ≡ y
 mark_unique a xs ys ups x y e f = e ∙ sym f
 
-pub look_over_unique : (xs ys : List ℤ) (x y : Look) → x ≡ looked xs ys → y ≡ looked xs ys → x ≡ y
+pub look_over_unique : (xs ys : List ℤ) (x y : Result (Unit {0}) Refusal) → x ≡ looked xs ys → y ≡ looked xs ys → x ≡ y
 look_over_unique xs ys x y e f = e ∙ sym f

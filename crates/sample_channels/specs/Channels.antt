@@ -1,5 +1,5 @@
 -- Document 02, [8]: roll and acceleration watched together. Assumes nothing.
-use Rattle.std.specs.Prelude.{ℕ, ◌≡◌, Bool, true, cond, not, ◌&&◌, ◌||◌, List, [], ◌∷◌, leb, ltb, length, ℤ, pos}
+use Rattle.std.specs.Prelude.{ℕ, ◌≡◌, Bool, true, cond, not, ◌&&◌, ◌||◌, List, [], ◌∷◌, leb, ltb, length, ℤ, pos, Result, Ok, Err}
 use Rattle.refusal.specs.declared.Refusal.{Refusal}
 use Rattle.refusal.specs.declared.Refusal.TheVariants.{Sample, Acceleration}
 use Rattle.sample_size.specs.Above as one
@@ -8,8 +8,6 @@ use Rattle.sample_block.specs.Block as one-channel
 use Rattle.sample_range.specs.Range.{sample_in_range, first_bad}
 use Rattle.sample_channels.specs.declared.Levels.{Levels}
 use Rattle.sample_channels.specs.declared.Moment.{Moment}
-use Rattle.sample_channels.specs.declared.Look.{Look}
-use Rattle.sample_channels.specs.declared.Look.TheVariants.{Good, Bad}
 
 -- what both channels show at one sample
 abbrev pub moment : ℤ → ℤ → Moment
@@ -70,5 +68,5 @@ bad_of xs ys =
     (bad_sample (first_bad xs) (first_bad ys)))
 
 -- 2, if one is
-unfoldable pub looked : List ℤ → List ℤ → Look
-looked xs ys = cond (any_bad xs ys) (Bad (bad_of xs ys)) Good
+unfoldable pub looked : List ℤ → List ℤ → Result (Unit {0}) Refusal
+looked xs ys = cond (any_bad xs ys) (Err (bad_of xs ys)) (Ok tt)

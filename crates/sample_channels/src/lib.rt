@@ -25,13 +25,6 @@ pub struct Moment {
     pub acceleration: i32,
 }
 
-// Whether all samples are in range, or refusal 2.
-#[derive(Clone, Copy)]
-pub enum Look {
-    Good,
-    Bad(Refusal),
-}
-
 // Whether one of the channels is above its level.
 pub fn above(levels: Levels, x: Moment) -> bool
     ensures { result ≡ above levels x }
@@ -146,7 +139,7 @@ fn bad_of(rolls: bool, accelerations: bool, roll: u64, acceleration: u64) -> Ref
 }
 
 // A look for a sample out of range in both channels, each to its end, whichever is the longer.
-pub fn look_over(roll: &[i32], acceleration: &[i32]) -> Look
+pub fn look_over(roll: &[i32], acceleration: &[i32]) -> Result<(), Refusal>
     ensures { result ≡ looked roll.now acceleration.now }
 {
     let p = sample_range::first_bad(roll);
@@ -154,7 +147,7 @@ pub fn look_over(roll: &[i32], acceleration: &[i32]) -> Look
     let rolls = p < roll.len();
     let accelerations = q < acceleration.len();
     if truth::either(rolls, accelerations) {
-        return Look::Bad(bad_of(rolls, accelerations, p as u64, q as u64));
+        return Err(bad_of(rolls, accelerations, p as u64, q as u64));
     }
-    Look::Good
+    Ok(())
 }

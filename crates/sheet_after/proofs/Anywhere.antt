@@ -23,21 +23,17 @@ use Rattle.text.proofs.Laws.{laid_front, written_fits}
 use Rattle.sheet_text.specs.declared.Reading.{Reading}
 use Rattle.sheet_text.specs.declared.Reading.TheVariants.{Read, Stopped, Waiting}
 use Rattle.sheet_text.specs.Sheet.{meaning}
-use Rattle.sheet_records.specs.declared.Resumed.{Resumed}
-use Rattle.sheet_records.specs.declared.Resumed.TheVariants.{Records, Stopped as Bad}
 use Rattle.sheet_records.specs.Records.{filled_by, records_of, resumed_from, resuming}
 use Rattle.desk_line.specs.declared.Finished.{Finished}
 use Rattle.desk_line.specs.Said.{Said, longest_said, putting, put_left}
-use Rattle.sheet_files.specs.declared.Filed.TheVariants as filed
 use Rattle.sheet_files.specs.Files.{failures_in, sheet_from}
 use Rattle.sheet_files.specs.Filing.{Desk, finishing, finish_left}
 use Rattle.sheet_files.proofs.Clean.{Clean}
 use Rattle.sheet_files.proofs.Anywhere.{Kept, Well, Writes, desk_said, from, well_after, well_finished}
-use Rattle.sheet_after.specs.declared.TakenUp.{TakenUp}
-use Rattle.sheet_after.specs.declared.TakenUp.TheVariants as up
 use Rattle.sheet_after.specs.After.{after_reading, refused_old, sheet_after}
 use Rattle.sheet_after.specs.Taking.{desk_up, day_left, finishing_day, taking_up, taken_left, up_of}
 use Rattle.sheet_after.proofs.Old.{front_is, old_clean, old_few, old_many}
+use Rattle.std.specs.Prelude.{Result, Ok}
 
 -- ---- a line that fits is put whole
 pub puts_whole : (s : Said) (out : List ℕ) → longest_said ≤ length out → length s.line ≤ length out → Writes s out (putting s out) (put_left s out)
@@ -82,12 +78,12 @@ module _ (i : Items) (ok : item_outside i ≡ 0) (old : List ℕ) (c : Campaign)
   read_writes out room fits =
       subst (λ s. Writes s out (finishing q d.filed d.records out) (finish_left q d.filed d.records out)) said
       (well_finished q d.filed d.records out
-      (well_after q i files (n + 1) (record { filed = filed.Records n (failures_in (records_of old)); records = later }) kept)
+      (well_after q i files (n + 1) (record { filed = Ok (n, failures_in (records_of old)); records = later }) kept)
       room (subst (λ s. length s.line ≤ length out) (sym said) fits))
 
 -- ---- whatever the sheet reads as
 -- by what reading its records comes to
-abbrev Day : Items → Resumed → List ℕ → List ℤ → List (List (List ℕ)) → Said → List ℕ → Type 0
+abbrev Day : Items → Result (ℕ × ℕ) (ℕ × ℕ × Refusal) → List ℕ → List ℤ → List (List (List ℕ)) → Said → List ℕ → Type 0
 Day i r old records files s out =
     Writes s out (finishing_day (up_of r old) i (filled_by r (records_of old) records) files out) (day_left (up_of r old) i (filled_by r (records_of old) records) files out)
 

@@ -26,8 +26,6 @@ use Rattle.decimal.specs.Lines.{lines_of}
 use Rattle.decimal.proofs.Text.{digits_below, field_few}
 use Rattle.sheet_line.specs.declared.Sheet.{Sheet}
 use Rattle.sheet_line.specs.declared.Sheet.TheVariants.{Fresh, Open}
-use Rattle.sheet_line.specs.declared.Step.{Step}
-use Rattle.sheet_line.specs.declared.Step.TheVariants.{Next, Stop}
 use Rattle.sheet_line.specs.Form.{longest_sheet_line}
 use Rattle.sheet_line.specs.Line.{stepping, line_outcome}
 use Rattle.sheet_line.specs.Texts.{entry_text, head_text}
@@ -44,12 +42,13 @@ use Rattle.sheet_text.proofs.Pieces.{one_cut}
 use Rattle.sheet_records.proofs.Enough.{in_range}
 use Rattle.sheet_records.proofs.Puts.{head_bytes}
 use Rattle.sheet_after.specs.After.{refused_old, sheet_after}
+use Rattle.std.specs.Prelude.{Result, Ok, Err}
 
 -- ---- a reading for which more may come
-took : (step : Step) (go : Sheet → Account) (r : Reading) (s : Sheet) (left : ℕ) → r ≡ Waiting s left → (after_step step go).end ≡ r
-    → (t : Sheet) × (step ≡ Next t) × ((go t).end ≡ r)
-took (Next t) go r s left w e = (t, refl, e)
-took (Stop line column x) go r s left w e = impossible (cc)
+took : (step : Result Sheet (ℕ × ℕ × Refusal)) (go : Sheet → Account) (r : Reading) (s : Sheet) (left : ℕ) → r ≡ Waiting s left → (after_step step go).end ≡ r
+    → (t : Sheet) × (step ≡ Ok t) × ((go t).end ≡ r)
+took (Ok t) go r s left w e = (t, refl, e)
+took (Err (line, column, x)) go r s left w e = impossible (cc)
 
 pub never_read : (lines : List (List ℕ)) (s : Sheet) (c : Campaign) → ¬ ((reading_sheet true lines s).end ≡ Read c)
 unfolding reading_sheet
@@ -59,9 +58,9 @@ never_read (line ∷ lines) s c =
     (λ w. rw w (λ e. impossible (cc)))
     (λ w. rw w (by_step (λ t. never_read lines t c) (stepping s line)))
   where
-    by_step : ((t : Sheet) → ¬ ((reading_sheet true lines t).end ≡ Read c)) → (step : Step) → ¬ ((after_step step (reading_sheet true lines)).end ≡ Read c)
-    by_step later (Next t) e = later t e
-    by_step later (Stop l k r) e = impossible (cc)
+    by_step : ((t : Sheet) → ¬ ((reading_sheet true lines t).end ≡ Read c)) → (step : Result Sheet (ℕ × ℕ × Refusal)) → ¬ ((after_step step (reading_sheet true lines)).end ≡ Read c)
+    by_step later (Ok t) e = later t e
+    by_step later (Err (l, k, r)) e = impossible (cc)
 
 -- ---- the bytes of a line that is taken
 entry_few : (number flag exposure : ℕ) → number ≤ 100000 → flag ≤ 1 → exposure ≤ longest_time → length (entry_text number flag exposure) ≤ 18
@@ -75,7 +74,7 @@ record Onward (c : Campaign) (line : List ℕ) (t : Sheet) : Type 0 where
   pub next : t ≡ Open after
   pub few : length line ≤ 18
 
-onward_line : (c : Campaign) (line : List ℕ) (t : Sheet) → sound c ≡ true → stepping (Open c) line ≡ Next t → Onward c line t
+onward_line : (c : Campaign) (line : List ℕ) (t : Sheet) → sound c ≡ true → stepping (Open c) line ≡ Ok t → Onward c line t
 onward_line c line t g step =
     let o = line_enters c line t g step in
     let enters = told_entered c (eqb o.flag 1) o.exposure o.after o.taken in
@@ -138,7 +137,7 @@ waits_few s left (suc m) (b ∷ text) c h g e = some_few s left m (waits_few s l
 head_few : (q : ℕ) → q < 10 ^ longest → length (head_text q) ≤ 22
 head_few q h = omega (arith, head_bytes q, digits_below 11 q h)
 
-opening_line : (line : List ℕ) (t : Sheet) → stepping Fresh line ≡ Next t → (c : Campaign) × (sound c ≡ true) × (t ≡ Open c) × (length line ≤ 22)
+opening_line : (line : List ℕ) (t : Sheet) → stepping Fresh line ≡ Ok t → (c : Campaign) × (sound c ≡ true) × (t ≡ Open c) × (length line ≤ 22)
 unfolding stepping
 opening_line line t step =
     let o = says_next (standard_says _ line (standard_few line)) step in

@@ -33,12 +33,11 @@ use Rattle.sheet_records.proofs.Clean.{written_again}
 use Rattle.sheet_records.proofs.Entered.{judged_campaign}
 use Rattle.desk_line.specs.Said.{Said, read_digit, refused_digit}
 use Rattle.comma_count.specs.Line.{file_then}
-use Rattle.sheet_files.specs.declared.Filed.{Filed}
-use Rattle.sheet_files.specs.declared.Filed.TheVariants as filed
 use Rattle.sheet_files.specs.Files.{failures_in, most_failures, record_of, refused_record, sheet_from, sheet_said, written}
 use Rattle.sheet_files.proofs.Clean.{Clean}
 use Rattle.sheet_files.proofs.Anywhere.{Kept, Well, desk_of, desk_said, desk_well, files_said, filed_said}
 use Rattle.sheet_after.specs.After.{after_reading, sheet_after}
+use Rattle.std.specs.Prelude.{Result, Ok, Err}
 
 -- ---- what was not refused came through every test
 pub past_end : (b : Bool) (r a : Said) → (cond b r a).end ≡ read_digit → r.end ≡ refused_digit → (b ≡ false) × (a.end ≡ read_digit)
@@ -84,9 +83,9 @@ whole_files (x ∷ xs) = ap (λ l. l ∷ map joined (map (λ y. y ∷ []) xs)) (
 same_records : (q : ℕ) (xs ys : List ℤ) → written q xs ≡ written q ys → xs ≡ ys
 same_records q xs ys e = sym (records_back q xs) ∙ ap (λ (s : Said). records_of s.line) e ∙ records_back q ys
 
-pub filed_clean : (q : ℕ) (a : Filed) (rs after : List ℤ) → Well q a rs → filed_said q a rs ≡ written q after → Clean q after
-filed_clean q (filed.Records n failures) rs after w e = subst (Clean q) (same_records q (take n rs) after e) w.clean
-filed_clean q (filed.Refused number line r) rs after w e = let z : refused_digit ≡ read_digit = ap (λ (s : Said). s.end) e in absurd (omega (arith, z))
+pub filed_clean : (q : ℕ) (a : Result (ℕ × ℕ) (ℕ × ℕ × Refusal)) (rs after : List ℤ) → Well q a rs → filed_said q a rs ≡ written q after → Clean q after
+filed_clean q (Ok (n, failures)) rs after w e = subst (Clean q) (same_records q (take n rs) after e) w.clean
+filed_clean q (Err (number, line, r)) rs after w e = let z : refused_digit ≡ read_digit = ap (λ (s : Said). s.end) e in absurd (omega (arith, z))
 
 abbrev places : List ℤ
 places = replicate most_records (pos 0)

@@ -24,8 +24,8 @@ use Rattle.sheet_records.proofs.Clean.{written_again}
 use Rattle.sheet_records.proofs.Entered.{judged_campaign, judged_few, judged_records, judged_sound}
 use Rattle.sheet_files.specs.Files.{failures_in}
 use Rattle.sheet_files.proofs.Clean.{Clean}
-use Rattle.sheet_after.specs.declared.TakenUp.TheVariants as up
 use Rattle.sheet_after.specs.Taking.{counted_up, up_by, up_of}
+use Rattle.std.specs.Prelude.{Ok}
 
 failures_same : (xs : List ℤ) → records.failures_in (map outcome_in xs) ≡ failures_in xs
 unfolding failures_in records.failures_in
@@ -69,7 +69,7 @@ up_read sheet places (Read c) e =
     (λ b.
     let long = length-append (records_of sheet) (drop c.records places) in
     rw (b, le-ltb (length (records_of sheet ++ drop c.records places)) c.records (omega (arith, long, old_many sheet c e)))
-    (ap (λ l. up.Records c.standard c.records (failures_in l)) (front_is (records_of sheet) (drop c.records places) c.records (old_many sheet c e))))
+    (ap (λ l. Ok (c.standard, c.records, failures_in l)) (front_is (records_of sheet) (drop c.records places) c.records (old_many sheet c e))))
 up_read sheet places (Stopped line column r) e = refl
 up_read sheet places (Waiting s left) e = refl
 

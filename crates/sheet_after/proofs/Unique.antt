@@ -10,12 +10,12 @@ use Rattle.refusal.specs.declared.Refusal.{Refusal}
 use Rattle.sample_items.specs.declared.Items.{Items}
 use Rattle.desk_line.specs.declared.Finished.{Finished}
 use Rattle.desk_line.specs.Said.{putting, put_left}
-use Rattle.sheet_after.specs.declared.TakenUp.{TakenUp}
 use Rattle.sheet_after.specs.After.{refused_old}
 use Rattle.sheet_after.specs.Taking.{taking_up, taken_left}
+use Rattle.std.specs.Prelude.{Result}
 
 module _ (i : Items) (sheet : List ℕ) (records : List ℤ) where
-  pub take_up_unique : (a b : TakenUp) → a ≡ taking_up i sheet (length records) → b ≡ taking_up i sheet (length records) → a ≡ b
+  pub take_up_unique : (a b : Result (ℕ × ℕ × ℕ) (ℕ × ℕ × Refusal)) → a ≡ taking_up i sheet (length records) → b ≡ taking_up i sheet (length records) → a ≡ b
   take_up_unique a b = settled
 
   pub take_up_left_unique : (later other : List ℤ) → later ≡ taken_left i sheet records → other ≡ taken_left i sheet records → later ≡ other

@@ -15,21 +15,11 @@ ghost use Rattle.sheet_after.specs.Taking.{counted_up, up_by, taking_up, taken_l
 use desk_line::Finished;
 use refusal::Refusal;
 use sample_items::Items;
-use sheet_records::Resumed;
 
 // The refusals after whose number one more is told: an item, and the column of a malformed line.
 const ITEM: u64 = 1;
 
 const MALFORMED: u64 = 9;
-
-// What taking a sheet up comes to.
-#[derive(Clone, Copy)]
-pub enum TakenUp {
-    // The standard, how many records are in their places, and how many of them failed.
-    Records(u64, u64, u64),
-    // The sheet's line at fault or 0, the column of its fault or 0, and the refusal.
-    Refused(u64, u64, Refusal),
-}
 
 // How many of the records failed.
 fn failures(records: &[i32]) -> u64
@@ -45,35 +35,42 @@ fn failures(records: &[i32]) -> u64
 }
 
 // The standard and the first records of `records`, as many as were read.
-fn counted(q: u64, n: u64, records: &[i32]) -> TakenUp
+fn counted(q: u64, n: u64, records: &[i32]) -> Result<(u64, u64, u64), (u64, u64, Refusal)>
     ensures { result ≡ counted_up q n records.now }
 {
     let k = n as usize;
     if records.len() < k {
-        return TakenUp::Refused(0, 0, Refusal::Room(n));
+        return Err((0, 0, Refusal::Room(n)));
     }
-    TakenUp::Records(q, n, failures(&records[..k]))
+    Ok((q, n, failures(&records[..k])))
 }
 
-fn by_reading(r: Resumed, records: &[i32]) -> TakenUp
+fn by_reading(
+    r: Result<(u64, u64), (u64, u64, Refusal)>,
+    records: &[i32],
+) -> Result<(u64, u64, u64), (u64, u64, Refusal)>
     ensures { result ≡ up_by r records.now }
 {
     match r {
-        Resumed::Records(q, n) => counted(q, n, records),
-        Resumed::Stopped(line, column, x) => TakenUp::Refused(line, column, x),
+        Ok((q, n)) => counted(q, n, records),
+        Err((line, column, x)) => Err((line, column, x)),
     }
 }
 
 // Takes yesterday's sheet up: its records go to the front of `records`, whose rest stays. Or 1 with the lowest item
 // outside its range, which is on no line of the sheet; then the sheet's first refusal with its line and column, 7 where
 // `records` has too few places, and `records` as it stood.
-pub fn take_up(items: Items, sheet: &[u8], records: &mut [i32]) -> TakenUp
+pub fn take_up(
+    items: Items,
+    sheet: &[u8],
+    records: &mut [i32],
+) -> Result<(u64, u64, u64), (u64, u64, Refusal)>
     ensures value { result ≡ taking_up items sheet.now (length records.old) }
     ensures records_after { records.new ≡ taken_left items sheet.now records.old }
 {
     let item = sample_items::item_outside(items);
     if item != 0 {
-        return TakenUp::Refused(0, 0, Refusal::Item(item));
+        return Err((0, 0, Refusal::Item(item)));
     }
     let r = sheet_records::records(sheet, records);
     by_reading(r, records)

@@ -21,9 +21,7 @@ use Rattle.sample_items.specs.Limits.{item_outside, longest_time}
 use Rattle.crossing_places.specs.Reading.{too_few}
 use Rattle.record_state.specs.declared.Record.{Record}
 use Rattle.record_state.specs.State.{sound, state_of}
-use Rattle.record_end.specs.declared.Ended.{Ended}
-use Rattle.record_end.specs.declared.Ended.TheVariants as ended
-use Rattle.record_end.specs.declared.Result.{Result}
+use Rattle.record_end.specs.declared.RecordResult.{RecordResult}
 use Rattle.record_end.specs.Result.{ending, result_of}
 use Rattle.record_end.proofs.Given.{given_bounds}
 use Rattle.campaign_state.specs.State.{most_records, standard_in_range}
@@ -35,21 +33,16 @@ use Rattle.comma_line.specs.Text.{samples_of}
 use Rattle.sheet_records.specs.Ledger.{failed_in, exposure_in, sheet_text}
 use Rattle.desk_line.specs.declared.Finished.{Finished}
 use Rattle.desk_line.specs.Said.{Said, longest_said, putting, put_left}
-use Rattle.comma_count.specs.declared.End.{End}
-use Rattle.comma_count.specs.declared.End.TheVariants as end
 use Rattle.comma_count.specs.Line.{one_channel, end_of_text, file_then, result_for}
 use Rattle.comma_count.specs.Taking.{end_of, on_end, opening}
 use Rattle.comma_count.specs.Pieces.{carrying}
 use Rattle.comma_count.proofs.Cut.{end_anywhere}
 use Rattle.comma_count.proofs.Whole.{end_then}
-use Rattle.sheet_files.specs.declared.Filed.{Filed}
-use Rattle.sheet_files.specs.declared.Filed.TheVariants as filed
-use Rattle.sheet_files.specs.declared.Step.{Step}
-use Rattle.sheet_files.specs.declared.Step.TheVariants as step
 use Rattle.sheet_files.specs.Files.{failures_in, most_failures, record_in, record_of, refused_record, sheet_from, sheet_said, written}
 use Rattle.sheet_files.specs.Filing.{Desk, opened_sheet, step_taken, step_as, step_ended, step_by, step_in, filed_of, left_by, with_file, desk_after}
 use Rattle.sheet_files.specs.Filing.{finishing, finish_left, sheet_put, sheet_left}
 use Rattle.sheet_files.proofs.Clean.{Clean, clean_none, clean_next, clean_written, failures_append, signed_exposure, signed_failed}
+use Rattle.std.specs.Prelude.{Result, Ok, Err}
 
 -- ---- the next record stands after the others
 take_next : (xs : List ℤ) (n : ℕ) (x : ℤ) → n < length xs → take (suc n) (set xs n x) ≡ take n xs ++ (x ∷ [])
@@ -68,12 +61,12 @@ pub record Kept (q n failures : ℕ) (records : List ℤ) : Type 0 where
   pub clean : Clean q (take n records)
   pub fails : failures ≡ failures_in (take n records)
 
-abbrev pub Well : ℕ → Filed → List ℤ → Type 0
-Well q (filed.Records n failures) records = Kept q n failures records
-Well q (filed.Refused number line r) records = Unit {0}
+abbrev pub Well : ℕ → Result (ℕ × ℕ) (ℕ × ℕ × Refusal) → List ℤ → Type 0
+Well q (Ok (n, failures)) records = Kept q n failures records
+Well q (Err (number, line, r)) records = Unit {0}
 
 -- a record whose exposure is in range, where there is room for it
-module _ (q n failures : ℕ) (records : List ℤ) (x : Result) (k : Kept q n failures records)
+module _ (q n failures : ℕ) (records : List ℤ) (x : RecordResult) (k : Kept q n failures records)
     (low : 1 ≤ x.exposure) (high : x.exposure ≤ longest_time) (few : n < most_records) (left : failures < most_failures) (room : n < length records) where
   abbrev bad : Bool
   bad = not (eqb x.first 0)
@@ -110,7 +103,7 @@ module _ (q n failures : ℕ) (records : List ℤ) (x : Result) (k : Kept q n fa
       }
 
 -- whatever a file came to
-well_taken : (q number n failures : ℕ) (records : List ℤ) (x : Result) → Kept q n failures records → 1 ≤ x.exposure → x.exposure ≤ longest_time
+well_taken : (q number n failures : ℕ) (records : List ℤ) (x : RecordResult) → Kept q n failures records → 1 ≤ x.exposure → x.exposure ≤ longest_time
     → let s = step_taken number n failures x (length records) in Well q (filed_of s) (left_by s records)
 unfolding step_taken
 well_taken q number n failures records x k low high =
@@ -124,18 +117,18 @@ well_taken q number n failures records x k low high =
     (λ c. rw (a, b, c) tt)
     (λ c. rw (a, b, c) (kept_next q n failures records x k low high (leb-false most_records n a) (leb-false most_failures failures b) (leb-false (length records) n c)))))
 
-well_ended : (q number n failures : ℕ) (records : List ℤ) (r : Record) (y : Ended) → ending r ≡ y → Kept q n failures records
+well_ended : (q number n failures : ℕ) (records : List ℤ) (r : Record) (y : Result RecordResult Refusal) → ending r ≡ y → Kept q n failures records
     → let s = step_as number n failures y (length records) in Well q (filed_of s) (left_by s records)
-well_ended q number n failures records r (ended.Given x) e k =
+well_ended q number n failures records r (Ok x) e k =
     let b = given_bounds r x e in
     well_taken q number n failures records x k b.0 b.1
-well_ended q number n failures records r (ended.Refused p) e k = tt
+well_ended q number n failures records r (Err p) e k = tt
 
-pub well_step : (q number : ℕ) (a : Filed) (e : End) (records : List ℤ) → Well q a records
+pub well_step : (q number : ℕ) (a : Result (ℕ × ℕ) (ℕ × ℕ × Refusal)) (e : Result Record (ℕ × Refusal)) (records : List ℤ) → Well q a records
     → let s = step_in number a e (length records) in Well q (filed_of s) (left_by s records)
-well_step q number (filed.Refused first line p) e records w = tt
-well_step q number (filed.Records n failures) (end.Refused line p) records w = tt
-well_step q number (filed.Records n failures) (end.Counted r) records w = well_ended q number n failures records r (ending r) refl w
+well_step q number (Err (first, line, p)) e records w = tt
+well_step q number (Ok (n, failures)) (Err (line, p)) records w = tt
+well_step q number (Ok (n, failures)) (Ok r) records w = well_ended q number n failures records r (ending r) refl w
 
 pub well_after : (q : ℕ) (i : Items) (files : List (List (List ℕ))) (number : ℕ) (d : Desk) → Well q d.filed d.records
     → let l = desk_after i number d files in Well q l.filed l.records
@@ -145,33 +138,33 @@ well_after q i (pieces ∷ files) number d w =
     well_after q i files (number + 1) (with_file i number d pieces) (well_step q number d.filed (end_of (carrying (opening i) [] pieces)) d.records w)
 
 -- ---- what is said of what was filed
-abbrev pub filed_said : ℕ → Filed → List ℤ → Said
-filed_said q (filed.Records n failures) records = written q (take n records)
-filed_said q (filed.Refused number line r) records = refused_record number line r
+abbrev pub filed_said : ℕ → Result (ℕ × ℕ) (ℕ × ℕ × Refusal) → List ℤ → Said
+filed_said q (Ok (n, failures)) records = written q (take n records)
+filed_said q (Err (number, line, r)) records = refused_record number line r
 
 abbrev pub desk_said : ℕ → Desk → Said
 desk_said q d = filed_said q d.filed d.records
 
 refused_stays : (i : Items) (files : List (List (List ℕ))) (number first line : ℕ) (p : Refusal) (records : List ℤ)
-    → desk_after i number (record { filed = filed.Refused first line p; records = records }) files ≡ record { filed = filed.Refused first line p; records = records }
+    → desk_after i number (record { filed = Err (first, line, p); records = records }) files ≡ record { filed = Err (first, line, p); records = records }
 unfolding desk_after
 refused_stays i [] number first line p records = refl
 refused_stays i (pieces ∷ files) number first line p records = refused_stays i files (number + 1) first line p records
 
 -- a sound record of n samples, ended
-ending_as : (r : Record) (n : ℕ) (x : Result) → sound r ≡ true → r.n ≡ n → result_of r ≡ x → ending r ≡ cond (too_few r.items.ramp n) (ended.Refused TooShort) (ended.Given x)
+ending_as : (r : Record) (n : ℕ) (x : RecordResult) → sound r ≡ true → r.n ≡ n → result_of r ≡ x → ending r ≡ cond (too_few r.items.ramp n) (Err TooShort) (Ok x)
 unfolding ending
 ending_as r n x s e g =
-    ap (λ b. cond (not b) (ended.Refused BrokenState) (cond (too_few r.items.ramp r.n) (ended.Refused TooShort) (ended.Given (result_of r)))) s
-    ∙ ap (λ y. cond (too_few r.items.ramp r.n) (ended.Refused TooShort) (ended.Given y)) g
-    ∙ ap (λ m. cond (too_few r.items.ramp m) (ended.Refused TooShort) (ended.Given x)) e
+    ap (λ b. cond (not b) (Err BrokenState) (cond (too_few r.items.ramp r.n) (Err TooShort) (Ok (result_of r)))) s
+    ∙ ap (λ y. cond (too_few r.items.ramp r.n) (Err TooShort) (Ok y)) g
+    ∙ ap (λ m. cond (too_few r.items.ramp m) (Err TooShort) (Ok x)) e
 
 module _ (q : ℕ) (i : Items) (ok : item_outside i ≡ 0) where
   -- what is said after so many records, whatever they are
   abbrev pub Later : ℕ → List (List (List ℕ)) → Type 0
   Later number files =
       (n failures : ℕ) (records : List ℤ) → Kept q n failures records → most_records ≤ length records → number ≡ n + 1
-      → desk_said q (desk_after i number (record { filed = filed.Records n failures; records = records }) files) ≡ sheet_from q i (take n records) (map joined files)
+      → desk_said q (desk_after i number (record { filed = Ok (n, failures); records = records }) files) ≡ sheet_from q i (take n records) (map joined files)
 
   -- one file and those after it
   module _ (pieces : List (List ℕ)) (files : List (List (List ℕ))) (number : ℕ) (after : Later (number + 1) files)
@@ -182,10 +175,10 @@ module _ (q : ℕ) (i : Items) (ok : item_outside i ≡ 0) where
     abbrev whole : Record
     whole = state_of i (one_channel (samples_of lines))
 
-    abbrev result : Result
+    abbrev result : RecordResult
     result = result_for i (one_channel (samples_of lines))
 
-    abbrev later : Step → Said
+    abbrev later : Result (ℕ × ℕ × ℕ × ℤ) (ℕ × ℕ × Refusal) → Said
     later s = desk_said q (desk_after i (number + 1) (record { filed = filed_of s; records = left_by s records }) files)
 
     abbrev rest : Said
@@ -194,15 +187,15 @@ module _ (q : ℕ) (i : Items) (ok : item_outside i ≡ 0) where
     abbrev proper : Said
     proper = cond (leb most_records n) (refused_record number 0 CampaignFull) (cond (leb most_failures failures) (refused_record number 0 RowsUsedUp) rest)
 
-    stays : (line : ℕ) (p : Refusal) → later (step.Refused number line p) ≡ refused_record number line p
+    stays : (line : ℕ) (p : Refusal) → later (Err (number, line, p)) ≡ refused_record number line p
     stays line p = ap (desk_said q) (refused_stays i files (number + 1) number line p records)
 
-    by_end : (x : End) → later (step_by number n failures x (length records)) ≡ on_end (refused_record number) (λ r. later (step_ended number n failures r (length records))) x
-    by_end (end.Counted r) = refl
-    by_end (end.Refused line p) = stays line p
+    by_end : (x : Result Record (ℕ × Refusal)) → later (step_by number n failures x (length records)) ≡ on_end (refused_record number) (λ r. later (step_ended number n failures r (length records))) x
+    by_end (Ok r) = refl
+    by_end (Err (line, p)) = stays line p
 
     module _ (low : 1 ≤ result.exposure) (high : result.exposure ≤ longest_time) where
-      placed : n < most_records → failures < most_failures → later (step.Placed n (n + 1) (cond (eqb result.first 0) failures (failures + 1)) (record_in result)) ≡ rest
+      placed : n < most_records → failures < most_failures → later (Ok (n, n + 1, cond (eqb result.first 0) failures (failures + 1), record_in result)) ≡ rest
       placed few left =
           let room : n < length records = omega (arith, few, big) in
           let x = record_in result in
@@ -228,12 +221,12 @@ module _ (q : ℕ) (i : Items) (ok : item_outside i ≡ 0) where
       unfolding state_of result_for
       result-is = refl
 
-      ended_is : ending whole ≡ cond (too_few i.ramp (length lines)) (ended.Refused TooShort) (ended.Given result)
+      ended_is : ending whole ≡ cond (too_few i.ramp (length lines)) (Err TooShort) (Ok result)
       unfolding state_of
       ended_is = ending_as whole (length lines) result s m result-is
 
       by_few : (b : Bool) → too_few i.ramp (length lines) ≡ b
-          → later (step_as number n failures (cond b (ended.Refused TooShort) (ended.Given result)) (length records)) ≡ cond b (refused_record number 0 TooShort) proper
+          → later (step_as number n failures (cond b (Err TooShort) (Ok result)) (length records)) ≡ cond b (refused_record number 0 TooShort) proper
       by_few true f = stays 0 TooShort
       by_few false f = let b = given_bounds whole result (ended_is ∙ rw f) in taken b.0 b.1
 
@@ -299,13 +292,13 @@ module _ (q : ℕ) (i : Items) (records : List ℤ) where
 abbrev pub Writes : Said → List ℕ → Finished → List ℕ → Type 0
 Writes s out f later = (f ≡ record { put = length s.line; end = s.end }) × (later ≡ s.line ++ drop (length s.line) out)
 
-pub well_finished : (q : ℕ) (a : Filed) (records : List ℤ) (out : List ℕ) → Well q a records → longest_said ≤ length out → length (filed_said q a records).line ≤ length out
+pub well_finished : (q : ℕ) (a : Result (ℕ × ℕ) (ℕ × ℕ × Refusal)) (records : List ℤ) (out : List ℕ) → Well q a records → longest_said ≤ length out → length (filed_said q a records).line ≤ length out
     → Writes (filed_said q a records) out (finishing q a records out) (finish_left q a records out)
 unfolding putting put_left sheet_put sheet_left laid_by
-well_finished q (filed.Refused number line r) records out w room h =
+well_finished q (Err (number, line, r)) records out w room h =
     let text = (refused_record number line r).line in
     rw (le-ltb (length out) longest_said room) (refl, written_fits out 0 text (omega (arith, h)) ∙ laid_front out text)
-well_finished q (filed.Records n failures) records out w room h =
+well_finished q (Ok (n, failures)) records out w room h =
     rw (le-ltb (length records) n w.within, clean_written q (take n records) out w.clean h) (refl, refl)
 
 -- WHAT IS WRITTEN FOR THE FILES OF A CAMPAIGN, however each is cut, is what is written for their texts

@@ -12,28 +12,27 @@ use lib.ListN.{length, length-append}
 use borrow.Author.Tests.{le-ltb}
 use Rattle.truth.proofs.Laws.{is_true}
 use Rattle.sample_items.specs.Limits.{longest_time}
-use Rattle.campaign_state.specs.declared.CampaignAnswer.{CampaignAnswer}
-use Rattle.campaign_state.specs.declared.CampaignAnswer.TheVariants.{Taken, Refused}
 use Rattle.campaign_state.specs.declared.Campaign.{Campaign}
 use Rattle.campaign_state.specs.Answers.{opened}
 use Rattle.campaign_state.specs.State.{empty, entered, most_records, sound, standard_in_range}
 use Rattle.campaign_state.proofs.Keeping.{opened_sound}
-use Rattle.text.specs.declared.Writing.TheVariants.{Bytes}
 use Rattle.degrees.specs.Degrees.{signed}
 use Rattle.sheet_line.specs.Line.{telling}
 use Rattle.sheet_records.specs.Ledger.{failed_in, exposure_in, sheet_text}
 use Rattle.sheet_records.specs.Answers.{judged, judged_from, onward, writing_sheet}
 use Rattle.sheet_records.proofs.Judging.{told_taken}
 use Rattle.sheet_files.specs.Files.{failures_in, most_failures}
+use Rattle.refusal.specs.declared.Refusal.{Refusal}
+use Rattle.std.specs.Prelude.{Result, Ok, Err}
 
 -- ---- what is judged of two lists one after the other
-onward_twice : (a : CampaignAnswer) (f g : Campaign → CampaignAnswer) → onward (onward a f) g ≡ onward a (λ c. onward (f c) g)
-onward_twice (Taken c) f g = refl
-onward_twice (Refused r) f g = refl
+onward_twice : (a : Result Campaign Refusal) (f g : Campaign → Result Campaign Refusal) → onward (onward a f) g ≡ onward a (λ c. onward (f c) g)
+onward_twice (Ok c) f g = refl
+onward_twice (Err r) f g = refl
 
-onward_same : (a : CampaignAnswer) (f g : Campaign → CampaignAnswer) → ((c : Campaign) → f c ≡ g c) → onward a f ≡ onward a g
-onward_same (Taken c) f g e = e c
-onward_same (Refused r) f g e = refl
+onward_same : (a : Result Campaign Refusal) (f g : Campaign → Result Campaign Refusal) → ((c : Campaign) → f c ≡ g c) → onward a f ≡ onward a g
+onward_same (Ok c) f g e = e c
+onward_same (Err r) f g e = refl
 
 from-append : (xs ys : List ℤ) (c : Campaign) → judged_from c (xs ++ ys) ≡ onward (judged_from c xs) (λ d. judged_from d ys)
 unfolding judged_from
@@ -61,7 +60,7 @@ counted false e = omega (arith, e)
 -- ---- clean records
 pub record Clean (q : ℕ) (xs : List ℤ) : Type 0 where
   pub campaign : Campaign
-  pub taken : judged q xs ≡ Taken campaign
+  pub taken : judged q xs ≡ Ok campaign
   pub keeps : sound campaign ≡ true
   pub many : campaign.records ≡ length xs
   pub fails : campaign.failures ≡ failures_in xs
@@ -69,7 +68,7 @@ pub record Clean (q : ℕ) (xs : List ℤ) : Type 0 where
 pub clean_none : (q : ℕ) → standard_in_range q ≡ true → Clean q []
 unfolding judged judged_from failures_in
 clean_none q e =
-    let o : opened q ≡ Taken (empty q) = rw e in
+    let o : opened q ≡ Ok (empty q) = rw e in
     record { campaign = empty q; taken = rw e; keeps = is_true _ (opened_sound q (empty q) o); many = refl; fails = refl }
 
 -- a record as one number, failed or not
@@ -91,14 +90,14 @@ module _ (q : ℕ) (xs : List ℤ) (x : ℤ) (k : Clean q xs) (low : 1 ≤ expos
   abbrev d : Campaign
   d = entered c (failed_in x) (exposure_in x)
 
-  told : (telling c (failed_in x) (exposure_in x) ≡ Taken d) × (sound d ≡ true)
+  told : (telling c (failed_in x) (exposure_in x) ≡ Ok d) × (sound d ≡ true)
   told = told_taken c (failed_in x) (exposure_in x) k.keeps low high (λ e. omega (arith, e, k.many)) (λ e. omega (arith, e, k.fails))
 
-  one_more : judged_from c (x ∷ []) ≡ Taken d
+  one_more : judged_from c (x ∷ []) ≡ Ok d
   unfolding judged_from
-  one_more = ap (λ a. onward a (λ e. Taken e)) told.0
+  one_more = ap (λ a. onward a (λ e. Ok e)) told.0
 
-  taken_all : judged q (xs ++ (x ∷ [])) ≡ Taken d
+  taken_all : judged q (xs ++ (x ∷ [])) ≡ Ok d
   taken_all = judged_append q xs (x ∷ []) ∙ ap (λ a. onward a (λ e. judged_from e (x ∷ []))) k.taken ∙ one_more
 
   records_more : d.records ≡ length (xs ++ (x ∷ []))
@@ -111,6 +110,6 @@ module _ (q : ℕ) (xs : List ℤ) (x : ℤ) (k : Clean q xs) (low : 1 ≤ expos
   clean_next = record { campaign = d; taken = taken_all; keeps = told.1; many = records_more; fails = fails_more }
 
 -- ---- and so they are written
-pub clean_written : (q : ℕ) (xs : List ℤ) (out : List ℕ) → Clean q xs → length (sheet_text q xs) ≤ length out → writing_sheet q xs out ≡ Bytes (length (sheet_text q xs))
+pub clean_written : (q : ℕ) (xs : List ℤ) (out : List ℕ) → Clean q xs → length (sheet_text q xs) ≤ length out → writing_sheet q xs out ≡ Ok (length (sheet_text q xs))
 unfolding writing_sheet
 clean_written q xs out k h = rw (k.taken, le-ltb (length out) (length (sheet_text q xs)) h)

@@ -11,15 +11,16 @@ use Rattle.sample_items.specs.declared.Items.{Items}
 use Rattle.desk_line.specs.declared.Finished.{Finished}
 use Rattle.comma_count.specs.declared.Counting.{Counting}
 use Rattle.comma_count.specs.Taking.{end_of}
-use Rattle.sheet_files.specs.declared.Filed.{Filed}
 use Rattle.sheet_files.specs.Filing.{opened_sheet, step_in, filed_of, left_by, is_over, finishing, finish_left}
+use Rattle.refusal.specs.declared.Refusal.{Refusal}
+use Rattle.std.specs.Prelude.{Result}
 
-pub open_unique : (q : ℕ) (i : Items) (a b : Filed) → a ≡ opened_sheet q i → b ≡ opened_sheet q i → a ≡ b
+pub open_unique : (q : ℕ) (i : Items) (a b : Result (ℕ × ℕ) (ℕ × ℕ × Refusal)) → a ≡ opened_sheet q i → b ≡ opened_sheet q i → a ≡ b
 open_unique q i a b = settled
 
-module _ (s : Filed) (records : List ℤ) where
+module _ (s : Result (ℕ × ℕ) (ℕ × ℕ × Refusal)) (records : List ℤ) where
   module _ (number : ℕ) (c : Counting) where
-    pub add_unique : (a b : Filed) → a ≡ filed_of (step_in number s (end_of c) (length records)) → b ≡ filed_of (step_in number s (end_of c) (length records)) → a ≡ b
+    pub add_unique : (a b : Result (ℕ × ℕ) (ℕ × ℕ × Refusal)) → a ≡ filed_of (step_in number s (end_of c) (length records)) → b ≡ filed_of (step_in number s (end_of c) (length records)) → a ≡ b
     add_unique a b = settled
 
     pub add_left_unique : (later other : List ℤ) → later ≡ left_by (step_in number s (end_of c) (length records)) records

@@ -6,7 +6,7 @@ use Rattle.refusal.specs.declared.Refusal.{Refusal}
 use Rattle.refusal.specs.declared.Refusal.TheVariants.{CampaignFull, Item, RowsUsedUp}
 use Rattle.sample_items.specs.declared.Items.{Items}
 use Rattle.sample_items.specs.Limits.{item_outside}
-use Rattle.record_end.specs.declared.Result.{Result}
+use Rattle.record_end.specs.declared.RecordResult.{RecordResult}
 use Rattle.campaign_state.specs.State.{most_records, standard_in_range}
 use Rattle.decimal.specs.Lines.{lines_of}
 use Rattle.degrees.specs.Degrees.{signed}
@@ -16,7 +16,7 @@ use Rattle.desk_line.specs.Said.{Said, read_digit, refused}
 use Rattle.comma_count.specs.Line.{one_channel, result_for, file_then}
 
 -- a record as the sheet has it: its exposure, with a minus if it failed
-abbrev pub record_in : Result → ℤ
+abbrev pub record_in : RecordResult → ℤ
 record_in x = signed (not (eqb x.first 0)) x.exposure
 
 abbrev pub record_of : Items → List (List ℕ) → ℤ

@@ -13,47 +13,30 @@ ghost use Rattle.sheet_files.specs.Filing.{opened_sheet, step_taken, step_ended,
 ghost use Rattle.sheet_files.specs.Filing.{is_over, writing_put, writing_left, sheet_put, sheet_left, finishing};
 ghost use Rattle.sheet_files.specs.Filing.{finish_left};
 
-use comma_count::{Counting, End};
+use comma_count::Counting;
 use desk_line::Finished;
-use record_end::{Ended, Result};
+use record_end::RecordResult;
 use record_state::Record;
 use refusal::Refusal;
 use sample_items::Items;
-use text::Writing;
-
-// How many records are in their places, and how many of them failed; or the number of the file at fault, its line or 0,
-// and the refusal.
-#[derive(Clone, Copy)]
-pub enum Filed {
-    Records(u64, u64),
-    Refused(u64, u64, Refusal),
-}
-
-// What a file does: its record goes to a place, after which there are so many, so many of them failed; or it is
-// refused.
-#[derive(Clone, Copy)]
-enum Step {
-    Placed(u64, u64, u64, i32),
-    Refused(u64, u64, Refusal),
-}
 
 // No records yet; or 1 with item 5 for the standard, or with the lowest item outside its range, which are no file's.
-pub fn open(q: u64, items: Items) -> Filed
+pub fn open(q: u64, items: Items) -> Result<(u64, u64), (u64, u64, Refusal)>
     ensures { result ≡ opened_sheet q items }
 {
     if !truth::both(1 <= q, q <= campaign_state::LONGEST_STANDARD) {
-        return Filed::Refused(0, 0, Refusal::Item(5));
+        return Err((0, 0, Refusal::Item(5)));
     }
     let item = sample_items::item_outside(items);
     if item == 0 {
-        Filed::Records(0, 0)
+        Ok((0, 0))
     } else {
-        Filed::Refused(0, 0, Refusal::Item(item))
+        Err((0, 0, Refusal::Item(item)))
     }
 }
 
 // A record as the sheet has it: its exposure, with a minus if it failed.
-fn record_in(x: Result) -> i32
+fn record_in(x: RecordResult) -> i32
     requires { x.exposure ≤ longest_time }
     ensures { result ≡ record_in x }
 {
@@ -62,52 +45,75 @@ fn record_in(x: Result) -> i32
 }
 
 // A record after `n` others, of which so many failed: 5, 6, 7 for want of places, or its place.
-fn step_taken(number: u64, n: u64, failures: u64, x: Result, places: u64) -> Step
+fn step_taken(
+    number: u64,
+    n: u64,
+    failures: u64,
+    x: RecordResult,
+    places: u64,
+) -> Result<(u64, u64, u64, i32), (u64, u64, Refusal)>
     requires { x.exposure ≤ longest_time }
     ensures { result ≡ step_taken number n failures x places }
 {
     if n >= campaign_state::MOST_RECORDS {
-        return Step::Refused(number, 0, Refusal::CampaignFull);
+        return Err((number, 0, Refusal::CampaignFull));
     }
     if failures >= campaign_state::ROWS {
-        return Step::Refused(number, 0, Refusal::RowsUsedUp);
+        return Err((number, 0, Refusal::RowsUsedUp));
     }
     if places <= n {
-        return Step::Refused(number, 0, Refusal::Room(n + 1));
+        return Err((number, 0, Refusal::Room(n + 1)));
     }
     let record = record_in(x);
-    Step::Placed(
+    Ok((
         n,
         n + 1,
         truth::pick(x.first == 0, failures, failures + 1),
         record,
-    )
+    ))
 }
 
-fn step_ended(number: u64, n: u64, failures: u64, r: Record, places: u64) -> Step
+fn step_ended(
+    number: u64,
+    n: u64,
+    failures: u64,
+    r: Record,
+    places: u64,
+) -> Result<(u64, u64, u64, i32), (u64, u64, Refusal)>
     ensures { result ≡ step_ended number n failures r places }
 {
     match record_end::end(r) {
-        Ended::Given(x) => step_taken(number, n, failures, x, places),
-        Ended::Refused(q) => Step::Refused(number, 0, q),
+        Ok(x) => step_taken(number, n, failures, x, places),
+        Err(q) => Err((number, 0, q)),
     }
 }
 
-fn step_by(number: u64, n: u64, failures: u64, e: End, places: u64) -> Step
+fn step_by(
+    number: u64,
+    n: u64,
+    failures: u64,
+    e: Result<Record, (u64, Refusal)>,
+    places: u64,
+) -> Result<(u64, u64, u64, i32), (u64, u64, Refusal)>
     ensures { result ≡ step_by number n failures e places }
 {
     match e {
-        End::Counted(r) => step_ended(number, n, failures, r, places),
-        End::Refused(line, q) => Step::Refused(number, line, q),
+        Ok(r) => step_ended(number, n, failures, r, places),
+        Err((line, q)) => Err((number, line, q)),
     }
 }
 
-fn step_in(number: u64, a: Filed, e: End, places: u64) -> Step
+fn step_in(
+    number: u64,
+    a: Result<(u64, u64), (u64, u64, Refusal)>,
+    e: Result<Record, (u64, Refusal)>,
+    places: u64,
+) -> Result<(u64, u64, u64, i32), (u64, u64, Refusal)>
     ensures { result ≡ step_in number a e places }
 {
     match a {
-        Filed::Records(n, failures) => step_by(number, n, failures, e, places),
-        Filed::Refused(first, line, q) => Step::Refused(first, line, q),
+        Ok((n, failures)) => step_by(number, n, failures, e, places),
+        Err((first, line, q)) => Err((first, line, q)),
     }
 }
 
@@ -120,23 +126,31 @@ fn put(x: i32, records: &mut [i32], i: usize)
     }
 }
 
-fn stored(s: Step, records: &mut [i32]) -> Filed
+fn stored(
+    s: Result<(u64, u64, u64, i32), (u64, u64, Refusal)>,
+    records: &mut [i32],
+) -> Result<(u64, u64), (u64, u64, Refusal)>
     ensures value { result ≡ filed_of s }
     ensures records_after { records.new ≡ left_by s records.old }
 {
     match s {
-        Step::Placed(place, n, failures, x) => {
+        Ok((place, n, failures, x)) => {
             put(x, records, place as usize);
-            Filed::Records(n, failures)
+            Ok((n, failures))
         }
-        Step::Refused(number, line, q) => Filed::Refused(number, line, q),
+        Err((number, line, q)) => Err((number, line, q)),
     }
 }
 
 // The records with that of a file, the one of this number, which was counted to its end: it goes to its place in
 // `records`, whose rest stays. Or 10, 2, 3 with the line at fault, then 4, 5, 6, 7 where `records` has no place for it.
 // What was refused stays.
-pub fn add(number: u64, a: Filed, c: Counting, records: &mut [i32]) -> Filed
+pub fn add(
+    number: u64,
+    a: Result<(u64, u64), (u64, u64, Refusal)>,
+    c: Counting,
+    records: &mut [i32],
+) -> Result<(u64, u64), (u64, u64, Refusal)>
     ensures value { result ≡ filed_of (step_in number a (end_of c) (length records.old)) }
     ensures records_after { records.new
         ≡ left_by (step_in number a (end_of c) (length records.old)) records.old }
@@ -147,25 +161,25 @@ pub fn add(number: u64, a: Filed, c: Counting, records: &mut [i32]) -> Filed
 }
 
 // Whether a file was refused: nothing that follows changes it.
-pub fn is_over(a: Filed) -> bool
+pub fn is_over(a: Result<(u64, u64), (u64, u64, Refusal)>) -> bool
     ensures { result ≡ is_over a }
 {
     match a {
-        Filed::Records(_, _) => false,
-        Filed::Refused(_, _, _) => true,
+        Ok((_, _)) => false,
+        Err((_, _, _)) => true,
     }
 }
 
-fn put_writing(w: Writing, out: &mut [u8]) -> Finished
+fn put_writing(w: Result<u64, Refusal>, out: &mut [u8]) -> Finished
     ensures value { result ≡ writing_put w out.old }
     ensures out_after { out.new ≡ writing_left w out.old }
 {
     match w {
-        Writing::Bytes(n) => Finished {
+        Ok(n) => Finished {
             put: n as usize,
             end: desk_line::READ,
         },
-        Writing::Refused(r) => desk_line::refuse_in(0, 0, r, out),
+        Err(r) => desk_line::refuse_in(0, 0, r, out),
     }
 }
 
@@ -184,12 +198,17 @@ fn put_sheet(q: u64, n: u64, records: &[i32], out: &mut [u8]) -> Finished
 // Writes what is said of the files to the start of `out`: the sheet of the standard and the first records of `records`,
 // as many as were taken; or the refused line, with the number of the file at fault or 0, its line or 0, the refusal's
 // number, and after 1 the item. Without room for the sheet the refusal is 7, which is no file's.
-pub fn finish(q: u64, a: Filed, records: &[i32], out: &mut [u8]) -> Finished
+pub fn finish(
+    q: u64,
+    a: Result<(u64, u64), (u64, u64, Refusal)>,
+    records: &[i32],
+    out: &mut [u8],
+) -> Finished
     ensures value { result ≡ finishing q a records.now out.old }
     ensures out_after { out.new ≡ finish_left q a records.now out.old }
 {
     match a {
-        Filed::Records(n, _) => put_sheet(q, n, records, out),
-        Filed::Refused(number, line, r) => desk_line::refuse_in(number, line, r, out),
+        Ok((n, _)) => put_sheet(q, n, records, out),
+        Err((number, line, r)) => desk_line::refuse_in(number, line, r, out),
     }
 }

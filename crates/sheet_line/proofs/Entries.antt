@@ -7,46 +7,43 @@ use native.Mathlib.Omega.{arith}
 use lib.Dec.{eqb}
 use Rattle.truth.proofs.Laws.{impossible}
 use Rattle.refusal.specs.declared.Refusal.{Refusal}
-use Rattle.campaign_state.specs.declared.CampaignAnswer.{CampaignAnswer}
-use Rattle.campaign_state.specs.declared.CampaignAnswer.TheVariants.{Taken, Refused}
 use Rattle.campaign_state.specs.declared.Campaign.{Campaign}
 use Rattle.campaign_state.specs.Answers.{opened}
 use Rattle.sheet_line.specs.declared.Sheet.{Sheet}
 use Rattle.sheet_line.specs.declared.Sheet.TheVariants.{Open}
-use Rattle.sheet_line.specs.declared.Step.{Step}
-use Rattle.sheet_line.specs.declared.Step.TheVariants.{Next, Stop}
 use Rattle.sheet_line.specs.Texts.{entry_text, head_text}
 use Rattle.sheet_line.specs.Line.{line_after, malformed, outcome, record_line, standard_line, telling}
 use Rattle.sheet_line.proofs.Forms.{Reads, Told, ToldStandard, good, ill, record_reads, standard_reads}
+use Rattle.std.specs.Prelude.{Result, Ok, Err}
 
 -- a step that is taken leads to a sheet of which P holds; one that is refused names the line
-pub data Says (P : Sheet → Type 0) (line : ℕ) : Step → Type 0 where
-  goes : {s : Sheet} → P s → Says P line (Next s)
-  stops : {column : ℕ} {r : Refusal} → column < 1000 → Says P line (Stop line column r)
+pub data Says (P : Sheet → Type 0) (line : ℕ) : Result Sheet (ℕ × ℕ × Refusal) → Type 0 where
+  goes : {s : Sheet} → P s → Says P line (Ok s)
+  stops : {column : ℕ} {r : Refusal} → column < 1000 → Says P line (Err (line, column, r))
 
 module _ {P : Sheet → Type 0} {line : ℕ} where
-  says_outcome : (a : CampaignAnswer) → ((d : Campaign) → a ≡ Taken d → P (Open d)) → Says P line (outcome line a)
-  says_outcome (Taken d) f = goes (f d refl)
-  says_outcome (Refused r) f = stops {column = 0} (omega arith)
+  says_outcome : (a : Result Campaign Refusal) → ((d : Campaign) → a ≡ Ok d → P (Open d)) → Says P line (outcome line a)
+  says_outcome (Ok d) f = goes (f d refl)
+  says_outcome (Err r) f = stops {column = 0} (omega arith)
 
 -- from a step's answer back to what it says
-never : {s : Sheet} {line column : ℕ} {r : Refusal} → ¬ (Stop line column r ≡ Next s)
+never : {s : Sheet} {line column : ℕ} {r : Refusal} → ¬ (Err (line, column, r) ≡ Ok s)
 never e = impossible (cc)
 
-same : {s t : Sheet} → Next s ≡ Next t → s ≡ t
+same : {s t : Sheet} → Ok s ≡ Ok t → s ≡ t
 same e = cc
 
-pub says_next : {P : Sheet → Type 0} {line : ℕ} {step : Step} {t : Sheet} → Says P line step → step ≡ Next t → P t
+pub says_next : {P : Sheet → Type 0} {line : ℕ} {step : (Result Sheet (ℕ × ℕ × Refusal))} {t : Sheet} → Says P line step → step ≡ Ok t → P t
 says_next {P} (goes p) e = subst P (same e) p
 says_next (stops k) e = absurd (never e)
 
-not_next : {s : Sheet} {line column : ℕ} {r : Refusal} → ¬ (Next s ≡ Stop line column r)
+not_next : {s : Sheet} {line column : ℕ} {r : Refusal} → ¬ (Ok s ≡ Err (line, column, r))
 not_next e = impossible (cc)
 
-same_line : {n l k m : ℕ} {q r : Refusal} → k < 1000 → Stop n k q ≡ Stop l m r → (l ≡ n) × (m < 1000)
+same_line : {n l k m : ℕ} {q r : Refusal} → k < 1000 → Err (n, k, q) ≡ Err (l, m, r) → (l ≡ n) × (m < 1000)
 same_line {n} {l} {k} {m} h e = let line : l ≡ n = cc in let column : k ≡ m = cc in (line, omega arith)
 
-pub says_stop : {P : Sheet → Type 0} {line : ℕ} {step : Step} {l column : ℕ} {r : Refusal} → Says P line step → step ≡ Stop l column r → (l ≡ line) × (column < 1000)
+pub says_stop : {P : Sheet → Type 0} {line : ℕ} {step : (Result Sheet (ℕ × ℕ × Refusal))} {l column : ℕ} {r : Refusal} → Says P line step → step ≡ Err (l, column, r) → (l ≡ line) × (column < 1000)
 says_stop (goes p) e = absurd (not_next e)
 says_stop (stops k) e = same_line k e
 
@@ -57,14 +54,14 @@ pub record Entry (c : Campaign) (line : List ℕ) (s : Sheet) : Type 0 where
   pub after : Campaign
   pub flag_kept : flag ≤ 1
   pub bytes : line ≡ entry_text (c.records + 1) flag exposure
-  pub taken : telling c (eqb flag 1) exposure ≡ Taken after
+  pub taken : telling c (eqb flag 1) exposure ≡ Ok after
   pub next : s ≡ Open after
 
 pub record_says : (column : ℕ) (c : Campaign) (line : List ℕ) → column < 1000
     → Says (Entry c line) (line_after c) (record_line column c line)
 record_says column c line k = go (record_reads column c line)
   where
-    go : {s : Step} → Reads (Told c line) (malformed (line_after c) column) s → Says (Entry c line) (line_after c) s
+    go : {s : (Result Sheet (ℕ × ℕ × Refusal))} → Reads (Told c line) (malformed (line_after c) column) s → Says (Entry c line) (line_after c) s
     go ill = stops k
     go (good t) =
         let x = t.text in
@@ -85,13 +82,13 @@ pub record Opening (line : List ℕ) (s : Sheet) : Type 0 where
   pub standard : ℕ
   pub after : Campaign
   pub bytes : line ≡ head_text standard
-  pub taken : opened standard ≡ Taken after
+  pub taken : opened standard ≡ Ok after
   pub next : s ≡ Open after
 
 pub standard_says : (column : ℕ) (line : List ℕ) → column < 1000 → Says (Opening line) 1 (standard_line column line)
 standard_says column line k = go (standard_reads column line)
   where
-    go : {s : Step} → Reads (ToldStandard line) (malformed 1 column) s → Says (Opening line) 1 s
+    go : {s : (Result Sheet (ℕ × ℕ × Refusal))} → Reads (ToldStandard line) (malformed 1 column) s → Says (Opening line) 1 s
     go ill = stops k
     go (good t) =
         rw t.is

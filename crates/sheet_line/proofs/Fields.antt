@@ -18,8 +18,10 @@ use Rattle.sheet_line.specs.declared.Field.{Field}
 use Rattle.sheet_line.specs.declared.Field.TheVariants.{Number, Empty, Strange, LeadingZero, TooLong}
 use Rattle.sheet_line.proofs.Back.{read_only}
 use Rattle.sheet_line.specs.Form.{begins}
-use Rattle.sheet_line.specs.declared.Step.{Step}
 use Rattle.sheet_line.specs.Line.{starts_with, ended_by, field_then, with_number}
+use Rattle.refusal.specs.declared.Refusal.{Refusal}
+use Rattle.sheet_line.specs.declared.Sheet.{Sheet}
+use Rattle.std.specs.Prelude.{Result}
 
 starts_with_lem : (byte : ℕ) (text : List ℕ) → starts_with byte text ≡ true → text ≡ byte ∷ drop 1 text
 unfolding starts_with
@@ -79,7 +81,7 @@ module _ (end : ℕ) (line : List ℕ) (at v next : ℕ) where
           (λ s. absurd (never (Strange place) refl (rw s at e)))
 
 -- what a `let Field::Number(..) = .. else` tells of the field in its else
-pub other_field : (f : Field) (bad : Step) (go : ℕ → ℕ → Step) → ((v next : ℕ) → f ≡ Number v next → ⊥)
+pub other_field : (f : Field) (bad : Result Sheet (ℕ × ℕ × Refusal)) (go : ℕ → ℕ → Result Sheet (ℕ × ℕ × Refusal)) → ((v next : ℕ) → f ≡ Number v next → ⊥)
     → with_number bad f go ≡ bad
 other_field (Number v next) bad go never = absurd (never v next refl)
 other_field Empty bad go never = refl

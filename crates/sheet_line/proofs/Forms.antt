@@ -16,21 +16,23 @@ use Rattle.campaign_state.specs.declared.Campaign.{Campaign}
 use Rattle.campaign_state.specs.Answers.{opened}
 use Rattle.sheet_line.specs.Form.{begins, is_sheet_line, standard_start}
 use Rattle.sheet_line.specs.Texts.{RecordText, StandardText}
-use Rattle.sheet_line.specs.declared.Step.{Step}
 use Rattle.sheet_line.specs.Line.{field_then, is_record, line_after, malformed, outcome, record_line, standard_line, telling, with_number}
 use Rattle.sheet_line.proofs.Fields.{begins_with, field_of}
+use Rattle.refusal.specs.declared.Refusal.{Refusal}
+use Rattle.sheet_line.specs.declared.Sheet.{Sheet}
+use Rattle.std.specs.Prelude.{Result}
 
 -- a step is told by the line, or is the bad one
-pub data Reads (Told : Step → Type 0) (bad : Step) : Step → Type 0 where
-  good : {s : Step} → Told s → Reads Told bad s
+pub data Reads (Told : Result Sheet (ℕ × ℕ × Refusal) → Type 0) (bad : Result Sheet (ℕ × ℕ × Refusal)) : Result Sheet (ℕ × ℕ × Refusal) → Type 0 where
+  good : {s : (Result Sheet (ℕ × ℕ × Refusal))} → Told s → Reads Told bad s
   ill : Reads Told bad bad
 
-module _ {Told : Step → Type 0} {bad : Step} where
-  reads_if : (b : Bool) {x : Step} → (b ≡ true → Reads Told bad x) → Reads Told bad (cond b x bad)
+module _ {Told : Result Sheet (ℕ × ℕ × Refusal) → Type 0} {bad : (Result Sheet (ℕ × ℕ × Refusal))} where
+  reads_if : (b : Bool) {x : (Result Sheet (ℕ × ℕ × Refusal))} → (b ≡ true → Reads Told bad x) → Reads Told bad (cond b x bad)
   reads_if true f = f refl
   reads_if false f = ill
 
-  reads_number : (f : Field) {go : ℕ → ℕ → Step}
+  reads_number : (f : Field) {go : ℕ → ℕ → (Result Sheet (ℕ × ℕ × Refusal))}
       → ((v next : ℕ) → f ≡ Number v next → Reads Told bad (go v next)) → Reads Told bad (with_number bad f go)
   reads_number Empty g = ill
   reads_number (Strange place) g = ill
@@ -39,7 +41,7 @@ module _ {Told : Step → Type 0} {bad : Step} where
   reads_number (Number v next) g = g v next refl
 
 -- ---- a record's line
-pub record Told (c : Campaign) (line : List ℕ) (s : Step) : Type 0 where
+pub record Told (c : Campaign) (line : List ℕ) (s : Result Sheet (ℕ × ℕ × Refusal)) : Type 0 where
   pub text : RecordText (c.records + 1) line
   pub is : s ≡ outcome (line_after c) (telling c (eqb text.flag 1) text.exposure)
 
@@ -81,7 +83,7 @@ record_reads column c line =
         }
 
 -- ---- line 1
-pub record ToldStandard (line : List ℕ) (s : Step) : Type 0 where
+pub record ToldStandard (line : List ℕ) (s : Result Sheet (ℕ × ℕ × Refusal)) : Type 0 where
   pub text : StandardText line
   pub is : s ≡ outcome 1 (opened text.standard)
 

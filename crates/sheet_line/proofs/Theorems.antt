@@ -18,8 +18,7 @@ use Rattle.sample_items.specs.Limits.{longest_time}
 use Rattle.refusal.specs.declared.Refusal.{Refusal}
 use Rattle.refusal.specs.declared.Refusal.TheVariants.{TooLong, TooShort}
 use Rattle.record_end.specs.Result.{ending, outcome_of}
-use Rattle.record_end.specs.declared.Ended.TheVariants.{Given}
-use Rattle.record_end.specs.declared.Result.{Result}
+use Rattle.record_end.specs.declared.RecordResult.{RecordResult}
 use Rattle.record_end.proofs.Given.{given_bounds}
 use Rattle.decimal.specs.Decimal.{digits_of, longest}
 use Rattle.decimal.specs.Field.{tab, line_feed, field_text}
@@ -27,23 +26,21 @@ use Rattle.sheet_line.specs.Field.{is_end, ends_here}
 use Rattle.sheet_line.specs.declared.Field.TheVariants.{Number}
 use Rattle.sheet_line.proofs.Back.{read_back}
 use Rattle.decimal.proofs.Text.{field_few}
-use Rattle.campaign_state.specs.declared.CampaignAnswer.{CampaignAnswer}
-use Rattle.campaign_state.specs.declared.CampaignAnswer.TheVariants.{Refused, Taken}
 use Rattle.campaign_state.specs.declared.Campaign.{Campaign}
 use Rattle.campaign_state.specs.Answers.{entering, opened}
 use Rattle.campaign_state.specs.State.{sound}
 use Rattle.campaign_state.proofs.Relations.{kept_from}
 use Rattle.sheet_line.specs.declared.Sheet.{Sheet}
 use Rattle.sheet_line.specs.declared.Sheet.TheVariants.{Fresh, Open}
-use Rattle.sheet_line.specs.declared.Step.TheVariants.{Next}
 use Rattle.sheet_line.specs.Form.{begins, longest_sheet_line, ends_line, is_sheet_line, standard_start}
 use Rattle.sheet_line.specs.Texts.{entry_text, head_text}
 use Rattle.sheet_line.proofs.Columns.{record_few}
 use Rattle.sheet_line.specs.Line.{ended_by, field_then, line_after, outcome, record_line, standard_line, starts_with, stepping, telling, line_outcome}
 use Rattle.sheet_line.proofs.Entries.{Entry, record_says, says_next}
+use Rattle.std.specs.Prelude.{Ok, Err}
 
 -- what a line that is taken says
-pub line_enters : (c : Campaign) (line : List ℕ) (s : Sheet) → sound c ≡ true → stepping (Open c) line ≡ Next s → Entry c line s
+pub line_enters : (c : Campaign) (line : List ℕ) (s : Sheet) → sound c ≡ true → stepping (Open c) line ≡ Ok s → Entry c line s
 unfolding stepping
 line_enters c line s g e = says_next (record_says _ c line (record_few (c.records + 1) line)) (rw g at e)
 
@@ -53,16 +50,16 @@ module _ (c : Campaign) (f : Bool) (t : ℕ) where
   unfolding telling
   telling_enters low high = rw (ne_eqb t 0 (λ e. omega arith), le-ltb longest_time t high)
 
-  pub told_entered : (d : Campaign) → telling c f t ≡ Taken d → entering c (line_outcome f t) ≡ Taken d
+  pub told_entered : (d : Campaign) → telling c f t ≡ Ok d → entering c (line_outcome f t) ≡ Ok d
   unfolding telling
   told_entered d e = (past (ltb longest_time t) never (past (eqb t 0) never e).1).1
     where
-      never : {r : Refusal} → ¬ (Refused r ≡ Taken d)
+      never : {r : Refusal} → ¬ (Err r ≡ Ok d)
       never e = impossible (cc)
 
 -- and so is any result with that failure and that exposure
-pub line_results : (c : Campaign) (line : List ℕ) (s : Sheet) (e : Entry c line s) (x : Result) → outcome_of x
-    ≡ line_outcome (eqb e.flag 1) e.exposure → entering c (outcome_of x) ≡ Taken e.after
+pub line_results : (c : Campaign) (line : List ℕ) (s : Sheet) (e : Entry c line s) (x : RecordResult) → outcome_of x
+    ≡ line_outcome (eqb e.flag 1) e.exposure → entering c (outcome_of x) ≡ Ok e.after
 line_results c line s e x o = rw o (told_entered c (eqb e.flag 1) e.exposure e.after e.taken)
 
 -- ---- a field that was written reads back
@@ -168,7 +165,7 @@ pub flag_of : (b : Bool) → (eqb (cond b 1 0) 1 ≡ b) × (cond b 1 0 ≤ 1)
 flag_of true = (refl, omega arith)
 flag_of false = (refl, omega arith)
 
-pub result_line : (r : Record) (x : Result) (c : Campaign) → sound c ≡ true → ending r ≡ Given x
+pub result_line : (r : Record) (x : RecordResult) (c : Campaign) → sound c ≡ true → ending r ≡ Ok x
     → stepping (Open c) (entry_text (c.records + 1) (cond (outcome_of x).failed 1 0) x.exposure)
     ≡ outcome (line_after c) (entering c (outcome_of x))
 result_line r x c g e =

@@ -10,8 +10,9 @@ use Rattle.truth.proofs.Unique.{settled}
 use Rattle.sheet_line.specs.Form.{is_sheet_line, begins}
 use Rattle.sheet_line.specs.Column.{standard_column, record_column}
 use Rattle.sheet_line.specs.declared.Sheet.{Sheet}
-use Rattle.sheet_line.specs.declared.Step.{Step}
 use Rattle.sheet_line.specs.Line.{stepping}
+use Rattle.refusal.specs.declared.Refusal.{Refusal}
+use Rattle.std.specs.Prelude.{Result}
 
 pub number_at_unique : (s : List ℕ) (at : ℕ) (r q : Field) → r ≡ field_at s at → q ≡ field_at s at → r ≡ q
 number_at_unique s at r q e f = cc
@@ -28,5 +29,5 @@ standard_column_unique text r q = settled
 pub record_column_unique : (due : ℕ) (text : List ℕ) (r q : ℕ) → r ≡ record_column due text → q ≡ record_column due text → r ≡ q
 record_column_unique due text r q = settled
 
-pub line_unique : (s : Sheet) (line : List ℕ) (r q : Step) → r ≡ stepping s line → q ≡ stepping s line → r ≡ q
+pub line_unique : (s : Sheet) (line : List ℕ) (r q : Result Sheet (ℕ × ℕ × Refusal)) → r ≡ stepping s line → q ≡ stepping s line → r ≡ q
 line_unique s line r q = settled

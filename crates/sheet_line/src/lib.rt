@@ -14,7 +14,7 @@ ghost use Rattle.campaign_state.specs.State.{sound};
 ghost use Rattle.sheet_line.specs.Line.{field_then, line_after, malformed, outcome, standard_line, record_line};
 ghost use Rattle.sheet_line.specs.Line.{stepping, telling};
 
-use campaign_state::{Campaign, CampaignAnswer};
+use campaign_state::Campaign;
 use record_end::Outcome;
 use refusal::Refusal;
 
@@ -255,14 +255,6 @@ pub enum Sheet {
     Open(Campaign),
 }
 
-// What a line comes to.
-#[derive(Clone, Copy)]
-pub enum Step {
-    Next(Sheet),
-    // The line's number, the column of a malformed line's fault or 0, and the refusal.
-    Stop(u64, u64, Refusal),
-}
-
 // The number field of `text` at `at` that the byte `end` ends, and the place after that byte.
 fn field_then(end: u8, text: &[u8], at: usize) -> Field
     ensures { result ≡ field_then end text.now at }
@@ -286,14 +278,14 @@ fn field_then(end: u8, text: &[u8], at: usize) -> Field
 }
 
 // A malformed line 1.
-fn bad_standard(text: &[u8]) -> Step
+fn bad_standard(text: &[u8]) -> Result<Sheet, (u64, u64, Refusal)>
     ensures { result ≡ malformed 1 (standard_column text.now) }
 {
-    Step::Stop(1, standard_column(text), Refusal::Line(1))
+    Err((1, standard_column(text), Refusal::Line(1)))
 }
 
 // Line 1.
-fn standard_line(text: &[u8]) -> Step
+fn standard_line(text: &[u8]) -> Result<Sheet, (u64, u64, Refusal)>
     ensures { result ≡ standard_line (standard_column text.now) text.now }
 {
     if !is_line(text) {
@@ -312,14 +304,14 @@ fn standard_line(text: &[u8]) -> Step
 }
 
 // The record that a line tells of, entered by its outcome; or refusal 4 for no exposure, 3 for too long a one, 5, 6.
-fn tell(c: Campaign, failed: bool, exposure: u64) -> CampaignAnswer
+fn tell(c: Campaign, failed: bool, exposure: u64) -> Result<Campaign, Refusal>
     ensures { result ≡ telling c failed exposure }
 {
     if exposure == 0 {
-        return CampaignAnswer::Refused(Refusal::TooShort);
+        return Err(Refusal::TooShort);
     }
     if exposure > sample_items::LONGEST_TIME {
-        return CampaignAnswer::Refused(Refusal::TooLong);
+        return Err(Refusal::TooLong);
     }
     c.enter(Outcome {
         failed: failed,
@@ -328,20 +320,20 @@ fn tell(c: Campaign, failed: bool, exposure: u64) -> CampaignAnswer
 }
 
 // A malformed line of the campaign's next record.
-fn bad_record(c: Campaign, text: &[u8]) -> Step
+fn bad_record(c: Campaign, text: &[u8]) -> Result<Sheet, (u64, u64, Refusal)>
     requires { sound c ≡ true }
     ensures { result ≡ malformed (line_after c) (record_column (c.records + 1) text.now) }
 {
     let line = c.records + 2;
-    Step::Stop(
+    Err((
         line,
         record_column(c.records + 1, text),
         Refusal::Line(line),
-    )
+    ))
 }
 
 // A later line, of the campaign's next record.
-fn record_line(c: Campaign, text: &[u8]) -> Step
+fn record_line(c: Campaign, text: &[u8]) -> Result<Sheet, (u64, u64, Refusal)>
     requires { sound c ≡ true }
     ensures { result ≡ record_line (record_column (c.records + 1) text.now) c text.now }
 {
@@ -367,26 +359,26 @@ fn record_line(c: Campaign, text: &[u8]) -> Step
 }
 
 // What an answer about a line comes to.
-fn outcome(line: u64, a: CampaignAnswer) -> Step
+fn outcome(line: u64, a: Result<Campaign, Refusal>) -> Result<Sheet, (u64, u64, Refusal)>
     ensures { result ≡ outcome line a }
 {
     match a {
-        CampaignAnswer::Taken(c) => Step::Next(Sheet::Open(c)),
-        CampaignAnswer::Refused(r) => Step::Stop(line, 0, r),
+        Ok(c) => Ok(Sheet::Open(c)),
+        Err(r) => Err((line, 0, r)),
     }
 }
 
 impl Sheet {
     // Takes the sheet's next line, its LF with it; or refuses it: 9; line 1: 1; later lines: 4, 3, 5, 6. A broken
     // campaign is 8.
-    pub fn line(self, text: &[u8]) -> Step
+    pub fn line(self, text: &[u8]) -> Result<Sheet, (u64, u64, Refusal)>
         ensures { result ≡ stepping self text.now }
     {
         match self {
             Sheet::Fresh => standard_line(text),
             Sheet::Open(c) => {
                 if !campaign_state::sound(c) {
-                    return Step::Stop(0, 0, Refusal::BrokenState);
+                    return Err((0, 0, Refusal::BrokenState));
                 }
                 record_line(c, text)
             }

@@ -20,9 +20,7 @@ use Rattle.sample_items.specs.Limits.{item_outside, longest_time}
 use Rattle.crossing_places.specs.Reading.{too_few}
 use Rattle.record_state.specs.declared.Record.{Record}
 use Rattle.record_state.specs.State.{sound, state_of}
-use Rattle.record_end.specs.declared.Ended.{Ended}
-use Rattle.record_end.specs.declared.Ended.TheVariants as ended
-use Rattle.record_end.specs.declared.Result.{Result}
+use Rattle.record_end.specs.declared.RecordResult.{RecordResult}
 use Rattle.record_end.specs.Result.{ending, result_of}
 use Rattle.record_end.proofs.Given.{given_bounds}
 use Rattle.campaign_state.specs.State.{most_records, standard_in_range}
@@ -31,16 +29,11 @@ use Rattle.text.proofs.Laws.{laid_front, written_fits}
 use Rattle.decimal.specs.Lines.{lines_of}
 use Rattle.desk_line.specs.declared.Finished.{Finished}
 use Rattle.desk_line.specs.Said.{Said, longest_said, putting, put_left}
-use Rattle.comma_count.specs.declared.End.TheVariants as one
 use Rattle.comma_count.specs.Line.{result_for}
-use Rattle.comma_pair.specs.declared.PairEnd.{PairEnd}
-use Rattle.comma_pair.specs.declared.PairEnd.TheVariants as end
 use Rattle.comma_pair.specs.Line.{both_channels, end_of_texts, pair_then}
 use Rattle.comma_pair.specs.Taking.{end_of, opening}
 use Rattle.comma_pair.specs.Pieces.{carrying, roll_text, acceleration_text}
 use Rattle.comma_pair.proofs.Cut.{end_anywhere}
-use Rattle.sheet_files.specs.declared.Filed.{Filed}
-use Rattle.sheet_files.specs.declared.Filed.TheVariants as filed
 use Rattle.sheet_files.specs.Files.{failures_in, most_failures, record_in, refused_record, written}
 use Rattle.sheet_files.specs.Filing.{opened_sheet, step_taken, step_as, step_ended, step_in, filed_of, left_by, is_over}
 use Rattle.sheet_files.proofs.Anywhere.{Kept, Well, kept_next, is, well_step, filed_said, Writes, well_finished}
@@ -51,18 +44,21 @@ use Rattle.sheet_files.specs.Filing as files
 use Rattle.sheet_pairs.specs.Filing as Filing
 use Rattle.sheet_pairs.specs.Filing.{opened_pairs, adding_end, end_left, adding, adding_left, Comes, Desk, with_pair, desk_after, finishing, finish_left}
 use Rattle.sheet_pairs.proofs.Record.{on_end, end_then}
+use Rattle.comma_pair.specs.declared.PairFault.TheVariants.{Plain, AtLine}
+use Rattle.comma_pair.specs.declared.PairFault.{PairFault}
+use Rattle.std.specs.Prelude.{Result, Ok, Err}
 
 -- the whole texts of what comes
 abbrev pub texts_of : Comes → Texts
 texts_of c = record { roll = roll_text c.turns c.rest; acceleration = acceleration_text c.turns c.rest }
 
 -- ---- what was filed stands at the front, and is clean
-well_end : (q number : ℕ) (f : Filed) (e : PairEnd) (records : List ℤ) → Well q f records → is_over f ≡ false → Well q (adding_end number f e (length records)).filed (end_left number f e records)
-well_end q number f (end.Counted r) records w o = well_step q number f (one.Counted r) records w
-well_end q number f (end.Refused p) records w o = tt
-well_end q number f (end.RefusedOf line p channel) records w o = tt
+well_end : (q number : ℕ) (f : Result (ℕ × ℕ) (ℕ × ℕ × Refusal)) (e : Result Record PairFault) (records : List ℤ) → Well q f records → is_over f ≡ false → Well q (adding_end number f e (length records)).filed (end_left number f e records)
+well_end q number f (Ok r) records w o = well_step q number f (Ok r) records w
+well_end q number f (Err (Plain p)) records w o = tt
+well_end q number f (Err (AtLine line p channel)) records w o = tt
 
-well_add : (q number : ℕ) (a : FiledPairs) (e : PairEnd) (records : List ℤ) → Well q a.filed records → Well q (adding number a e (length records)).filed (adding_left number a e records)
+well_add : (q number : ℕ) (a : FiledPairs) (e : Result Record PairFault) (records : List ℤ) → Well q a.filed records → Well q (adding number a e (length records)).filed (adding_left number a e records)
 well_add q number a e records w =
     by_test (is_over a.filed)
     (λ o. rw o w)
@@ -76,9 +72,9 @@ well_after q i (c ∷ pairs) number d w =
     well_after q i pairs (number + 1) (with_pair i number d c) (well_add q number d.filed (end_of (carrying (opening i) [] [] c.turns c.rest)) d.records w)
 
 -- ---- what is said of what was filed
-abbrev pub channel_said : ℕ → Filed → ℕ → List ℤ → Said
-channel_said q (filed.Records n failures) channel records = written q (take n records)
-channel_said q (filed.Refused number line r) channel records = refused_record_of number line r channel
+abbrev pub channel_said : ℕ → Result (ℕ × ℕ) (ℕ × ℕ × Refusal) → ℕ → List ℤ → Said
+channel_said q (Ok (n, failures)) channel records = written q (take n records)
+channel_said q (Err (number, line, r)) channel records = refused_record_of number line r channel
 
 abbrev pub pairs_filed : ℕ → FiledPairs → List ℤ → Said
 pairs_filed q a records = cond (eqb a.channel 0) (filed_said q a.filed records) (channel_said q a.filed a.channel records)
@@ -87,25 +83,25 @@ abbrev pub desk_said : ℕ → Desk → Said
 desk_said q d = pairs_filed q d.filed d.records
 
 refused_stays : (i : Items) (pairs : List Comes) (number first line : ℕ) (p : Refusal) (channel : ℕ) (records : List ℤ)
-    → let d : Desk = record { filed = record { filed = filed.Refused first line p; channel = channel }; records = records } in desk_after i number d pairs ≡ d
+    → let d : Desk = record { filed = record { filed = Err (first, line, p); channel = channel }; records = records } in desk_after i number d pairs ≡ d
 unfolding desk_after
 refused_stays i [] number first line p channel records = refl
 refused_stays i (c ∷ pairs) number first line p channel records = refused_stays i pairs (number + 1) first line p channel records
 
 -- a sound record of n samples, ended
-ending_as : (r : Record) (n : ℕ) (x : Result) → sound r ≡ true → r.n ≡ n → result_of r ≡ x → ending r ≡ cond (too_few r.items.ramp n) (ended.Refused TooShort) (ended.Given x)
+ending_as : (r : Record) (n : ℕ) (x : RecordResult) → sound r ≡ true → r.n ≡ n → result_of r ≡ x → ending r ≡ cond (too_few r.items.ramp n) (Err TooShort) (Ok x)
 unfolding ending
 ending_as r n x s e g =
-    ap (λ b. cond (not b) (ended.Refused BrokenState) (cond (too_few r.items.ramp r.n) (ended.Refused TooShort) (ended.Given (result_of r)))) s
-    ∙ ap (λ y. cond (too_few r.items.ramp r.n) (ended.Refused TooShort) (ended.Given y)) g
-    ∙ ap (λ m. cond (too_few r.items.ramp m) (ended.Refused TooShort) (ended.Given x)) e
+    ap (λ b. cond (not b) (Err BrokenState) (cond (too_few r.items.ramp r.n) (Err TooShort) (Ok (result_of r)))) s
+    ∙ ap (λ y. cond (too_few r.items.ramp r.n) (Err TooShort) (Ok y)) g
+    ∙ ap (λ m. cond (too_few r.items.ramp m) (Err TooShort) (Ok x)) e
 
 module _ (q : ℕ) (i : Items) (ok : item_outside i ≡ 0) where
   -- what is said after so many records, whatever they are
   abbrev pub Later : ℕ → List Comes → Type 0
   Later number pairs =
       (n failures : ℕ) (records : List ℤ) → Kept q n failures records → most_records ≤ length records → number ≡ n + 1
-      → desk_said q (desk_after i number (record { filed = record { filed = filed.Records n failures; channel = 0 }; records = records }) pairs) ≡ pairs_from q i (take n records) (map texts_of pairs)
+      → desk_said q (desk_after i number (record { filed = record { filed = Ok (n, failures); channel = 0 }; records = records }) pairs) ≡ pairs_from q i (take n records) (map texts_of pairs)
 
   -- one record and those after it
   module _ (c : Comes) (pairs : List Comes) (number : ℕ) (after : Later (number + 1) pairs)
@@ -119,19 +115,19 @@ module _ (q : ℕ) (i : Items) (ok : item_outside i ≡ 0) where
     abbrev whole : Record
     whole = state_of i (both_channels ls ms)
 
-    abbrev result : Result
+    abbrev result : RecordResult
     result = result_for i (both_channels ls ms)
 
-    abbrev later : Filed → List ℤ → Said
+    abbrev later : Result (ℕ × ℕ) (ℕ × ℕ × Refusal) → List ℤ → Said
     later f l = desk_said q (desk_after i (number + 1) (record { filed = record { filed = f; channel = 0 }; records = l }) pairs)
 
     -- after a record
     abbrev later_than : Record → Said
     later_than r = later (filed_of (step_ended number n failures r (length records))) (left_by (step_ended number n failures r (length records)) records)
 
-    abbrev later_by : PairEnd → Said
+    abbrev later_by : Result Record PairFault → Said
     later_by x =
-        desk_said q (desk_after i (number + 1) (record { filed = adding_end number (filed.Records n failures) x (length records); records = end_left number (filed.Records n failures) x records }) pairs)
+        desk_said q (desk_after i (number + 1) (record { filed = adding_end number (Ok (n, failures)) x (length records); records = end_left number (Ok (n, failures)) x records }) pairs)
 
     abbrev rest : Said
     rest = pairs_from q i (take n records ++ (record_in result ∷ [])) (map texts_of pairs)
@@ -139,20 +135,20 @@ module _ (q : ℕ) (i : Items) (ok : item_outside i ≡ 0) where
     abbrev proper : Said
     proper = cond (leb most_records n) (refused_record number 0 CampaignFull) (cond (leb most_failures failures) (refused_record number 0 RowsUsedUp) rest)
 
-    stays : (p : Refusal) → later (filed.Refused number 0 p) records ≡ refused_record number 0 p
+    stays : (p : Refusal) → later (Err (number, 0, p)) records ≡ refused_record number 0 p
     stays p = ap (desk_said q) (refused_stays i pairs (number + 1) number 0 p 0 records)
 
     -- with the channel that is told
     abbrev told : ℕ → Refusal → ℕ → Said
     told line p channel = cond (eqb channel 0) (refused_record number line p) (refused_record_of number line p channel)
 
-    by_end : (x : PairEnd) → later_by x ≡ on_end (refused_record number 0) told later_than x
-    by_end (end.Counted r) = refl
-    by_end (end.Refused p) = stays p
-    by_end (end.RefusedOf line p channel) = ap (desk_said q) (refused_stays i pairs (number + 1) number line p channel records)
+    by_end : (x : Result Record PairFault) → later_by x ≡ on_end (refused_record number 0) told later_than x
+    by_end (Ok r) = refl
+    by_end (Err (Plain p)) = stays p
+    by_end (Err (AtLine line p channel)) = ap (desk_said q) (refused_stays i pairs (number + 1) number line p channel records)
 
     module _ (low : 1 ≤ result.exposure) (high : result.exposure ≤ longest_time) where
-      placed : n < most_records → failures < most_failures → later (filed.Records (n + 1) (cond (eqb result.first 0) failures (failures + 1))) (set records n (record_in result)) ≡ rest
+      placed : n < most_records → failures < most_failures → later (Ok (n + 1, cond (eqb result.first 0) failures (failures + 1))) (set records n (record_in result)) ≡ rest
       placed few left =
           let room : n < length records = omega (arith, few, big) in
           let x = record_in result in
@@ -173,7 +169,7 @@ module _ (q : ℕ) (i : Items) (ok : item_outside i ≡ 0) where
           (λ b. rw (a, b) (stays RowsUsedUp))
           (λ b. rw (a, b, lt-leb (length records) n (omega (arith, few, big))) (placed few (leb-false most_failures failures b))))
 
-    abbrev later_as : Ended → Said
+    abbrev later_as : Result RecordResult Refusal → Said
     later_as y = later (filed_of (step_as number n failures y (length records))) (left_by (step_as number n failures y (length records)) records)
 
     module _ (s : sound whole ≡ true) (m : whole.n ≡ length ls) where
@@ -181,12 +177,12 @@ module _ (q : ℕ) (i : Items) (ok : item_outside i ≡ 0) where
       unfolding state_of result_for
       result-is = refl
 
-      ended_is : ending whole ≡ cond (too_few i.ramp (length ls)) (ended.Refused TooShort) (ended.Given result)
+      ended_is : ending whole ≡ cond (too_few i.ramp (length ls)) (Err TooShort) (Ok result)
       unfolding state_of
       ended_is = ending_as whole (length ls) result s m result-is
 
       by_few : (b : Bool) → too_few i.ramp (length ls) ≡ b
-          → later_as (cond b (ended.Refused TooShort) (ended.Given result)) ≡ cond b (refused_record number 0 TooShort) proper
+          → later_as (cond b (Err TooShort) (Ok result)) ≡ cond b (refused_record number 0 TooShort) proper
       by_few true f = stays TooShort
       by_few false f = let b = given_bounds whole result (ended_is ∙ rw f) in taken b.0 b.1
 
@@ -249,15 +245,15 @@ module _ (q : ℕ) (i : Items) (records : List ℤ) where
   desk_well pairs = well_after q i pairs 1 (record { filed = opened_pairs q i; records = records }) opened_well
 
 -- ---- and with room it is written so
-channel_finished : (q : ℕ) (f : Filed) (channel : ℕ) (records : List ℤ) (out : List ℕ) → Well q f records → longest_said ≤ length out → length (channel_said q f channel records).line ≤ length out
+channel_finished : (q : ℕ) (f : Result (ℕ × ℕ) (ℕ × ℕ × Refusal)) (channel : ℕ) (records : List ℤ) (out : List ℕ) → Well q f records → longest_said ≤ length out → length (channel_said q f channel records).line ≤ length out
     → Writes (channel_said q f channel records) out (Filing.channel_put q f channel records out) (Filing.channel_left q f channel records out)
 unfolding putting put_left laid_by
-channel_finished q (filed.Records n failures) channel records out w room h = well_finished q (filed.Records n failures) records out w room h
-channel_finished q (filed.Refused number line r) channel records out w room h =
+channel_finished q (Ok (n, failures)) channel records out w room h = well_finished q (Ok (n, failures)) records out w room h
+channel_finished q (Err (number, line, r)) channel records out w room h =
     let text = (refused_record_of number line r channel).line in
     rw (le-ltb (length out) longest_said room) (refl, written_fits out 0 text (omega (arith, h)) ∙ laid_front out text)
 
-pub finished_by : (q : ℕ) (f : Filed) (channel : ℕ) (b : Bool) (records : List ℤ) (out : List ℕ) → Well q f records → longest_said ≤ length out
+pub finished_by : (q : ℕ) (f : Result (ℕ × ℕ) (ℕ × ℕ × Refusal)) (channel : ℕ) (b : Bool) (records : List ℤ) (out : List ℕ) → Well q f records → longest_said ≤ length out
     → length (cond b (filed_said q f records) (channel_said q f channel records)).line ≤ length out
     → Writes (cond b (filed_said q f records) (channel_said q f channel records)) out
     (cond b (files.finishing q f records out) (Filing.channel_put q f channel records out))

@@ -21,17 +21,18 @@ use Rattle.record_state.specs.State.{state_of, sound}
 use Rattle.record_step.proofs.Whole.{state}
 use Rattle.comma_line.specs.Text.{samples_of}
 use Rattle.comma_count.proofs.Whole.{start, start_sound}
-use Rattle.comma_pair.specs.declared.PairEnd.{PairEnd}
-use Rattle.comma_pair.specs.declared.PairEnd.TheVariants as end
 use Rattle.comma_pair.specs.Line.{any_wrong, wrong_roll, bad_roll, both_channels, end_of_both, pair_then}
 use Rattle.comma_pair.proofs.Front.{samples_many}
 use Rattle.comma_pair.proofs.Joining.{Good, many, still_sound}
+use Rattle.comma_pair.specs.declared.PairFault.TheVariants.{Plain, AtLine}
+use Rattle.comma_pair.specs.declared.PairFault.{PairFault}
+use Rattle.std.specs.Prelude.{Result, Ok, Err}
 
 -- one thing to do with a refusal, another with a record
-abbrev pub on_end : {X : Type 0} → (Refusal → X) → (ℕ → Refusal → ℕ → X) → (Record → X) → PairEnd → X
-on_end refuse refuseOf go (end.Counted r) = go r
-on_end refuse refuseOf go (end.Refused q) = refuse q
-on_end refuse refuseOf go (end.RefusedOf line q channel) = refuseOf line q channel
+abbrev pub on_end : {X : Type 0} → (Refusal → X) → (ℕ → Refusal → ℕ → X) → (Record → X) → Result Record PairFault → X
+on_end refuse refuseOf go (Ok r) = go r
+on_end refuse refuseOf go (Err (Plain q)) = refuse q
+on_end refuse refuseOf go (Err (AtLine line q channel)) = refuseOf line q channel
 
 module _ (i : Items) (ok : item_outside i ≡ 0) (ls ms : List (List ℕ)) where
   abbrev whole : Record

@@ -6,8 +6,7 @@
 // `Anywhere.pairs_anywhere`.
 #![tactic(auto)]
 
-ghost use Rattle.std.specs.Prelude.{◌≡◌, false, ◌≤◌, length};
-ghost use Rattle.record_state.specs.declared.RecordAnswer.TheVariants.{Taken};
+ghost use Rattle.std.specs.Prelude.{◌≡◌, false, ◌≤◌, length, Ok};
 ghost use Rattle.desk_line.specs.Said.{longest_said, Puts, putting, put_left};
 ghost use Rattle.comma_pair.specs.Taking.{end_of};
 ghost use Rattle.sheet_files.specs.Filing.{is_over};
@@ -16,13 +15,12 @@ ghost use Rattle.sheet_pairs.specs.Filing.{opened_pairs, adding_end, end_left, a
 ghost use Rattle.sheet_pairs.specs.Filing.{channel_put, channel_left, finishing, finish_left};
 
 use comma_count::Counting;
-use comma_pair::{PairEnd, Watching};
+use comma_pair::{PairFault, Watching};
 use comma_stream::Follow;
 use desk_line::Finished;
-use record_state::{Record, RecordAnswer};
+use record_state::Record;
 use refusal::Refusal;
 use sample_items::Items;
-use sheet_files::Filed;
 
 const TAB: u8 = 9;
 
@@ -31,7 +29,7 @@ const LF: u8 = 10;
 // What was filed, as of one file a record, and the channel of the line at fault, or 0.
 #[derive(Clone, Copy)]
 pub struct FiledPairs {
-    pub filed: Filed,
+    pub filed: Result<(u64, u64), (u64, u64, Refusal)>,
     pub channel: u64,
 }
 
@@ -48,7 +46,7 @@ pub fn open(q: u64, items: Items) -> FiledPairs
 // A count of one file that came to this record.
 fn counted(r: Record) -> Counting
     ensures { result
-        ≡ record { follow = record { step = 0; lines = 0; outside = 0 }; answer = Taken r; over = false } }
+        ≡ record { follow = record { step = 0; lines = 0; outside = 0 }; answer = Ok r; over = false } }
 {
     Counting {
         follow: Follow {
@@ -56,26 +54,31 @@ fn counted(r: Record) -> Counting
             lines: 0,
             outside: 0,
         },
-        answer: RecordAnswer::Taken(r),
+        answer: Ok(r),
         over: false,
     }
 }
 
-fn add_end(number: u64, f: Filed, e: PairEnd, records: &mut [i32]) -> FiledPairs
+fn add_end(
+    number: u64,
+    f: Result<(u64, u64), (u64, u64, Refusal)>,
+    e: Result<Record, PairFault>,
+    records: &mut [i32],
+) -> FiledPairs
     ensures value { result ≡ adding_end number f e (length records.old) }
     ensures records_after { records.new ≡ end_left number f e records.old }
 {
     match e {
-        PairEnd::Counted(r) => FiledPairs {
+        Ok(r) => FiledPairs {
             filed: sheet_files::add(number, f, counted(r), records),
             channel: 0,
         },
-        PairEnd::Refused(q) => FiledPairs {
-            filed: Filed::Refused(number, 0, q),
+        Err(PairFault::Plain(q)) => FiledPairs {
+            filed: Err((number, 0, q)),
             channel: 0,
         },
-        PairEnd::RefusedOf(line, q, channel) => FiledPairs {
-            filed: Filed::Refused(number, line, q),
+        Err(PairFault::AtLine(line, q, channel)) => FiledPairs {
+            filed: Err((number, line, q)),
             channel,
         },
     }
@@ -131,15 +134,19 @@ fn refuse_of(number: u64, line: u64, r: Refusal, channel: u64, out: &mut [u8]) -
     put_channel(number, line, r, channel, out)
 }
 
-fn finish_of(q: u64, f: Filed, channel: u64, records: &[i32], out: &mut [u8]) -> Finished
+fn finish_of(
+    q: u64,
+    f: Result<(u64, u64), (u64, u64, Refusal)>,
+    channel: u64,
+    records: &[i32],
+    out: &mut [u8],
+) -> Finished
     ensures value { result ≡ channel_put q f channel records.now out.old }
     ensures out_after { out.new ≡ channel_left q f channel records.now out.old }
 {
     match f {
-        Filed::Records(n, failures) => {
-            sheet_files::finish(q, Filed::Records(n, failures), records, out)
-        }
-        Filed::Refused(number, line, r) => refuse_of(number, line, r, channel, out),
+        Ok((n, failures)) => { sheet_files::finish(q, Ok((n, failures)), records, out) }
+        Err((number, line, r)) => refuse_of(number, line, r, channel, out),
     }
 }
 

@@ -15,8 +15,6 @@ use Rattle.poisson.specs.Rows.{rows}
 use Rattle.refusal.specs.declared.Refusal.{Refusal}
 use Rattle.refusal.specs.declared.Refusal.TheVariants.{Item}
 use Rattle.sample_items.specs.Limits.{within}
-use Rattle.campaign_state.specs.declared.CampaignAnswer.{CampaignAnswer}
-use Rattle.campaign_state.specs.declared.CampaignAnswer.TheVariants.{Refused, Taken}
 use Rattle.campaign_state.specs.declared.Campaign.{Campaign}
 use Rattle.campaign_state.specs.Answers.{opened}
 use Rattle.campaign_state.specs.State.{empty, entered, most_records, sound, standard_in_range}
@@ -34,13 +32,12 @@ use Rattle.sheet_text.specs.Sheet.{Account, after_step, meaning, reading_sheet}
 use Rattle.sheet_line.specs.Texts.{entry_text, head_text}
 use Rattle.sheet_records.proofs.Enough.{in_range}
 use Rattle.sheet_records.proofs.Judging.{told_taken}
-use Rattle.sheet_records.specs.declared.Entry.TheVariants.{Other}
-use Rattle.sheet_records.specs.declared.Head.TheVariants.{None, Standard}
 use Rattle.sheet_records.specs.Pass.{CleanPass, EntryAt, EntryHere, HeadOf, taken_after}
 use Rattle.sheet_records.specs.Records.{record_in, records_of}
 use Rattle.sheet_records.proofs.Back.{entry_reads, head_reads}
 use Rattle.sheet_records.proofs.Clean.{apart, first_line}
 use Rattle.sheet_records.proofs.Lines.{entry_lines, head_lines, lines_joined}
+use Rattle.std.specs.Prelude.{Some, None, Result, Ok, Err}
 
 -- the lines from a place on
 abbrev Left : List ℕ → ℕ → List (List ℕ)
@@ -63,7 +60,7 @@ abbrev pub NotClean : List ℕ → Type 0
 NotClean text = (d : Campaign) → ¬ ((meaning text).end ≡ Read d)
 
 -- a refusal is no end of a clean sheet
-never : (line : ℕ) (r : Refusal) (go : Sheet → Account) (d : Campaign) → ¬ ((after_step (outcome line (Refused r)) go).end ≡ Read d)
+never : (line : ℕ) (r : Refusal) (go : Sheet → Account) (d : Campaign) → ¬ ((after_step (outcome line (Err r)) go).end ≡ Read d)
 never line r go d e = impossible (cc)
 
 -- ---- line 1
@@ -74,23 +71,23 @@ no_head text none d e =
     let b = a.first in
     none b.standard (joined a.lines) (in_range b.standard (opened_from b.standard b.start b.opens).0) (a.parts ∙ ap (λ (l : List ℕ). l ++ joined a.lines) b.bytes)
 
-module _ (text : List ℕ) (q next : ℕ) (h : HeadOf text (Standard q next)) where
+module _ (text : List ℕ) (q next : ℕ) (h : HeadOf text (Some (q, next))) where
   head_ends : (meaning text).end ≡ (after_step (outcome 1 (opened q)) (reading_sheet false (Left text next))).end
   unfolding HeadOf meaning
   head_ends = ap (λ (l : List ℕ). (reading_sheet false (lines_of l) Fresh).end) h.0.bytes ∙ ap (λ (a : Account). a.end) (head_reads q h.1 (drop next text))
 
   pub bad_standard : standard_in_range q ≡ false → NotClean text
   bad_standard out d e =
-      let refused : opened q ≡ Refused (Item 5) = rw out in
-      never 1 (Item 5) (reading_sheet false (Left text next)) d (ap (λ (a : CampaignAnswer). (after_step (outcome 1 a) (reading_sheet false (Left text next))).end) (sym refused) ∙ sym head_ends ∙ e)
+      let refused : opened q ≡ Err (Item 5) = rw out in
+      never 1 (Item 5) (reading_sheet false (Left text next)) d (ap (λ (a : Result Campaign Refusal). (after_step (outcome 1 a) (reading_sheet false (Left text next))).end) (sym refused) ∙ sym head_ends ∙ e)
 
   pub start : standard_in_range q ≡ true → Along text q next next 0 0
   unfolding HeadOf records_of
   start range =
-      let opens : opened q ≡ Taken (empty q) = rw range in
+      let opens : opened q ≡ Ok (empty q) = rw range in
       let lines : lines_of text ≡ head_text q ∷ Left text next = ap lines_of h.0.bytes ∙ head_lines q (drop next text) in
       let says : map record_in (drop 1 (lines_of text)) ≡ map record_in (Left text next) = ap (λ (l : List (List ℕ)). map record_in (drop 1 l)) lines in
-      let ends = head_ends ∙ ap (λ (a : CampaignAnswer). (after_step (outcome 1 a) (reading_sheet false (Left text next))).end) opens in
+      let ends = head_ends ∙ ap (λ (a : Result Campaign Refusal). (after_step (outcome 1 a) (reading_sheet false (Left text next))).end) opens in
       record {
         so_far = empty q;
         good = is_true _ (opened_sound q (empty q) opens);
@@ -128,7 +125,7 @@ module _ {text : List ℕ} {q begin at count failures : ℕ} (a : Along text q b
   few_failures = omega (arith, a.fails, (kept_from c (holds a.good)).failures_rows)
 
   -- no line of the next record
-  pub other_line : at < length text → EntryAt text at (count + 1) Other → NotClean text
+  pub other_line : at < length text → EntryAt text at (count + 1) None → NotClean text
   unfolding EntryAt joined
   other_line more none d e = go (Left text at) (sym (lines_joined (drop at text))) (sym a.reads ∙ e)
     where
@@ -157,9 +154,9 @@ module _ {text : List ℕ} {q begin at count failures : ℕ} (a : Along text q b
     pub not_taken : taken_after count failures ≡ false → NotClean text
     not_taken no_room d e = go (telling c f t) refl (sym ends ∙ e)
       where
-        go : (x : CampaignAnswer) → telling c f t ≡ x → (after_step (outcome (c.records + 2) x) (reading_sheet false (Left text next))).end ≡ Read d → ⊥
-        go (Refused r) is e = never (c.records + 2) r (reading_sheet false (Left text next)) d e
-        go (Taken b) is e =
+        go : (x : Result Campaign Refusal) → telling c f t ≡ x → (after_step (outcome (c.records + 2) x) (reading_sheet false (Left text next))).end ≡ Read d → ⊥
+        go (Err r) is e = never (c.records + 2) r (reading_sheet false (Left text next)) d e
+        go (Ok b) is e =
             let o = entered_from c (line_outcome f t) b (told_entered c f t b is) in
             true≢false (sym (taken_after_lem count failures (λ k. o.room.records (a.records ∙ k)) (λ k. o.room.failures (a.fails ∙ k))) ∙ no_room)
 
@@ -178,7 +175,7 @@ module _ {text : List ℕ} {q begin at count failures : ℕ} (a : Along text q b
           range = a.range;
           begun = a.begun;
           says = a.says;
-          reads = ends ∙ ap (λ (x : CampaignAnswer). (after_step (outcome (c.records + 2) x) (reading_sheet false (Left text next))).end) taken;
+          reads = ends ∙ ap (λ (x : Result Campaign Refusal). (after_step (outcome (c.records + 2) x) (reading_sheet false (Left text next))).end) taken;
           number = omega (arith, ap (λ (l : List (List ℕ)). length (map record_in l)) lines, a.number);
           inside = h.starts.within;
         }
@@ -189,7 +186,7 @@ module _ {text : List ℕ} {q begin at count failures : ℕ} (a : Along text q b
   ended past =
       let none : Left text at ≡ [] = ap lines_of (drop_of_length-le text past) in
       let reads = a.reads ∙ ap (λ (l : List (List ℕ)). (reading_sheet false l (Open c)).end) none in
-      let opens : opened q ≡ Taken (empty q) = rw a.range in
+      let opens : opened q ≡ Ok (empty q) = rw a.range in
       record {
         end = c;
         reads = reads;

@@ -14,7 +14,6 @@ use lib.Seq.{drop-append_seam, drop-cons, drop-drop, get_or-drop}
 use borrow.Author.Tests.{eq-eqb, eqb-true, lt-ltb, ltb-true}
 use Rattle.truth.proofs.Laws.{and-true, impossible, true≢false}
 use Rattle.sample_items.specs.Limits.{longest_time}
-use Rattle.decimal.specs.declared.Lead.TheVariants.{Number, Nothing}
 use Rattle.decimal.specs.Decimal.{digits_of, is_digit, longest, zero_byte}
 use Rattle.decimal.specs.Field.{field_text, line_feed, tab}
 use Rattle.decimal.specs.Leading.{after_leading, leading, leading_at, stands_at}
@@ -25,23 +24,22 @@ use Rattle.sheet_line.proofs.Fields.{begins_with}
 use Rattle.sheet_line.proofs.Theorems.{begins_itself}
 use Rattle.sheet_line.specs.Texts.{entry_text, head_text}
 use Rattle.sheet_records.proofs.Puts.{line_parts}
-use Rattle.sheet_records.specs.declared.Exposure.TheVariants.{Other as Nought}
-use Rattle.sheet_records.specs.declared.Head.TheVariants.{Standard}
 use Rattle.sheet_records.specs.Pass.{EntryHere, ExposureAt, ExposureHere, HeadOf}
+use Rattle.std.specs.Prelude.{Some, None}
 
-never : {v end : ℕ} → ¬ (Nothing ≡ Number v end)
+never : {v end : ℕ} → ¬ (None ≡ Some (v, end))
 never e = impossible (cc)
 
 -- ---- a number and a byte at a place, and the text from there on
 module _ (s : List ℕ) (at : ℕ) where
-  pub lead_bytes : (v end : ℕ) → leading_at s at ≡ Number v end → drop at s ≡ digits_of v ++ drop end s
+  pub lead_bytes : (v end : ℕ) → leading_at s at ≡ Some (v, end) → drop at s ≡ digits_of v ++ drop end s
   lead_bytes v end e =
       let l = leads_number s at v end e in
       let digits : digits_of v ≡ leading (drop at s) = ap digits_of l.value ∙ digits_value (leading (drop at s)) l.number in
       (led (drop at s)).parts ∙ rw (digits, l.place, drop-drop)
 
   lead_back : (v b : ℕ) (rest : List ℕ) → v < 10 ^ longest → is_digit b ≡ false → drop at s ≡ digits_of v ++ (b ∷ rest)
-      → (leading_at s at ≡ Number v (at + length (digits_of v))) × (drop (at + length (digits_of v)) s ≡ b ∷ rest)
+      → (leading_at s at ≡ Some (v, at + length (digits_of v))) × (drop (at + length (digits_of v)) s ≡ b ∷ rest)
   unfolding leading_at
   lead_back v b rest small other e =
       let is : leading (drop at s) ≡ digits_of v = ap leading e ∙ leading_is (digits_of v) (b ∷ rest) (all_digits_lem v) other in
@@ -70,7 +68,7 @@ module _ (s : List ℕ) (at due : ℕ) where
   record Stands (f : Bool) (t : ℕ) : Type 0 where
     end : ℕ
     feed : ℕ
-    number : leading_at s at ≡ Number due end
+    number : leading_at s at ≡ Some (due, end)
     first : stands_at s end tab ≡ true
     flag : stands_at s (end + 1) (zero_byte + cond f 1 0) ≡ true
     second : stands_at s (end + 2) tab ≡ true
@@ -112,13 +110,13 @@ module _ (s : List ℕ) (at due : ℕ) where
   none_by : ((f : Bool) (t : ℕ) → ¬ (Stands f t)) → NoEntry
   none_by fails f t rest small low high e = fails f t (stands f t rest small e)
 
-  pub no_number : leading_at s at ≡ Nothing → NoEntry
+  pub no_number : leading_at s at ≡ None → NoEntry
   no_number e = none_by (λ f t p. never (sym e ∙ p.number))
 
-  module _ (n end : ℕ) (number : leading_at s at ≡ Number n end) where
+  module _ (n end : ℕ) (number : leading_at s at ≡ Some (n, end)) where
     same_end : {f : Bool} {t : ℕ} (p : Stands f t) → (n ≡ due) × (p.end ≡ end)
     same_end p =
-        let e : Number n end ≡ Number due p.end = sym number ∙ p.number in
+        let e : Some (n, end) ≡ Some (due, p.end) = sym number ∙ p.number in
         let is : n ≡ due = cc (e) in
         let place : p.end ≡ end = cc (e) in
         (is, place)
@@ -139,7 +137,7 @@ module _ (s : List ℕ) (at due : ℕ) where
     pub no_second : stands_at s (end + 2) tab ≡ false → NoEntry
     no_second e = none_by (λ f t p. true≢false (sym (rw (same_end p).1 at p.second) ∙ e))
 
-    pub no_exposure : ExposureAt s (end + 3) Nought → NoEntry
+    pub no_exposure : ExposureAt s (end + 3) None → NoEntry
     unfolding ExposureAt
     no_exposure e f t rest small low high h =
         let p = stands f t rest small h in
@@ -185,7 +183,7 @@ module _ (s : List ℕ) where
   record Opens (q : ℕ) : Type 0 where
     feed : ℕ
     word : begins standard_start s ≡ true
-    number : leading_at s 9 ≡ Number q feed
+    number : leading_at s 9 ≡ Some (q, feed)
     last : stands_at s feed line_feed ≡ true
 
   opens : (q : ℕ) (rest : List ℕ) → q < 10 ^ longest → s ≡ head_text q ++ rest → Opens q
@@ -203,18 +201,18 @@ module _ (s : List ℕ) where
   pub no_word : begins standard_start s ≡ false → NoHead
   no_word e q rest small h = true≢false (sym (opens q rest small h).word ∙ e)
 
-  pub no_standard : leading_at s 9 ≡ Nothing → NoHead
+  pub no_standard : leading_at s 9 ≡ None → NoHead
   no_standard e q rest small h = never (sym e ∙ (opens q rest small h).number)
 
-  module _ (v feed : ℕ) (number : leading_at s 9 ≡ Number v feed) where
+  module _ (v feed : ℕ) (number : leading_at s 9 ≡ Some (v, feed)) where
     pub no_end : stands_at s feed line_feed ≡ false → NoHead
     no_end e q rest small h =
         let o = opens q rest small h in
-        let same : Number v feed ≡ Number q o.feed = sym number ∙ o.number in
+        let same : Some (v, feed) ≡ Some (q, o.feed) = sym number ∙ o.number in
         let place : o.feed ≡ feed = cc (same) in
         true≢false (sym (rw place at o.last) ∙ e)
 
-    pub head_here : begins standard_start s ≡ true → stands_at s feed line_feed ≡ true → HeadOf s (Standard v (feed + 1))
+    pub head_here : begins standard_start s ≡ true → stands_at s feed line_feed ≡ true → HeadOf s (Some (v, feed + 1))
     unfolding HeadOf field_text
     head_here word last =
         let a = begins_with standard_start s word in

@@ -8,7 +8,6 @@ use native.Mathlib.Omega.{arith}
 use lib.IntN.{ℤ, pos, negsuc}
 use lib.ListN.{drop}
 use Rattle.truth.proofs.Laws.{is_true}
-use Rattle.campaign_state.specs.declared.CampaignAnswer.TheVariants.{Taken}
 use Rattle.campaign_state.specs.declared.Campaign.{Campaign}
 use Rattle.campaign_state.specs.Answers.{opened}
 use Rattle.campaign_state.specs.State.{sound}
@@ -29,6 +28,7 @@ use Rattle.sheet_records.proofs.Enough.{in_range}
 use Rattle.sheet_records.proofs.Entered.{went_on}
 use Rattle.sheet_records.specs.Records.{record_in, records_of}
 use Rattle.sheet_records.proofs.Lines.{entry_lines, entry_says, head_lines}
+use Rattle.std.specs.Prelude.{Ok}
 
 -- ---- a record's line, read from a campaign
 module _ (c : Campaign) (f : Bool) (t : ℕ) (g : sound c ≡ true) (small : t < 10 ^ longest) where
@@ -46,10 +46,10 @@ unfolding reading_sheet
 head_reads q small rest = rw (head_lines q rest, standard_back q small)
 
 -- ---- all lines
-same : {c d : Campaign} → Taken c ≡ Taken d → c ≡ d
+same : {c d : Campaign} → Ok c ≡ Ok d → c ≡ d
 same e = cc
 
-read_lines : (c : Campaign) (xs : List ℤ) (d : Campaign) → sound c ≡ true → judged_from c xs ≡ Taken d → (reading_sheet false (lines_of (lines_from (c.records + 1) xs)) (Open c)).end ≡ Read d
+read_lines : (c : Campaign) (xs : List ℤ) (d : Campaign) → sound c ≡ true → judged_from c xs ≡ Ok d → (reading_sheet false (lines_of (lines_from (c.records + 1) xs)) (Open c)).end ≡ Read d
 unfolding judged_from lines_from reading_sheet lines_of
 read_lines c [] d g e = ap Read (same e)
 read_lines c (x ∷ xs) d g e =
@@ -63,7 +63,7 @@ read_lines c (x ∷ xs) d g e =
     ap (λ (a : Account). a.end) (entry_reads c f t g (omega (arith, o.high)) (lines_from (c.records + 1 + 1) xs)) ∙ rw taken (rw one_more at (read_lines b xs d good rest))
 
 -- READING WHAT WAS WRITTEN
-pub read_back : (q : ℕ) (xs : List ℤ) (d : Campaign) → judged q xs ≡ Taken d → (meaning (sheet_text q xs)).end ≡ Read d
+pub read_back : (q : ℕ) (xs : List ℤ) (d : Campaign) → judged q xs ≡ Ok d → (meaning (sheet_text q xs)).end ≡ Read d
 unfolding judged meaning sheet_text
 read_back q xs d e =
     let (c, opens, rest) = went_on (opened q) (λ c. judged_from c xs) d e in

@@ -10,7 +10,6 @@ use lib.Dec.{eqb}
 use lib.ListN.{drop}
 use Rattle.truth.proofs.Laws.{impossible, is_true}
 use Rattle.sample_items.specs.Limits.{longest_time}
-use Rattle.campaign_state.specs.declared.CampaignAnswer.TheVariants.{Taken}
 use Rattle.campaign_state.specs.declared.Campaign.{Campaign}
 use Rattle.campaign_state.specs.Answers.{opened}
 use Rattle.campaign_state.specs.State.{sound}
@@ -20,8 +19,6 @@ use Rattle.decimal.specs.Lines.{lines_of}
 use Rattle.sheet_line.proofs.Columns.{standard_few}
 use Rattle.sheet_line.specs.declared.Sheet.{Sheet}
 use Rattle.sheet_line.specs.declared.Sheet.TheVariants.{Fresh, Open}
-use Rattle.sheet_line.specs.declared.Step.{Step}
-use Rattle.sheet_line.specs.declared.Step.TheVariants.{Next, Stop}
 use Rattle.sheet_line.specs.Line.{stepping, telling, line_outcome}
 use Rattle.sheet_line.proofs.Entries.{says_next, standard_says}
 use Rattle.sheet_line.proofs.Theorems.{flag_of, line_enters, told_entered}
@@ -35,11 +32,13 @@ use Rattle.sheet_line.specs.Texts.{entry_text, head_text}
 use Rattle.sheet_records.specs.Ledger.{exposure_in, failed_in, lines_from, sheet_text}
 use Rattle.sheet_records.specs.Records.{record_in, records_of}
 use Rattle.sheet_records.proofs.Lines.{entry_says, lines_joined}
+use Rattle.refusal.specs.declared.Refusal.{Refusal}
+use Rattle.std.specs.Prelude.{Result, Ok, Err}
 
 -- a reading that came to its end took the line
-took : (step : Step) (go : Sheet → Account) (d : Campaign) → (after_step step go).end ≡ Read d → (s : Sheet) × (step ≡ Next s) × ((go s).end ≡ Read d)
-took (Next s) go d e = (s, refl, e)
-took (Stop line column r) go d e = impossible (cc)
+took : (step : Result Sheet (ℕ × ℕ × Refusal)) (go : Sheet → Account) (d : Campaign) → (after_step step go).end ≡ Read d → (s : Sheet) × (step ≡ Ok s) × ((go s).end ≡ Read d)
+took (Ok s) go d e = (s, refl, e)
+took (Err (line, column, r)) go d e = impossible (cc)
 
 -- ---- a record's line
 pub record First (c : Campaign) (line : List ℕ) (lines : List (List ℕ)) (d : Campaign) : Type 0 where
@@ -49,7 +48,7 @@ pub record First (c : Campaign) (line : List ℕ) (lines : List (List ℕ)) (d :
   pub bytes : line ≡ entry_text (c.records + 1) (cond failed 1 0) exposure
   pub low : 1 ≤ exposure
   pub high : exposure ≤ longest_time
-  pub taken : telling c failed exposure ≡ Taken after
+  pub taken : telling c failed exposure ≡ Ok after
   pub good : sound after ≡ true
   pub one_more : after.records ≡ c.records + 1
   pub rest : (reading_sheet false lines (Open after)).end ≡ Read d
@@ -88,12 +87,12 @@ number_parts false t h = (refl, refl)
 
 -- ---- all lines
 pub lines_again : (lines : List (List ℕ)) (c d : Campaign) → sound c ≡ true → (reading_sheet false lines (Open c)).end ≡ Read d
-    → (joined lines ≡ lines_from (c.records + 1) (map record_in lines)) × (judged_from c (map record_in lines) ≡ Taken d)
+    → (joined lines ≡ lines_from (c.records + 1) (map record_in lines)) × (judged_from c (map record_in lines) ≡ Ok d)
 unfolding joined lines_from judged_from reading_sheet
 lines_again [] c d g e = (refl, same e)
   where
-    same : {c d : Campaign} → Read c ≡ Read d → Taken c ≡ Taken d
-    same {c} {d} e = let f : c ≡ d = cc in ap Taken f
+    same : {c d : Campaign} → Read c ≡ Read d → Ok c ≡ Ok d
+    same {c} {d} e = let f : c ≡ d = cc in ap Ok f
 lines_again (line ∷ lines) c d g e =
     let o = first_line c line lines d g e in
     let x = record_in line in
@@ -113,7 +112,7 @@ pub record Begun (line : List ℕ) (lines : List (List ℕ)) (d : Campaign) : Ty
   pub standard : ℕ
   pub start : Campaign
   pub bytes : line ≡ head_text standard
-  pub opens : opened standard ≡ Taken start
+  pub opens : opened standard ≡ Ok start
   pub good : sound start ≡ true
   pub none : start.records ≡ 0
   pub kept : start.standard ≡ standard
@@ -154,7 +153,7 @@ apart text d e = go (lines_of text) refl e
         record { line = line; lines = lines; are = are; parts = sym (lines_joined text) ∙ ap joined are; first = begun line lines d e }
 
 -- A SHEET THAT READS CLEANLY, written again
-pub written_again : (text : List ℕ) (d : Campaign) → (meaning text).end ≡ Read d → (judged d.standard (records_of text) ≡ Taken d) × (sheet_text d.standard (records_of text) ≡ text)
+pub written_again : (text : List ℕ) (d : Campaign) → (meaning text).end ≡ Read d → (judged d.standard (records_of text) ≡ Ok d) × (sheet_text d.standard (records_of text) ≡ text)
 unfolding records_of sheet_text judged
 written_again text d e =
     let a = apart text d e in

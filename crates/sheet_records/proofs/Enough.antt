@@ -8,7 +8,6 @@ use lib.Dec.{T, leb→le}
 use lib.Ieee.Fits.{and_r}
 use lib.IntN.{ℤ}
 use lib.ListN.{length}
-use Rattle.campaign_state.specs.declared.CampaignAnswer.TheVariants.{Taken}
 use Rattle.campaign_state.specs.declared.Campaign.{Campaign}
 use Rattle.campaign_state.specs.Answers.{opened}
 use Rattle.campaign_state.specs.State.{standard_in_range}
@@ -23,8 +22,9 @@ use Rattle.sheet_records.specs.Answers.{judged, judged_from}
 use Rattle.sheet_records.specs.Ledger.{exposure_in, failed_in, lines_from, sheet_text}
 use Rattle.sheet_records.proofs.Entered.{went_on}
 use Rattle.sheet_records.proofs.Puts.{head_bytes, line_bytes, next_bytes, sheet_bytes}
+use Rattle.std.specs.Prelude.{Ok}
 
-lines_few : (c : Campaign) (xs : List ℤ) (d : Campaign) → judged_from c xs ≡ Taken d → length (lines_from (c.records + 1) xs) ≤ 18 * length xs
+lines_few : (c : Campaign) (xs : List ℤ) (d : Campaign) → judged_from c xs ≡ Ok d → length (lines_from (c.records + 1) xs) ≤ 18 * length xs
 unfolding judged_from lines_from
 lines_few c [] d e = omega arith
 lines_few c (x ∷ xs) d e =
@@ -43,7 +43,7 @@ lines_few c (x ∷ xs) d e =
 pub in_range : (q : ℕ) → T (standard_in_range q) → q < 10 ^ longest
 in_range q range = let high : q ≤ 100000000000 = search (and_r, leb→le) in omega arith
 
-pub enough : (q : ℕ) (xs : List ℤ) (d : Campaign) → judged q xs ≡ Taken d → length (sheet_text q xs) ≤ 22 + 18 * length xs
+pub enough : (q : ℕ) (xs : List ℤ) (d : Campaign) → judged q xs ≡ Ok d → length (sheet_text q xs) ≤ 22 + 18 * length xs
 unfolding judged
 enough q xs d e =
     let (c, opens, rest) = went_on (opened q) (λ c. judged_from c xs) d e in

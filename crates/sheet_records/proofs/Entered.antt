@@ -9,8 +9,6 @@ use lib.IntN.{ℤ}
 use lib.ListN.{length}
 use Rattle.truth.proofs.Laws.{impossible}
 use Rattle.record_end.specs.declared.Outcome.{Outcome}
-use Rattle.campaign_state.specs.declared.CampaignAnswer.{CampaignAnswer}
-use Rattle.campaign_state.specs.declared.CampaignAnswer.TheVariants.{Taken, Refused}
 use Rattle.campaign_state.specs.declared.Campaign.{Campaign}
 use Rattle.campaign_state.specs.Answers.{opened}
 use Rattle.campaign_state.specs.Records.{AllEntered, campaign_of, none, one}
@@ -23,16 +21,18 @@ use Rattle.sheet_line.specs.Line.{telling}
 use Rattle.sheet_line.proofs.Theorems.{told_entered}
 use Rattle.sheet_records.specs.Ledger.{exposure_in, failed_in, outcome_in}
 use Rattle.sheet_records.specs.Answers.{judged, judged_from, onward}
+use Rattle.refusal.specs.declared.Refusal.{Refusal}
+use Rattle.std.specs.Prelude.{Result, Ok, Err}
 
 -- an answer that goes on was a campaign
-pub went_on : (a : CampaignAnswer) (go : Campaign → CampaignAnswer) (d : Campaign) → onward a go ≡ Taken d → (c : Campaign) × (a ≡ Taken c) × (go c ≡ Taken d)
-went_on (Taken c) go d e = (c, refl, e)
-went_on (Refused r) go d e = impossible (cc)
+pub went_on : (a : Result Campaign Refusal) (go : Campaign → Result Campaign Refusal) (d : Campaign) → onward a go ≡ Ok d → (c : Campaign) × (a ≡ Ok c) × (go c ≡ Ok d)
+went_on (Ok c) go d e = (c, refl, e)
+went_on (Err r) go d e = impossible (cc)
 
-same : {c d : Campaign} → Taken c ≡ Taken d → c ≡ d
+same : {c d : Campaign} → Ok c ≡ Ok d → c ≡ d
 same e = cc
 
-judged_entered : (c : Campaign) (xs : List ℤ) (d : Campaign) → judged_from c xs ≡ Taken d → AllEntered c (map outcome_in xs) d
+judged_entered : (c : Campaign) (xs : List ℤ) (d : Campaign) → judged_from c xs ≡ Ok d → AllEntered c (map outcome_in xs) d
 unfolding judged_from
 judged_entered c [] d e = subst (AllEntered c []) (same e) none
 judged_entered c (x ∷ xs) d e =
@@ -48,14 +48,14 @@ all_standard : {c d : Campaign} {os : List Outcome} → AllEntered c os d → d.
 all_standard none = refl
 all_standard (one {c = c} {d = d} {o = o} e a) = all_standard a ∙ ap (λ (y : Campaign). y.standard) (entered_from c o d e).room.after
 
-pub judged_standard : (c : Campaign) (xs : List ℤ) (d : Campaign) → judged_from c xs ≡ Taken d → d.standard ≡ c.standard
+pub judged_standard : (c : Campaign) (xs : List ℤ) (d : Campaign) → judged_from c xs ≡ Ok d → d.standard ≡ c.standard
 judged_standard c xs d e = all_standard (judged_entered c xs d e)
 
 length_outcomes : (xs : List ℤ) → length (map outcome_in xs) ≡ length xs
 length_outcomes [] = refl
 length_outcomes (x ∷ xs) = omega (arith, length_outcomes xs)
 
-module _ (q : ℕ) (xs : List ℤ) (d : Campaign) (e : judged q xs ≡ Taken d) where
+module _ (q : ℕ) (xs : List ℤ) (d : Campaign) (e : judged q xs ≡ Ok d) where
   pub judged_sound : T (sound d)
   unfolding judged
   judged_sound =

@@ -14,13 +14,13 @@ use borrow.Author.Tests.{eq-eqb, eqb-true, le-leb, ne_eqb}
 use Rattle.truth.proofs.Cases.{by_order}
 use Rattle.truth.proofs.Laws.{impossible, true≢false}
 use Rattle.sample_items.specs.Limits.{longest_time}
-use Rattle.decimal.specs.declared.Lead.TheVariants.{Number, Nothing}
 use Rattle.decimal.specs.Decimal.{digits_of, is_digit, is_number, longest, value_of, zero_byte}
 use Rattle.decimal.specs.Leading.{leading, leading_at, stands_at}
 use Rattle.decimal.proofs.Leading.{leading_is, leads_number, led, stands_byte}
 use Rattle.decimal.proofs.Text.{all_digits_lem, digits_above, digits_first, digits_one, digits_some, digits_value, number_digits, value_digits}
 use Rattle.sheet_records.specs.Pass.{ExposureHere}
 use Rattle.sheet_records.proofs.At.{lead_bytes}
+use Rattle.std.specs.Prelude.{Some, None}
 
 -- ---- the digits at a place
 module _ (s : List ℕ) (at : ℕ) where
@@ -51,12 +51,12 @@ module _ (s : List ℕ) (at : ℕ) where
       let is = eqb-true (get_or s at 0) zero_byte (sym (stands_byte s at zero_byte (omega arith)) ∙ e) in
       absurd (omega (arith, byte, is, digits_first t low))
 
-  pub no_number : leading_at s at ≡ Nothing → NoExposure
+  pub no_number : leading_at s at ≡ None → NoExposure
   unfolding leading_at
   no_number e t b rest low high d h =
       impossible (cc (rw (are t b rest d h, number_digits t (omega arith)) at e))
 
-  pub too_much : (v end : ℕ) → leading_at s at ≡ Number v end → longest_time < v → NoExposure
+  pub too_much : (v end : ℕ) → leading_at s at ≡ Some (v, end) → longest_time < v → NoExposure
   too_much v end e more t b rest low high d h =
       let l = leads_number s at v end e in
       absurd (omega (arith, l.value ∙ ap value_of (are t b rest d h) ∙ value_digits t))
@@ -76,7 +76,7 @@ module _ (s : List ℕ) (at : ℕ) where
     not-zero zero is = absurd (not_zero_byte (omega (arith, ap length is, digits_some 0)) (ap (λ (l : List ℕ). get_or l 0 0) (sym is ∙ digits_one 0 (omega arith))))
     not-zero (suc v) is = omega arith
 
-    pub read : (v end : ℕ) → leading_at s at ≡ Number v end → v ≤ longest_time → ExposureHere s at end
+    pub read : (v end : ℕ) → leading_at s at ≡ Some (v, end) → v ≤ longest_time → ExposureHere s at end
     read v end e high =
         let l = leads_number s at v end e in
         record {
@@ -101,6 +101,6 @@ module _ (s : List ℕ) (at : ℕ) where
           and-false (ltb 1 (length Digits)),
         ) in
         let v = value_of Digits in
-        let reads : leading_at s at ≡ Number v end = rw (number, e) in
+        let reads : leading_at s at ≡ Some (v, end) = rw (number, e) in
         let high : v ≤ longest_time = by_order v (10 ^ 7) (λ h. omega arith) (λ h. absurd (omega (arith, e, ap length (digits_value Digits number), digits_above 7 v h))) in
         read v end reads high

@@ -13,18 +13,15 @@ use Rattle.truth.proofs.Laws.{impossible}
 use Rattle.truth.proofs.Cases.{by_test}
 use Rattle.refusal.specs.declared.Refusal.{Refusal}
 use Rattle.refusal.specs.declared.Refusal.TheVariants.{Room}
-use Rattle.text.specs.declared.Writing.TheVariants.{Bytes, Refused as Declined}
 use Rattle.decimal.specs.Decimal.{zero_byte, digits_of}
 use Rattle.decimal.specs.Field.{tab, line_feed, field_text}
 use Rattle.decimal.proofs.Text.{digits_one}
-use Rattle.campaign_state.specs.declared.CampaignAnswer.{CampaignAnswer}
-use Rattle.campaign_state.specs.declared.CampaignAnswer.TheVariants.{Taken, Refused}
 use Rattle.campaign_state.specs.declared.Campaign.{Campaign}
 use Rattle.sheet_records.proofs.Judging.{judged_clean, judged_fault}
-use Rattle.sheet_records.specs.declared.Judged.TheVariants.{Clean, Fault}
 use Rattle.sheet_line.specs.Texts.{entry_text, head_text}
 use Rattle.sheet_records.specs.Ledger.{exposure_in, failed_in, signed_record_text, lines_from, sheet_text}
 use Rattle.sheet_records.specs.Answers.{after_judging, judged, judged_as, writing_sheet}
+use Rattle.std.specs.Prelude.{Result, Ok, Err}
 
 -- a record failed if its number is below zero
 pub failed_below : (x : ℤ) → lt_z x (pos 0) ≡ failed_in x
@@ -66,39 +63,39 @@ sheet_bytes q xs = length-append (head_text q) (lines_from 1 xs)
 
 -- ---- what writing answers
 module _ (q : ℕ) (xs : List ℤ) (out : List ℕ) where
-  pub at_fault : (r : Refusal) → Fault r ≡ judged_as (judged q xs) → Declined r ≡ writing_sheet q xs out
+  pub at_fault : (r : Refusal) → Err r ≡ judged_as (judged q xs) → Err r ≡ writing_sheet q xs out
   unfolding writing_sheet
   at_fault r e = rw (judged_fault (judged q xs) r e)
 
-  module _ (clean : Clean ≡ judged_as (judged q xs)) where
-    pub no_room : length out < length (sheet_text q xs) → Declined (Room (length (sheet_text q xs))) ≡ writing_sheet q xs out
+  module _ (clean : (Ok tt) ≡ judged_as (judged q xs)) where
+    pub no_room : length out < length (sheet_text q xs) → Err (Room (length (sheet_text q xs))) ≡ writing_sheet q xs out
     unfolding writing_sheet
     no_room h = rw ((judged_clean (judged q xs) clean).1, lt-ltb _ _ h)
 
-    pub all_written : length (sheet_text q xs) ≤ length out → Bytes (length (sheet_text q xs)) ≡ writing_sheet q xs out
+    pub all_written : length (sheet_text q xs) ≤ length out → Ok (length (sheet_text q xs)) ≡ writing_sheet q xs out
     unfolding writing_sheet
     all_written h = rw ((judged_clean (judged q xs) clean).1, le-ltb _ _ h)
 
 -- what was written was judged clean, and there was room for it
 pub record Wrote (q : ℕ) (xs : List ℤ) (out : List ℕ) (n : ℕ) : Type 0 where
   pub end : Campaign
-  pub clean : judged q xs ≡ Taken end
+  pub clean : judged q xs ≡ Ok end
   pub bytes : n ≡ length (sheet_text q xs)
   pub room : n ≤ length out
 
-pub wrote : (q : ℕ) (xs : List ℤ) (out : List ℕ) (n : ℕ) → writing_sheet q xs out ≡ Bytes n → Wrote q xs out n
+pub wrote : (q : ℕ) (xs : List ℤ) (out : List ℕ) (n : ℕ) → writing_sheet q xs out ≡ Ok n → Wrote q xs out n
 unfolding writing_sheet
 wrote q xs out n e = go (judged q xs) refl e
   where
-    never : {r : Refusal} → ¬ (Declined r ≡ Bytes n)
+    never : {r : Refusal} → ¬ (Err r ≡ Ok n)
     never f = impossible (cc)
 
-    go : (a : CampaignAnswer) → judged q xs ≡ a → after_judging a (length (sheet_text q xs)) (length out) ≡ Bytes n → Wrote q xs out n
-    go (Refused r) is e = absurd (never e)
-    go (Taken d) is e =
+    go : (a : Result Campaign Refusal) → judged q xs ≡ a → after_judging a (length (sheet_text q xs)) (length out) ≡ Ok n → Wrote q xs out n
+    go (Err r) is e = absurd (never e)
+    go (Ok d) is e =
         by_test (ltb (length out) (length (sheet_text q xs)))
         (λ t. absurd (never (rw t at e)))
         (λ t.
-        let f : Bytes (length (sheet_text q xs)) ≡ Bytes n = rw t at e in
+        let f : Ok (length (sheet_text q xs)) ≡ Ok n = rw t at e in
         let same : n ≡ length (sheet_text q xs) = cc (f) in
         record { end = d; clean = is; bytes = same; room = omega (arith, ltb-false (length out) (length (sheet_text q xs)) t) })

@@ -1,6 +1,6 @@
 -- What the reader's own functions answer: a record's line at a place of a text, and a pass over all lines of a sheet
 -- that reads cleanly. Assumes nothing.
-use Rattle.std.specs.Prelude.{ℕ, ◌+◌, ◌^◌, ◌≤◌, ◌<◌, ◌≡◌, Bool, cond, false, not, true, ◌&&◌, List, ◌∷◌, ◌++◌, map, length, drop, get_or, eqb}
+use Rattle.std.specs.Prelude.{ℕ, ◌+◌, ◌^◌, ◌≤◌, ◌<◌, ◌≡◌, Bool, cond, false, not, true, ◌&&◌, List, ◌∷◌, ◌++◌, map, length, drop, get_or, eqb, Option, Some, None, Result, Err}
 use Rattle.poisson.specs.Rows.{rows}
 use Rattle.refusal.specs.declared.Refusal.TheVariants.{BrokenState}
 use Rattle.sample_items.specs.Limits.{longest_time}
@@ -14,23 +14,14 @@ use Rattle.sheet_text.specs.declared.Reading.{Reading}
 use Rattle.sheet_text.specs.declared.Reading.TheVariants.{Read, Stopped, Waiting}
 use Rattle.sheet_text.specs.Sheet.{meaning, reading_sheet}
 use Rattle.sheet_line.specs.Texts.{entry_text, head_text}
-use Rattle.sheet_records.specs.declared.Entry.{Entry}
-use Rattle.sheet_records.specs.declared.Entry.TheVariants.{Says, Other}
-use Rattle.sheet_records.specs.declared.Exposure.{Exposure}
-use Rattle.sheet_records.specs.declared.Exposure.TheVariants.{Upto, Other as Nought}
-use Rattle.sheet_records.specs.declared.Head.{Head}
-use Rattle.sheet_records.specs.declared.Head.TheVariants.{Standard, None}
-use Rattle.sheet_records.specs.declared.Resumed.{Resumed}
-use Rattle.sheet_records.specs.declared.Resumed.TheVariants.{Stopped as Bad}
-use Rattle.sheet_records.specs.declared.Passed.{Passed}
-use Rattle.sheet_records.specs.declared.Passed.TheVariants.{Clean, Unclean}
 use Rattle.sheet_records.specs.Records.{record_in, records_of}
+use Rattle.refusal.specs.declared.Refusal.{Refusal}
 
 -- what is answered of a sheet that does not read cleanly
-abbrev pub stopped_from : Reading → Resumed
-stopped_from (Stopped line column r) = Bad line column r
-stopped_from (Read c) = Bad 0 0 BrokenState
-stopped_from (Waiting s left) = Bad 0 0 BrokenState
+abbrev pub stopped_from : Reading → Result (ℕ × ℕ) (ℕ × ℕ × Refusal)
+stopped_from (Stopped line column r) = Err (line, column, r)
+stopped_from (Read c) = Err (0, 0, BrokenState)
+stopped_from (Waiting s left) = Err (0, 0, BrokenState)
 
 -- a record is taken after so many records and failures
 unfoldable pub taken_after : ℕ → ℕ → Bool
@@ -52,9 +43,9 @@ pub record ExposureHere (text : List ℕ) (at end : ℕ) : Type 0 where
   pub within : end ≤ length text
 
 -- or no such exposure ends there with a byte that is no digit
-unfoldable pub ExposureAt : List ℕ → ℕ → Exposure → Type 0
-ExposureAt text at (Upto end) = ExposureHere text at end
-ExposureAt text at Nought = (t b : ℕ) (rest : List ℕ) → 1 ≤ t → t ≤ longest_time → is_digit b ≡ false → ¬ (drop at text ≡ digits_of t ++ (b ∷ rest))
+unfoldable pub ExposureAt : List ℕ → ℕ → Option ℕ → Type 0
+ExposureAt text at (Some end) = ExposureHere text at end
+ExposureAt text at None = (t b : ℕ) (rest : List ℕ) → 1 ≤ t → t ≤ longest_time → is_digit b ≡ false → ¬ (drop at text ≡ digits_of t ++ (b ∷ rest))
 
 -- a record's line with such an exposure stands there; or none of that number does
 pub record EntryHere (text : List ℕ) (at due : ℕ) (f : Bool) (next : ℕ) : Type 0 where
@@ -63,13 +54,13 @@ pub record EntryHere (text : List ℕ) (at due : ℕ) (f : Bool) (next : ℕ) : 
   pub low : 1 ≤ exposure
   pub high : exposure ≤ longest_time
 
-unfoldable pub EntryAt : List ℕ → ℕ → ℕ → Entry → Type 0
-EntryAt text at due (Says f next) = EntryHere text at due f next
-EntryAt text at due Other = (f : Bool) (t : ℕ) (rest : List ℕ) → due < 10 ^ longest → 1 ≤ t → t ≤ longest_time → ¬ (drop at text ≡ entry_text due (cond f 1 0) t ++ rest)
+unfoldable pub EntryAt : List ℕ → ℕ → ℕ → Option (Bool × ℕ) → Type 0
+EntryAt text at due (Some (f, next)) = EntryHere text at due f next
+EntryAt text at due None = (f : Bool) (t : ℕ) (rest : List ℕ) → due < 10 ^ longest → 1 ≤ t → t ≤ longest_time → ¬ (drop at text ≡ entry_text due (cond f 1 0) t ++ rest)
 
 -- line 1 stands at the start; or none does
-unfoldable pub HeadOf : List ℕ → Head → Type 0
-HeadOf text (Standard q next) = StartsWith text 0 (head_text q) next × (q < 10 ^ longest)
+unfoldable pub HeadOf : List ℕ → Option (ℕ × ℕ) → Type 0
+HeadOf text (Some (q, next)) = StartsWith text 0 (head_text q) next × (q < 10 ^ longest)
 HeadOf text None = (q : ℕ) (rest : List ℕ) → q < 10 ^ longest → ¬ (text ≡ head_text q ++ rest)
 
 -- from a place on, after line 1, the sheet reads cleanly: the lines there are its records'
@@ -90,9 +81,9 @@ pub record CleanPass (text : List ℕ) (q n begin : ℕ) : Type 0 where
   pub number : length (records_of text) ≡ n
   pub from : CleanFrom text begin
 
-unfoldable pub Passes : List ℕ → Passed → Type 0
-Passes text (Clean q n begin) = CleanPass text q n begin
-Passes text Unclean = (c : Campaign) → ¬ ((meaning text).end ≡ Read c)
+unfoldable pub Passes : List ℕ → Option (ℕ × ℕ × ℕ) → Type 0
+Passes text (Some (q, n, begin)) = CleanPass text q n begin
+Passes text None = (c : Campaign) → ¬ ((meaning text).end ≡ Read c)
 
 -- the byte of a failed record's flag stands at a place
 abbrev pub flag_at : List ℕ → ℕ → Bool

@@ -17,12 +17,10 @@ ghost use Rattle.sheet_records.specs.Records.{filled_by, records_of, resuming};
 ghost use Rattle.sheet_records.specs.Pass.{CleanFrom, EntryAt, ExposureAt, HeadOf, Passes, flag_at, run_end};
 ghost use Rattle.sheet_records.specs.Pass.{run_value, stopped_from, taken_after};
 
-use decimal::Lead;
 use record_end::Outcome;
 use refusal::Refusal;
 use sheet_line::Sheet;
 use sheet_text::Reading;
-use text::Writing;
 
 const TAB: u8 = 9;
 
@@ -30,14 +28,6 @@ const LF: u8 = 10;
 
 // The byte of the digit 0; that of 1 follows it.
 const ZERO: u8 = 48;
-
-// What judging the records comes to.
-#[derive(Clone, Copy)]
-enum Judged {
-    Clean,
-    // The refusal of the standard, or of the first record at fault.
-    Fault(Refusal),
-}
 
 // The record that a number stands for. The least i32 is a failed record, and too long.
 fn outcome(x: i32) -> Outcome
@@ -57,46 +47,46 @@ fn flag_byte(failed: bool) -> u8
 }
 
 // Judges a record's exposure after so many records and failures: none, too long, too many records, rows used up.
-fn judge_one(count: u64, failures: u64, exposure: u64) -> Judged
+fn judge_one(count: u64, failures: u64, exposure: u64) -> Result<(), Refusal>
     ensures { result ≡ judged_one count failures exposure }
 {
     if exposure == 0 {
-        return Judged::Fault(Refusal::TooShort);
+        return Err(Refusal::TooShort);
     }
     if exposure > sample_items::LONGEST_TIME {
-        return Judged::Fault(Refusal::TooLong);
+        return Err(Refusal::TooLong);
     }
     if count == campaign_state::MOST_RECORDS {
-        return Judged::Fault(Refusal::CampaignFull);
+        return Err(Refusal::CampaignFull);
     }
     if failures == campaign_state::ROWS {
-        return Judged::Fault(Refusal::RowsUsedUp);
+        return Err(Refusal::RowsUsedUp);
     }
-    Judged::Clean
+    Ok(())
 }
 
 // Judges the standard, then record by record.
-fn judge(q: u64, records: &[i32]) -> Judged
+fn judge(q: u64, records: &[i32]) -> Result<(), Refusal>
     ensures { result ≡ judged_as (judged q records.now) }
 {
     if !truth::both(1 <= q, q <= campaign_state::LONGEST_STANDARD) {
-        return Judged::Fault(Refusal::Item(5));
+        return Err(Refusal::Item(5));
     }
     let mut failures: u64 = 0;
     let mut i = 0;
     while i < records.len() {
         let o = outcome(records[i]);
         match judge_one(i as u64, failures, o.exposure) {
-            Judged::Fault(r) => {
-                return Judged::Fault(r);
+            Err(r) => {
+                return Err(r);
             }
-            Judged::Clean => {
+            Ok(()) => {
                 failures = truth::pick(o.failed, failures + 1, failures);
                 i += 1;
             }
         }
     }
-    Judged::Clean
+    Ok(())
 }
 
 // The bytes of a record's line.
@@ -173,19 +163,19 @@ fn put_sheet(q: u64, records: &[i32], out: &mut [u8])
 
 // Writes the sheet of a standard and its records into `out`, whose rest stays, and answers its bytes; or refusal 1
 // with item 5, record by record 4, 3, 5, 6, then 7 with the bytes needed, and `out` as it stood.
-pub fn write(q: u64, records: &[i32], out: &mut [u8]) -> Writing
+pub fn write(q: u64, records: &[i32], out: &mut [u8]) -> Result<u64, Refusal>
     ensures value { result ≡ writing_sheet q records.now out.old }
     ensures out_after { out.new ≡ laid_by result (sheet_text q records.now) out.old }
 {
     match judge(q, records) {
-        Judged::Fault(r) => Writing::Refused(r),
-        Judged::Clean => {
+        Err(r) => Err(r),
+        Ok(()) => {
             let needed = sheet_length(q, records);
             if (out.len() as u64) < needed {
-                return Writing::Refused(Refusal::Room(needed));
+                return Err(Refusal::Room(needed));
             }
             put_sheet(q, records, out);
-            Writing::Bytes(needed)
+            Ok(needed)
         }
     }
 }
@@ -194,114 +184,72 @@ pub fn write(q: u64, records: &[i32], out: &mut [u8]) -> Writing
 // So many digits are always an exposure that is taken, if the first is not 0.
 const FREE_DIGITS: usize = 7;
 
-// What reading the records of a sheet comes to.
-#[derive(Clone, Copy)]
-pub enum Resumed {
-    // The standard, and the number of records.
-    Records(u64, u64),
-    // The number of the first bad line, the column of its fault or 0, and its refusal; refusal 7 is on no line, 0.
-    Stopped(u64, u64, Refusal),
-}
-
-// What stands at a record's line.
-#[derive(Clone, Copy)]
-enum Entry {
-    // Whether the record failed, and the place after the line.
-    Says(bool, usize),
-    // No line of that record, or one whose exposure is not taken.
-    Other,
-}
-
-// What stands at an exposure.
-#[derive(Clone, Copy)]
-enum Exposure {
-    // Digits of an exposure that is taken, up to this place.
-    Upto(usize),
-    Other,
-}
-
-// What stands at line 1.
-#[derive(Clone, Copy)]
-enum Head {
-    // The standard, and the place after the line.
-    Standard(u64, usize),
-    None,
-}
-
-// What a pass over a sheet comes to.
-#[derive(Clone, Copy)]
-enum Passed {
-    // The standard, the number of records and the place after line 1 of a sheet that reads cleanly.
-    Clean(u64, u64, usize),
-    Unclean,
-}
-
 // The exposure at `at`, 1 to 10,000,000. What at most seven digits are worth need not be known.
-fn exposure_at(text: &[u8], at: usize) -> Exposure
+fn exposure_at(text: &[u8], at: usize) -> Option<usize>
     ensures { ExposureAt text.now at result }
 {
     let end = decimal::digits_end(text, at);
     if end == at {
-        return Exposure::Other;
+        return None;
     }
     if decimal::stands(text, at, ZERO) {
-        return Exposure::Other;
+        return None;
     }
     if end - at <= FREE_DIGITS {
-        return Exposure::Upto(end);
+        return Some(end);
     }
-    let Lead::Number(t, next) = decimal::leading_at(text, at) else {
-        return Exposure::Other;
+    let Some((t, next)) = decimal::leading_at(text, at) else {
+        return None;
     };
     if t > sample_items::LONGEST_TIME {
-        return Exposure::Other;
+        return None;
     }
-    Exposure::Upto(next)
+    Some(next)
 }
 
 // The line of the record numbered `due` at `at`.
-fn entry_at(text: &[u8], at: usize, due: u64) -> Entry
+fn entry_at(text: &[u8], at: usize, due: u64) -> Option<(bool, usize)>
     ensures { EntryAt text.now at due result }
 {
-    let Lead::Number(number, end) = decimal::leading_at(text, at) else {
-        return Entry::Other;
+    let Some((number, end)) = decimal::leading_at(text, at) else {
+        return None;
     };
     if number != due {
-        return Entry::Other;
+        return None;
     }
     if !decimal::stands(text, end, TAB) {
-        return Entry::Other;
+        return None;
     }
     let failed = decimal::stands(text, end + 1, ZERO + 1);
     if !truth::either(failed, decimal::stands(text, end + 1, ZERO)) {
-        return Entry::Other;
+        return None;
     }
     if !decimal::stands(text, end + 2, TAB) {
-        return Entry::Other;
+        return None;
     }
-    let Exposure::Upto(feed) = exposure_at(text, end + 3) else {
-        return Entry::Other;
+    let Some(feed) = exposure_at(text, end + 3) else {
+        return None;
     };
     if !decimal::stands(text, feed, LF) {
-        return Entry::Other;
+        return None;
     }
-    Entry::Says(failed, feed + 1)
+    Some((failed, feed + 1))
 }
 
 // Line 1.
-fn line_one(text: &[u8]) -> Head
+fn line_one(text: &[u8]) -> Option<(u64, usize)>
     ensures { HeadOf text.now result }
 {
     if !sheet_line::begins(text, b"standard\t") {
-        return Head::None;
+        return None;
     }
-    let Lead::Number(q, feed) = decimal::leading_at(text, 9) else {
-        return Head::None;
+    let Some((q, feed)) = decimal::leading_at(text, 9) else {
+        return None;
     };
     if !decimal::stands(text, feed, LF) {
-        return Head::None;
+        return None;
     }
-    Head::Standard(q, feed + 1)
+    Some((q, feed + 1))
 }
 
 // The number of a record.
@@ -333,30 +281,30 @@ fn put(x: i32, places: &mut [i32], i: usize)
 }
 
 // Goes over all lines of `text`, to judge them.
-fn pass(text: &[u8]) -> Passed
+fn pass(text: &[u8]) -> Option<(u64, u64, usize)>
     ensures { Passes text.now result }
 {
-    let Head::Standard(q, begin) = line_one(text) else {
-        return Passed::Unclean;
+    let Some((q, begin)) = line_one(text) else {
+        return None;
     };
     if !truth::both(1 <= q, q <= campaign_state::LONGEST_STANDARD) {
-        return Passed::Unclean;
+        return None;
     }
     let mut at = begin;
     let mut count: u64 = 0;
     let mut failures: u64 = 0;
     while at < text.len() {
-        let Entry::Says(failed, next) = entry_at(text, at, count + 1) else {
-            return Passed::Unclean;
+        let Some((failed, next)) = entry_at(text, at, count + 1) else {
+            return None;
         };
         if !takes(count, failures) {
-            return Passed::Unclean;
+            return None;
         }
         failures = truth::pick(failed, failures + 1, failures);
         count += 1;
         at = next;
     }
-    Passed::Clean(q, count, begin)
+    Some((q, count, begin))
 }
 
 // A record of a clean sheet: whether it failed, its exposure, and the place after its line.
@@ -404,31 +352,31 @@ fn put_all(text: &[u8], begin: usize, places: &mut [i32])
 }
 
 // What the sheet's reader says of a sheet that does not read cleanly.
-fn stopped(end: Reading) -> Resumed
+fn stopped(end: Reading) -> Result<(u64, u64), (u64, u64, Refusal)>
     ensures { result ≡ stopped_from end }
 {
     match end {
-        Reading::Read(_) => Resumed::Stopped(0, 0, Refusal::BrokenState),
-        Reading::Stopped(line, column, r) => Resumed::Stopped(line, column, r),
-        Reading::Waiting(_, _) => Resumed::Stopped(0, 0, Refusal::BrokenState),
+        Reading::Read(_) => Err((0, 0, Refusal::BrokenState)),
+        Reading::Stopped(line, column, r) => Err((line, column, r)),
+        Reading::Waiting(_, _) => Err((0, 0, Refusal::BrokenState)),
     }
 }
 
 // Reads the records of a sheet into `places`, whose rest stays: the exposures, with a minus on the failed ones.
 // Answers the standard and the number of records; or the sheet's first refusal with its line and column, then 7 with
 // the places needed, and `places` as it stood.
-pub fn records(text: &[u8], places: &mut [i32]) -> Resumed
+pub fn records(text: &[u8], places: &mut [i32]) -> Result<(u64, u64), (u64, u64, Refusal)>
     ensures value { result ≡ resuming text.now (length places.old) }
     ensures places_after { places.new ≡ filled_by result (records_of text.now) places.old }
 {
     match pass(text) {
-        Passed::Unclean => stopped(sheet_text::read(Sheet::Fresh, text, false)),
-        Passed::Clean(q, count, begin) => {
+        None => stopped(sheet_text::read(Sheet::Fresh, text, false)),
+        Some((q, count, begin)) => {
             if (places.len() as u64) < count {
-                return Resumed::Stopped(0, 0, Refusal::Room(count));
+                return Err((0, 0, Refusal::Room(count)));
             }
             put_all(text, begin, places);
-            Resumed::Records(q, count)
+            Ok((q, count))
         }
     }
 }

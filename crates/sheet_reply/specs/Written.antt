@@ -1,6 +1,6 @@
 -- Document 01, "The job sheet": the lines that the program writes, fields parted by a tab, ended by LF; and what
 -- writing one into lent bytes answers and leaves. Assumes nothing.
-use Rattle.std.specs.Prelude.{ℕ, ◌+◌, cond, List, [], ◌∷◌, ◌++◌, length, eqb}
+use Rattle.std.specs.Prelude.{ℕ, ◌+◌, cond, List, [], ◌∷◌, ◌++◌, length, eqb, Result, Ok, Err}
 use Rattle.refusal.specs.declared.Refusal.{Refusal}
 use Rattle.refusal.specs.declared.Refusal.TheVariants.{BrokenState, Room}
 use Rattle.refusal.specs.Numbers.{number_of}
@@ -10,8 +10,6 @@ use Rattle.campaign_state.specs.declared.Campaign.{Campaign}
 use Rattle.campaign_state.specs.State.{censored, sound}
 use Rattle.campaign_verdict.specs.Figures.{verdict_of}
 use Rattle.campaign_verdict.specs.Letters.{letter_of}
-use Rattle.sheet_reply.specs.declared.Written.{Written}
-use Rattle.sheet_reply.specs.declared.Written.TheVariants.{Upto, Refused}
 
 -- the letter of a campaign's verdict; no record has none
 unfoldable pub letter_for : Campaign → ℕ
@@ -45,12 +43,12 @@ unfoldable pub refused_text : ℕ → ℕ → Refusal → List ℕ
 refused_text line column r = refused_word ++ (field_text line tab ++ reason_text (number_of r) column)
 
 -- the answer of a writer: the place after the text; where it has no room 7, with the bytes needed
-unfoldable pub writing_reply : List ℕ → ℕ → List ℕ → Written
-writing_reply out at text = cond (fits out at text) (Upto (at + length text)) (Refused (Room (length text)))
+unfoldable pub writing_reply : List ℕ → ℕ → List ℕ → Result ℕ Refusal
+writing_reply out at text = cond (fits out at text) (Ok (at + length text)) (Err (Room (length text)))
 
 -- a record's line: 8, 7; a refusal leaves the lent bytes as they were
-unfoldable pub record_writing : Campaign → List ℕ → ℕ → Written
-record_writing c out at = cond (sound c) (writing_reply out at (record_text c)) (Refused BrokenState)
+unfoldable pub record_writing : Campaign → List ℕ → ℕ → Result ℕ Refusal
+record_writing c out at = cond (sound c) (writing_reply out at (record_text c)) (Err BrokenState)
 
 unfoldable pub record_left : Campaign → List ℕ → ℕ → List ℕ
 record_left c out at = cond (sound c) (written out at (record_text c)) out

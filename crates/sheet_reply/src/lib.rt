@@ -9,7 +9,7 @@ ghost use Rattle.sheet_reply.specs.Written.{letter_for, reason_text, record_text
 ghost use Rattle.sheet_reply.specs.Written.{refused_text, writing_reply};
 
 use campaign_state::Campaign;
-use campaign_verdict::{Counted, Judged, Verdict};
+use campaign_verdict::Verdict;
 use refusal::Refusal;
 
 const TAB: u8 = 9;
@@ -22,19 +22,12 @@ const MALFORMED: u64 = 9;
 // The most bytes of a record's line. Where there is room for them, its own are not counted first.
 const LONGEST_RECORD: usize = 30;
 
-// The place after the text that was written.
-#[derive(Clone, Copy)]
-pub enum Written {
-    Upto(usize),
-    Refused(Refusal),
-}
-
 // The letter of the verdict on a campaign that keeps its relations.
 fn letter(c: Campaign) -> u8
     requires { sound c ≡ true }
     ensures { result ≡ letter_for c }
 {
-    let Judged::Given(v) = campaign_verdict::judge(c) else {
+    let Ok(v) = campaign_verdict::judge(c) else {
         return 0;
     };
     match v {
@@ -50,7 +43,7 @@ fn censored(c: Campaign) -> u64
     requires { sound c ≡ true }
     ensures { result ≡ censored c }
 {
-    let Counted::Count(n) = campaign_verdict::censored(c) else {
+    let Ok(n) = campaign_verdict::censored(c) else {
         return 0;
     };
     n
@@ -92,20 +85,20 @@ fn put_record(c: Campaign, out: &mut [u8], at: usize) -> usize
 
 // Writes the line of the campaign's last record into `out` from `at` on: number, N, N*, T and A, R or C; without a
 // record nothing. Or refusal 8; 7 with the bytes needed.
-pub fn write_record(c: Campaign, out: &mut [u8], at: usize) -> Written
+pub fn write_record(c: Campaign, out: &mut [u8], at: usize) -> Result<usize, Refusal>
     ensures value { result ≡ record_writing c out.old at }
     ensures out_after { out.new ≡ record_left c out.old at }
 {
     if !campaign_state::sound(c) {
-        return Written::Refused(Refusal::BrokenState);
+        return Err(Refusal::BrokenState);
     }
     if !text::has_room(out.len(), at, LONGEST_RECORD) {
         let needed = record_length(c);
         if !text::has_room(out.len(), at, needed) {
-            return Written::Refused(Refusal::Room(needed as u64));
+            return Err(Refusal::Room(needed as u64));
         }
     }
-    Written::Upto(put_record(c, out, at))
+    Ok(put_record(c, out, at))
 }
 
 // The bytes of a refusal's number and its column.
@@ -152,13 +145,19 @@ fn put_refused(line: u64, column: u64, r: Refusal, out: &mut [u8], at: usize) ->
 
 // Writes the refused line into `out` from `at` on: refused, the line's number, the refusal's, and the column where
 // that is 9. Or refusal 7 with the bytes needed.
-pub fn write_refused(line: u64, column: u64, r: Refusal, out: &mut [u8], at: usize) -> Written
+pub fn write_refused(
+    line: u64,
+    column: u64,
+    r: Refusal,
+    out: &mut [u8],
+    at: usize,
+) -> Result<usize, Refusal>
     ensures value { result ≡ writing_reply out.old at (refused_text line column r) }
     ensures out_after { out.new ≡ written out.old at (refused_text line column r) }
 {
     let needed = refused_length(line, column, r);
     if !text::has_room(out.len(), at, needed) {
-        return Written::Refused(Refusal::Room(needed as u64));
+        return Err(Refusal::Room(needed as u64));
     }
-    Written::Upto(put_refused(line, column, r, out, at))
+    Ok(put_refused(line, column, r, out, at))
 }

@@ -10,14 +10,14 @@ use lib.ListN.{length, length-append}
 use Rattle.truth.proofs.Cases.{by_test}
 use Rattle.decimal.specs.Field.{line_feed}
 use Rattle.sheet_line.specs.declared.Sheet.{Sheet}
-use Rattle.sheet_line.specs.declared.Step.{Step}
-use Rattle.sheet_line.specs.declared.Step.TheVariants.{Next, Stop}
 use Rattle.sheet_line.specs.Line.{sound_sheet, stepping}
 use Rattle.sheet_reply.proofs.Few.{refused_few}
 use Rattle.decimal.specs.Lines.{lines_of, start_line}
 use Rattle.sheet_text.specs.Sheet.{after_step, reading_sheet, waits}
 use Rattle.sheet_text.proofs.Running.{last_few}
 use Rattle.sheet_text.proofs.Steps.{step_led, step_line}
+use Rattle.refusal.specs.declared.Refusal.{Refusal}
+use Rattle.std.specs.Prelude.{Result, Ok, Err}
 
 total : List (List ℕ) → ℕ
 total [] = 0
@@ -42,11 +42,11 @@ lines_few more [] s g = omega (arith, last_few more s)
 lines_few more (line ∷ lines) s g = by_test (waits more line) (λ w. rw w (omega arith)) (λ w. rw w (by_step (lines_few more lines) (stepping s line) refl))
   where
     by_step : ((t : Sheet) → sound_sheet t ≡ true → length (reading_sheet more lines t).text ≤ 5 * total lines + 35)
-        → (step : Step) → stepping s line ≡ step → length (after_step step (reading_sheet more lines)).text ≤ 5 * (length line + total lines) + 35
-    by_step rest (Next t) e =
+        → (step : Result Sheet (ℕ × ℕ × Refusal)) → stepping s line ≡ step → length (after_step step (reading_sheet more lines)).text ≤ 5 * (length line + total lines) + 35
+    by_step rest (Ok t) e =
         let led = step_led s line g e in
         rw length-append (omega (arith, led.few, rest t led.sound))
-    by_step rest (Stop l k r) e =
+    by_step rest (Err (l, k, r)) e =
         let (small, few) = step_line s line g e in
         omega (arith, refused_few l k r small few)
 

@@ -20,14 +20,14 @@ use Rattle.campaign_state.specs.State.{sound}
 use Rattle.sheet_line.specs.declared.Sheet.{Sheet}
 use Rattle.sheet_line.specs.declared.Sheet.TheVariants.{Fresh, Open}
 use Rattle.sheet_text.specs.declared.Reading.TheVariants.{Waiting}
-use Rattle.sheet_line.specs.declared.Step.{Step}
-use Rattle.sheet_line.specs.declared.Step.TheVariants.{Stop}
 use Rattle.sheet_line.specs.Column.{record_column, standard_column}
 use Rattle.sheet_line.specs.Form.{longest_sheet_line, ends_line, is_sheet_line}
 use Rattle.sheet_line.specs.Line.{line_after, malformed, record_line, standard_line, stepping}
 use Rattle.decimal.specs.Lines.{lines_of}
 use Rattle.sheet_text.specs.Sheet.{Account, ended, after_step, waits, reading_sheet}
 use Rattle.sheet_text.specs.Cut.{cut, first_line}
+use Rattle.refusal.specs.declared.Refusal.{Refusal}
+use Rattle.std.specs.Prelude.{Result, Err}
 
 -- a byte in front of a line keeps its end
 ends_on : (b : ℕ) (line : List ℕ) → eqb b line_feed ≡ false → ends_line (b ∷ line) ≡ ends_line line
@@ -171,9 +171,9 @@ module _ (text : List ℕ) (at end : ℕ) (found : end ≡ at + cut longest_shee
   part_first = let k : end - at ≡ cut longest_sheet_line (drop at text) = omega arith in rw k
 
 -- a line that is none is bad whatever it says, and a bad line ends the reading
-abbrev bad : Sheet → Step
+abbrev bad : Sheet → Result Sheet (ℕ × ℕ × Refusal)
 bad Fresh = malformed 1 0
-bad (Open c) = cond (sound c) (malformed (line_after c) 0) (Stop 0 0 BrokenState)
+bad (Open c) = cond (sound c) (malformed (line_after c) 0) (Err (0, 0, BrokenState))
 
 stepping_bad : (s : Sheet) (line : List ℕ) → is_sheet_line line ≡ false → stepping s line ≡ bad s
 unfolding stepping standard_line record_line standard_column record_column

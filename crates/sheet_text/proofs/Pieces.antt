@@ -18,8 +18,6 @@ use Rattle.sheet_text.specs.declared.Reading.{Reading}
 use Rattle.sheet_text.specs.declared.Reading.TheVariants.{Read, Stopped, Waiting}
 use Rattle.sheet_line.specs.declared.Sheet.{Sheet}
 use Rattle.sheet_line.specs.declared.Sheet.TheVariants.{Fresh}
-use Rattle.sheet_line.specs.declared.Step.{Step}
-use Rattle.sheet_line.specs.declared.Step.TheVariants.{Next, Stop}
 use Rattle.sheet_line.specs.Form.{longest_sheet_line, ends_line}
 use Rattle.sheet_line.specs.Line.{stepping}
 use Rattle.decimal.specs.Lines.{lines_of}
@@ -28,6 +26,7 @@ use Rattle.sheet_text.specs.Cut.{cut, first_line}
 use Rattle.text.specs.Pieces.{joined}
 use Rattle.sheet_text.specs.Pieces.{last_bytes, onward, feeding}
 use Rattle.sheet_text.proofs.Lines.{cut_within, cut_some, cut-append, cut-whole, length_first, reading_turn}
+use Rattle.std.specs.Prelude.{Result, Ok, Err}
 
 -- a text that has come to its end at this line, or a line that is complete
 module _ (text : List ℕ) where
@@ -87,10 +86,10 @@ module _ (more : Bool) (text after : List ℕ) (s : Sheet) (some : 0 < length te
       let all : length text - length line ≡ 0 = omega (arith, waits_whole text w) in
       record { goes = rw (e, all); left = rw e (omega (arith, waits_whole text w)) }
 
-  cut_stops : {l k : ℕ} {r : Refusal} → waits true line ≡ false → stepping s line ≡ Stop l k r → Cut more text after s
+  cut_stops : {l k : ℕ} {r : Refusal} → waits true line ≡ false → stepping s line ≡ Err (l, k, r) → Cut more text after s
   cut_stops w f = record { goes = rw (turn w, f) (sym (turn_after w ∙ rw f)); left = rw (turn w, f) (omega arith) }
 
-  cut_next : {t : Sheet} → waits true line ≡ false → stepping s line ≡ Next t → Cut more rest after t → Cut more text after s
+  cut_next : {t : Sheet} → waits true line ≡ false → stepping s line ≡ Ok t → Cut more rest after t → Cut more text after s
   unfolding reading_sheet
   cut_next {t} w f c = record {
     goes = rw (turn w, f) (by_end (reading_sheet true (lines_of rest) t).end refl ∙
@@ -132,9 +131,9 @@ module _ (more : Bool) (after : List ℕ) where
       less : length (drop (cut longest_sheet_line text) text) ≤ n
       less = rw length-drop (omega (arith, cut_some 63 text some))
 
-      by_step : waits true (first_line text) ≡ false → (step : Step) → stepping s (first_line text) ≡ step → Cut more text after s
-      by_step w (Next t) f = cut_next more text after s some w f (shorter _ t less)
-      by_step w (Stop l k r) f = cut_stops more text after s some w f
+      by_step : waits true (first_line text) ≡ false → (step : Result Sheet (ℕ × ℕ × Refusal)) → stepping s (first_line text) ≡ step → Cut more text after s
+      by_step w (Ok t) f = cut_next more text after s some w f (shorter _ t less)
+      by_step w (Err (l, k, r)) f = cut_stops more text after s some w f
 
   cut_text : (n : ℕ) (text : List ℕ) (s : Sheet) → length text ≤ suc n → ((rest : List ℕ) (t : Sheet) → length rest ≤ n → Cut more rest after t) → Cut more text after s
   cut_text n [] s h shorter = cut_none s

@@ -8,11 +8,12 @@ use lib.ListN.{length}
 use Rattle.truth.proofs.Cases.{by_order, by_test}
 use Rattle.text.specs.Write.{fits, written}
 use Rattle.text.proofs.Laws.{laid_none, written_fits, wrote_short}
-use Rattle.sheet_reply.specs.declared.Written.{Written}
 use Rattle.sheet_reply.specs.Written.{writing_reply}
 use Rattle.sheet_text.specs.Cut.{place_counted}
+use Rattle.refusal.specs.declared.Refusal.{Refusal}
+use Rattle.std.specs.Prelude.{Result}
 
-pub counted_writing : (out : List ℕ) (at : ℕ) (text : List ℕ) {w : Written} → w ≡ writing_reply out at text → place_counted at w ≡ at + length text
+pub counted_writing : (out : List ℕ) (at : ℕ) (text : List ℕ) {w : (Result ℕ Refusal)} → w ≡ writing_reply out at text → place_counted at w ≡ at + length text
 unfolding writing_reply
 counted_writing out at text e = by_test (fits out at text) (λ f. rw (e, f)) (λ f. rw (e, f))
 

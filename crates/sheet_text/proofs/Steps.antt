@@ -17,7 +17,6 @@ use Rattle.campaign_state.proofs.Keeping.{opened_sound, entering_sound}
 use Rattle.campaign_state.proofs.Relations.{kept_from}
 use Rattle.sheet_line.specs.declared.Sheet.{Sheet}
 use Rattle.sheet_line.specs.declared.Sheet.TheVariants.{Fresh, Open}
-use Rattle.sheet_line.specs.declared.Step.TheVariants.{Next, Stop}
 use Rattle.sheet_line.specs.Line.{sound_sheet, stepping, line_outcome}
 use Rattle.sheet_line.proofs.Columns.{standard_few}
 use Rattle.sheet_line.proofs.Columns.{record_few as column_few}
@@ -26,6 +25,7 @@ use Rattle.sheet_line.proofs.Theorems.{told_entered}
 use Rattle.sheet_reply.specs.Written.{record_text}
 use Rattle.sheet_reply.proofs.Few.{record_few}
 use Rattle.sheet_text.specs.Sheet.{text_of}
+use Rattle.std.specs.Prelude.{Ok, Err}
 
 -- the most bytes that the records so far have had written
 abbrev pub most : Sheet → ℕ
@@ -60,19 +60,19 @@ opening_kept line t o =
     rw o.next (record { sound = good; few = omega arith; grows = omega arith })
 
 module _ (s : Sheet) (line : List ℕ) where
-  pub step_led : {t : Sheet} → sound_sheet s ≡ true → stepping s line ≡ Next t → Led s line t
+  pub step_led : {t : Sheet} → sound_sheet s ≡ true → stepping s line ≡ Ok t → Led s line t
   unfolding stepping
   step_led {t} g e = go s g e
     where
-      go : (s : Sheet) → sound_sheet s ≡ true → stepping s line ≡ Next t → Led s line t
+      go : (s : Sheet) → sound_sheet s ≡ true → stepping s line ≡ Ok t → Led s line t
       go Fresh g e = opening_kept line t (says_next (standard_says _ line (standard_few line)) e)
       go (Open c) g e = entry_kept c line t (says_next (record_says _ c line (column_few (c.records + 1) line)) (rw g at e))
 
-  pub step_line : {l k : ℕ} {r : Refusal} → sound_sheet s ≡ true → stepping s line ≡ Stop l k r → (l < 10 ^ 20) × (k < 1000)
+  pub step_line : {l k : ℕ} {r : Refusal} → sound_sheet s ≡ true → stepping s line ≡ Err (l, k, r) → (l < 10 ^ 20) × (k < 1000)
   unfolding stepping
   step_line {l} {k} {r} g e = go s g e
     where
-      go : (s : Sheet) → sound_sheet s ≡ true → stepping s line ≡ Stop l k r → (l < 10 ^ 20) × (k < 1000)
+      go : (s : Sheet) → sound_sheet s ≡ true → stepping s line ≡ Err (l, k, r) → (l < 10 ^ 20) × (k < 1000)
       go Fresh g e =
           let (named, small) = says_stop (standard_says _ line (standard_few line)) e in
           (omega arith, small)

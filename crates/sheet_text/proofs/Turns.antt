@@ -14,8 +14,6 @@ use Rattle.refusal.specs.declared.Refusal.{Refusal}
 use Rattle.sheet_text.specs.declared.LineFound.TheVariants.{Taken, Waits, Bad}
 use Rattle.sheet_text.specs.declared.Reading.TheVariants.{Stopped, Waiting}
 use Rattle.sheet_line.specs.declared.Sheet.{Sheet}
-use Rattle.sheet_line.specs.declared.Step.{Step}
-use Rattle.sheet_line.specs.declared.Step.TheVariants.{Next, Stop}
 use Rattle.sheet_line.specs.Form.{ends_line, longest_sheet_line}
 use Rattle.sheet_line.specs.Line.{sound_sheet, stepping}
 use Rattle.decimal.specs.Lines.{lines_of}
@@ -23,6 +21,7 @@ use Rattle.sheet_text.specs.Sheet.{Account, prefixed, ended, after_step, text_of
 use Rattle.sheet_text.specs.Cut.{first_line, found_at, found}
 use Rattle.sheet_text.proofs.Lines.{cut_within, cut_some, length_first, reading_turn}
 use Rattle.sheet_text.proofs.Steps.{most, step_led, step_line}
+use Rattle.std.specs.Prelude.{Result, Ok, Err}
 
 -- the three cases are apart, and each holds what it was made of
 not_taken : {n : ℕ} {t : Sheet} {next : ℕ} → ¬ (Waits n ≡ Taken t next)
@@ -75,13 +74,13 @@ module _ (more : Bool) (text : List ℕ) (at : ℕ) (s : Sheet) where
     unfolding found
     found_taken {t} {next} g e = go (waits more part) (stepping s part) refl refl e
       where
-        go : (w : Bool) (step : Step) → waits more part ≡ w → stepping s part ≡ step → cond w (Waits (length part)) (found_at (at + length part) step) ≡ Taken t next → Took t next
+        go : (w : Bool) (step : Result Sheet (ℕ × ℕ × Refusal)) → waits more part ≡ w → stepping s part ≡ step → cond w (Waits (length part)) (found_at (at + length part) step) ≡ Taken t next → Took t next
         go true step w f e = absurd (not_taken e)
-        go false (Stop l k r) w f e = absurd (not_taken' e)
-        go false (Next u) w f e =
+        go false (Err (l, k, r)) w f e = absurd (not_taken' e)
+        go false (Ok u) w f e =
             let sheet : u ≡ t = cc (e) in
             let place : at + length part ≡ next = cc (e) in
-            let led = step_led s part g (f ∙ ap Next sheet) in
+            let led = step_led s part g (f ∙ ap Ok sheet) in
             record {
               reads = turn ∙ rw (w, f, sheet, place);
               further = rw (← place) starts;
@@ -94,25 +93,25 @@ module _ (more : Bool) (text : List ℕ) (at : ℕ) (s : Sheet) where
     unfolding found
     found_waits {n} e = go (waits more part) (stepping s part) refl refl e
       where
-        go : (w : Bool) (step : Step) → waits more part ≡ w → stepping s part ≡ step → cond w (Waits (length part)) (found_at (at + length part) step) ≡ Waits n
+        go : (w : Bool) (step : Result Sheet (ℕ × ℕ × Refusal)) → waits more part ≡ w → stepping s part ≡ step → cond w (Waits (length part)) (found_at (at + length part) step) ≡ Waits n
             → (here ≡ ended (Waiting s n)) × (n ≤ length text) × (n < longest_sheet_line)
         go true step w f e =
             let bytes : length part ≡ n = cc (e) in
             let open-line = (and-true more (not (ends_line part) && ltb (length part) longest_sheet_line) w).1 in
             let short = ltb-true (length part) longest_sheet_line (and-true (not (ends_line part)) (ltb (length part) longest_sheet_line) open-line).1 in
             (turn ∙ rw (w, bytes), omega (arith, ends), omega arith)
-        go false (Stop l k r) w f e = absurd (not_waits' e)
-        go false (Next u) w f e = absurd (not_waits e)
+        go false (Err (l, k, r)) w f e = absurd (not_waits' e)
+        go false (Ok u) w f e = absurd (not_waits e)
 
     pub found_bad : {l k : ℕ} {r : Refusal} → sound_sheet s ≡ true → found more text at s ≡ Bad l k r → (here ≡ ended (Stopped l k r)) × (l < 10 ^ 20) × (k < 1000)
     unfolding found
     found_bad {l} {k} {r} g e = go (waits more part) (stepping s part) refl refl e
       where
-        go : (w : Bool) (step : Step) → waits more part ≡ w → stepping s part ≡ step → cond w (Waits (length part)) (found_at (at + length part) step) ≡ Bad l k r
+        go : (w : Bool) (step : Result Sheet (ℕ × ℕ × Refusal)) → waits more part ≡ w → stepping s part ≡ step → cond w (Waits (length part)) (found_at (at + length part) step) ≡ Bad l k r
             → (here ≡ ended (Stopped l k r)) × (l < 10 ^ 20) × (k < 1000)
         go true step w f e = absurd (not_bad e)
-        go false (Next u) w f e = absurd (not_bad' e)
-        go false (Stop m n q) w f e =
+        go false (Ok u) w f e = absurd (not_bad' e)
+        go false (Err (m, n, q)) w f e =
             let line : m ≡ l = cc (e) in
             let column : n ≡ k = cc (e) in
             let why : q ≡ r = cc (e) in

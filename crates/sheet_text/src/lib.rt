@@ -15,8 +15,7 @@ ghost use Rattle.sheet_text.specs.Cut.{Passed, place_counted, cut, found};
 
 use campaign_state::Campaign;
 use refusal::Refusal;
-use sheet_line::{Sheet, Step};
-use sheet_reply::Written;
+use sheet_line::Sheet;
 
 const LF: u8 = 10;
 
@@ -32,13 +31,6 @@ pub enum Reading {
     Stopped(u64, u64, Refusal),
     // Where the reading stands, and how many bytes at the piece's end are left unread.
     Waiting(Sheet, usize),
-}
-
-// What a run over a piece comes to, and the bytes that it wrote.
-#[derive(Clone, Copy)]
-pub enum Ran {
-    Came(Reading, usize),
-    Refused(Refusal),
 }
 
 // What a reader finds at a place of a text.
@@ -107,8 +99,8 @@ fn find(s: Sheet, text: &[u8], at: usize, more: bool) -> LineFound
         return LineFound::Waits(bytes);
     }
     match s.line(&text[at..end]) {
-        Step::Next(t) => LineFound::Taken(t, end),
-        Step::Stop(line, column, r) => LineFound::Bad(line, column, r),
+        Ok(t) => LineFound::Taken(t, end),
+        Err((line, column, r)) => LineFound::Bad(line, column, r),
     }
 }
 
@@ -163,13 +155,13 @@ pub fn read(s: Sheet, text: &[u8], more: bool) -> Reading
 }
 
 // The place after a text that was written from `at` on, also where it had no room.
-fn place_counted(at: usize, w: Written) -> usize
+fn place_counted(at: usize, w: Result<usize, Refusal>) -> usize
     requires { place_counted at w < 2 ^ 63 }
     ensures { result ≡ place_counted at w }
 {
     match w {
-        Written::Upto(next) => next,
-        Written::Refused(r) => at + (refusal::carried(r) as usize),
+        Ok(next) => next,
+        Err(r) => at + (refusal::carried(r) as usize),
     }
 }
 
@@ -270,22 +262,22 @@ fn needed(s: Sheet, text: &[u8], more: bool) -> usize
 // Reads the lines of `text` as `read` does, and writes into `out`, from its start, what the program writes for them.
 // Answers what the reading came to and the bytes that it wrote; or refusal 8; 7 with the bytes needed. They are
 // counted first only where `out` might be too short.
-pub fn run(s: Sheet, text: &[u8], more: bool, out: &mut [u8]) -> Ran
+pub fn run(s: Sheet, text: &[u8], more: bool, out: &mut [u8]) -> Result<(Reading, usize), Refusal>
     ensures value { result ≡ running more text.now s out.old }
     ensures out_after { out.new ≡ run_left more text.now s out.old }
     ensures result_in_bounds { put_by result ≤ length out.old }
     ensures result_in_bounds_2 { (left_by result ≤ length text.now) × (left_by result < longest_sheet_line) }
 {
     if !sound(s) {
-        return Ran::Refused(Refusal::BrokenState);
+        return Err(Refusal::BrokenState);
     }
     if !has_any_room(out.len(), text.len()) {
         let bytes = needed(s, text, more);
         if out.len() < bytes {
-            return Ran::Refused(Refusal::Room(bytes as u64));
+            return Err(Refusal::Room(bytes as u64));
         }
     }
     let passed = pass(s, text, more, out);
     let came = passed.came;
-    Ran::Came(came, passed.put)
+    Ok((came, passed.put))
 }

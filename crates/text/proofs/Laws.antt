@@ -10,8 +10,8 @@ use lib.ListN.{length, get_or, take, drop, set, length-append, length-drop, take
 use lib.Seq.{length-take-le, take_at, take-suc, drop_at, drop-drop, take-set-le, set_split}
 use borrow.Author.Tests.{le-leb, lt-leb}
 use Rattle.truth.proofs.Cases.{by_order}
-use Rattle.text.specs.declared.Writing.TheVariants.{Bytes}
 use Rattle.text.specs.Write.{laid, laid_by, written, place_after}
+use Rattle.std.specs.Prelude.{Ok}
 
 -- the promise of a writer: the place that it answers and the bytes that it leaves
 abbrev pub Wrote : List ℕ → ℕ → List ℕ → List ℕ → ℕ → Type 0
@@ -96,6 +96,6 @@ length_written out at text =
     (λ room. rw (written_fits out at text room) (length_laid out at text room))
 
 -- a whole paper is a text from the first byte on
-pub laid_front : (out text : List ℕ) → laid out 0 text ≡ laid_by (Bytes (length text)) text out
+pub laid_front : (out text : List ℕ) → laid out 0 text ≡ laid_by (Ok (length text)) text out
 unfolding laid laid_by
 laid_front out text = rw zero-add

@@ -1,9 +1,8 @@
 -- What writing a text into lent bytes leaves there, and the place that it answers; and what writing a whole paper comes
 -- to and leaves. Assumes nothing.
-use Rattle.std.specs.Prelude.{ℕ, ◌+◌, Bool, cond, List, ◌++◌, length, take, drop, leb, ltb}
+use Rattle.std.specs.Prelude.{ℕ, ◌+◌, Bool, cond, List, ◌++◌, length, take, drop, leb, ltb, Result, Ok, Err}
 use Rattle.refusal.specs.declared.Refusal.TheVariants.{Room}
-use Rattle.text.specs.declared.Writing.{Writing}
-use Rattle.text.specs.declared.Writing.TheVariants.{Bytes, Refused}
+use Rattle.refusal.specs.declared.Refusal.{Refusal}
 
 -- the text ends within the lent bytes
 abbrev pub fits : List ℕ → ℕ → List ℕ → Bool
@@ -22,10 +21,10 @@ unfoldable pub place_after : List ℕ → ℕ → List ℕ → ℕ
 place_after out at text = cond (fits out at text) (at + length text) at
 
 -- ---- a whole paper: 7 with the bytes needed where there is no room for them, else so many bytes
-abbrev pub within_room : ℕ → ℕ → Writing
-within_room needed room = cond (ltb room needed) (Refused (Room needed)) (Bytes needed)
+abbrev pub within_room : ℕ → ℕ → Result ℕ Refusal
+within_room needed room = cond (ltb room needed) (Err (Room needed)) (Ok needed)
 
 -- the bytes afterwards: the text from their start and the rest as it stood; on a refusal all as it stood
-unfoldable pub laid_by : Writing → List ℕ → List ℕ → List ℕ
-laid_by (Bytes n) text out = text ++ drop n out
-laid_by (Refused r) text out = out
+unfoldable pub laid_by : Result ℕ Refusal → List ℕ → List ℕ → List ℕ
+laid_by (Ok n) text out = text ++ drop n out
+laid_by (Err r) text out = out

@@ -9,14 +9,6 @@ ghost use Rattle.text.specs.Write.{written, place_after};
 
 use refusal::Refusal;
 
-// What writing a whole text into lent bytes comes to, for every paper that is written.
-#[derive(Clone, Copy)]
-pub enum Writing {
-    // The number of bytes.
-    Bytes(u64),
-    Refused(Refusal),
-}
-
 // Moves `count` bytes from `from` on to the start of `bytes`, whose rest stays; where there are not so many, nothing.
 pub fn keep(bytes: &mut [u8], from: usize, count: usize)
     ensures { bytes.new ≡ kept from count bytes.old }

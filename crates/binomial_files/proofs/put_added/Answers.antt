@@ -5,7 +5,7 @@ use Rattle.binomial_files.specs.Files.{refused_in}
 use Rattle.binomial_files.specs.Adding.{added_said}
 use Rattle.binomial_files.proofs.put_added.Goals as goal
 
-pub returns-in-Refused : goal.returns-in-Refused
-returns-in-Refused c =
-    puts_same (sym (ap added_said c.in-Refused.is))
+pub returns-in-Err : goal.returns-in-Err
+returns-in-Err c =
+    puts_same (sym (ap added_said c.in-Err.is))
     (with_room (refused_in _ _ _) c.requires c.refuse_in.ensures.value c.refuse_in.ensures.out_after)

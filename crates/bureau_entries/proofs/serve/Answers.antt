@@ -8,7 +8,6 @@ use native.Mathlib.Omega.{arith}
 use borrow.Author.Tests.{lt-ltb, le-ltb}
 use lib.Dec.{ltb}
 use lib.ListN.{length, get_or, set, drop}
-use Rattle.bureau_table.specs.declared.TableAnswer.{TableAnswer}
 use Rattle.bureau_table.specs.declared.Call.{Call}
 use Rattle.bureau_table.specs.declared.Place.{Place}
 use Rattle.bureau_table.specs.Table.{free}
@@ -20,9 +19,12 @@ use Rattle.bureau_survey.specs.declared.Seen.{Seen}
 use Rattle.bureau_survey.specs.Survey.{looked, unseen}
 use Rattle.bureau_survey.proofs.Looking.{look_end, look_on}
 use Rattle.bureau_entries.proofs.serve.Goals as goal
+use Rattle.refusal.specs.declared.Refusal.{Refusal}
+use Rattle.bureau_table.specs.declared.Reply.{Reply}
+use Rattle.std.specs.Prelude.{Result}
 
 -- what the promise says of an answer and a table
-abbrev Says : List Place → Call → TableAnswer → List Place → Type 0
+abbrev Says : List Place → Call → Result Reply Refusal → List Place → Type 0
 Says xs c r ys = (r ≡ (called xs c.bureau c.ask).answer) × (ys ≡ (called xs c.bureau c.ask).table)
 
 -- the place that was chosen is in the table, and worked on

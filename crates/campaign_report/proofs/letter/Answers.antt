@@ -5,7 +5,7 @@ use Rattle.campaign_verdict.proofs.Given.{has_verdict}
 use Rattle.campaign_report.specs.Report.{letter_for, verdict_letter}
 use Rattle.campaign_report.proofs.letter.Goals as goal
 
-pub returns-in-Given : goal.returns-in-Given
+pub returns-in-Ok : goal.returns-in-Ok
 unfolding letter_for
-returns-in-Given c =
-    c.verdict_letter.ensures ∙ ap verdict_letter (has_verdict _ c.requires c.judge.result c.judge.ensures c.in-Given.is)
+returns-in-Ok c =
+    c.verdict_letter.ensures ∙ ap verdict_letter (has_verdict _ c.requires c.judge.result c.judge.ensures c.in-Ok.is)

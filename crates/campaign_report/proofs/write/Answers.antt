@@ -10,19 +10,19 @@ use Rattle.text.proofs.Laws.{laid_front, written_fits}
 use Rattle.text.proofs.Parts.{Left, left_all, left-fits, left_last, left_next}
 use Rattle.campaign_state.specs.declared.Campaign.{Campaign}
 use Rattle.campaign_condition.specs.Answers.{judging}
-use Rattle.campaign_condition.specs.declared.ConditionAnswer.TheVariants.{Given}
 use Rattle.campaign_condition.specs.declared.Standing.{Standing}
 use Rattle.campaign_condition.proofs.Whole.{Stood, stood}
 use Rattle.campaign_report.specs.Report.{lines_from, report_text, total_text}
 use Rattle.campaign_report.proofs.Texts.{all_written, at_fault, no_room, report_parts}
 use Rattle.campaign_report.proofs.write.Goals as goal
+use Rattle.std.specs.Prelude.{Ok}
 
 pub sum-t-requires : goal.sum-t-requires
 sum-t-requires c =
     let Number : ℕ = c.args.number in
     let Situations : List Campaign = take Number c.args.campaigns in
-    let S : Standing = c.in-Given.s in
-    let given : judging Number Situations ≡ Given S = sym c.judge.ensures ∙ c.in-Given.is in
+    let S : Standing = c.in-Ok.s in
+    let given : judging Number Situations ≡ Ok S = sym c.judge.ensures ∙ c.in-Ok.is in
     let stands : Stood Number Situations S = stood Number Situations S given in
     ((stands).few, (stands).whole)
 
@@ -30,8 +30,8 @@ pub lines_length-requires : goal.lines_length-requires
 lines_length-requires c =
     let Number : ℕ = c.args.number in
     let Situations : List Campaign = take Number c.args.campaigns in
-    let S : Standing = c.in-Given.s in
-    let given : judging Number Situations ≡ Given S = sym c.judge.ensures ∙ c.in-Given.is in
+    let S : Standing = c.in-Ok.s in
+    let given : judging Number Situations ≡ Ok S = sym c.judge.ensures ∙ c.in-Ok.is in
     let stands : Stood Number Situations S = stood Number Situations S given in
     ((stands).few, (stands).whole)
 
@@ -41,8 +41,8 @@ returns-then-out-needed c =
     let Number : ℕ = c.args.number in
     let Situations : List Campaign = take Number c.args.campaigns in
     let Out : List ℕ = c.args.out.now in
-    let S : Standing = c.in-Given.s in
-    let given : judging Number Situations ≡ Given S = sym c.judge.ensures ∙ c.in-Given.is in
+    let S : Standing = c.in-Ok.s in
+    let given : judging Number Situations ≡ Ok S = sym c.judge.ensures ∙ c.in-Ok.is in
     let Last : List ℕ = total_text c.sum-t.result c.standing_letter-mark.result in
     let stands : Stood Number Situations S = stood Number Situations S given in
     let whole : report_text (Situations) ≡ lines_from 1 (Situations) ++ Last = report_parts (Situations) _ (S) _ c.sum-t.ensures (stands).is c.standing_letter-mark.ensures in
@@ -53,8 +53,8 @@ pub put_lines-last-requires : goal.put_lines-last-requires
 put_lines-last-requires c =
     let Number : ℕ = c.args.number in
     let Situations : List Campaign = take Number c.args.campaigns in
-    let S : Standing = c.in-Given.s in
-    let given : judging Number Situations ≡ Given S = sym c.judge.ensures ∙ c.in-Given.is in
+    let S : Standing = c.in-Ok.s in
+    let given : judging Number Situations ≡ Ok S = sym c.judge.ensures ∙ c.in-Ok.is in
     let stands : Stood Number Situations S = stood Number Situations S given in
     let Last : List ℕ = total_text c.sum-t.result c.standing_letter-mark.result in
     let whole : report_text (Situations) ≡ lines_from 1 (Situations) ++ Last = report_parts (Situations) _ (S) _ c.sum-t.ensures (stands).is c.standing_letter-mark.ensures in
@@ -69,8 +69,8 @@ put_total-requires c =
     let Situations : List Campaign = take Number c.args.campaigns in
     let Out : List ℕ = c.args.out.now in
     let Last : List ℕ = total_text c.sum-t.result c.standing_letter-mark.result in
-    let S : Standing = c.in-Given.s in
-    let given : judging Number Situations ≡ Given S = sym c.judge.ensures ∙ c.in-Given.is in
+    let S : Standing = c.in-Ok.s in
+    let given : judging Number Situations ≡ Ok S = sym c.judge.ensures ∙ c.in-Ok.is in
     let stands : Stood Number Situations S = stood Number Situations S given in
     let whole : report_text (Situations) ≡ lines_from 1 (Situations) ++ Last = report_parts (Situations) _ (S) _ c.sum-t.ensures (stands).is c.standing_letter-mark.ensures in
     let bytes : c.lines_length.result + c.total_length.result ≡ length (report_text (Situations)) = omega (arith, c.lines_length.ensures.0, c.total_length.ensures.0, ap length whole ∙ length-append (lines_from 1 (Situations)) Last) in
@@ -79,19 +79,19 @@ put_total-requires c =
     let left1 : Left (Out) 0 (report_text (Situations)) (Last) c.put_lines-last.new.out c.put_lines-last.result = left_next _ _ (left0) (c.put_lines-last.ensures.value, c.put_lines-last.ensures.out_after) in
     left-fits (left1)
 
-pub returns-in-Refused : goal.returns-in-Refused
+pub returns-in-Err : goal.returns-in-Err
 unfolding laid_by
-returns-in-Refused c =
+returns-in-Err c =
     let a = c.args in
-    record { value = at_fault a.number (take a.number a.campaigns) a.out.now (sym c.judge.ensures ∙ c.in-Refused.is); out_after = refl }
+    record { value = at_fault a.number (take a.number a.campaigns) a.out.now (sym c.judge.ensures ∙ c.in-Err.is); out_after = refl }
 
 pub returns-else-out-needed : goal.returns-else-out-needed
 returns-else-out-needed c =
     let Number : ℕ = c.args.number in
     let Situations : List Campaign = take Number c.args.campaigns in
     let Out : List ℕ = c.args.out.now in
-    let S : Standing = c.in-Given.s in
-    let given : judging Number Situations ≡ Given S = sym c.judge.ensures ∙ c.in-Given.is in
+    let S : Standing = c.in-Ok.s in
+    let given : judging Number Situations ≡ Ok S = sym c.judge.ensures ∙ c.in-Ok.is in
     let Last : List ℕ = total_text c.sum-t.result c.standing_letter-mark.result in
     let stands : Stood Number Situations S = stood Number Situations S given in
     let whole : report_text (Situations) ≡ lines_from 1 (Situations) ++ Last = report_parts (Situations) _ (S) _ c.sum-t.ensures (stands).is c.standing_letter-mark.ensures in

@@ -3,12 +3,12 @@ use mathlib.Core.Path.{ap}
 use mathlib.Core.Bool.{true}
 use borrow.Author.Tests.{eq-eqb, ne_eqb}
 use Rattle.truth.proofs.Laws.{holds}
-use Rattle.campaign_verdict.specs.declared.Rated.TheVariants.{Given}
 use Rattle.campaign_verdict.specs.Answers.{rating}
 use Rattle.campaign_state.proofs.Relations.{kept_from}
 use Rattle.campaign_verdict.proofs.rate.Goals as goal
 use mathlib.Core.Path.{sym}
 use mathlib.Core.Path.{◌∙◌}
+use Rattle.std.specs.Prelude.{Ok, Some}
 
 pub returns-then-not-sound : goal.returns-then-not-sound
 unfolding rating
@@ -26,4 +26,4 @@ three-requires c =
 pub returns : goal.returns
 unfolding rating
 returns c =
-    rw ((sym c.sound.ensures ∙ c.if-not-sound.false), ne_eqb _ _ c.if-c-eq0.false) (ap (Given true) c.three.ensures)
+    rw ((sym c.sound.ensures ∙ c.if-not-sound.false), ne_eqb _ _ c.if-c-eq0.false) (ap (λ r. Ok (Some r)) c.three.ensures)

@@ -4,15 +4,15 @@ use Rattle.capi.proofs.Placed.{placed_right}
 use Rattle.capi_reach.specs.Told.{beyond_told, reach_told}
 use Rattle.capi_reach.proofs.chim_extrapolate.Goals as goal
 
-pub returns-in-Found : goal.returns-in-Found
+pub returns-in-Ok : goal.returns-in-Ok
 unfolding beyond_told reach_told
-returns-in-Found c =
+returns-in-Ok c =
     let l = c.if-times-ne-TIMES_NUMBERS.false in
     let e = c.of_times-numbers.ensures in
     rw (
       eq-eqb _ _ l,
       ← c.extrapolate-a.ensures.answers,
-      c.in-Found.is,
+      c.in-Ok.is,
       c.give.ensures.0,
       c.give.ensures.1,
       c.letter_code.ensures,

@@ -31,15 +31,15 @@ module _ (c : In-Taken) where
   abbrev later : List ℤ
   later = c.take.new.samples
 
-  taken : Took c.loop-f.follow (drop c.loop-f.at text) c.loop-f.samples (step₂ c) c.in-Taken.f c.in-Taken.bytes c.in-Taken.n later
+  taken : Took c.loop-f.follow (drop c.loop-f.at text) c.loop-f.samples (step₂ c) c.in-Ok.f c.in-Ok.bytes c.in-Ok.n later
   taken =
       let t = c.take in
-      took c.loop-f.follow (drop c.loop-f.at text) c.loop-f.samples (step₂ c) (from text c.loop-f.at) t.ensures.value t.ensures.samples_after c.in-Taken.is
+      took c.loop-f.follow (drop c.loop-f.at text) c.loop-f.samples (step₂ c) (from text c.loop-f.at) t.ensures.value t.ensures.samples_after c.in-Ok.is
 
   later-long : length later ≡ 1024
   later-long = search rules
 
-  few : c.in-Taken.n ≤ 1024
+  few : c.in-Ok.n ≤ 1024
   few = omega (arith, turn_few c.loop-f.invariant.1 taken, c.loop-f.invariant.0)
 
 pub enum_told-1 : goal.enum_told-1

@@ -6,7 +6,7 @@ use Rattle.comma_count.specs.Taking.{said_ended, said_end}
 use borrow.Author.Rules.{rules}
 use Rattle.comma_count.proofs.put_end.Goals as goal
 
-pub returns-in-Refused : goal.returns-in-Refused
-returns-in-Refused c =
-    puts_same (sym (ap said_end c.in-Refused.is))
-    (with_room (refused_at c.in-Refused.line c.in-Refused.q) c.requires c.refuse.ensures.value c.refuse.ensures.out_after)
+pub returns-in-Err : goal.returns-in-Err
+returns-in-Err c =
+    puts_same (sym (ap said_end c.in-Err.is))
+    (with_room (refused_at c.in-Err.line c.in-Err.q) c.requires c.refuse.ensures.value c.refuse.ensures.out_after)

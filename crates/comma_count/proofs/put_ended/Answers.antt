@@ -6,7 +6,7 @@ use Rattle.comma_count.specs.Taking.{said_ended}
 use borrow.Author.Rules.{rules}
 use Rattle.comma_count.proofs.put_ended.Goals as goal
 
-pub returns-in-Refused : goal.returns-in-Refused
-returns-in-Refused c =
-    puts_same (sym (ap (said_ended c.args.n) c.in-Refused.is))
-    (with_room (refused_at 0 c.in-Refused.r) c.requires c.refuse.ensures.value c.refuse.ensures.out_after)
+pub returns-in-Err : goal.returns-in-Err
+returns-in-Err c =
+    puts_same (sym (ap (said_ended c.args.n) c.in-Err.is))
+    (with_room (refused_at 0 c.in-Err.r) c.requires c.refuse.ensures.value c.refuse.ensures.out_after)

@@ -3,7 +3,7 @@ use Prim.Native.Nat.{ℕ}
 use mathlib.Core.Path.{◌≡◌, refl}
 use mathlib.Core.List.{List, ◌++◌}
 use native.Mathlib.Omega.{arith}
-use Rattle.record_end.specs.declared.Result.{Result}
+use Rattle.record_end.specs.declared.RecordResult.{RecordResult}
 use Rattle.decimal.specs.Field.{tab, line_feed, field_text}
 use Rattle.text.proofs.Parts.{Left, left_all, left_next, left_room, left_last}
 use Rattle.comma_count.specs.Line.{first_text, figures_line, counted}
@@ -14,7 +14,7 @@ use borrow.Author.Rules.{rules}
 use Rattle.comma_count.proofs.put_figures.Goals as goal
 use Rattle.comma_count.proofs.put_figures.Goals.{After-write_field-fifth}
 
-abbrev X : After-write_field-fifth → Result
+abbrev X : After-write_field-fifth → RecordResult
 X c = c.args.x
 
 -- of the line so much is left, and the lent bytes are these

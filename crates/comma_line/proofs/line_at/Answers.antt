@@ -26,14 +26,14 @@ returns-in_default c =
 pub returns-then-t-time : goal.returns-then-t-time
 returns-then-t-time c =
     let a = c.args in
-    let n = c.in-Number in
+    let n = c.in-Some in
     let leads = leads_number a.s.now a.at n.t n.end (sym c.leading_at.ensures ∙ n.is) in
     sym (other_time a.s.now a.at a.time n.t n.end leads c.if-t-time.true)
 
 pub returns-then-not-stands : goal.returns-then-not-stands
 returns-then-not-stands c =
     let a = c.args in
-    let n = c.in-Number in
+    let n = c.in-Some in
     let leads = leads_number a.s.now a.at n.t n.end (sym c.leading_at.ensures ∙ n.is) in
     let mark = stood a.s.now n.end comma (omega arith) c.stands.ensures c.if-not-stands.true in
     sym (no_comma a.s.now a.at a.time n.t n.end leads mark)
@@ -41,7 +41,7 @@ returns-then-not-stands c =
 pub returns-in_default-roll_at : goal.returns-in_default-roll_at
 returns-in_default-roll_at c =
     let a = c.args in
-    let n = c.in-Number in
+    let n = c.in-Some in
     let leads = leads_number a.s.now a.at n.t n.end (sym c.leading_at.ensures ∙ n.is) in
     let none = degrees_none a.s.now (n.end + 1) (sym c.roll_at.ensures ∙ c.in_default-roll_at.is) in
     sym (no_degrees a.s.now a.at a.time n.t n.end leads none)
@@ -49,8 +49,8 @@ returns-in_default-roll_at c =
 pub returns-then-not-stands-2 : goal.returns-then-not-stands-2
 returns-then-not-stands-2 c =
     let a = c.args in
-    let n = c.in-Number in
-    let d = c.in-Says in
+    let n = c.in-Some in
+    let d = c.in-Some in
     let leads = leads_number a.s.now a.at n.t n.end (sym c.leading_at.ensures ∙ n.is) in
     let reads = degrees_read a.s.now (n.end + 1) d.minus d.size d.next (sym c.roll_at.ensures ∙ d.is) in
     let feed = stood a.s.now d.next line_feed (omega arith) c.stands-2.ensures c.if-not-stands-2.true in
@@ -59,8 +59,8 @@ returns-then-not-stands-2 c =
 pub returns : goal.returns
 returns c =
     let a = c.args in
-    let n = c.in-Number in
-    let d = c.in-Says in
+    let n = c.in-Some in
+    let d = c.in-Some in
     let leads = leads_number a.s.now a.at n.t n.end (sym c.leading_at.ensures ∙ n.is) in
     let reads = degrees_read a.s.now (n.end + 1) d.minus d.size d.next (sym c.roll_at.ensures ∙ d.is) in
     let mark = stood a.s.now n.end comma (omega arith) c.stands.ensures c.if-not-stands.false in

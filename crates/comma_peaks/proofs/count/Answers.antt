@@ -1,7 +1,6 @@
 -- `comma_peaks::count` meets its contract: the timed part is taken, or the pass was never handed out. Assumes
 -- nothing.
 use Rattle.std.proofs.Common.{sym, ap, ◌∙◌, length-take-le, rules}
-use Rattle.peak_stream.specs.declared.Surveyed.{Surveyed}
 use Rattle.comma_peaks.proofs.Parts.{part_is, part_long, counted}
 use Rattle.comma_peaks.proofs.count.Goals as goal
 

@@ -38,12 +38,12 @@ narrow : (c : After-width_at-width) → c.width_at-width.result ≤ 13
 narrow c = let l = c.loop-at in omega (arith, wide c, digits_below 12 l.time (omega (arith, l.invariant.0.due)))
 
 -- what the reader of degrees said of it
-told : (c : In-Says) → let m = c.in-Says in
+told : (c : In-Says) → let m = c.in-Some in
     LineRead c.args.text.now c.loop-at.at c.loop-at.time m.minus m.size (m.next + 1)
 told c =
     let s = c.args.text.now in
     line_by_roll s c.loop-at.at c.loop-at.time c.width_at-width.result (good₃ c) (wide₃ c)
-    (degrees_read s (c.loop-at.at + c.width_at-width.result + 1) _ _ _ (sym c.degrees_at.ensures ∙ c.in-Says.is))
+    (degrees_read s (c.loop-at.at + c.width_at-width.result + 1) _ _ _ (sym c.degrees_at.ensures ∙ c.in-Some.is))
 
 -- or that it is plain
 plain : (c : After-size_at) → Plain c.args.text.now c.past_minus-from.result c.bytes_at-bytes.result

@@ -46,20 +46,20 @@ module _ (c : In-Wrong) where
   abbrev Places₃ : ℕ
   Places₃ = length c.args.samples.now
 
-right-found : (c : In-Right) → FoundRight c.args.step (Found₂ c) c.in-Right.count c.in-Right.sound
+right-found : (c : In-Right) → FoundRight c.args.step (Found₂ c) c.in-Ok.count c.in-Ok.sound
 right-found c =
-    found_right _ (Found₂ c) _ _ (sym c.survey.ensures ∙ c.in-Right.is)
+    found_right _ (Found₂ c) _ _ (sym c.survey.ensures ∙ c.in-Ok.is)
 
-wrong-found : (c : In-Wrong) → FoundWrong c.args.step (Found₃ c) c.in-Wrong.lines
+wrong-found : (c : In-Wrong) → FoundWrong c.args.step (Found₃ c) c.in-Err.lines
 wrong-found c =
-    found_wrong _ (Found₃ c) _ (sym c.survey.ensures ∙ c.in-Wrong.is)
+    found_wrong _ (Found₃ c) _ (sym c.survey.ensures ∙ c.in-Err.is)
 
 -- the front has no more lines than the text
-fewer : (c : In-Right) → c.plain_front-front.result.lines ≤ c.in-Right.count
+fewer : (c : In-Right) → c.plain_front-front.result.lines ≤ c.in-Ok.count
 fewer c =
     omega (arith, (of_front c.plain_front-front.ensures (small c)).number, (right-found c).number)
 
-all_good : (c : In-Right) → c.in-Right.count ≤ c.in-Right.sound → AllGood c.args.step (Found₂ c)
+all_good : (c : In-Right) → c.in-Ok.count ≤ c.in-Ok.sound → AllGood c.args.step (Found₂ c)
 all_good c all = let r = right-found c in record { right = r.all ∙ sym r.number; in_range = omega (arith, r.bad, r.number, r.low, all) }
 
 pub returns-then-not-step_in_range : goal.returns-then-not-step_in_range
@@ -98,11 +98,11 @@ fill-requires c =
       omega (arith, fewer k, c.if-samples-count.false),
     )
 
-pub returns-in-Wrong : goal.returns-in-Wrong
+pub returns-in-Err : goal.returns-in-Err
 unfolding filled_by
-returns-in-Wrong c =
-    let s = (goal.at.returns-in-Wrong c).After-survey in
-    record { value = wrong_line c.args.step (Found s) (Places s) (step (goal.at.returns-in-Wrong c).Else-not-step_in_range) _ (wrong-found (goal.at.returns-in-Wrong c).In-Wrong); samples_after = refl }
+returns-in-Err c =
+    let s = (goal.at.returns-in-Err c).After-survey in
+    record { value = wrong_line c.args.step (Found s) (Places s) (step (goal.at.returns-in-Err c).Else-not-step_in_range) _ (wrong-found (goal.at.returns-in-Err c).In-Wrong); samples_after = refl }
 
 pub returns-else-samples-count : goal.returns-else-samples-count
 returns-else-samples-count c =

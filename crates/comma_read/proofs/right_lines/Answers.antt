@@ -121,9 +121,9 @@ module _ (c : Else-samples-count) where
 
 -- which is a right line
 module _ (c : In-Says) where
-  read : LineRead (Text₄ c) (At₄ c) (Due₄ c) c.in-Says.minus c.in-Says.size c.in-Says.end
+  read : LineRead (Text₄ c) (At₄ c) (Due₄ c) c.in-Some.minus c.in-Some.size c.in-Some.end
   read =
-      line_read (Text₄ c) (At₄ c) (Due₄ c) _ _ _ (sym c.line_at.ensures ∙ c.in-Says.is)
+      line_read (Text₄ c) (At₄ c) (Due₄ c) _ _ _ (sym c.line_at.ensures ∙ c.in-Some.is)
 
 pub loop-count-init : goal.loop-count-init
 loop-count-init c = let a = c.args in (

@@ -29,11 +29,11 @@ module _ (c : In-Says) where
   Due = c.loop-at.due + c.plain_lines-run.result.lines * c.args.step
 
   abbrev Next : ℕ
-  Next = c.in-Says.end
+  Next = c.in-Some.end
 
-  read : LineRead Text At Due c.in-Says.field-0 c.in-Says.size Next
+  read : LineRead Text At Due c.in-Some.field-0 c.in-Some.size Next
   read =
-      line_read Text At Due _ _ Next (sym c.line_at.ensures ∙ c.in-Says.is)
+      line_read Text At Due _ _ Next (sym c.line_at.ensures ∙ c.in-Some.is)
 
   further : At < Next
   further = omega (arith, read.place, (turn Due (drop At Text) read.is).some)

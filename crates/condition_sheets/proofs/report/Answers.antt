@@ -2,13 +2,14 @@
 use Prim.Native.Nat.{ℕ}
 use mathlib.Core.Path.{◌≡◌, ap, ◌∙◌}
 use mathlib.Core.List.{List}
-use Rattle.text.specs.declared.Writing.{Writing}
 use Rattle.text.specs.Write.{laid_by}
 use Rattle.desk_line.specs.declared.Finished.{Finished}
 use Rattle.condition_sheets.specs.Taking.{writing_told, writing_kept, report_told, report_kept}
 use Rattle.condition_sheets.proofs.report.Goals as goal
+use Rattle.refusal.specs.declared.Refusal.{Refusal}
+use Rattle.std.specs.Prelude.{Result}
 
-both : (text out : List ℕ) {w v : Writing} {middle later : List ℕ} {f : Finished} → w ≡ v → middle ≡ laid_by w text out → (f ≡ writing_told w middle) × (later ≡ writing_kept w middle)
+both : (text out : List ℕ) {w v : (Result ℕ Refusal)} {middle later : List ℕ} {f : Finished} → w ≡ v → middle ≡ laid_by w text out → (f ≡ writing_told w middle) × (later ≡ writing_kept w middle)
     → (f ≡ writing_told v (laid_by v text out)) × (later ≡ writing_kept v (laid_by v text out))
 both text out {w} {v} e m (p, l) =
     let n = m ∙ ap (λ x. laid_by x text out) e in

@@ -10,11 +10,11 @@ use lib.Dec.{leb, ltb, eqb}
 use lib.ListN.{length, get_or}
 use Rattle.decimal.specs.Decimal.{zero_byte}
 use Rattle.decimal.specs.Leading.{leading_at}
-use Rattle.decimal.specs.declared.Lead.TheVariants.{Number, Nothing}
 use Rattle.decimal.proofs.Reading.{run, run_within}
 use Rattle.decimal.proofs.Leading.{leads_bad, leads_read}
 use Rattle.decimal.proofs.leading_at.Goals as goal
 use Rattle.decimal.proofs.leading_at.Goals.{Else-digit_at}
+use Rattle.std.specs.Prelude.{Some, None}
 
 pub returns-then-digit_at : goal.returns-then-digit_at
 returns-then-digit_at c =
@@ -41,21 +41,21 @@ module _ (c : Else-digit_at) where
 
   by-run : leading_at S At
       ≡ cond (leb 1 (length (run S At)) && not (ltb 1 (length (run S At)) && eqb (get_or S At 0) zero_byte))
-      (Number Value End) Nothing
+      (Some (Value, End)) None
   by-run =
       leads_read S At End end (sym c.digit_at.ensures ∙ c.if-digit_at.false) Value c.run_at-run.ensures.value_value
 
-  none : End ≡ At → Nothing ≡ leading_at S At
+  none : End ≡ At → None ≡ leading_at S At
   none h = rw (by-run, lt-leb 1 (length (run S At)) (omega (arith, end)))
 
-  one : End ≡ At + 1 → Number Value End ≡ leading_at S At
+  one : End ≡ At + 1 → Some (Value, End) ≡ leading_at S At
   one h = rw (
     by-run,
     le-leb 1 (length (run S At)) (omega (arith, end)),
     le-ltb 1 (length (run S At)) (omega (arith, end)),
   )
 
-  more : At + 1 < End → leading_at S At ≡ cond (not (eqb (get_or S At 0) zero_byte)) (Number Value End) Nothing
+  more : At + 1 < End → leading_at S At ≡ cond (not (eqb (get_or S At 0) zero_byte)) (Some (Value, End)) None
   more h = rw (
     by-run,
     le-leb 1 (length (run S At)) (omega (arith, end)),

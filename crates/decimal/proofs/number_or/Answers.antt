@@ -26,9 +26,9 @@ returns-in_default c =
     other-than a.s.now a.other (λ n same. sym n ∙ sym (ap is_number same) ∙ none)
 
 -- the number that was found, and where it ends
-leads : (c : In-Number) → LeadsTo c.args.s.now 0 c.in-Number.v c.in-Number.end
+leads : (c : In-Number) → LeadsTo c.args.s.now 0 c.in-Some.v c.in-Some.end
 leads c =
-    leads_number _ 0 _ _ (sym c.leading_at.ensures ∙ c.in-Number.is)
+    leads_number _ 0 _ _ (sym c.leading_at.ensures ∙ c.in-Some.is)
 
 pub returns-then-end-s : goal.returns-then-end-s
 returns-then-end-s c =

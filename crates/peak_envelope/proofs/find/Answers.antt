@@ -10,9 +10,9 @@ use Rattle.peak_groups.proofs.Due.{from_place}
 use Rattle.peak_envelope.proofs.Answered.{finds_refused, finds_bad, finds_good}
 use Rattle.peak_envelope.proofs.find.Goals as goal
 
-pub returns-in-Refused : goal.returns-in-Refused
-returns-in-Refused c =
-    finds_refused _ _ _ _ _ _ _ (refused_tested _ _ _ _ (sym c.judge-size.ensures ∙ c.in-Refused.is))
+pub returns-in-Err : goal.returns-in-Err
+returns-in-Err c =
+    finds_refused _ _ _ _ _ _ _ (refused_tested _ _ _ _ (sym c.judge-size.ensures ∙ c.in-Err.is))
 
 pub returns-then-bad-samples : goal.returns-then-bad-samples
 returns-then-bad-samples c =

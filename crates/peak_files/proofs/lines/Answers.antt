@@ -19,19 +19,19 @@ pub slice_bounds-samples-end : goal.slice_bounds-samples-end
 slice_bounds-samples-end c =
     let later : List ℤ = c.take.new.samples in
     let later-long : length later ≡ 1024 = search rules in
-    let few : c.in-Taken.n ≤ 1024 = lines_few_enough 1024 c.in-Taken.is (omega (arith, c.take.ensures.result_in_bounds, length-replicate 1024 (pos 0))) in
+    let few : c.in-Ok.n ≤ 1024 = lines_few_enough 1024 c.in-Ok.is (omega (arith, c.take.ensures.result_in_bounds, length-replicate 1024 (pos 0))) in
     omega (arith, few, later-long)
 
 pub slice_bounds-with_samples-end : goal.slice_bounds-with_samples-end
 slice_bounds-with_samples-end c =
     let later : List ℤ = c.take.new.samples in
     let later-long : length later ≡ 1024 = search rules in
-    let few : c.in-Taken.n ≤ 1024 = lines_few_enough 1024 c.in-Taken.is (omega (arith, c.take.ensures.result_in_bounds, length-replicate 1024 (pos 0))) in
+    let few : c.in-Ok.n ≤ 1024 = lines_few_enough 1024 c.in-Ok.is (omega (arith, c.take.ensures.result_in_bounds, length-replicate 1024 (pos 0))) in
     sym (length-take-le _ _ (omega (arith, few, later-long)))
 
 pub returns : goal.returns
 returns c =
     let a = c.args in
     calls_taken a.p a.text.now a.more a.out.now c.requires.0 c.requires.1 (replicate 1024 (pos 0))
-    (length-replicate 1024 (pos 0)) c.take.ensures.value c.take.ensures.samples_after c.in-Taken.is
+    (length-replicate 1024 (pos 0)) c.take.ensures.value c.take.ensures.samples_after c.in-Ok.is
     c.with_samples-passed.ensures c.rest_of.ensures c.rested.ensures

@@ -6,11 +6,11 @@ use Rattle.peak_files.proofs.Put.{puts_none}
 use Rattle.peak_files.specs.Said.{places_of, nothing, judged_said}
 use Rattle.peak_files.proofs.put_judged.Goals as goal
 
-pub returns-in-Refused : goal.returns-in-Refused
-returns-in-Refused c =
-    puts_same (sym (ap (judged_said c.args.file nothing) c.in-Refused.is))
-    (with_room (refused (places_of c.args.file c.in-Refused.line) c.in-Refused.r) c.requires c.refuse_at.ensures.value c.refuse_at.ensures.out_after)
+pub returns-in-Err : goal.returns-in-Err
+returns-in-Err c =
+    puts_same (sym (ap (judged_said c.args.file nothing) c.in-Err.is))
+    (with_room (refused (places_of c.args.file c.in-Err.line) c.in-Err.r) c.requires c.refuse_at.ensures.value c.refuse_at.ensures.out_after)
 
-pub returns-in-Peaks : goal.returns-in-Peaks
-returns-in-Peaks c =
-    puts_same (sym (ap (judged_said c.args.file nothing) c.in-Peaks.is)) (puts_none c.args.out.now nothing refl)
+pub returns-in-Ok : goal.returns-in-Ok
+returns-in-Ok c =
+    puts_same (sym (ap (judged_said c.args.file nothing) c.in-Ok.is)) (puts_none c.args.out.now nothing refl)

@@ -6,12 +6,12 @@ use Rattle.peak_files.specs.Said.{peaks_read}
 use Rattle.peak_files.proofs.Put.{puts_no_peak, last-is}
 use Rattle.peak_files.proofs.put_last.Goals as goal
 
-pub returns-in-Taken : goal.returns-in-Taken
-returns-in-Taken c =
+pub returns-in-Ok : goal.returns-in-Ok
+returns-in-Ok c =
     puts_same
-    (ap (λ l. peaks_read c.args.file (peak_in l)) c.finish.ensures ∙ ap (peaks_read c.args.file) (last-is c.in-Taken.h) ∙ sym (ap (λ x. peaks_read c.args.file (last_by x)) c.in-Taken.is))
+    (ap (λ l. peaks_read c.args.file (peak_in l)) c.finish.ensures ∙ ap (peaks_read c.args.file) (last-is c.in-Ok.h) ∙ sym (ap (λ x. peaks_read c.args.file (last_by x)) c.in-Ok.is))
     c.put_peak.ensures
 
-pub returns-in-Refused : goal.returns-in-Refused
-returns-in-Refused c =
-    puts_same (sym (ap (λ x. peaks_read c.args.file (last_by x)) c.in-Refused.is)) (puts_no_peak c.args.file c.args.out.now)
+pub returns-in-Err : goal.returns-in-Err
+returns-in-Err c =
+    puts_same (sym (ap (λ x. peaks_read c.args.file (last_by x)) c.in-Err.is)) (puts_no_peak c.args.file c.args.out.now)

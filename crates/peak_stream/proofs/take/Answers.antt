@@ -1,10 +1,10 @@
 -- `peak_stream::take` meets its contract, test by test. Assumes nothing.
 use mathlib.Core.Path.{ap, ◌∙◌}
 use native.Mathlib.Omega.{arith}
-use Rattle.peak_stream.specs.declared.Surveyed.TheVariants.{Taken}
 use Rattle.peak_stream.proofs.Pieces.{taken_broken, taken_long, taken_all}
 use Rattle.peak_stream.proofs.take.Goals as goal
 use mathlib.Core.Path.{sym}
+use Rattle.std.specs.Prelude.{Ok}
 
 -- src/lib.rt:196:9
 pub returns-then-not-sound : goal.returns-then-not-sound
@@ -23,4 +23,4 @@ returns-then-most-r c =
 -- src/lib.rt:192:1
 pub returns : goal.returns
 returns c =
-    ap Taken c.along.ensures ∙ taken_all c.args.s c.args.samples.now ((sym c.sound.ensures ∙ c.if-not-sound.false)) (omega (arith, c.if-most-r.false, c.most_samples-most.ensures))
+    ap Ok c.along.ensures ∙ taken_all c.args.s c.args.samples.now ((sym c.sound.ensures ∙ c.if-not-sound.false)) (omega (arith, c.if-most-r.false, c.most_samples-most.ensures))

@@ -1,13 +1,13 @@
 -- `record_feed::fault` meets its contract: the look says whether a sample is bad. Assumes nothing.
 use mathlib.Core.Path.{sym, ap, ◌∙◌}
-use Rattle.record_state.specs.declared.RecordAnswer.TheVariants.{Refused}
 use Rattle.sample_channels.proofs.Range.{looked_bad, looked_good, equally_long}
 use Rattle.record_feed.proofs.fault.Goals as goal
+use Rattle.std.specs.Prelude.{Err}
 
-pub returns-in-Bad : goal.returns-in-Bad
-returns-in-Bad c =
-    let b = looked_bad _ _ _ (sym c.look_over-look.ensures ∙ c.in-Bad.is) in
-    rw b.0 (ap Refused (sym b.1 ∙ equally_long _ _ c.requires b.0))
+pub returns-in-Err : goal.returns-in-Err
+returns-in-Err c =
+    let b = looked_bad _ _ _ (sym c.look_over-look.ensures ∙ c.in-Err.is) in
+    rw b.0 (ap Err (sym b.1 ∙ equally_long _ _ c.requires b.0))
 
 pub returns : goal.returns
 returns c =

@@ -9,7 +9,6 @@ use Rattle.sample_channels.proofs.Blocks.{good_on, block_equal, moments_cut, blo
 use Rattle.sample_channels.proofs.Moments.{moments_length}
 use Rattle.sample_channels.proofs.Quiet.{ends_say}
 use Rattle.sample_channels.proofs.Range.{all_in, none_bad, ends_tell}
-use Rattle.record_state.specs.declared.RecordAnswer.TheVariants.{Taken}
 use Rattle.record_step.specs.Step.{stepped}
 use Rattle.sample_range.specs.Range.{first_bad}
 use Rattle.sample_block.proofs.Cut.{end_within, end_near, block_length}
@@ -17,6 +16,7 @@ use Rattle.record_feed.specs.Fits.{Fits}
 use Rattle.record_feed.proofs.Cutting.{run_n, run_most, run_sound}
 use Rattle.record_feed.proofs.Fed.{fed_bad, fed_taken}
 use Rattle.record_feed.proofs.pass.Goals as goal
+use Rattle.std.specs.Prelude.{Ok}
 
 pub slice_bounds-rolls-count : goal.slice_bounds-rolls-count
 slice_bounds-rolls-count c =
@@ -119,5 +119,5 @@ returns c =
     let e : drop i (moments xs ys) ≡ [] = drop_of_length-le (moments xs ys) {i = i} (omega arith) in
     let f : drop i xs ≡ [] = drop_of_length-le xs {i = i} (omega arith) in
     let g : drop i ys ≡ [] = drop_of_length-le ys {i = i} (omega (arith, c.requires.1)) in
-    ap Taken (sym (ap (foldl stepped _) e) ∙ v.5)
+    ap Ok (sym (ap (foldl stepped _) e) ∙ v.5)
     ∙ sym (fed_taken c.args.r xs ys c.requires.0 c.requires.1 (omega (arith, v.2, ap first_bad f)) (omega (arith, v.3, ap first_bad g, c.requires.1)) c.requires.2)

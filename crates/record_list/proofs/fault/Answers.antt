@@ -2,15 +2,15 @@
 use mathlib.Core.Path.{sym, ap, ◌∙◌}
 use Rattle.truth.proofs.Laws.{true≢false}
 use Rattle.sample_channels.proofs.Range.{looked_bad, looked_good, equally_long}
-use Rattle.record_list.specs.declared.Listed.TheVariants.{Refused}
 use Rattle.record_list.proofs.fault.Goals as goal
+use Rattle.std.specs.Prelude.{Err}
 
-pub returns-in-Bad : goal.returns-in-Bad
-returns-in-Bad c =
+pub returns-in-Err : goal.returns-in-Err
+returns-in-Err c =
     λ h.
-    let e = sym c.look_over-look.ensures ∙ c.in-Bad.is in
+    let e = sym c.look_over-look.ensures ∙ c.in-Err.is in
     let l = looked_bad _ _ _ e in
-    ap Refused (sym l.1 ∙ equally_long _ _ c.requires h)
+    ap Err (sym l.1 ∙ equally_long _ _ c.requires h)
 
 pub returns : goal.returns
 returns c =

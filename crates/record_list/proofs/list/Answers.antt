@@ -14,9 +14,9 @@ use Rattle.record_list.proofs.Ready.{ready}
 use Rattle.record_list.proofs.Answered.{lists_refused, lists_bad, lists_good}
 use Rattle.record_list.proofs.list.Goals as goal
 
-pub returns-in-Refused : goal.returns-in-Refused
-returns-in-Refused c =
-    lists_refused _ _ _ _ _ (refused_tested _ _ _ _ (sym c.judge-size.ensures ∙ c.in-Refused.is))
+pub returns-in-Err : goal.returns-in-Err
+returns-in-Err c =
+    lists_refused _ _ _ _ _ (refused_tested _ _ _ _ (sym c.judge-size.ensures ∙ c.in-Err.is))
 
 pub slice_bounds-look_over-end : goal.slice_bounds-look_over-end
 slice_bounds-look_over-end c =
@@ -36,11 +36,11 @@ fault-requires c =
     Fitting a.items (length a.roll.now) (length a.acceleration.now) = fitting _ _ _ (sym c.judge-size.ensures ∙ c.in_default.is) in
     (fit).equal
 
-pub returns-in-Bad : goal.returns-in-Bad
-returns-in-Bad c =
+pub returns-in-Err : goal.returns-in-Err
+returns-in-Err c =
     let fit : let a = c.args in
     Fitting a.items (length a.roll.now) (length a.acceleration.now) = fitting _ _ _ (sym c.judge-size.ensures ∙ c.in_default.is) in
-    let l = looked_bad _ _ _ (sym c.look_over-look.ensures ∙ c.in-Bad.is) in
+    let l = looked_bad _ _ _ (sym c.look_over-look.ensures ∙ c.in-Err.is) in
     let w : any_bad c.args.roll.now c.args.acceleration.now ≡ true =
     any_parts c.args.roll.now c.args.acceleration.now
     c.args.items.ramp ∙ rw l.0 in
@@ -104,14 +104,14 @@ list_timed-settled-requires c =
     let t = timed in
     rw (t.0, t.1) (ready _ g.roll.now f, omega (arith, f.equal, length-drop g.items.ramp g.roll.now, length-drop g.items.ramp g.acceleration.now))
 
-pub fault-requires-in-OutOfRange : goal.fault-requires-in-OutOfRange
-fault-requires-in-OutOfRange c =
+pub fault-requires-in-None : goal.fault-requires-in-None
+fault-requires-in-None c =
     let fit : let a = c.args in
     Fitting a.items (length a.roll.now) (length a.acceleration.now) = fitting _ _ _ (sym c.judge-size.ensures ∙ c.in_default.is) in
     (fit).equal
 
-pub returns-in-Done : goal.returns-in-Done
-returns-in-Done c =
+pub returns-in-Some : goal.returns-in-Some
+returns-in-Some c =
     let fit : let a = c.args in
     Fitting a.items (length a.roll.now) (length a.acceleration.now) = fitting _ _ _ (sym c.judge-size.ensures ∙ c.in_default.is) in
     let good : let a = c.args in
@@ -131,11 +131,11 @@ returns-in-Done c =
     ) in
     let a = c.args in
     let t = timed in
-    let q = rw (t.0, t.1, c.in-Done.is) at c.list_timed-settled.ensures in
+    let q = rw (t.0, t.1, c.in-Some.is) at c.list_timed-settled.ensures in
     lists_good _ _ _ _ (fit) (any_parts a.roll.now a.acceleration.now a.items.ramp ∙ rw (good, q.0)) q.1
 
-pub returns-in-OutOfRange : goal.returns-in-OutOfRange
-returns-in-OutOfRange c =
+pub returns-in-None : goal.returns-in-None
+returns-in-None c =
     let fit : let a = c.args in
     Fitting a.items (length a.roll.now) (length a.acceleration.now) = fitting _ _ _ (sym c.judge-size.ensures ∙ c.in_default.is) in
     let good : let a = c.args in
@@ -154,8 +154,8 @@ returns-in-OutOfRange c =
           )),
     ) in
     let t = timed in
-    let q = rw (t.0, t.1, c.in-OutOfRange.is) at c.list_timed-settled.ensures in
+    let q = rw (t.0, t.1, c.in-None.is) at c.list_timed-settled.ensures in
     let w : any_bad c.args.roll.now c.args.acceleration.now
     ≡ true = any_parts c.args.roll.now c.args.acceleration.now
     c.args.items.ramp ∙ rw (good, q.0) in
-    rw (c.fault-in-OutOfRange.ensures w, q.1) (lists_bad _ _ _ _ (fit) w)
+    rw (c.fault-in-None.ensures w, q.1) (lists_bad _ _ _ _ (fit) w)

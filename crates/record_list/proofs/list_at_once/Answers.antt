@@ -13,9 +13,9 @@ use Rattle.record_list.proofs.Walked.{walked_count, walked_times, half_counted}
 use Rattle.record_list.proofs.Answered.{writes_times}
 use Rattle.record_list.proofs.list_at_once.Goals as goal
 
-pub returns-in-Bad : goal.returns-in-Bad
-returns-in-Bad c =
-    ((looked_bad _ _ _ (sym c.look_over-look.ensures ∙ c.in-Bad.is)).0, refl)
+pub returns-in-Err : goal.returns-in-Err
+returns-in-Err c =
+    ((looked_bad _ _ _ (sym c.look_over-look.ensures ∙ c.in-Err.is)).0, refl)
 
 pub returns : goal.returns
 returns c =

@@ -1,13 +1,13 @@
 -- `record_whole::fault` meets its contract: the look says whether a sample is bad. Assumes nothing.
 use mathlib.Core.Path.{sym, ap, ◌∙◌}
-use Rattle.record_whole.specs.declared.Size.TheVariants.{Refused}
 use Rattle.sample_channels.proofs.Range.{looked_bad, looked_good, equally_long}
 use Rattle.record_whole.proofs.fault.Goals as goal
+use Rattle.std.specs.Prelude.{Err}
 
-pub returns-in-Bad : goal.returns-in-Bad
-returns-in-Bad c =
-    let b = looked_bad _ _ _ (sym c.look_over-look.ensures ∙ c.in-Bad.is) in
-    rw b.0 (ap Refused (sym b.1 ∙ equally_long _ _ c.requires b.0))
+pub returns-in-Err : goal.returns-in-Err
+returns-in-Err c =
+    let b = looked_bad _ _ _ (sym c.look_over-look.ensures ∙ c.in-Err.is) in
+    rw b.0 (ap Err (sym b.1 ∙ equally_long _ _ c.requires b.0))
 
 pub returns-then-long : goal.returns-then-long
 returns-then-long c = rw (looked_good _ _ (sym c.look_over-look.ensures ∙ c.in_default.is), c.if-long.true)

@@ -8,15 +8,14 @@ use lib.ListN.{length}
 use borrow.Author.Tests.{eq-eqb, ne_eqb}
 use Rattle.refusal.specs.declared.Refusal.TheVariants.{Item}
 use Rattle.sample_items.specs.Limits.{item_outside}
-use Rattle.sheet_records.specs.declared.Resumed.{Resumed}
 use Rattle.sheet_records.specs.Records.{filled_by, records_of, resuming}
-use Rattle.sheet_after.specs.declared.TakenUp.{TakenUp}
-use Rattle.sheet_after.specs.declared.TakenUp.TheVariants as up
 use Rattle.sheet_after.specs.Taking.{taking_up, taken_left, up_by, up_of}
 use Rattle.sheet_after.proofs.Old.{up_same}
 use Rattle.sheet_after.proofs.take_up.Goals as goal
+use Rattle.refusal.specs.declared.Refusal.{Refusal}
+use Rattle.std.specs.Prelude.{Result, Err}
 
-told : (s : List ℕ) (places : List ℤ) {r : Resumed} {later : List ℤ} {a : TakenUp} → r ≡ resuming s (length places)
+told : (s : List ℕ) (places : List ℤ) {r : (Result (ℕ × ℕ) (ℕ × ℕ × Refusal))} {later : List ℤ} {a : (Result (ℕ × ℕ × ℕ) (ℕ × ℕ × Refusal))} → r ≡ resuming s (length places)
     → later ≡ filled_by r (records_of s) places → a ≡ up_by r later
     → (a ≡ up_of (resuming s (length places)) s) × (later ≡ filled_by (resuming s (length places)) (records_of s) places)
 told s places {r} {later} e f g =
@@ -28,7 +27,7 @@ unfolding taking_up taken_left
 returns-then-item-ne0 c =
     let a = c.args in
     let is = c.item_outside-item.ensures in
-    rw (ne_eqb (item_outside a.items) 0 (λ z. c.if-item-ne0.true (is ∙ z))) (record { value = ap (λ n. up.Refused 0 0 (Item n)) is; records_after = refl })
+    rw (ne_eqb (item_outside a.items) 0 (λ z. c.if-item-ne0.true (is ∙ z))) (record { value = ap (λ n. Err (0, 0, Item n)) is; records_after = refl })
 
 pub returns : goal.returns
 unfolding taking_up taken_left

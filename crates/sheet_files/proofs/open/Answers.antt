@@ -3,9 +3,9 @@ use mathlib.Core.Path.{sym, ap, ◌∙◌}
 use borrow.Author.Tests.{eq-eqb, ne_eqb}
 use Rattle.refusal.specs.declared.Refusal.TheVariants.{Item}
 use Rattle.sample_items.specs.Limits.{item_outside}
-use Rattle.sheet_files.specs.declared.Filed.TheVariants as filed
 use Rattle.sheet_files.specs.Filing.{opened_sheet}
 use Rattle.sheet_files.proofs.open.Goals as goal
+use Rattle.std.specs.Prelude.{Err}
 
 pub returns-then-not-both : goal.returns-then-not-both
 unfolding opened_sheet
@@ -21,4 +21,4 @@ pub returns-else-item-eq0 : goal.returns-else-item-eq0
 unfolding opened_sheet
 returns-else-item-eq0 c =
     let is = c.item_outside-item.ensures in
-    rw ((sym c.both.ensures ∙ c.if-not-both.false), ne_eqb (item_outside c.args.items) 0 (λ z. c.if-item-eq0.false (is ∙ z))) (ap (λ n. filed.Refused 0 0 (Item n)) is)
+    rw ((sym c.both.ensures ∙ c.if-not-both.false), ne_eqb (item_outside c.args.items) 0 (λ z. c.if-item-eq0.false (is ∙ z))) (ap (λ n. Err (0, 0, Item n)) is)

@@ -6,13 +6,14 @@ use borrow.Author.Tests.{lt-ltb, le-ltb}
 use mathlib.Core.List.{List}
 use Prim.Native.Nat.{ℕ}
 use Rattle.desk_line.specs.declared.Finished.{Finished}
-use Rattle.text.specs.declared.Writing.{Writing}
 use Rattle.text.specs.Write.{laid_by}
 use Rattle.sheet_files.specs.Filing.{writing_put, writing_left, sheet_put, sheet_left}
 use Rattle.sheet_files.proofs.put_sheet.Goals as goal
+use Rattle.refusal.specs.declared.Refusal.{Refusal}
+use Rattle.std.specs.Prelude.{Result}
 
 -- what was written, and then told
-both : (text out : List ℕ) {w v : Writing} {middle later : List ℕ} {f : Finished} → w ≡ v → middle ≡ laid_by w text out → (f ≡ writing_put w middle) × (later ≡ writing_left w middle)
+both : (text out : List ℕ) {w v : (Result ℕ Refusal)} {middle later : List ℕ} {f : Finished} → w ≡ v → middle ≡ laid_by w text out → (f ≡ writing_put w middle) × (later ≡ writing_left w middle)
     → (f ≡ writing_put v (laid_by v text out)) × (later ≡ writing_left v (laid_by v text out))
 both text out {w} {v} e m (p, l) =
     let n = m ∙ ap (λ x. laid_by x text out) e in

@@ -5,4 +5,4 @@ use Rattle.sheet_files.proofs.step_ended.Goals as goal
 
 pub step_taken-requires : goal.step_taken-requires
 step_taken-requires c =
-    (given_bounds c.args.r _ (sym c.end.ensures ∙ c.in-Given.is)).1
+    (given_bounds c.args.r _ (sym c.end.ensures ∙ c.in-Ok.is)).1

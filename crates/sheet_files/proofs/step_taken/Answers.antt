@@ -8,14 +8,14 @@ use mir.Syntax.{w32}
 use mir.Val.{SFits}
 use borrow.Author.Tests.{le-leb, lt-leb}
 use Rattle.campaign_state.specs.State.{most_records}
-use Rattle.sheet_files.specs.declared.Step.TheVariants as step
 use Rattle.sheet_files.specs.Files.{most_failures}
 use Rattle.sheet_files.specs.Filing.{step_taken}
 use borrow.Author.Rules.{rules}
 use Rattle.sheet_files.proofs.step_taken.Goals as goal
+use Rattle.std.specs.Prelude.{Ok}
 
-placed : {place n failures more : ℕ} {x y : ℤ} → failures ≡ more → x ≡ y → step.Placed place n failures x ≡ step.Placed place n more y
-placed {place} {n} e f j = step.Placed place n (e j) (f j)
+placed : {place n failures more : ℕ} {x y : ℤ} → failures ≡ more → x ≡ y → Ok (place, n, failures, x) ≡ Ok (place, n, more, y)
+placed {place} {n} e f j = Ok (place, n, e j, f j)
 
 pub returns-then-n-ge-MOST_RECORDS : goal.returns-then-n-ge-MOST_RECORDS
 unfolding step_taken

@@ -37,40 +37,40 @@ abbrev Text₅ : After-both-2 → List ℕ
 Text₅ c = c.args.text.now
 
 abbrev number : In-Number → Found
-number c = (c.in-Number.number, c.in-Number.second)
+number c = (c.in-Some.number, c.in-Some.second)
 
 abbrev number₂ : In-Number-field_then → Found
-number₂ c = (c.in-Number.number, c.in-Number.second)
+number₂ c = (c.in-Some.number, c.in-Some.second)
 
 abbrev number₃ : After-both-2 → Found
-number₃ c = (c.in-Number.number, c.in-Number.second)
+number₃ c = (c.in-Some.number, c.in-Some.second)
 
 abbrev flag : In-Number-field_then → Found
-flag c = (c.in-Number-field_then.flag, c.in-Number-field_then.third)
+flag c = (c.in-Some-field_then.flag, c.in-Some-field_then.third)
 
 abbrev flag₂ : In-Number-field_then-2 → Found
-flag₂ c = (c.in-Number-field_then.flag, c.in-Number-field_then.third)
+flag₂ c = (c.in-Some-field_then.flag, c.in-Some-field_then.third)
 
 abbrev flag₃ : After-both-2 → Found
-flag₃ c = (c.in-Number-field_then.flag, c.in-Number-field_then.third)
+flag₃ c = (c.in-Some-field_then.flag, c.in-Some-field_then.third)
 
 abbrev exposure : In-Number-field_then-2 → Found
-exposure c = (c.in-Number-field_then-2.exposure, c.in-Number-field_then-2.end)
+exposure c = (c.in-Some-field_then-2.exposure, c.in-Some-field_then-2.end)
 
 abbrev exposure₂ : After-both-2 → Found
-exposure₂ c = (c.in-Number-field_then-2.exposure, c.in-Number-field_then-2.end)
+exposure₂ c = (c.in-Some-field_then-2.exposure, c.in-Some-field_then-2.end)
 
 within : (c : Else-not-is_line) → is_sheet_line (Text c) ≡ true
 within c = (sym c.is_line.ensures ∙ c.if-not-is_line.false)
 
 first : (c : In-Number) → field_then tab (Text₂ c) 0 ≡ Number (number c).0 (number c).1
-first c = sym c.field_then.ensures ∙ c.in-Number.is
+first c = sym c.field_then.ensures ∙ c.in-Some.is
 
 second : (c : In-Number-field_then) → field_then tab (Text₃ c) (number₂ c).1 ≡ Number (flag c).0 (flag c).1
-second c = sym c.field_then-2.ensures ∙ c.in-Number-field_then.is
+second c = sym c.field_then-2.ensures ∙ c.in-Some-field_then.is
 
 third : (c : In-Number-field_then-2) → field_then line_feed (Text₄ c) (flag₂ c).1 ≡ Number (exposure c).0 (exposure c).1
-third c = sym c.field_then-3.ensures ∙ c.in-Number-field_then-2.is
+third c = sym c.field_then-3.ensures ∙ c.in-Some-field_then-2.is
 
 tests : (c : After-both-2) → is_record c.args.c (Text₅ c) (number₃ c).0 (flag₃ c).0 (exposure₂ c).1 ≡ c.both-2.result
 tests c = cc

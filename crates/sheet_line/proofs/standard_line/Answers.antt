@@ -22,9 +22,9 @@ worded c = (sym c.begins.ensures ∙ c.if-not-begins.false)
 
 number : (c : In-Number) → field_then line_feed
     c.args.text.now
-    (length standard_start) ≡ Number c.in-Number.q c.in-Number.end
+    (length standard_start) ≡ Number c.in-Some.q c.in-Some.end
 number c =
-    sym c.field_then.ensures ∙ c.in-Number.is
+    sym c.field_then.ensures ∙ c.in-Some.is
 
 pub returns-then-not-is_line : goal.returns-then-not-is_line
 unfolding standard_line

@@ -8,7 +8,6 @@ use native.Mathlib.Omega.{arith}
 use lib.ListN.{length}
 use borrow.Author.Tests.{not-false, not-true}
 use Rattle.truth.proofs.Laws.{neither, said_no, said_yes}
-use Rattle.decimal.specs.declared.Lead.TheVariants.{Number}
 use Rattle.decimal.specs.Decimal.{zero_byte}
 use Rattle.decimal.specs.Field.{tab}
 use Rattle.decimal.specs.Leading.{leading_at, stands_at}
@@ -17,6 +16,7 @@ use Rattle.sheet_records.proofs.At.{entry_here, flag_stands, no_exposure, no_fee
 use borrow.Author.Rules.{rules}
 use Rattle.sheet_records.proofs.entry_at.Goals as goal
 use Rattle.sheet_records.proofs.entry_at.Goals.{Else-not-stands, Else-not-stands-2, In-Number, In-Upto}
+use Rattle.std.specs.Prelude.{Some}
 
 -- the record number that was read
 module _ (c : In-Number) where
@@ -24,56 +24,56 @@ module _ (c : In-Number) where
   Text = c.args.text.now
 
   abbrev N : ℕ
-  N = c.in-Number.number
+  N = c.in-Some.number
 
   abbrev End : ℕ
-  End = c.in-Number.end
+  End = c.in-Some.end
 
-  number : leading_at Text c.args.at ≡ Number N End
+  number : leading_at Text c.args.at ≡ Some (N, End)
   number =
-      sym c.leading_at.ensures ∙ c.in-Number.is
+      sym c.leading_at.ensures ∙ c.in-Some.is
 
 module _ (c : Else-not-stands) where
   abbrev Text₂ : List ℕ
   Text₂ = c.args.text.now
 
   abbrev N₂ : ℕ
-  N₂ = c.in-Number.number
+  N₂ = c.in-Some.number
 
   abbrev End₂ : ℕ
-  End₂ = c.in-Number.end
+  End₂ = c.in-Some.end
 
-  number₂ : leading_at Text₂ c.args.at ≡ Number N₂ End₂
+  number₂ : leading_at Text₂ c.args.at ≡ Some (N₂, End₂)
   number₂ =
-      sym c.leading_at.ensures ∙ c.in-Number.is
+      sym c.leading_at.ensures ∙ c.in-Some.is
 
 module _ (c : Else-not-stands-2) where
   abbrev Text₃ : List ℕ
   Text₃ = c.args.text.now
 
   abbrev N₃ : ℕ
-  N₃ = c.in-Number.number
+  N₃ = c.in-Some.number
 
   abbrev End₃ : ℕ
-  End₃ = c.in-Number.end
+  End₃ = c.in-Some.end
 
-  number₃ : leading_at Text₃ c.args.at ≡ Number N₃ End₃
+  number₃ : leading_at Text₃ c.args.at ≡ Some (N₃, End₃)
   number₃ =
-      sym c.leading_at.ensures ∙ c.in-Number.is
+      sym c.leading_at.ensures ∙ c.in-Some.is
 
 module _ (c : In-Upto) where
   abbrev Text₄ : List ℕ
   Text₄ = c.args.text.now
 
   abbrev N₄ : ℕ
-  N₄ = c.in-Number.number
+  N₄ = c.in-Some.number
 
   abbrev End₄ : ℕ
-  End₄ = c.in-Number.end
+  End₄ = c.in-Some.end
 
-  number₄ : leading_at Text₄ c.args.at ≡ Number N₄ End₄
+  number₄ : leading_at Text₄ c.args.at ≡ Some (N₄, End₄)
   number₄ =
-      sym c.leading_at.ensures ∙ c.in-Number.is
+      sym c.leading_at.ensures ∙ c.in-Some.is
 
 -- the tab after it
 module _ (c : Else-not-stands) where
@@ -104,12 +104,12 @@ module _ (c : Else-not-stands-2) where
 -- the exposure that was read
 module _ (c : In-Upto) where
   abbrev Feed : ℕ
-  Feed = c.in-Upto.feed
+  Feed = c.in-Some.feed
 
   exposure : ExposureHere (Text₄ c) (End₄ c + 3) Feed
   unfolding ExposureAt
   exposure =
-      subst (ExposureAt (Text₄ c) (End₄ c + 3)) c.in-Upto.is c.exposure_at.ensures
+      subst (ExposureAt (Text₄ c) (End₄ c + 3)) c.in-Some.is c.exposure_at.ensures
 
 pub returns-in_default : goal.returns-in_default
 unfolding EntryAt

@@ -6,13 +6,13 @@ use mathlib.Core.List.{List}
 use Prim.Native.Nat.{ℕ}
 use native.Mathlib.Omega.{arith}
 use borrow.Author.Rules.{rules}
-use Rattle.decimal.specs.declared.Lead.TheVariants.{Number}
 use Rattle.decimal.specs.Decimal.{zero_byte}
 use Rattle.decimal.specs.Leading.{leading_at, stands_at}
 use Rattle.sheet_records.specs.Pass.{ExposureAt}
 use Rattle.sheet_records.proofs.Exposures.{few, no_digits, no_number, read, too_much, zero_first}
 use Rattle.sheet_records.proofs.exposure_at.Goals as goal
 use Rattle.sheet_records.proofs.exposure_at.Goals.{After-digits_end-end, Else-stands, In-Number}
+use Rattle.std.specs.Prelude.{Some}
 
 module _ (c : After-digits_end-end) where
   abbrev Text : List ℕ
@@ -42,14 +42,14 @@ other c = sym c.stands.ensures ∙ c.if-stands.false
 -- what more than seven digits read as
 module _ (c : In-Number) where
   abbrev Value : ℕ
-  Value = c.in-Number.t
+  Value = c.in-Some.t
 
   abbrev End : ℕ
-  End = c.in-Number.next
+  End = c.in-Some.next
 
-  number : leading_at (Text₃ c) (At₃ c) ≡ Number Value End
+  number : leading_at (Text₃ c) (At₃ c) ≡ Some (Value, End)
   number =
-      sym c.leading_at.ensures ∙ c.in-Number.is
+      sym c.leading_at.ensures ∙ c.in-Some.is
 
 pub returns-then-end-at : goal.returns-then-end-at
 unfolding ExposureAt

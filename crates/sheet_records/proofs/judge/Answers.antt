@@ -39,10 +39,10 @@ returns-then-not-both c = bad_standard _ _ (sym c.both.ensures ∙ c.if-not-both
 pub loop-i-init : goal.loop-i-init
 loop-i-init c = start _ _ (sym c.both.ensures ∙ c.if-not-both.false)
 
-pub returns-in-Fault : goal.returns-in-Fault
-returns-in-Fault c =
-    let j = (goal.at.returns-in-Fault c).After-judge_one in
-    decides c.loop-i.invariant (inside j) _ (sym (says j) ∙ c.in-Fault.is)
+pub returns-in-Err : goal.returns-in-Err
+returns-in-Err c =
+    let j = (goal.at.returns-in-Err c).After-judge_one in
+    decides c.loop-i.invariant (inside j) _ (sym (says j) ∙ c.in-Err.is)
 
 pub overflow_add-failures : goal.overflow_add-failures
 overflow_add-failures c =

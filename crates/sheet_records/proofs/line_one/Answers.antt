@@ -5,7 +5,6 @@ use mathlib.Core.List.{List}
 use Prim.Native.Nat.{ℕ}
 use native.Mathlib.Omega.{arith}
 use Rattle.truth.proofs.Laws.{said_no, said_yes}
-use Rattle.decimal.specs.declared.Lead.TheVariants.{Number}
 use Rattle.decimal.specs.Leading.{leading_at}
 use Rattle.decimal.proofs.Leading.{leads_number}
 use Rattle.sheet_line.specs.Form.{begins, standard_start}
@@ -14,6 +13,7 @@ use Rattle.sheet_records.proofs.At.{head_here, no_end, no_standard, no_word}
 use borrow.Author.Rules.{rules}
 use Rattle.sheet_records.proofs.line_one.Goals as goal
 use Rattle.sheet_records.proofs.line_one.Goals.{After-begins, In-Number}
+use Rattle.std.specs.Prelude.{Some}
 
 abbrev Text : After-begins → List ℕ
 Text c = c.args.text.now
@@ -24,14 +24,14 @@ Text₂ c = c.args.text.now
 -- the number that was read
 module _ (c : In-Number) where
   abbrev Q : ℕ
-  Q = c.in-Number.q
+  Q = c.in-Some.q
 
   abbrev Feed : ℕ
-  Feed = c.in-Number.feed
+  Feed = c.in-Some.feed
 
-  number : leading_at (Text₂ c) 9 ≡ Number Q Feed
+  number : leading_at (Text₂ c) 9 ≡ Some (Q, Feed)
   number =
-      sym c.leading_at.ensures ∙ c.in-Number.is
+      sym c.leading_at.ensures ∙ c.in-Some.is
 
   begun : begins standard_start (Text₂ c) ≡ true
   begun = (sym c.begins.ensures ∙ c.if-not-begins.false)

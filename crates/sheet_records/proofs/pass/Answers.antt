@@ -6,13 +6,13 @@ use native.Mathlib.Omega.{arith}
 use lib.ListN.{length}
 use borrow.Author.Rules.{rules}
 use Rattle.truth.proofs.Laws.{said_no, said_yes}
-use Rattle.sheet_records.specs.declared.Head.TheVariants.{Standard}
 use Rattle.sheet_records.specs.Pass.{EntryAt, EntryHere, HeadOf, Passes, taken_after}
 use Rattle.sheet_records.proofs.Along.{Along, bad_standard, ended, few, few_failures, no_head, not_taken, on, other_line, start}
 use Rattle.sheet_records.proofs.pass.Goals as goal
 use Rattle.sheet_records.proofs.pass.Goals.{Else-not-takes, In-Says, In-Standard}
 use mathlib.Core.Path.{sym}
 use mathlib.Core.Path.{◌∙◌}
+use Rattle.std.specs.Prelude.{Some}
 
 -- line 1 was read
 module _ (c : In-Standard) where
@@ -20,41 +20,41 @@ module _ (c : In-Standard) where
   Text = c.args.text.now
 
   abbrev Q : ℕ
-  Q = c.in-Standard.q
+  Q = c.in-Some.q
 
   abbrev Next : ℕ
-  Next = c.in-Standard.begin
+  Next = c.in-Some.begin
 
-  stands : HeadOf Text (Standard Q Next)
+  stands : HeadOf Text (Some (Q, Next))
   stands =
-      subst (HeadOf Text) c.in-Standard.is c.line_one.ensures
+      subst (HeadOf Text) c.in-Some.is c.line_one.ensures
 
 module _ (c : In-Says) where
   abbrev Text₂ : List ℕ
   Text₂ = c.args.text.now
 
   abbrev Q₂ : ℕ
-  Q₂ = c.in-Standard.q
+  Q₂ = c.in-Some.q
 
   abbrev Next₂ : ℕ
-  Next₂ = c.in-Standard.begin
+  Next₂ = c.in-Some.begin
 
-  stands₂ : HeadOf Text₂ (Standard Q₂ Next₂)
+  stands₂ : HeadOf Text₂ (Some (Q₂, Next₂))
   stands₂ =
-      subst (HeadOf Text₂) c.in-Standard.is c.line_one.ensures
+      subst (HeadOf Text₂) c.in-Some.is c.line_one.ensures
 
 -- a record's line was read
 module _ (c : In-Says) where
   abbrev Failed : Bool
-  Failed = c.in-Says.failed
+  Failed = c.in-Some.failed
 
   abbrev After : ℕ
-  After = c.in-Says.next
+  After = c.in-Some.next
 
   entry : EntryHere (Text₂ c) c.loop-at.at (c.loop-at.count + 1) Failed After
   unfolding EntryAt
   entry =
-      subst (EntryAt (Text₂ c) c.loop-at.at (c.loop-at.count + 1)) c.in-Says.is c.entry_at.ensures
+      subst (EntryAt (Text₂ c) c.loop-at.at (c.loop-at.count + 1)) c.in-Some.is c.entry_at.ensures
 
   further : (c.loop-at.at < After) × (After ≤ length (Text₂ c))
   further = (entry.starts.further, entry.starts.within)

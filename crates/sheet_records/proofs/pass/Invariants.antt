@@ -9,7 +9,6 @@ use native.Mathlib.Omega.{arith}
 use lib.ListN.{length}
 use borrow.Author.Rules.{rules}
 use Rattle.truth.proofs.Laws.{said_no, said_yes}
-use Rattle.sheet_records.specs.declared.Head.TheVariants.{Standard}
 use Rattle.sheet_records.specs.Pass.{EntryAt, EntryHere, HeadOf, Passes, taken_after}
 use Rattle.sheet_records.proofs.Along.{Along, bad_standard, ended, few, few_failures, no_head, not_taken, on, other_line, start}
 use Rattle.sheet_records.proofs.pass.Given as goal

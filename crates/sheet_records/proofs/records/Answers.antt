@@ -6,13 +6,14 @@ use Prim.Native.Nat.{ℕ}
 use lib.IntN.{ℤ}
 use lib.ListN.{length}
 use Rattle.sheet_text.specs.Sheet.{meaning, reading_end}
-use Rattle.sheet_records.specs.declared.Resumed.{Resumed}
 use Rattle.sheet_records.specs.Pass.{CleanPass, Passes, stopped_from}
 use Rattle.sheet_records.specs.Records.{filled_by, records_of}
 use Rattle.sheet_records.proofs.Answered.{all_read, no_room, put_front, stopped_kept, unclean}
 use borrow.Author.Rules.{rules}
 use Rattle.sheet_records.proofs.records.Goals as goal
 use Rattle.sheet_records.proofs.records.Goals.{After-pass, In-Clean}
+use Rattle.refusal.specs.declared.Refusal.{Refusal}
+use Rattle.std.specs.Prelude.{Result}
 
 -- what the first pass found
 module _ (c : After-pass) where
@@ -51,13 +52,13 @@ returns-then-places-count c =
 pub put_all-requires : goal.put_all-requires
 put_all-requires c = (clean (goal.at.put_all-requires c).In-Clean).from
 
-pub returns-in-Unclean : goal.returns-in-Unclean
+pub returns-in-None : goal.returns-in-None
 unfolding Passes reading_end meaning
-returns-in-Unclean c =
-    let p = (goal.at.returns-in-Unclean c).After-pass in
-    let never = subst (Passes (Text p)) c.in-Unclean.is c.pass.ensures in
+returns-in-None c =
+    let p = (goal.at.returns-in-None c).After-pass in
+    let never = subst (Passes (Text p)) c.in-None.is c.pass.ensures in
     let is = c.stopped.ensures ∙ ap stopped_from c.read.ensures ∙ unclean (Text p) (length (Places p)) never in
-    record { value = is; places_after = sym (ap (λ (r : Resumed). filled_by r (records_of (Text p)) (Places p)) c.stopped.ensures ∙ stopped_kept c.read.result (records_of (Text p)) (Places p)) }
+    record { value = is; places_after = sym (ap (λ (r : Result (ℕ × ℕ) (ℕ × ℕ × Refusal)). filled_by r (records_of (Text p)) (Places p)) c.stopped.ensures ∙ stopped_kept c.read.result (records_of (Text p)) (Places p)) }
 
 pub returns-else-places-count : goal.returns-else-places-count
 returns-else-places-count c =

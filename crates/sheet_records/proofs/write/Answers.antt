@@ -9,7 +9,6 @@ use lib.ListN.{length}
 use borrow.Author.Rules.{rules}
 use Rattle.text.specs.Write.{laid_by}
 use Rattle.text.proofs.Laws.{laid_front, written_fits}
-use Rattle.sheet_records.specs.declared.Judged.TheVariants.{Clean}
 use Rattle.sheet_records.specs.Ledger.{sheet_text}
 use Rattle.sheet_records.specs.Answers.{judged, judged_as}
 use Rattle.sheet_records.proofs.Entered.{judged_few}
@@ -17,6 +16,7 @@ use Rattle.sheet_records.proofs.Judging.{judged_clean}
 use Rattle.sheet_records.proofs.Puts.{all_written, at_fault, no_room}
 use Rattle.sheet_records.proofs.write.Goals as goal
 use Rattle.sheet_records.proofs.write.Goals.{In-Clean}
+use Rattle.std.specs.Prelude.{Ok}
 
 -- all records are clean
 module _ (c : In-Clean) where
@@ -29,7 +29,7 @@ module _ (c : In-Clean) where
   abbrev Out : List ℕ
   Out = c.args.out.now
 
-  clean : Clean ≡ judged_as (judged Q Records)
+  clean : (Ok tt) ≡ judged_as (judged Q Records)
   clean = sym c.in-Clean.is ∙ c.judge.ensures
 
   few : length Records ≤ 100000
@@ -48,10 +48,10 @@ pub put_sheet-requires : goal.put_sheet-requires
 put_sheet-requires c =
     (few (goal.at.put_sheet-requires c).In-Clean, omega (arith, c.sheet_length-needed.ensures, c.if-out-needed.false))
 
-pub returns-in-Fault : goal.returns-in-Fault
+pub returns-in-Err : goal.returns-in-Err
 unfolding laid_by
-returns-in-Fault c =
-    record { value = at_fault c.args.q c.args.records.now c.args.out.now _ (sym c.in-Fault.is ∙ c.judge.ensures); out_after = refl }
+returns-in-Err c =
+    record { value = at_fault c.args.q c.args.records.now c.args.out.now _ (sym c.in-Err.is ∙ c.judge.ensures); out_after = refl }
 
 pub returns-else-out-needed : goal.returns-else-out-needed
 returns-else-out-needed c =

@@ -9,4 +9,4 @@ returns-in_default c =
 
 pub returns : goal.returns
 returns c =
-    has_count _ c.requires c.censored.ensures c.in-Count.is
+    has_count _ c.requires c.censored.ensures c.in-Ok.is

@@ -7,9 +7,9 @@ use Rattle.campaign_verdict.proofs.Given.{has_verdict}
 use Rattle.sheet_reply.proofs.letter.Goals as goal
 use Rattle.sheet_reply.proofs.letter.Goals.{In-Given}
 
-given : (c : In-Given) → c.in-Given.v ≡ verdict_of c.args.c
+given : (c : In-Given) → c.in-Ok.v ≡ verdict_of c.args.c
 given c =
-    has_verdict _ c.requires _ c.judge.ensures c.in-Given.is
+    has_verdict _ c.requires _ c.judge.ensures c.in-Ok.is
 
 pub returns-in-Accept : goal.returns-in-Accept
 unfolding letter_for

@@ -58,12 +58,12 @@ unfolding found
 returns-then-waits c =
     rw (waits-is (goal.at.returns-then-waits c).After-waits ∙ c.if-waits.true, part_length _ _ c.line_end-end.result (end_is (goal.at.returns-then-waits c).After-line_end-end))
 
-pub returns-in-Next : goal.returns-in-Next
+pub returns-in-Ok : goal.returns-in-Ok
 unfolding found
-returns-in-Next c =
-    rw (waits-is (goal.at.returns-in-Next c).After-waits ∙ c.if-waits.false, step_is (goal.at.returns-in-Next c).After-line ∙ c.in-Next.is, ← part_end _ _ c.line_end-end.result (end_is (goal.at.returns-in-Next c).After-line_end-end))
+returns-in-Ok c =
+    rw (waits-is (goal.at.returns-in-Ok c).After-waits ∙ c.if-waits.false, step_is (goal.at.returns-in-Ok c).After-line ∙ c.in-Ok.is, ← part_end _ _ c.line_end-end.result (end_is (goal.at.returns-in-Ok c).After-line_end-end))
 
-pub returns-in-Stop : goal.returns-in-Stop
+pub returns-in-Err : goal.returns-in-Err
 unfolding found
-returns-in-Stop c =
-    rw (waits-is (goal.at.returns-in-Stop c).After-waits ∙ c.if-waits.false, step_is (goal.at.returns-in-Stop c).After-line ∙ c.in-Stop.is)
+returns-in-Err c =
+    rw (waits-is (goal.at.returns-in-Err c).After-waits ∙ c.if-waits.false, step_is (goal.at.returns-in-Err c).After-line ∙ c.in-Err.is)

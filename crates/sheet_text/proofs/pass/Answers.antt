@@ -26,10 +26,10 @@ found-is c = sym c.find.ensures
 found-is₂ : (c : In-Taken) → found c.args.more c.args.text.now c.loop-at.at c.loop-at.sheet ≡ c.find.result
 found-is₂ c = sym c.find.ensures
 
-taken : (c : In-Taken) → found c.args.more c.args.text.now c.loop-at.at c.loop-at.sheet ≡ Taken c.in-Taken.t c.in-Taken.next
-taken c = found-is₂ c ∙ c.in-Taken.is
+taken : (c : In-Taken) → found c.args.more c.args.text.now c.loop-at.at c.loop-at.sheet ≡ Taken c.in-Ok.t c.in-Ok.next
+taken c = found-is₂ c ∙ c.in-Ok.is
 
-took : (c : In-Taken) → Took c.args.more c.args.text.now c.loop-at.at c.loop-at.sheet c.in-Taken.t c.in-Taken.next
+took : (c : In-Taken) → Took c.args.more c.args.text.now c.loop-at.at c.loop-at.sheet c.in-Ok.t c.in-Ok.next
 took c =
     found_taken _ _ _ _ (inside₂ c) c.loop-at.invariant.along.sound (taken c)
 
@@ -56,12 +56,12 @@ returns-in-Waits c =
 
 pub put_end-end-requires : goal.put_end-end-requires
 put_end-end-requires c =
-    let b = found_bad _ _ _ _ (inside (goal.at.put_end-end-requires c).In-loop-at) c.loop-at.invariant.along.sound (found-is (goal.at.put_end-end-requires c).After-find ∙ c.in-Bad.is) in
-    omega (arith, few_so_far c.loop-at.invariant, refused_few c.in-Bad.line c.in-Bad.column c.in-Bad.r b.1 b.2)
+    let b = found_bad _ _ _ _ (inside (goal.at.put_end-end-requires c).In-loop-at) c.loop-at.invariant.along.sound (found-is (goal.at.put_end-end-requires c).After-find ∙ c.in-Err.is) in
+    omega (arith, few_so_far c.loop-at.invariant, refused_few c.in-Err.line c.in-Err.column c.in-Err.r b.1 b.2)
 
-pub returns-in-Bad : goal.returns-in-Bad
-returns-in-Bad c =
-    let b = found_bad _ _ _ _ (inside (goal.at.returns-in-Bad c).In-loop-at) c.loop-at.invariant.along.sound (found-is (goal.at.returns-in-Bad c).After-find ∙ c.in-Bad.is) in
+pub returns-in-Err : goal.returns-in-Err
+returns-in-Err c =
+    let b = found_bad _ _ _ _ (inside (goal.at.returns-in-Err c).In-loop-at) c.loop-at.invariant.along.sound (found-is (goal.at.returns-in-Err c).After-find ∙ c.in-Err.is) in
     running_end c.loop-at.invariant b.0 (refused_few _ _ _ b.1 b.2) (omega arith, omega arith) (c.put_end-end.ensures.value, c.put_end-end.ensures.out_after)
 
 pub put_end-end-requires-2 : goal.put_end-end-requires-2

@@ -14,6 +14,7 @@ use Rattle.comma_line.specs.Text.{first_wrong, samples_of}
 use Rattle.comma_read.specs.Survey.{surveyed}
 use Rattle.comma_read.specs.Answers.{reading_lines, filled_by}
 use Rattle.std.specs.Prelude.{Ok, Err}
+use Rattle.truth.proofs.Answers.{err_not_ok}
 
 wrong_within : (D time : ℕ) (lines : List (List ℕ)) → first_wrong D time lines ≤ length lines
 unfolding first_wrong
@@ -128,13 +129,13 @@ samples_read D lines places n e =
     by_test (step_in_range D)
     (λ s.
     by_test (ltb (first_wrong D 0 lines) (length lines))
-    (λ w. absurd (never (rw (s, w) at e)))
+    (λ w. absurd (err_not_ok (rw (s, w) at e)))
     (λ w.
     by_test (ltb (first_bad (samples_of lines)) (length lines))
-    (λ b. absurd (never (rw (s, w, b) at e)))
+    (λ b. absurd (err_not_ok (rw (s, w, b) at e)))
     (λ b.
     by_test (ltb places (length lines))
-    (λ p. absurd (never (rw (s, w, b, p) at e)))
+    (λ p. absurd (err_not_ok (rw (s, w, b, p) at e)))
     (λ p.
     let f : Ok (length lines) ≡ Ok n = rw (s, w, b, p) at e in
     let c : length lines ≡ n = cc (f) in
@@ -145,7 +146,5 @@ samples_read D lines places n e =
       room = ltb-false places (length lines) p;
       count = c;
     }))))
-    (λ s. absurd (never (rw s at e)))
+    (λ s. absurd (err_not_ok (rw s at e)))
   where
-    never : {r : Refusal} → ¬ (Err r ≡ Ok n)
-    never f = impossible (cc)

@@ -102,7 +102,7 @@ module _ (s : List ℕ) (at : ℕ) where
   abbrev Digits : List ℕ
   Digits = leading (drop at s)
 
-  never : {v end : ℕ} → ¬ (None ≡ Some (v, end))
+  never : {p : ℕ × ℕ} → ¬ (None ≡ Some p)
   never e = impossible (cc)
 
   -- the digits stand in the text
@@ -115,8 +115,9 @@ module _ (s : List ℕ) (at : ℕ) where
       by_test (is_number Digits)
       (λ n.
       let e : Some (value_of Digits, at + length Digits) ≡ Some (v, end) = rw n at r in
-      let value : v ≡ value_of Digits = cc in
-      let place : end ≡ at + length Digits = cc in
+      let pair : (value_of Digits, at + length Digits) ≡ (v, end) = cc in
+      let value : v ≡ value_of Digits = sym (ap (λ (p : ℕ × ℕ). p.0) pair) in
+      let place : end ≡ at + length Digits = sym (ap (λ (p : ℕ × ℕ). p.1) pair) in
       record { number = n; value = value; place = place; small = rw value (number_below Digits n); within = omega (arith, inside (sound Digits n).some) })
       (λ n. absurd (never (rw n at r)))
 

@@ -15,6 +15,7 @@ use Rattle.sheet_line.specs.Texts.{entry_text, head_text}
 use Rattle.sheet_line.specs.Line.{line_after, malformed, outcome, record_line, standard_line, telling}
 use Rattle.sheet_line.proofs.Forms.{Reads, Told, ToldStandard, good, ill, record_reads, standard_reads}
 use Rattle.std.specs.Prelude.{Result, Ok, Err}
+use Rattle.truth.proofs.Answers.{same_ok}
 
 -- a step that is taken leads to a sheet of which P holds; one that is refused names the line
 pub data Says (P : Sheet → Type 0) (line : ℕ) : Result Sheet (ℕ × ℕ × Refusal) → Type 0 where
@@ -30,11 +31,8 @@ module _ {P : Sheet → Type 0} {line : ℕ} where
 never : {s : Sheet} {line column : ℕ} {r : Refusal} → ¬ (Err (line, column, r) ≡ Ok s)
 never e = impossible (cc)
 
-same : {s t : Sheet} → Ok s ≡ Ok t → s ≡ t
-same e = cc
-
 pub says_next : {P : Sheet → Type 0} {line : ℕ} {step : (Result Sheet (ℕ × ℕ × Refusal))} {t : Sheet} → Says P line step → step ≡ Ok t → P t
-says_next {P} (goes p) e = subst P (same e) p
+says_next {P} (goes p) e = subst P (same_ok e) p
 says_next (stops k) e = absurd (never e)
 
 not_next : {s : Sheet} {line column : ℕ} {r : Refusal} → ¬ (Ok s ≡ Err (line, column, r))

@@ -25,7 +25,7 @@ use Rattle.campaign_report.specs.Answers.{after_judging, writing_report}
 use Rattle.campaign_report.proofs.Texts.{line_bytes, next_bytes, total_bytes}
 use Rattle.campaign_condition.specs.declared.Standing.{Standing}
 use Rattle.std.specs.Prelude.{Result, Ok, Err}
-use Rattle.truth.proofs.Answers.{err_not_ok}
+use Rattle.truth.proofs.Answers.{err_not_ok, same_ok}
 
 censored_few : (c : Campaign) → Kept c → censored c < 100
 unfolding censored
@@ -89,7 +89,7 @@ enough number cs out n all e = go (judging number cs) refl e
         by_test (ltb (length out) (length (report_text cs)))
         (λ t. absurd (err_not_ok (rw t at e)))
         (λ t.
-        let f : Ok (length (report_text cs)) ≡ Ok n = rw t at e in
+        let f : length (report_text cs) ≡ n = same_ok (rw t at e) in
         let same : n ≡ length (report_text cs) = cc (f) in
         let letter = standing_letter (standing cs) in
         omega (

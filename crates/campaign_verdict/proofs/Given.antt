@@ -11,13 +11,7 @@ use Rattle.campaign_verdict.specs.Figures.{verdict_of}
 use Rattle.campaign_verdict.proofs.Only.{only}
 use Rattle.campaign_state.specs.State.{censored, sound}
 use Rattle.std.specs.Prelude.{Result, Ok, Err}
-use Rattle.truth.proofs.Answers.{same_ok}
-
-never_given : {w : Verdict} {r : Refusal} → ¬ (Ok w ≡ Err r)
-never_given e = impossible (cc)
-
-never_counted : {n : ℕ} {r : Refusal} → ¬ (Ok n ≡ Err r)
-never_counted e = impossible (cc)
+use Rattle.truth.proofs.Answers.{ok_not_err, same_ok}
 
 module _ (c : Campaign) (s : sound c ≡ true) where
   pub has_verdict : (j : Result Verdict Refusal) {v : Verdict} → Judges c j → j ≡ Ok v → v ≡ verdict_of c
@@ -26,7 +20,7 @@ module _ (c : Campaign) (s : sound c ≡ true) where
 
   pub not_refused : (j : Result Verdict Refusal) {r : Refusal} → Judges c j → j ≡ Err r → ⊥
   unfolding judging
-  not_refused j p f = never_given (rw (only c j p, s) at f)
+  not_refused j p f = ok_not_err (rw (only c j p, s) at f)
 
   pub has_count : {j : (Result ℕ Refusal)} {n : ℕ} → j ≡ counting c → j ≡ Ok n → n ≡ censored c
   unfolding counting
@@ -34,4 +28,4 @@ module _ (c : Campaign) (s : sound c ≡ true) where
 
   pub count_not_refused : {j : (Result ℕ Refusal)} {r : Refusal} → j ≡ counting c → j ≡ Err r → ⊥
   unfolding counting
-  count_not_refused e f = never_counted (rw (e, s) at f)
+  count_not_refused e f = ok_not_err (rw (e, s) at f)

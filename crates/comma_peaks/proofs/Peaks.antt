@@ -27,11 +27,9 @@ use Rattle.comma_peaks.proofs.Handed.{handed_anywhere}
 use Rattle.comma_peaks.proofs.Files.{some_left}
 use Rattle.refusal.specs.declared.Refusal.{Refusal}
 use Rattle.std.specs.Prelude.{Result, Ok, Err}
+use Rattle.truth.proofs.Answers.{err_not_ok}
 
 -- ---- nothing is refused
-never : {n : ℕ} {f : _} → Err (n, f) ≡ (Ok (tt {0})) → ⊥
-never e = impossible (cc)
-
 pub record Fine (D R : ℕ) (lines : List (List ℕ)) : Type 0 where
   pub right : length lines ≤ first_wrong D 0 lines
   pub good : length lines ≤ first_bad (samples_of lines)
@@ -48,7 +46,7 @@ pub fine : (D R : ℕ) (lines : List (List ℕ)) → comes_to D R lines ≡ (Ok 
 unfolding comes_to
 fine D R lines e =
     let n = length lines in
-    let t = tests (ltb (first_wrong D 0 lines) n) (ltb (first_bad (samples_of lines)) n) (ltb (most_in_range D R) n) (too_few R n) _ _ _ _ never never never e in
+    let t = tests (ltb (first_wrong D 0 lines) n) (ltb (first_bad (samples_of lines)) n) (ltb (most_in_range D R) n) (too_few R n) _ _ _ _ err_not_ok err_not_ok err_not_ok e in
     record { right = ltb-false _ _ t.0; good = ltb-false _ _ t.1; most = ltb-false _ _ t.2 }
 
 -- ---- all samples in range

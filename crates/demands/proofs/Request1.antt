@@ -127,7 +127,6 @@ pub record Request1 : Type 0 where
   pub early : (time : ℕ) (text more : List ℕ) → may_begin text ≡ false → right time text ≡ false → right time (text ++ more) ≡ false
 
 -- ---- the proof
-module _ (r s : Refusal) where
 -- what was written keeps the tests, and is the text
 pub record Wrote (D : ℕ) (xs : List ℤ) (n : ℕ) : Type 0 where
   pub step : step_in_range D ≡ true
@@ -182,8 +181,8 @@ pub request_1 : Request1
 unfolding decide reading_lines writing_comma filled_by laid_by
 request_1 =
     record {
-      read = λ D text places. decided Err (Ok (length (lines_of text))) same_err (λ r e. impossible (cc)) (read_tests D (lines_of text) places) (reading_comma D text places) refl;
-      write = λ D xs out. decided Err (Ok (length (text_of D xs))) same_err (λ r e. impossible (cc)) (write_tests D xs (length out)) (writing_comma D xs out) refl;
+      read = λ D text places. decided Err (Ok (length (lines_of text))) (λ r s. same_err) (λ r e. impossible (cc)) (read_tests D (lines_of text) places) (reading_comma D text places) refl;
+      write = λ D xs out. decided Err (Ok (length (text_of D xs))) (λ r s. same_err) (λ r e. impossible (cc)) (write_tests D xs (length out)) (writing_comma D xs out) refl;
       samples_kept = λ r xs slice. refl;
       bytes_kept = λ r text out. refl;
       forms = computed_forms;

@@ -127,7 +127,6 @@ pub record Request13 : Type 0 where
   pub accepted_alone : report_text third_alone ≡ report_on_third
 
 -- ---- the proof
-module _ (r s : Refusal) where
 abbrev ranked : Standing → ℕ
 ranked Accepted = 0
 ranked Rejected = 1
@@ -211,9 +210,9 @@ pub request_13 : Request13
 unfolding laid_by
 request_13 =
     record {
-      judge = λ number cs. decided Err (Ok (standing cs)) same_err (λ r e. impossible (cc)) (tests number cs []) (judging number cs) (judging_decides number cs);
+      judge = λ number cs. decided Err (Ok (standing cs)) (λ r s. same_err) (λ r e. impossible (cc)) (tests number cs []) (judging number cs) (judging_decides number cs);
       write = λ number cs out.
-          decided Err (Ok (length (report_text cs))) same_err (λ r e. impossible (cc)) (write_tests number cs (length out)) (writing_report number cs out) (writing_decides number cs out);
+          decided Err (Ok (length (report_text cs))) (λ r s. same_err) (λ r e. impossible (cc)) (write_tests number cs (length out)) (writing_report number cs out) (writing_decides number cs out);
       lowest = lowest_named;
       bytes_kept = λ r text out. refl;
       rejecting = rejected_rejects;

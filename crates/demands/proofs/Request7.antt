@@ -90,7 +90,6 @@ pub record Request7 : Type 0 where
   pub a_record : (s t : Sum) (r : Record) (rs : List Record) → AllAdded s (r ∷ rs) t → recorded t ≡ true
 
 -- ---- the proof
-module _ (r s : Refusal) where
 swapped : {A : Type 0} (b : Bool) (x y : A) → cond b x y ≡ cond (not b) y x
 swapped true x y = refl
 swapped false x y = refl
@@ -118,10 +117,10 @@ pub request_7 : Request7
 unfolding decide adding bounding rating
 request_7 =
     record {
-      opening = λ D. decided Err (Ok (empty D)) same_err (λ r e. impossible (cc)) _ (opened D) (swapped (step_in_range D) _ _);
-      add = λ s r. decided Err (Ok (grown s r.groups (timed r))) same_err (λ f e. impossible (cc)) (add_tests s r) (adding s r) refl;
-      bounds = λ s. decided Err (Ok (recorded s, bounds_of s)) same_err (λ r e. impossible (cc)) (broken_test s) (bounding s) (swapped (sound s) _ _);
-      rates = λ s. decided Err (Ok (cond (recorded s) (Some (rates_of s)) None)) same_err (λ r e. impossible (cc)) (broken_test s) (rating s) (swapped (sound s) _ _);
+      opening = λ D. decided Err (Ok (empty D)) (λ r s. same_err) (λ r e. impossible (cc)) _ (opened D) (swapped (step_in_range D) _ _);
+      add = λ s r. decided Err (Ok (grown s r.groups (timed r))) (λ r s. same_err) (λ f e. impossible (cc)) (add_tests s r) (adding s r) refl;
+      bounds = λ s. decided Err (Ok (recorded s, bounds_of s)) (λ r s. same_err) (λ r e. impossible (cc)) (broken_test s) (bounding s) (swapped (sound s) _ _);
+      rates = λ s. decided Err (Ok (cond (recorded s) (Some (rates_of s)) None)) (λ r s. same_err) (λ r e. impossible (cc)) (broken_test s) (rating s) (swapped (sound s) _ _);
       opened_sound = λ D s e. is_true (sound s) (answered.opened_sound D s e);
       added_sound = λ s r t e. is_true (sound t) (answered.adding_sound s r t e);
       totals = grown_by_adding;

@@ -22,7 +22,7 @@ use Rattle.sheet_line.specs.Texts.{entry_text, head_text}
 use Rattle.sheet_records.specs.Ledger.{exposure_in, failed_in, signed_record_text, lines_from, sheet_text}
 use Rattle.sheet_records.specs.Answers.{after_judging, judged, judged_as, writing_sheet}
 use Rattle.std.specs.Prelude.{Result, Ok, Err}
-use Rattle.truth.proofs.Answers.{err_not_ok}
+use Rattle.truth.proofs.Answers.{err_not_ok, same_ok}
 
 -- a record failed if its number is below zero
 pub failed_below : (x : ℤ) → lt_z x (pos 0) ≡ failed_in x
@@ -94,6 +94,6 @@ wrote q xs out n e = go (judged q xs) refl e
         by_test (ltb (length out) (length (sheet_text q xs)))
         (λ t. absurd (err_not_ok (rw t at e)))
         (λ t.
-        let f : Ok (length (sheet_text q xs)) ≡ Ok n = rw t at e in
+        let f : length (sheet_text q xs) ≡ n = same_ok (rw t at e) in
         let same : n ≡ length (sheet_text q xs) = cc (f) in
         record { end = d; clean = is; bytes = same; room = omega (arith, ltb-false (length out) (length (sheet_text q xs)) t) })

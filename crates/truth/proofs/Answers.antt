@@ -1,7 +1,7 @@
--- Two answers that are the same carry the same, a pair that is the same has the same parts, and no answer is both `Ok`
--- and `Err`. Assumes nothing.
+-- Two answers that are the same carry the same, and a pair that is the same has the same parts. No answer is both `Ok`
+-- and `Err`, or `Some` and `None`. Assumes nothing.
 use mathlib.Core.Path.{◌≡◌, ap}
-use Rattle.std.specs.Prelude.{Result, Ok, Err}
+use Rattle.std.specs.Prelude.{Option, Some, None, Result, Ok, Err}
 use Rattle.truth.proofs.Laws.{impossible}
 
 module _ {A E : Type 0} where
@@ -16,6 +16,16 @@ module _ {A E : Type 0} where
 
   pub err_not_ok : {x : A} {y : E} → ◌≡◌ {A = Result A E} (Err y) (Ok x) → ⊥
   err_not_ok e = impossible (cc)
+
+module _ {A : Type 0} where
+  pub same_some : {x y : A} → ◌≡◌ {A = Option A} (Some x) (Some y) → x ≡ y
+  same_some e = cc
+
+  pub none_not_some : {x : A} → ◌≡◌ {A = Option A} None (Some x) → ⊥
+  none_not_some e = impossible (cc)
+
+  pub some_not_none : {x : A} → ◌≡◌ {A = Option A} (Some x) None → ⊥
+  some_not_none e = impossible (cc)
 
 module _ {A B : Type 0} where
   pub same_first : {p q : A × B} → p ≡ q → p.0 ≡ q.0

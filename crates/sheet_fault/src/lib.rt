@@ -10,9 +10,9 @@ ghost use Rattle.sheet_fault.specs.Fault.{number_then, refused_sheet};
 
 use desk_line::Finished;
 
-const TAB: u8 = 9;
+const TAB: u8 = b'\t';
 
-const LF: u8 = 10;
+const LF: u8 = b'\n';
 
 // Writes a refusal's number, and one number more where it is told.
 fn put_why(number: u64, told: bool, value: u64, out: &mut [u8], at: usize) -> usize

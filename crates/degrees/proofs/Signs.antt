@@ -18,7 +18,7 @@ use Rattle.truth.proofs.Laws.{impossible, true≢false}
 use Rattle.decimal.specs.Decimal.{digits_of}
 use Rattle.degrees.specs.Degrees.{minus, below, sign_length, unsigned, size, is_degrees, degrees_length, degrees_at, size_at, sign, degrees_text}
 use Rattle.std.specs.Prelude.{Some, None}
-use Rattle.truth.proofs.Answers.{none_not_some, same_first, same_second, same_some, some_not_none}
+use Rattle.truth.proofs.Answers.{none_not_some, same_some, some_not_none}
 
 pub sign_below : (x : ℤ) → lt_z x (pos 0) ≡ true → sign x ≡ minus ∷ []
 sign_below (pos n) t = absurd (omega (arith, ltb-true n 0 t))
@@ -72,9 +72,9 @@ module _ (s : List ℕ) (at : ℕ) where
       let e : ◌≡◌ {A = Bool × ℕ × ℕ} (below (drop at s), size (unsigned (drop at s)), at + degrees_length (drop at s)) (b, n, next) = same_some (rw h at r) in
       record {
         right = h;
-        sign = sym (same_first e);
-        value = sym (same_first (same_second e));
-        place = sym (same_second (same_second e));
+        sign = ap (λ (p : Bool × ℕ × ℕ). p.0) e;
+        value = ap (λ (p : Bool × ℕ × ℕ). p.1) e;
+        place = sym (ap (λ (p : Bool × ℕ × ℕ). p.2) e);
       })
       (λ h. absurd (none_not_some (rw h at r)))
 

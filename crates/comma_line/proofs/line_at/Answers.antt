@@ -50,7 +50,7 @@ pub returns-then-not-stands-2 : goal.returns-then-not-stands-2
 returns-then-not-stands-2 c =
     let a = c.args in
     let n = c.in-Some in
-    let d = c.in-Some in
+    let d = c.in-Some-roll_at in
     let leads = leads_number a.s.now a.at n.t n.end (sym c.leading_at.ensures ∙ n.is) in
     let reads = degrees_read a.s.now (n.end + 1) d.minus d.size d.next (sym c.roll_at.ensures ∙ d.is) in
     let feed = stood a.s.now d.next line_feed (omega arith) c.stands-2.ensures c.if-not-stands-2.true in
@@ -60,7 +60,7 @@ pub returns : goal.returns
 returns c =
     let a = c.args in
     let n = c.in-Some in
-    let d = c.in-Some in
+    let d = c.in-Some-roll_at in
     let leads = leads_number a.s.now a.at n.t n.end (sym c.leading_at.ensures ∙ n.is) in
     let reads = degrees_read a.s.now (n.end + 1) d.minus d.size d.next (sym c.roll_at.ensures ∙ d.is) in
     let mark = stood a.s.now n.end comma (omega arith) c.stands.ensures c.if-not-stands.false in

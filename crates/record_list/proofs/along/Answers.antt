@@ -13,7 +13,7 @@ use Rattle.record_list.proofs.along.Goals as goal
 pub loop-i-preserved : goal.loop-i-preserved
 loop-i-preserved c =
     let g = c.args in
-    let f = marked g.step g.decorrelation in
+    let f = marked g.items.step g.items.decorrelation in
     let i = c.loop-i.i in
     let v = c.loop-i.v in
     let ts = c.loop-i.times in
@@ -21,10 +21,10 @@ loop-i-preserved c =
     let up = get_or g.ups.now i false in
     let e : noting _ _ ≡ f (noting v ts) up = c.stepped-v.ensures in
     let k : length g.ups.now - i ≡ suc (length g.ups.now - (i + 1)) = omega arith in
-    let r : Ready g.step g.decorrelation v (suc (length g.ups.now - (i + 1))) = rw k at inv.1 in
+    let r : Ready g.items.step g.items.decorrelation v (suc (length g.ups.now - (i + 1))) = rw k at inv.1 in
     let turn : drop i g.ups.now ≡ up ∷ drop (i + 1) g.ups.now = rw (add-one, drop-cons g.ups.now i false (omega arith)) in (
       omega arith,
       rw (ap (λ (s : Noting). s.walk) e) (ready_next up r),
-      ap (λ (s : Noting). length s.times) e ∙ marked_length g.step g.decorrelation (noting v ts) up ∙ inv.2,
+      ap (λ (s : Noting). length s.times) e ∙ marked_length g.items.step g.items.decorrelation (noting v ts) up ∙ inv.2,
       ap (λ (s : Noting). foldl f s (drop (i + 1) g.ups.now)) e ∙ sym (ap (foldl f (noting v ts)) turn) ∙ inv.3,
     )

@@ -9,9 +9,9 @@ use Rattle.record_list.proofs.along.Given as goal
 
 abbrev pub invariant-loop-i : goal.invariant-loop-i
 invariant-loop-i l = (l.i ≤ length l.ups)
-    × Ready l.step l.decorrelation l.v (length l.ups - l.i)
+    × Ready l.items.step l.items.decorrelation l.v (length l.ups - l.i)
     × (length l.times ≡ length l.initial.times)
-    × (foldl (marked l.step l.decorrelation) (noting l.v l.times) (drop l.i l.ups) ≡ foldl (marked l.step l.decorrelation) (noting l.initial.v l.initial.times) l.ups)
+    × (foldl (marked l.items.step l.items.decorrelation) (noting l.v l.times) (drop l.i l.ups) ≡ foldl (marked l.items.step l.items.decorrelation) (noting l.initial.v l.initial.times) l.ups)
 
 abbrev pub decreases-loop-i : goal.decreases-loop-i
 decreases-loop-i l = length l.ups - l.i

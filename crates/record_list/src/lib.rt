@@ -127,10 +127,8 @@ fn along(items: Items, w: Walk, ups: &[bool], times: &mut [u32]) -> Walk
         ≡ foldl (marked items.step items.decorrelation) (noting w times.old) ups.now }
 {
     let mut v = w;
-    let mut i = 0;
-    while i < ups.len() {
-        v = stepped(items, v, ups[i], times);
-        i += 1;
+    for up in ups {
+        v = stepped(items, v, *up, times);
     }
     v
 }
@@ -201,11 +199,7 @@ fn copy(kept: &[u32], k: usize, times: &mut [u32])
     requires { (k ≤ length kept.now) × (k ≤ length times.old) }
     ensures { times.new ≡ paste times.old 0 kept.now k }
 {
-    let mut i = 0;
-    while i < k {
-        times[i] = kept[i];
-        i += 1;
-    }
+    times[..k].copy_from_slice(&kept[..k]);
 }
 
 // Writes the counted times, if there are places for them: those kept aside, if they are all there, else by a second

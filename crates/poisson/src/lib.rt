@@ -2,7 +2,9 @@
 // Two constant arrays; that every row meets 01's rule is computed once over each table by the checker.
 #![tactic(auto)]
 
+ghost use Rattle.std.specs.Prelude.{◌≡◌};
 ghost use Rattle.poisson.specs.Rows.{UpperRow, LowerRow};
+ghost use Rattle.poisson.specs.Tables.{row_of};
 
 const UPPER: [u32; 64] = [
     3688880, 5571644, 7224688, 8767274, 10241589, 11668333, 13059475, 14422676, 15763190, 17084804,
@@ -24,28 +26,26 @@ const LOWER: [u32; 64] = [
     44041831, 44913533, 45786320, 46660166, 47535044, 48410929, 49287798,
 ];
 
+// Row n of a table whose first row is row 1; 0 outside 1 to 64.
+fn row(table: &[u32; 64], n: u64) -> u32
+    ensures { result ≡ row_of table.now n }
+{
+    match n {
+        1..=64 => table[(n - 1) as usize],
+        _ => 0,
+    }
+}
+
 // Upper row n: the least expectation at which fewer than n failures are shown less than once in 40; 0 outside 1 to 64.
 pub fn upper_row(n: u64) -> u32
     ensures { UpperRow n result }
 {
-    if n == 0 {
-        return 0;
-    }
-    if n > 64 {
-        return 0;
-    }
-    UPPER[(n - 1) as usize]
+    row(&UPPER, n)
 }
 
 // Lower row n: the greatest expectation at which n or more failures are shown at most once in 40; 0 outside 1 to 64.
 pub fn lower_row(n: u64) -> u32
     ensures { LowerRow n result }
 {
-    if n == 0 {
-        return 0;
-    }
-    if n > 64 {
-        return 0;
-    }
-    LOWER[(n - 1) as usize]
+    row(&LOWER, n)
 }

@@ -9,18 +9,21 @@ use lib.Dec.{leb, ltb}
 use lib.IntN.{ℤ, nat_abs}
 use borrow.Author.Tests.{leb-true, leb-false, ltb-false, le-leb, le-ltb, lt-ltb}
 use Rattle.truth.proofs.Laws.{true≢false}
+use Rattle.std.specs.List.{prefix_len}
 use Rattle.sample_block.specs.Block.{lowest, highest, any_above}
 use Rattle.sample_block.proofs.Quiet.{first_quiet}
 use Rattle.sample_block.proofs.Sides.{ends_say}
 use Rattle.sample_range.specs.Range.{sample_limit, sample_in_range, first_bad}
 
-pub bad_in : (x : ℤ) (xs : List ℤ) → sample_in_range x ≡ true → first_bad (x ∷ xs) ≡ suc (first_bad xs)
+-- the first bad place is how many are in range before it
+pub counted : (xs : List ℤ) → first_bad xs ≡ prefix_len sample_in_range xs
 unfolding first_bad
-bad_in x xs e = rw e
-
-pub bad_out : (x : ℤ) (xs : List ℤ) → sample_in_range x ≡ false → first_bad (x ∷ xs) ≡ 0
-unfolding first_bad
-bad_out x xs e = rw e
+counted [] = refl
+counted (x ∷ xs) = rw (counted xs) (go (sample_in_range x))
+  where
+    go : (b : Bool) → cond b (suc (prefix_len sample_in_range xs)) 0 ≡ cond b (1 + prefix_len sample_in_range xs) 0
+    go true = omega arith
+    go false = refl
 
 -- where no sample is bad, the first is not, and none of the others
 pub good_head : (x : ℤ) (xs : List ℤ) → first_bad (x ∷ xs) ≡ suc (length xs) → (sample_in_range x ≡ true) × (first_bad xs ≡ length xs)

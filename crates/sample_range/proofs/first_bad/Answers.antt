@@ -6,7 +6,7 @@ use lib.ListN.{length, take, drop, drop_of_length-le}
 use Rattle.sample_block.specs.Block.{any_above}
 use Rattle.sample_block.proofs.Cut.{end_within, block_length, block_cut}
 use Rattle.sample_range.specs.Range.{sample_limit, first_bad}
-use Rattle.sample_range.proofs.Bad.{bad_append, bad_left, quiet_good, loud_bad, ends_bad}
+use Rattle.sample_range.proofs.Bad.{counted, bad_append, bad_left, quiet_good, loud_bad, ends_bad}
 use Rattle.sample_range.proofs.first_bad.Goals as goal
 use Rattle.sample_range.proofs.first_bad.Goals.{After-end-end, After-first_of-bad, After-outside}
 
@@ -43,7 +43,7 @@ here c =
     let l = block_length p i e (omega arith) (omega arith) in
     let h = loud_bad block (sym (told c.before.before) ∙ c.if-outside.true) in
     let f = ap first_bad (block_cut p i e (omega arith) (omega arith)) ∙ bad_left block (drop e p) h in
-    let g = c.first_of-bad.ensures in
+    let g = c.first_of-bad.ensures ∙ sym (counted block) in
     let v = d.loop-i.invariant.1 in
     (omega arith, omega arith)
 

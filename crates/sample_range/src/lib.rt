@@ -37,15 +37,12 @@ fn first_of(block: &[i32]) -> usize
 pub fn first_bad(samples: &[i32]) -> usize
     ensures { result ≡ first_bad samples.now }
 {
-    let mut i = 0;
-    while i < samples.len() {
-        let end = sample_block::end(i, samples.len());
-        let part = &samples[i..end];
-        if outside(sample_block::ends_of(part)) {
-            let bad = first_of(part);
-            return i + bad;
+    let mut passed = 0;
+    for block in samples.chunks(sample_block::BLOCK) {
+        if outside(sample_block::ends_of(block)) {
+            return passed + first_of(block);
         }
-        i = end;
+        passed += block.len();
     }
-    i
+    passed
 }

@@ -77,14 +77,12 @@ pub fn down(x: u64) -> Power
         shift: 0,
     };
     let mut rest = x;
-    let mut i: usize = 0;
-    while i < 26 {
+    for i in 0..26 {
         if rest % 2 == 1 {
             let r = row(i);
             p = product_down(p, r.mantissa, r.shift);
         }
-        rest = rest / 2;
-        i += 1;
+        rest /= 2;
     }
     p
 }
@@ -104,14 +102,12 @@ pub fn up(x: u64) -> Power
         shift: 0,
     };
     let mut rest = x;
-    let mut i: usize = 0;
-    while i < 26 {
+    for i in 0..26 {
         if rest % 2 == 1 {
             let r = row(i);
             p = product_up(p, r.mantissa + 1, r.shift);
         }
-        rest = rest / 2;
-        i += 1;
+        rest /= 2;
     }
     p
 }

@@ -9,14 +9,14 @@ ghost use Rattle.exponential.specs.Ours.{our_down, our_up, row_of, times_down, t
 ghost use Rattle.exponential.specs.Steps.{Factors};
 
 // Row i: e ^ (2 ^ i / 2 ^ 20) lies between this many times 2 ^ SHIFTS[i] / 2 ^ 31 and one more.
-const ROWS: [u32; 26] = [
+static ROWS: [u32; 26] = [
     2147485696, 2147487744, 2147491840, 2147500032, 2147516416, 2147549185, 2147614724, 2147745808,
     2148008000, 2148532480, 2149581824, 2151682050, 2155888661, 2164326571, 2181301594, 2215652096,
     2285984443, 2433417773, 2757423585, 3540601968, 2918732888, 3966969286, 3664019825, 3125761002,
     2274844293, 2409758306,
 ];
 
-const SHIFTS: [u8; 26] = [
+static SHIFTS: [u8; 26] = [
     0, 0, 0, 0, 0, 0, 0, 0, 0, 0, 0, 0, 0, 0, 0, 0, 0, 0, 0, 0, 1, 2, 5, 11, 23, 46,
 ];
 

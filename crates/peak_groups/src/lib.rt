@@ -69,18 +69,18 @@ fn longer(r: Run, x: i32) -> Run
     ensures { result ≡ longer r x }
 {
     let size = sample_size::magnitude(x);
-    let on = Run {
-        length: r.length + 1,
-        ..r
-    };
     if r.size < size {
         Run {
+            length: r.length + 1,
             place: r.length,
             size,
-            ..on
+            ..r
         }
     } else {
-        on
+        Run {
+            length: r.length + 1,
+            ..r
+        }
     }
 }
 

@@ -96,14 +96,12 @@ fn look(campaigns: [Campaign; 64], number: usize) -> Seen
     let mut broken: u64 = 0;
     let mut one: bool = false;
     let mut all: bool = true;
-    let mut i: usize = 0;
-    while i < number {
+    for i in 0..number {
         let c = campaigns[i];
         broken = lowest(broken, (i as u64) + 1, c);
         let v = said(c);
         one = truth::either(one, v.rejected);
         all = truth::both(all, v.accepted);
-        i += 1;
     }
     Seen {
         broken: broken,

@@ -91,14 +91,12 @@ fn sum(campaigns: [Campaign; 64], number: usize) -> Total
     let mut failures: u64 = 0;
     let mut exposure: u64 = 0;
     let mut billed: u64 = 0;
-    let mut i: usize = 0;
-    while i < number {
+    for i in 0..number {
         let c = campaigns[i];
         records += c.records;
         failures += c.failures;
         exposure += c.exposure;
         billed += blocks(c.failures);
-        i += 1;
     }
     Total {
         records: records,
@@ -138,11 +136,9 @@ fn lines_length(campaigns: [Campaign; 64], number: usize) -> u64
     ensures { (result ≡ length (lines_from 1 (take number campaigns))) × (result ≤ 6848) }
 {
     let mut total: u64 = 0;
-    let mut i: usize = 0;
-    while i < number {
+    for i in 0..number {
         let c = campaigns[i];
         total += line_length((i as u64) + 1, c) as u64;
-        i += 1;
     }
     total
 }
@@ -182,11 +178,9 @@ fn put_lines(campaigns: [Campaign; 64], number: usize, out: &mut [u8]) -> usize
     ensures out_after { out.new ≡ written out.old 0 (lines_from 1 (take number campaigns)) }
 {
     let mut place: usize = 0;
-    let mut i: usize = 0;
-    while i < number {
+    for i in 0..number {
         let c = campaigns[i];
         place = put_line((i as u64) + 1, c, out, place);
-        i += 1;
     }
     place
 }

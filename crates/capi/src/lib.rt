@@ -206,11 +206,7 @@ pub fn put(from: &[u64], to: &mut [u64])
     if to.len() != from.len() {
         return;
     }
-    let mut i = 0;
-    while i < from.len() {
-        to[i] = from[i];
-        i += 1;
-    }
+    to.copy_from_slice(from);
 }
 
 // An answer that is one number.

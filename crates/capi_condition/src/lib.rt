@@ -43,11 +43,9 @@ fn campaigns_of(rows: &[[u64; 5]]) -> [Campaign; 64]
         failed: false,
     };
     let mut all = [none; 64];
-    let mut i: usize = 0;
-    while i < rows.len() {
+    for i in 0..rows.len() {
         let r = rows[i];
         all[i] = campaign_of(r);
-        i += 1;
     }
     all
 }

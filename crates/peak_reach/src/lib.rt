@@ -70,8 +70,7 @@ fn quotient(a: u64, d: u64) -> Divided
 {
     let mut whole = a / d;
     let mut rest = a % d;
-    let mut i: u64 = 0;
-    while i < 20 {
+    for _ in 0..20u64 {
         if 2 * rest < d {
             whole = 2 * whole;
             rest = 2 * rest;
@@ -79,7 +78,6 @@ fn quotient(a: u64, d: u64) -> Divided
             whole = 2 * whole + 1;
             rest = 2 * rest - d;
         }
-        i += 1;
     }
     Divided {
         whole: whole,
@@ -163,16 +161,14 @@ fn first_out(peaks: &[u32]) -> usize
     ensures { result ≡ first_out peaks.now }
 {
     let mut before: u32 = 1_000_000;
-    let mut i = 0;
-    while i < peaks.len() {
+    for i in 0..peaks.len() {
         let y = peaks[i];
         if !truth::both(1 <= y, y <= before) {
             return i;
         }
         before = y;
-        i += 1;
     }
-    i
+    peaks.len()
 }
 
 fn no_spread(k: u64, sum: u64, g: u64) -> bool

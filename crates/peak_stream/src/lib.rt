@@ -184,10 +184,8 @@ fn along(s: Surveying, samples: &[i32]) -> Surveying
     ensures { result ≡ foldl surveyed s samples.now }
 {
     let mut at = s;
-    let mut i = 0;
-    while i < samples.len() {
-        at = add(at, samples[i]);
-        i += 1;
+    for x in samples {
+        at = add(at, *x);
     }
     at
 }
@@ -296,16 +294,14 @@ fn through(h: Handing, samples: &[i32], sizes: &mut [u32], times: &mut [u32]) ->
         × (times.new ≡ sets times.old 0 (map moment_of (closed_by h samples.now))) }
 {
     let mut at = h;
-    let mut i = 0;
     let mut k = 0;
-    while i < samples.len() {
-        let next = onward(at, samples[i]);
+    for x in samples {
+        let next = onward(at, *x);
         let earlier = at.envelope;
         let later = next.envelope;
         let after = later.chains;
         k = put(earlier.chains, after.opened, k, sizes, times);
         at = next;
-        i += 1;
     }
     Gone {
         state: at,

@@ -10,16 +10,18 @@ use borrow.Author.Tests.{ne_eqb}
 use lib.ListN.{drop, get_or, length}
 use lib.Seq.{drop-cons}
 use Rattle.sorting.specs.Sorting.{count}
+use Rattle.std.specs.List.{prefix_len}
 use Rattle.peak_tail.specs.Fitting.{first_bad, peak_in_range}
 
-module _ (p : List ℕ) (i : ℕ) (h : i < length p) where
-  pub bad_at : peak_in_range (get_or p i 0) ≡ false → first_bad (drop i p) ≡ 0
-  unfolding first_bad
-  bad_at e = rw (drop-cons p i 0 h, e)
-
-  pub good_at : peak_in_range (get_or p i 0) ≡ true → first_bad (drop i p) ≡ suc (first_bad (drop (i + 1) p))
-  unfolding first_bad
-  good_at e = rw (add-one, drop-cons p i 0 h, e)
+-- the first bad place is the number of the peaks before it
+pub counted : (ys : List ℕ) → first_bad ys ≡ prefix_len peak_in_range ys
+unfolding first_bad
+counted [] = refl
+counted (y ∷ ys) = rw (counted ys) (go (peak_in_range y))
+  where
+    go : (b : Bool) → cond b (suc (prefix_len peak_in_range ys)) 0 ≡ cond b (1 + prefix_len peak_in_range ys) 0
+    go true = omega arith
+    go false = refl
 
 -- where no peak is bad, none is 0
 pub none_zero : (p : List ℕ) → length p ≤ first_bad p → count 0 p ≡ 0

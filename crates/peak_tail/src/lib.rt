@@ -3,8 +3,9 @@
 #![tactic(auto)]
 
 ghost use Rattle.std.specs.Prelude.{◌≡◌, ◌++◌, ◌≤◌, drop, length};
+ghost use Rattle.std.specs.List.{prefix_len};
 ghost use Rattle.sorting.specs.Sorting.{Sorted, count};
-ghost use Rattle.peak_tail.specs.Fitting.{FitsTo, first_bad, hill_within, peak_in_range, tail_outside};
+ghost use Rattle.peak_tail.specs.Fitting.{FitsTo, hill_within, peak_in_range, tail_outside};
 ghost use Rattle.peak_tail.specs.Hill.{HillSum};
 ghost use Rattle.peak_tail.specs.Steps.{SumOfFirst};
 
@@ -29,16 +30,9 @@ fn peak_in_range(y: u32) -> bool
 
 // The place of the first peak that is 0 or too high, the list's length if there is none.
 fn first_bad(peaks: &[u32]) -> usize
-    ensures { result ≡ first_bad peaks.now }
+    ensures { result ≡ prefix_len peak_in_range peaks.now }
 {
-    let mut i = 0;
-    while i < peaks.len() {
-        if !peak_in_range(peaks[i]) {
-            return i;
-        }
-        i += 1;
-    }
-    i
+    peaks.iter().take_while(|y| peak_in_range(**y)).count()
 }
 
 // Copies the peaks to the start of `to`.
@@ -46,11 +40,7 @@ fn copy(peaks: &[u32], to: &mut [u32])
     requires { length peaks.now ≤ length to.old }
     ensures { to.new ≡ peaks.now ++ drop (length peaks.now) to.old }
 {
-    let mut i = 0;
-    while i < peaks.len() {
-        to[i] = peaks[i];
-        i += 1;
-    }
+    to[..peaks.len()].copy_from_slice(peaks);
 }
 
 // The logarithms of Y(i) / Y(k) added up. The last, of Y(k) / Y(k), is 0.
@@ -61,10 +51,8 @@ fn sum_of_first(y: &[u32], k: usize) -> u64
     let last = k - 1;
     let least = y[last];
     let mut sum: u64 = 0;
-    let mut i = 0;
-    while i < last {
+    for i in 0..last {
         sum += logarithm::log2(y[i], least);
-        i += 1;
     }
     sum
 }

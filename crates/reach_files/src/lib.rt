@@ -133,10 +133,8 @@ fn put_all(sizes: &[u32], list: &mut [u32], at: usize)
     requires { (at ≤ 4096) × (length sizes.now ≤ 1024) }
     ensures { list.new ≡ sets list.old at sizes.now }
 {
-    let mut i = 0;
-    while i < sizes.len() {
+    for i in 0..sizes.len() {
         peak_machine::place(list, at + i, sizes[i]);
-        i += 1;
     }
 }
 
@@ -305,10 +303,8 @@ fn above(level: u64, ys: &[u32]) -> u64
     ensures { result ≡ above_level level ys.now }
 {
     let mut n: u64 = 0;
-    let mut i = 0;
-    while i < ys.len() {
-        n += is_above(level, ys[i]);
-        i += 1;
+    for y in ys {
+        n += is_above(level, *y);
     }
     n
 }

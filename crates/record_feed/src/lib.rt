@@ -144,13 +144,11 @@ fn along(r: Record, ups: &[bool], roll: &[i32], acceleration: &[i32]) -> Record
     let gap = gap_of(r);
     let mut s = r;
     let mut low = below(r);
-    let mut i = 0;
-    while i < roll.len() {
+    for i in 0..roll.len() {
         let x = sample_channels::moment_at(roll, acceleration, i);
         let up = ups[i];
         s = step(s, gap, truth::both(low, up), x);
         low = !up;
-        i += 1;
     }
     s
 }

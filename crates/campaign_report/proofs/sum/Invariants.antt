@@ -1,5 +1,5 @@
--- `campaign_report::sum` meets its contract: the invariant is `Summed`, that what was added up and what is left are the
--- whole. What is left falls. Assumes nothing.
+-- `campaign_report::sum` meets its contract: the invariant is `Summed`, that what was added up and what is left are
+-- the whole. Assumes nothing.
 use Prim.Native.Nat.{◌+◌, ◌-◌, ◌≤◌}
 use mathlib.Core.Path.{◌≡◌}
 use lib.ListN.{drop, take}
@@ -11,6 +11,3 @@ abbrev pub invariant-loop-i : goal.invariant-loop-i
 invariant-loop-i l = (l.i ≤ l.number)
     × (broken_from (l.i + 1) (drop l.i (take l.number l.campaigns)) ≡ 0)
     × Summed (take l.number l.campaigns) (drop l.i (take l.number l.campaigns)) l.i l.records l.failures l.exposure l.billed
-
-abbrev pub decreases-loop-i : goal.decreases-loop-i
-decreases-loop-i l = l.number - l.i

@@ -6,6 +6,3 @@ use Rattle.capi_condition.proofs.campaigns_of.Given as goal
 abbrev pub invariant-loop-i : goal.invariant-loop-i
 invariant-loop-i l =
     (l.i ≤ length l.rows) × (length l.all ≡ 64) × (take l.i l.all ≡ campaigns_of (take l.i l.rows))
-
-abbrev pub decreases-loop-i : goal.decreases-loop-i
-decreases-loop-i l = length l.rows - l.i

@@ -15,13 +15,13 @@ use Rattle.peak_stream.proofs.Passing.{good_next}
 use Rattle.peak_stream.proofs.along.Goals as goal
 use Rattle.peak_stream.proofs.along.Goals.{Start}
 
-pub loop-i-preserved : goal.loop-i-preserved
-loop-i-preserved c =
+pub loop-x-preserved : goal.loop-x-preserved
+loop-x-preserved c =
     let start : Start = search rules in let d = start in
     let p = d.args.samples.now in
-    let i = c.loop-i.i in
-    let s = c.loop-i.at in
-    let v = c.loop-i.invariant in
+    let i = c.loop-x.x-index in
+    let s = c.loop-x.at in
+    let v = c.loop-x.invariant in
     let x = get_or p i (pos 0) in
     let f : SFits w32 x = search rules in
     let e : c.add-at.result ≡ surveyed s x = c.add-at.ensures.0 ∙ ap (surveyed s) (to_z-of_z f) in (

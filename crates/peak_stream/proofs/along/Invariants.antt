@@ -1,5 +1,5 @@
 -- `peak_stream::along` meets its contract. The invariant: what is left, taken in the state, comes to the whole piece
--- taken in the first. The measure is what is left. Assumes nothing.
+-- taken in the first. Assumes nothing.
 use Prim.Native.Nat.{◌-◌, ◌≤◌}
 use mathlib.Core.Path.{◌≡◌}
 use mathlib.Core.List.{foldl}
@@ -8,9 +8,6 @@ use Rattle.peak_stream.specs.Survey.{surveyed}
 use Rattle.peak_stream.proofs.Passing.{Good}
 use Rattle.peak_stream.proofs.along.Given as goal
 
-abbrev pub invariant-loop-i : goal.invariant-loop-i
-invariant-loop-i l = (l.i ≤ length l.samples) × Good l.at (length l.samples - l.i) × (foldl surveyed l.at (drop l.i
+abbrev pub invariant-loop-x : goal.invariant-loop-x
+invariant-loop-x l = (l.x-index ≤ length l.samples) × Good l.at (length l.samples - l.x-index) × (foldl surveyed l.at (drop l.x-index
     l.samples) ≡ foldl surveyed l.initial.at l.samples)
-
-abbrev pub decreases-loop-i : goal.decreases-loop-i
-decreases-loop-i l = length l.samples - l.i

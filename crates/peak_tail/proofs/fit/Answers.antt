@@ -4,7 +4,7 @@ use mathlib.Core.Path.{ap, sym, ◌∙◌}
 use mathlib.Core.List.{◌++◌}
 use native.Mathlib.Omega.{arith}
 use lib.ListN.{length}
-use Rattle.peak_tail.proofs.Bad.{none_zero}
+use Rattle.peak_tail.proofs.Bad.{counted, none_zero}
 use Rattle.peak_tail.proofs.Order.{copied_rest, copied_start, inside, refuses_peak, refuses_room, refuses_tail, sums_up}
 use Rattle.peak_tail.proofs.fit.Goals as goal
 
@@ -15,17 +15,16 @@ returns-then-tail_outside c =
 
 pub returns-then-bad-n : goal.returns-then-bad-n
 returns-then-bad-n c =
-    let f = c.first_bad-bad in
     let a = c.args in
-    rw f.ensures
-    (refuses_peak a.peaks.now a.k a.sorted.now (sym c.tail_outside.ensures ∙ c.if-tail_outside.false) (rw f.ensures at c.if-bad-n.true))
+    let bad = c.first_bad-bad.ensures ∙ sym (counted a.peaks.now) in
+    rw bad
+    (refuses_peak a.peaks.now a.k a.sorted.now (sym c.tail_outside.ensures ∙ c.if-tail_outside.false) (rw bad at c.if-bad-n.true))
 
 pub returns-then-sorted-n : goal.returns-then-sorted-n
 returns-then-sorted-n c =
-    let f = c.first_bad-bad in
     let a = c.args in
     refuses_room a.peaks.now a.k a.sorted.now (sym c.tail_outside.ensures ∙ c.if-tail_outside.false)
-    (rw f.ensures at c.if-bad-n.false)
+    (rw (c.first_bad-bad.ensures ∙ sym (counted a.peaks.now)) at c.if-bad-n.false)
     c.if-sorted-n.true
 
 pub sum_of_largest-sum-requires : goal.sum_of_largest-sum-requires
@@ -34,7 +33,7 @@ sum_of_largest-sum-requires c =
     let a = c.args in
     let (long, low, high) = inside (length a.peaks.now) a.k (sym c.tail_outside.ensures ∙ c.if-tail_outside.false) in
     rw (copied_start a.peaks.now a.sorted.now _ y.ensures)
-    (low, high, omega arith, none_zero a.peaks.now (rw c.first_bad-bad.ensures at c.if-bad-n.false))
+    (low, high, omega arith, none_zero a.peaks.now (rw (c.first_bad-bad.ensures ∙ sym (counted a.peaks.now)) at c.if-bad-n.false))
 
 pub returns : goal.returns
 returns c =
@@ -42,7 +41,7 @@ returns c =
     let y = c.copy in
     let a = c.args in
     sums_up a.peaks.now a.k a.sorted.now (sym c.tail_outside.ensures ∙ c.if-tail_outside.false)
-    (rw c.first_bad-bad.ensures at c.if-bad-n.false)
+    (rw (c.first_bad-bad.ensures ∙ sym (counted a.peaks.now)) at c.if-bad-n.false)
     c.if-sorted-n.false
     (record {
       ys = s.new.y;

@@ -24,19 +24,19 @@ done : (level n i : ℕ) (ys : List ℕ) → length ys ≤ i → n + above_level
 unfolding above_level
 done level n i ys h inv = sym (add-zero n) ∙ ap (λ (l : List ℕ). n + above_level level l) (sym (drop_of_length-le ys {i = i} h)) ∙ inv
 
-pub loop-i-preserved : goal.loop-i-preserved
-loop-i-preserved c =
-    let l = c.loop-i in
+pub loop-y-preserved : goal.loop-y-preserved
+loop-y-preserved c =
+    let l = c.loop-y in
     let a = c.args in
     let ys = a.ys.now in
-    let h = c.loop-i-test.true in (
+    let h = c.loop-y-test.true in (
       omega (arith, h),
       omega (arith, l.invariant.1, c.is_above-n.ensures.upper_bound),
-      next a.level l.n l.i c.is_above-n.result ys l.invariant.0 c.is_above-n.ensures.value l.invariant.2 (rw add-one (drop-cons ys l.i 0 h)),
+      next a.level l.n l.y-index c.is_above-n.result ys l.invariant.0 c.is_above-n.ensures.value l.invariant.2 (rw add-one (drop-cons ys l.y-index 0 h)),
     )
 
 pub returns : goal.returns
 returns c =
-    let l = c.loop-i in
+    let l = c.loop-y in
     let a = c.args in
-    done a.level l.n l.i a.ys.now c.loop-i-test.false l.invariant.2
+    done a.level l.n l.y-index a.ys.now c.loop-y-test.false l.invariant.2

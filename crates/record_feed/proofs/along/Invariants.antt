@@ -1,6 +1,6 @@
--- `record_feed::along` meets its contract. The invariant: what is left, run from the state so far, ends where the whole
--- piece does; the state is sound, it is timed, it is known whether its last sample is above in neither channel, and
--- there is room for what is left, which is in range; the gap is its own. The measure is what is left. Assumes nothing.
+-- `record_feed::along` meets its contract. The invariant: what is left, run from the state so far, ends where the
+-- whole piece does; the state is sound, it is timed, it is known whether its last sample is above in neither
+-- channel, and there is room for what is left, which is in range; the gap is its own. Assumes nothing.
 use Prim.Native.Nat.{◌+◌, ◌-◌, ◌≤◌, ◌<◌}
 use mathlib.Core.Path.{◌≡◌}
 use mathlib.Core.Bool.{true}
@@ -23,6 +23,3 @@ invariant-loop-i l = (sound l.s ≡ true)
     × Gap l.s.items.step l.s.items.decorrelation l.gap
     × (l.s.items.levels ≡ l.initial.s.items.levels)
     × (foldl stepped l.s (drop l.i (moments l.roll l.acceleration)) ≡ foldl stepped l.initial.s (moments l.roll l.acceleration))
-
-abbrev pub decreases-loop-i : goal.decreases-loop-i
-decreases-loop-i l = length l.roll - l.i

@@ -11,14 +11,14 @@ use Rattle.sheet_records.proofs.Puts.{failed_below}
 use Rattle.sheet_after.proofs.Failing.{so_next, so_end}
 use Rattle.sheet_after.proofs.failures.Goals as goal
 
-pub loop-i-preserved : goal.loop-i-preserved
-loop-i-preserved c =
-    let x = get_or c.args.records.now c.loop-i.i (pos 0) in
+pub loop-record-preserved : goal.loop-record-preserved
+loop-record-preserved c =
+    let x = get_or c.args.records.now c.loop-record.record-index (pos 0) in
     let f : SFits w32 x = search rules in
     let is = rw (to_z-of_z f) at c.pick-n.ensures in
-    let n = c.loop-i.n in
-    rw (is ∙ ap (λ (b : Bool). cond b (n + 1) n) (failed_below x)) (so_next _ _ _ c.loop-i.invariant c.loop-i-test.true)
+    let n = c.loop-record.n in
+    rw (is ∙ ap (λ (b : Bool). cond b (n + 1) n) (failed_below x)) (so_next _ _ _ c.loop-record.invariant c.loop-record-test.true)
 
 pub returns : goal.returns
 returns c =
-    so_end _ _ _ c.loop-i.invariant c.loop-i-test.false
+    so_end _ _ _ c.loop-record.invariant c.loop-record-test.false

@@ -10,7 +10,7 @@ ghost use Rattle.crossing_search.specs.Rise.{FirstRise};
 use sample_channels::Levels;
 
 // The place of the first crossing from `from` on and before `end`; `end` if there is none. A quiet block is passed
-// over.
+// over. No `Option`, which is no plainer: where there is none the search goes on at `end`.
 fn rise_in(roll: &[i32], acceleration: &[i32], levels: Levels, from: usize, end: usize) -> usize
     requires { (1 ≤ from) × (from ≤ end) × (end ≤ length roll.now) × (end ≤ length acceleration.now) }
     ensures { FirstRise levels (moments roll.now acceleration.now) from end result }
@@ -38,6 +38,7 @@ pub fn first_crossing(roll: &[i32], acceleration: &[i32], ramp: u64, levels: Lev
         return n;
     }
     let mut i = ramp as usize + 1;
+    // no `chunks`: a block's first sample is compared with the one before the block
     while i < n {
         let end = sample_block::end(i, n);
         let at = rise_in(roll, acceleration, levels, i, end);

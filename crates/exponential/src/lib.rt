@@ -16,6 +16,7 @@ static ROWS: [u32; 26] = [
     2274844293, 2409758306,
 ];
 
+// Two arrays, since the definition has two lists, which `rows` is proved of.
 static SHIFTS: [u8; 26] = [
     0, 0, 0, 0, 0, 0, 0, 0, 0, 0, 0, 0, 0, 0, 0, 0, 0, 0, 0, 0, 1, 2, 5, 11, 23, 46,
 ];

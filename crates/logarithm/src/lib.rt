@@ -33,6 +33,7 @@ fn scale(a: u32, b: u32) -> Scaled
 {
     let za = shift(a);
     let zb = shift(b);
+    // `as`, which loses nothing here: tried, by `u64::from` the proof does not close
     let top = (a as u64) << za;
     let bottom = (b as u64) << zb;
     let whole = (zb - za) as u64;

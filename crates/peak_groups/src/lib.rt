@@ -48,6 +48,7 @@ pub struct Run {
 pub fn zeros(samples: &[i32]) -> usize
     ensures { result ≡ zeros samples.now }
 {
+    // no `take_while` and `count`: tried, the proof does not close
     for (i, x) in samples.iter().enumerate() {
         if sample_size::magnitude(*x) != 0 {
             return i;
@@ -135,7 +136,7 @@ pub fn second_run(samples: &[i32]) -> usize
     start + run.length
 }
 
-// Whether a peak is high among n with the sum s.
+// Whether a peak is high among n with the sum s. The two numbers go together, but as parameters, which callers have.
 pub fn high(n: u32, s: u64, p: Peak) -> bool
     ensures { result ≡ high n s p }
 {

@@ -34,6 +34,7 @@ pub fn ends_of(samples: &[i32]) -> Ends
 {
     let mut low: i32 = 0;
     let mut high: i32 = 0;
+    // both ends in one pass: two chains would look at every sample twice
     for x in samples {
         low = low.min(*x);
         high = high.max(*x);

@@ -89,6 +89,7 @@ pub fn mark(levels: Levels, roll: &[i32], acceleration: &[i32], ups: &mut [bool]
         ≡ paste ups.old 0 (map (above levels) (moments roll.now acceleration.now))
         (min (length ups.old) (length (moments roll.now acceleration.now))) }
 {
+    // by place: over zipped iterators the proof does not learn what `ups` holds in the end
     let n = ups.len().min(roll.len()).min(acceleration.len());
     for i in 0..n {
         ups[i] = above(levels, moment_at(roll, acceleration, i));

@@ -15,7 +15,7 @@ const HIGHEST: i32 = 1_000_000;
 pub fn in_range(x: i32) -> bool
     ensures { result ≡ sample_in_range x }
 {
-    truth::both(LOWEST <= x, x <= HIGHEST)
+    (LOWEST..=HIGHEST).contains(&x)
 }
 
 // Whether an end of a block is outside the range. If so a sample of the block is, and else none.

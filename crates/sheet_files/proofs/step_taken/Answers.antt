@@ -12,7 +12,8 @@ use Rattle.sheet_files.specs.Files.{most_failures}
 use Rattle.sheet_files.specs.Filing.{step_taken}
 use borrow.Author.Rules.{rules}
 use Rattle.sheet_files.proofs.step_taken.Goals as goal
-use Rattle.std.specs.Prelude.{Ok}
+use Rattle.refusal.specs.declared.Refusal.{Refusal}
+use Rattle.std.specs.Prelude.{Result, Ok}
 
 placed : {place n failures more : ℕ} {x y : ℤ} → failures ≡ more → x ≡ y → ◌≡◌ {A = Result (ℕ × ℕ × ℕ × ℤ) (ℕ × ℕ × Refusal)} (Ok (place, n, failures, x)) (Ok (place, n, more, y))
 placed {place} {n} e f j = Ok (place, n, e j, f j)

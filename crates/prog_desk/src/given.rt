@@ -87,9 +87,7 @@ fn bad_descriptor() -> io::Error {
 
 // Opens what `link` leads to, if its descriptor is open for that.
 fn open_again(rt: &HostRuntime, link: &str, bit: u32, how: &OpenOptions) -> io::Result<File> {
-    let Ok(metadata) = fs::symlink_metadata(rt, link) else {
-        return Err(bad_descriptor());
-    };
+    let metadata = fs::symlink_metadata(rt, link).map_err(|_| bad_descriptor())?;
     if metadata.mode() & bit == 0 {
         return Err(bad_descriptor());
     }
@@ -102,10 +100,7 @@ fn open_again(rt: &HostRuntime, link: &str, bit: u32, how: &OpenOptions) -> io::
 // Both ends of a named pipe: it waits for whoever has the other end where it is opened, also where the other end was
 // there and is gone. Held open by both, it lets itself be opened at once.
 fn hold(rt: &HostRuntime, link: &str) -> Option<File> {
-    let Ok(metadata) = fs::metadata(rt, link) else {
-        return None;
-    };
-    if !metadata.file_type().is_fifo() {
+    if !fs::metadata(rt, link).ok()?.file_type().is_fifo() {
         return None;
     }
     OpenOptions::new()
@@ -176,10 +171,8 @@ fn place_told(rt: &HostRuntime, name: &str) -> Option<u64> {
 const PLACE: &[u8] = b"pos:\t";
 
 fn place_in(text: &[u8]) -> Option<u64> {
-    if !text.starts_with(PLACE) {
-        return None;
-    }
-    match decimal::leading_at(text, PLACE.len()) {
+    let place = text.strip_prefix(PLACE)?;
+    match decimal::leading_at(place, 0) {
         Lead::Number(place, _) => Some(place),
         Lead::Nothing => None,
     }

@@ -47,20 +47,18 @@ impl Given {
         }
     }
 
+    fn file(&self) -> io::Result<&File> {
+        self.file.as_ref().map_err(|e| *e)
+    }
+
     pub fn write_all(&self, bytes: &[u8]) -> io::Result<()> {
-        match &self.file {
-            Ok(file) => write_all_to(file, bytes),
-            Err(e) => Err(*e),
-        }
+        write_all_to(self.file()?, bytes)
     }
 }
 
 impl Read for &Given {
     fn read(&mut self, buf: &mut [u8]) -> io::Result<usize> {
-        match &self.file {
-            Ok(file) => read_from(file, buf),
-            Err(e) => Err(*e),
-        }
+        read_from(self.file()?, buf)
     }
 }
 

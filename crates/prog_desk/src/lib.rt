@@ -14,6 +14,8 @@ use comma_count::Counting;
 use comma_pair::{Next, Watching};
 use desk_line::Finished;
 use given::Closed;
+use sample_channels::Levels;
+use sample_items::Items;
 pub use given::{Again, Given, input_again};
 pub use names::Names;
 pub use source::Source;
@@ -183,6 +185,20 @@ pub fn item(desk: &Desk, i: usize) -> u64 {
     decimal::number_or(word(desk, i, &mut buffer), u64::MAX)
 }
 
+// The items of a record: the step, the ramp, the roll's level and the decorrelation time, by the four arguments from
+// `first` on, and the acceleration's level.
+pub fn items(desk: &Desk, first: usize, acceleration: u64) -> Items {
+    Items {
+        step: item(desk, first),
+        ramp: item(desk, first.wrapping_add(1)),
+        levels: Levels {
+            roll: item(desk, first.wrapping_add(2)),
+            acceleration,
+        },
+        decorrelation: item(desk, first.wrapping_add(3)),
+    }
+}
+
 // Whether somebody is watching.
 pub fn watched(desk: &Desk) -> bool {
     desk.errors().is_terminal()
@@ -290,21 +306,21 @@ pub fn serve_next(
     Ok(Some(c))
 }
 
-// Reads from `from`, which is called `name`, to its end, or until `text` is full; answers how many bytes.
-pub fn read_whole<R: Read>(
+// Reads from `from`, which is called `name`, to its end, or until `text` is full; answers what is read.
+pub fn read_whole<'t, R: Read>(
     desk: &Desk,
     from: &mut R,
     name: &[u8],
-    text: &mut [u8],
-) -> Result<usize, Broken> {
+    text: &'t mut [u8],
+) -> Result<&'t [u8], Broken> {
     let mut kept = 0;
     for _ in 0..u64::MAX {
-        if text.len() <= kept {
-            return Ok(kept);
+        if kept == text.len() {
+            return Ok(text);
         }
         let end = fill(desk, from, name, text, kept)?;
-        if end <= kept {
-            return Ok(kept);
+        if end == kept {
+            return Ok(&text[..end]);
         }
         kept = end;
     }

@@ -14,10 +14,10 @@ use comma_count::Counting;
 use comma_pair::{Next, Watching};
 use desk_line::Finished;
 use given::Closed;
-use sample_channels::Levels;
-use sample_items::Items;
 pub use given::{Again, Given, input_again};
 pub use names::Names;
+use sample_channels::Levels;
+use sample_items::Items;
 pub use source::Source;
 pub use spool::temporary;
 use std::env::FillError;
@@ -272,8 +272,10 @@ pub fn show_files(desk: &Desk, files: u64) {
 
 // A name as a path. std takes a path as text alone, so a name that is no UTF-8 is not found.
 fn path(name: &[u8]) -> io::Result<&str> {
-    std::str::from_utf8(name)
-        .map_err(|_| io::Error::new(ErrorKind::InvalidFilename, "the name is no UTF-8"))
+    std::str::from_utf8(name).map_err(|_| io::Error::new(
+        ErrorKind::InvalidFilename,
+        "the name is no UTF-8",
+    ))
 }
 
 // Opens the file of this name, and says why where it cannot.

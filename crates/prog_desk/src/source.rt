@@ -5,12 +5,10 @@ use std::fs::File;
 use std::io::{Read, Write};
 
 #[derive(Drop)]
-pub struct Source<'t, 'a, R> {
+pub struct Source<'t, 'n, R> {
     from: R,
     // What it is called where it cannot be read.
-    name: &'a [u8],
-    // Where what is read is written too.
-    copy: Option<&'a File>,
+    name: &'n [u8],
     text: &'t mut [u8],
     // The bytes of `text` from `at` up to `end` are read and not used yet.
     at: usize,
@@ -19,22 +17,11 @@ pub struct Source<'t, 'a, R> {
     pub more: bool,
 }
 
-impl<'t, 'a, R: Read> Source<'t, 'a, R> {
-    pub fn new(from: R, name: &'a [u8], text: &'t mut [u8]) -> Source<'t, 'a, R> {
-        Source::copied(from, name, None, text)
-    }
-
-    // One of which a copy is made, where there is a file for it.
-    pub fn copied(
-        from: R,
-        name: &'a [u8],
-        copy: Option<&'a File>,
-        text: &'t mut [u8],
-    ) -> Source<'t, 'a, R> {
+impl<'t, 'n, R: Read> Source<'t, 'n, R> {
+    pub fn new(from: R, name: &'n [u8], text: &'t mut [u8]) -> Source<'t, 'n, R> {
         Source {
             from,
             name,
-            copy,
             text,
             at: 0,
             end: 0,
@@ -63,12 +50,17 @@ impl<'t, 'a, R: Read> Source<'t, 'a, R> {
 
     // Reads once, after the bytes that are not used yet.
     pub fn refill(&mut self, desk: &Desk) -> Result<(), Broken> {
+        self.refill_to(desk, None)
+    }
+
+    // The same; what is read goes to `copy` too, where there is one.
+    pub fn refill_to(&mut self, desk: &Desk, copy: Option<&File>) -> Result<(), Broken> {
         let end = self.end.min(self.text.len());
         let at = self.at.min(end);
         let kept = end - at;
         text::keep(self.text, at, kept);
         let filled = fill(desk, &mut self.from, self.name, self.text, kept)?;
-        copy_to(desk, self.copy, &self.text[kept..filled])?;
+        copy_to(desk, copy, &self.text[kept..filled])?;
         self.at = 0;
         self.end = filled;
         self.more = kept < filled;

@@ -49,15 +49,16 @@ fn go_over<R: Read + Drop>(
     start: Pass,
     from: R,
     copy: Option<&File>,
-    room: &mut Room,
+    text: &mut [u8],
+    out: &mut [u8],
 ) -> Result<Pass, Broken> {
     let shown = prog_desk::watched(desk);
-    let mut source = Source::new(from, b"reading", room.text);
+    let mut source = Source::new(from, b"reading", text);
     let mut pass = start;
     for _ in 0..u64::MAX {
-        let t = peak_files::take(pass, source.unused(), source.more, room.out);
+        let t = peak_files::take(pass, source.unused(), source.more, out);
         if t.put > 0 {
-            prog_desk::write_out(desk, room.out, t.put)?;
+            prog_desk::write_out(desk, out, t.put)?;
         }
         let next = t.pass;
         prog_desk::show_progress(desk, pass.follow.lines, next.follow.lines, shown);
@@ -86,7 +87,7 @@ fn read_again(
     file.seek(SeekFrom::Start(again.at))
         .map_err(|e| prog_desk::fail(desk, b"going back to the start", e))?;
     let pass = peak_files::again(first, a.decorrelation);
-    let second = go_over(desk, pass, file, None, room)?;
+    let second = go_over(desk, pass, file, None, room.text, room.out)?;
     let f = peak_files::finish(first, second, room.out);
     if f.end == desk_line::FAILED {
         prog_desk::warn(desk, b"peaks: the file changed while it was read\n");
@@ -107,7 +108,7 @@ fn both<R: Read + Drop>(
     room: &mut Room,
 ) -> Result<Ended, Broken> {
     let pass = peak_files::open(a.step, a.ramp, file);
-    let first = go_over(desk, pass, from, copy, room)?;
+    let first = go_over(desk, pass, from, copy, room.text, room.out)?;
     let f = peak_files::judge(first, room.out);
     if f.end != desk_line::READ {
         return prog_desk::answer(desk, room.out, f);

@@ -158,6 +158,27 @@ pub fn input_again(desk: &Desk) -> Option<Again> {
     Some(Again { file, start })
 }
 
+// Where a second reading starts, in a file that is open.
+#[derive(Clone, Copy)]
+pub struct Start<'f> {
+    pub file: &'f File,
+    pub at: u64,
+}
+
+impl<'f> Start<'f> {
+    // Where the file stands, if it can be gone back there.
+    pub fn here(mut file: &'f File) -> Option<Start<'f>> {
+        let at = file.seek(SeekFrom::Current(0)).ok()?;
+        Some(Start { file, at })
+    }
+
+    pub fn go_back(self) -> io::Result<&'f File> {
+        let mut file = self.file;
+        file.seek(SeekFrom::Start(self.at))?;
+        Ok(file)
+    }
+}
+
 // Where a descriptor stands, as Linux tells it in the first line of a file: pos, a colon, a tab, the number.
 fn place_told(rt: &HostRuntime, name: &str) -> Option<u64> {
     let mut file = File::open(rt, name).ok()?;

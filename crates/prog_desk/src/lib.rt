@@ -14,7 +14,7 @@ use comma_count::Counting;
 use comma_pair::{Next, Watching};
 use desk_line::Finished;
 use given::Closed;
-pub use given::{Again, Given, input_again};
+pub use given::{Again, Given, Start, input_again};
 pub use names::Names;
 use sample_channels::Levels;
 use sample_items::Items;
@@ -123,7 +123,8 @@ const TEMPORARY: &[u8] = b"the temporary file";
 // How many lines lie between two signs of progress.
 const LINES_BETWEEN: u64 = 1_000_000;
 
-// Writes the first `n` bytes of `out` to standard output.
+// Writes the first `n` bytes of `out` to standard output. The length stands beside the bytes, since the libraries answer
+// how many they have put into lent ones.
 pub fn write_out(desk: &Desk, out: &[u8], n: usize) -> Result<(), Broken> {
     let bytes = out.get(..n).ok_or(Broken)?;
     desk.rt
@@ -171,15 +172,13 @@ pub fn word<'b>(desk: &Desk, i: usize, buffer: &'b mut [u8]) -> &'b mut [u8] {
 // How many arguments there are, the program's own name among them.
 pub fn count_words(desk: &Desk) -> usize {
     let mut buffer = [0u8; 1];
-    for i in 0..usize::MAX {
-        if let Err(FillError::NotPresent) = desk.rt.arg(i, &mut buffer) {
-            return i;
-        }
-    }
-    usize::MAX
+    (0..usize::MAX)
+        .find(|i| matches!(desk.rt.arg(*i, &mut buffer), Err(FillError::NotPresent)))
+        .unwrap_or(usize::MAX)
 }
 
-// The number of an argument; where it is none of at most 12 digits, a number that is in no item's range.
+// The number of an argument; where it is none of at most 12 digits, a number that is in no item's range: no `Option`,
+// since it goes to the libraries as it is, which refuse it by the item's name.
 pub fn item(desk: &Desk, i: usize) -> u64 {
     let mut buffer = [0u8; 32];
     decimal::number_or(word(desk, i, &mut buffer), u64::MAX)

@@ -12,10 +12,10 @@
 use comma_peaks::Judged;
 use comma_stream::{Follow, Followed, Rest};
 use peak_stream::{Surveyed, Surveying};
-use prog_desk::{Broken, Desk, Ended, Names, Source};
+use prog_desk::{Broken, Desk, Ended, Names, Source, Start};
 use reach_files::{Gathering, Job, Kept};
 use std::fs::File;
-use std::io::{Read, Seek, SeekFrom};
+use std::io::Read;
 
 // The most bytes that are read at once, of a file and of the list of names; the most lines that are worked on at once.
 const BYTES: usize = 65_536;
@@ -30,13 +30,6 @@ const SPOOL: usize = 7;
 struct Listed<'n> {
     number: u64,
     name: &'n [u8],
-}
-
-// Where the second pass over a file starts.
-#[derive(Clone, Copy)]
-struct Start<'f> {
-    file: &'f File,
-    at: u64,
 }
 
 // A pass over a file: its lines so far, what they count, what they hand out where it is the second, and whether a line
@@ -152,8 +145,8 @@ fn second_pass(
     again: Start,
     list: &mut [u32],
 ) -> Result<Gathering, Broken> {
-    let mut from = again.file;
-    from.seek(SeekFrom::Start(again.at))
+    let from = again
+        .go_back()
         .map_err(|e| prog_desk::fail(desk, l.name, e))?;
     let s = first.counted;
     let begun = Kept {
@@ -205,12 +198,11 @@ fn one(
     j: Job,
     l: Listed,
     a: Gathering,
-    mut from: &File,
+    from: &File,
     list: &mut [u32],
 ) -> Result<Gathering, Broken> {
     let first = begin(j, None)?;
-    if let Ok(at) = from.seek(SeekFrom::Current(0)) {
-        let again = Start { file: from, at };
+    if let Some(again) = Start::here(from) {
         return both_passes(desk, j, l, a, first, from, None, again, list);
     }
     let copy = prog_desk::temporary(desk, SPOOL)?;

@@ -8,9 +8,9 @@
 #![tactic(auto)]
 
 use peak_files::Pass;
-use prog_desk::{Broken, Desk, Ended, Names, Source};
+use prog_desk::{Broken, Desk, Ended, Names, Source, Start};
 use std::fs::File;
-use std::io::{Read, Seek, SeekFrom};
+use std::io::Read;
 
 // The most bytes that are read at once, of a file and of the list of names.
 const BYTES: usize = 65_536;
@@ -33,13 +33,6 @@ struct Asked {
 struct Room<'r> {
     text: &'r mut [u8],
     out: &'r mut [u8],
-}
-
-// Where the second reading of a file starts.
-#[derive(Clone, Copy)]
-struct Start<'f> {
-    file: &'f File,
-    at: u64,
 }
 
 // One reading of a file, call after call; what is read goes to the copy too, where there is one. Where a call used no
@@ -83,8 +76,8 @@ fn read_again(
     again: Start,
     room: &mut Room,
 ) -> Result<Ended, Broken> {
-    let mut file = again.file;
-    file.seek(SeekFrom::Start(again.at))
+    let file = again
+        .go_back()
         .map_err(|e| prog_desk::fail(desk, b"going back to the start", e))?;
     let pass = peak_files::again(first, a.decorrelation);
     let second = go_over(desk, pass, file, None, room.text, room.out)?;
@@ -144,16 +137,10 @@ fn alone(desk: &Desk, a: Asked, room: &mut Room) -> Result<Ended, Broken> {
 }
 
 // One file that is open; `number` is its number among several.
-fn one(
-    desk: &Desk,
-    a: Asked,
-    number: u64,
-    mut file: &File,
-    room: &mut Room,
-) -> Result<Ended, Broken> {
-    match file.seek(SeekFrom::Current(0)) {
-        Ok(at) => both(desk, a, number, file, None, Start { file, at }, room),
-        Err(_) => copied(desk, a, number, file, room),
+fn one(desk: &Desk, a: Asked, number: u64, file: &File, room: &mut Room) -> Result<Ended, Broken> {
+    match Start::here(file) {
+        Some(again) => both(desk, a, number, file, None, again, room),
+        None => copied(desk, a, number, file, room),
     }
 }
 

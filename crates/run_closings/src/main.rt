@@ -13,7 +13,8 @@ use sample_items::Items;
 
 // Of each row: the campaign's standard, M, N, T, and 1 if the last record failed; a campaign without a record is
 // opened. Then a record, by its number (`numbered`), and how often its result is entered; the number of one record
-// more, 8 for an outcome told by hand, 9 for none; and that one's exposure.
+// more, 8 for an outcome told by hand, 9 for none; and that one's exposure. A row is an array and no struct: 9 names in
+// each of 23 would be no plainer.
 const ROWS: [[u64; 9]; 23] = [
     // J and K, and one ms more of each
     [7_200_000, 3, 0, 26_559_936, 0, 0, 0, 9, 0],

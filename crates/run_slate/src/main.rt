@@ -11,7 +11,8 @@ use sample_items::Items;
 
 // Of each row: step, ramp, the roll's level, decorrelation time; how often the first piece is fed, its samples, and
 // all samples of the row, which the second piece ends; the places lent for the times; the roll's row of SAMPLES; the
-// acceleration's level and its row, of which row 6 has zeros for a one-channel job.
+// acceleration's level and its row, of which row 6 has zeros for a one-channel job. A row is an array and no struct: 11
+// names in each of 44 would be no plainer.
 const ROWS: [[u64; 11]; 44] = [
     // A to H
     [500, 0, 40000, 2000, 1, 7, 7, 3, 0, 9810, 6],

@@ -18,7 +18,8 @@ use sheet_text::Reading;
 use std::io::Read;
 use std::ops::ControlFlow;
 
-// Where a sheet's reading that goes on stands, the bytes of a line begun, and those of the sheet that are still to come.
+// Where a sheet's reading that goes on stands, the bytes of a line begun, and those of the sheet that are still to
+// come.
 #[derive(Clone, Copy)]
 struct Begun {
     sheet: Sheet,

@@ -123,8 +123,8 @@ const TEMPORARY: &[u8] = b"the temporary file";
 // How many lines lie between two signs of progress.
 const LINES_BETWEEN: u64 = 1_000_000;
 
-// Writes the first `n` bytes of `out` to standard output. The length stands beside the bytes, since the libraries answer
-// how many they have put into lent ones.
+// Writes the first `n` bytes of `out` to standard output. The length stands beside the bytes, since the libraries
+// answer how many they have put into lent ones.
 pub fn write_out(desk: &Desk, out: &[u8], n: usize) -> Result<(), Broken> {
     let bytes = out.get(..n).ok_or(Broken)?;
     desk.rt
@@ -232,6 +232,7 @@ pub fn fill<R: Read>(
 
 // Counts the file `from` through the buffer `text`, to its end or until nothing changes the answer any more. A proved
 // loop has to end, and nothing says that the input does; so its turns are counted, up to a number that no run uses up.
+// No `Source`: `comma_count::turn` itself moves what is left to the front.
 pub fn serve<R: Read>(
     desk: &Desk,
     from: &mut R,

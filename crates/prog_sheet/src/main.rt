@@ -102,7 +102,7 @@ fn two(
     Ok(Some(sheet_pairs::add(number, a, w, room.records)))
 }
 
-// The next record, unless one was refused.
+// The next record; none, too, where one was refused.
 fn next(
     desk: &Desk,
     number: u64,

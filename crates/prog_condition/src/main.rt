@@ -6,118 +6,93 @@
 // `condition_sheets`', over the whole sheets however they come; here bytes are only carried.
 #![tactic(auto)]
 
-ghost use Rattle.std.specs.Prelude.{◌≡◌, ◌≤◌, ◌<◌, length};
+ghost use Rattle.std.specs.Prelude.{◌≤◌, ◌<◌, IfOk, length};
 ghost use Rattle.sheet_line.specs.Form.{longest_sheet_line};
 ghost use Rattle.prog_condition.specs.Left.{coming_by, kept_by};
 
 use campaign_state::Campaign;
-use prog_desk::Desk;
-use refusal::Refusal;
+use condition_sheets::Situations;
+use prog_desk::{Broken, Desk, Ended};
 use sheet_line::Sheet;
 use sheet_text::Reading;
 use std::io::Read;
+use std::ops::ControlFlow;
 
-// What a turn of a sheet's loop comes to.
-#[derive(Drop)]
-enum After {
-    // Where the reading stands, the bytes of a line begun, and those of the sheet that are still to come.
-    On(Sheet, usize, u64),
-    // How the reading ended; waiting, where the bytes that are to come cannot be read.
-    Over(Reading),
+// Where a sheet's reading that goes on stands, the bytes of a line begun, and those of the sheet that are still to
+// come.
+#[derive(Clone, Copy)]
+struct Begun {
+    sheet: Sheet,
+    kept: usize,
+    coming: u64,
 }
 
 // Works through the lines of the first `end` bytes of `text`; a line begun goes to the start of `text`.
-fn work(s: Sheet, text: &mut [u8], end: usize, coming: u64) -> After
+fn work(s: Sheet, text: &mut [u8], end: usize, coming: u64) -> ControlFlow<Reading, Begun>
     requires { end ≤ length text.old }
     ensures { (kept_by result < longest_sheet_line) × (coming_by result ≤ coming) }
 {
     let reading = sheet_text::read(s, &text[..end], true);
-    let Reading::Waiting(t, left) = reading else {
-        return After::Over(reading);
+    let Reading::Waiting(sheet, kept) = reading else {
+        return ControlFlow::Break(reading);
     };
-    text::keep(text, end - left, left);
-    After::On(t, left, coming)
+    text::keep(text, end - kept, kept);
+    ControlFlow::Continue(Begun {
+        sheet,
+        kept,
+        coming,
+    })
 }
 
-// How many bytes are read at once: no more than are to come, and no more than there is room for.
-fn least(coming: u64, room: usize) -> usize
-    ensures { (result ≤ coming) × (result ≤ room) }
+// Reads once, after the bytes of a line begun: no more than are to come, and no more than there is room for.
+fn turn(desk: &Desk, b: Begun, text: &mut [u8]) -> Result<ControlFlow<Reading, Begun>, Broken>
+    requires { (b.kept ≤ length text.old) × (0 < b.coming) }
+    ensures { IfOk result (λ next. (kept_by next < longest_sheet_line) × (coming_by next < b.coming)) }
 {
-    if coming < room as u64 {
-        return coming as usize;
+    let room = text.len() - b.kept;
+    let end = b.kept + b.coming.min(room as u64) as usize;
+    let more = desk
+        .input()
+        .read(&mut text[b.kept..end])
+        .map_err(|e| prog_desk::fail(desk, b"standard input", e))?;
+    if more == 0 {
+        prog_desk::warn(
+            desk,
+            b"standard input: it ends before the last sheet does\n",
+        );
+        return Err(Broken);
     }
-    room
+    Ok(work(b.sheet, text, b.kept + more, b.coming - more as u64))
 }
 
-// The input ended before the sheet did.
-fn ended_early(desk: &Desk, s: Sheet) -> After
-    ensures { (kept_by result ≡ 0) × (coming_by result ≡ 0) }
-{
-    prog_desk::warn(
-        desk,
-        b"standard input: it ends before the last sheet does\n",
-    );
-    After::Over(Reading::Waiting(s, 0))
-}
-
-// Reads once, after the `kept` bytes of a line begun.
-fn turn(desk: &Desk, s: Sheet, text: &mut [u8], kept: usize, coming: u64) -> After
-    requires { (kept ≤ length text.old) × (0 < coming) }
-    ensures { (kept_by result < longest_sheet_line) × (coming_by result < coming) }
-{
-    let end = kept + least(coming, text.len() - kept);
-    match desk.input().read(&mut text[kept..end]) {
-        Ok(0) => ended_early(desk, s),
-        Ok(more) => work(s, text, kept + more, coming - (more as u64)),
-        Err(e) => {
-            prog_desk::fail(desk, b"standard input", e);
-            After::Over(Reading::Waiting(s, 0))
-        }
-    }
-}
-
-// Reads a sheet of `size` bytes; where they cannot be read, the answer is that it waits. Each turn reads some of
-// them, so the loop ends.
-fn one(desk: &Desk, size: u64, text: &mut [u8]) -> Reading
+// Reads a sheet of `size` bytes. Each turn reads some of them, so the loop ends.
+fn one(desk: &Desk, size: u64, text: &mut [u8]) -> Result<Reading, Broken>
     requires { longest_sheet_line ≤ length text.old }
 {
-    let mut sheet = Sheet::Fresh;
-    let mut kept = 0;
-    let mut coming = size;
-    while coming > 0 {
-        match turn(desk, sheet, text, kept, coming) {
-            After::On(t, left, later) => {
-                sheet = t;
-                kept = left;
-                coming = later;
-            }
-            After::Over(reading) => {
-                return reading;
-            }
+    let mut begun = Begun {
+        sheet: Sheet::Fresh,
+        kept: 0,
+        coming: size,
+    };
+    while begun.coming > 0 {
+        match turn(desk, begun, text)? {
+            ControlFlow::Continue(next) => begun = next,
+            ControlFlow::Break(reading) => return Ok(reading),
         }
     }
-    sheet_text::read(sheet, &text[..kept], false)
-}
-
-// Whether the sheet could not be read to its end.
-fn waits(r: Reading) -> bool {
-    match r {
-        Reading::Read(_) => false,
-        Reading::Stopped(_, _, _) => false,
-        Reading::Waiting(_, _) => true,
-    }
+    Ok(sheet_text::read(begun.sheet, &text[..begun.kept], false))
 }
 
 // The report, or the refused line. `out` has room for the longest: 40 bytes and 28 for each situation, as
 // `campaign_report` shows.
-fn said(desk: &Desk, a: Result<u64, (u64, u64, u64, Refusal)>, campaigns: [Campaign; 64]) -> u8 {
+fn said(desk: &Desk, a: Situations, campaigns: [Campaign; 64]) -> Result<Ended, Broken> {
     let mut out = [0u8; 1832];
     let f = condition_sheets::finish(a, campaigns, &mut out);
     prog_desk::answer(desk, &out, f)
 }
 
-// Sheet after sheet, up to the first that is refused.
-fn all(desk: &Desk, number: usize, text: &mut [u8]) -> u8
+// Sheet after sheet, up to the first that is refused. The first word is the program's own name.
+fn all(desk: &Desk, text: &mut [u8]) -> Result<Ended, Broken>
     requires { longest_sheet_line ≤ length text.old }
 {
     let mut campaigns = [Campaign {
@@ -127,33 +102,23 @@ fn all(desk: &Desk, number: usize, text: &mut [u8]) -> u8
         exposure: 0,
         failed: false,
     }; 64];
-    let mut a = condition_sheets::open(number as u64);
-    for i in 0..number {
+    let words = prog_desk::count_words(desk);
+    let mut a = condition_sheets::open(words.saturating_sub(1) as u64);
+    for word in 1..words {
         if condition_sheets::is_over(a) {
             return said(desk, a, campaigns);
         }
-        let r = one(desk, prog_desk::item(desk, i + 1), text);
-        if waits(r) {
-            return desk_line::FAILED;
-        }
-        let later = condition_sheets::place(campaigns, a, r);
-        campaigns = later;
+        let r = one(desk, prog_desk::item(desk, word), text)?;
+        // no rule of the proofs lays a call's result in an array at once
+        let placed = condition_sheets::place(campaigns, a, r);
+        campaigns = placed;
         a = condition_sheets::add(a, r);
     }
     said(desk, a, campaigns)
 }
 
-// The first word is the program's own name.
-fn sheets(desk: &Desk) -> usize {
-    let words = prog_desk::count_words(desk);
-    if words < 1 {
-        return 0;
-    }
-    words - 1
-}
-
 fn main(rt: HostRuntime) {
     let desk = Desk::new(rt);
     let mut text = [0u8; 65536];
-    prog_desk::end(&desk, all(&desk, sheets(&desk), &mut text));
+    prog_desk::end(&desk, all(&desk, &mut text));
 }

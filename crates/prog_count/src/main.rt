@@ -4,26 +4,17 @@
 // other.
 #![tactic(auto)]
 
-use prog_desk::{Desk, Served};
-use sample_channels::Levels;
+use prog_desk::{Broken, Desk, Ended};
 use sample_items::Items;
 
 // The most bytes that are read at once.
 const BYTES: usize = 65_536;
 
-fn count(desk: &Desk, items: Items) -> u8 {
+fn count(desk: &Desk, items: Items) -> Result<Ended, Broken> {
     let mut text = [0u8; BYTES];
     let start = comma_count::open(items);
-    let Served::Counted(c) = prog_desk::serve(
-        desk,
-        &mut desk.input(),
-        b"standard input",
-        start,
-        &mut text,
-        prog_desk::watched(desk),
-    ) else {
-        return desk_line::FAILED;
-    };
+    let mut input = desk.input();
+    let c = prog_desk::serve(desk, &mut input, b"standard input", start, &mut text)?;
     let mut out = [0u8; desk_line::LONGEST_LINE];
     let f = comma_count::finish(c, &mut out);
     prog_desk::answer(desk, &out, f)
@@ -31,14 +22,6 @@ fn count(desk: &Desk, items: Items) -> u8 {
 
 fn main(rt: HostRuntime) {
     let desk = Desk::new(rt);
-    let items = Items {
-        step: prog_desk::item(&desk, 1),
-        ramp: prog_desk::item(&desk, 2),
-        levels: Levels {
-            roll: prog_desk::item(&desk, 3),
-            acceleration: sample_items::HIGHEST_LEVEL,
-        },
-        decorrelation: prog_desk::item(&desk, 4),
-    };
+    let items = prog_desk::items(&desk, 1, sample_items::HIGHEST_LEVEL);
     prog_desk::end(&desk, count(&desk, items));
 }

@@ -46,20 +46,18 @@ impl Given {
         }
     }
 
+    fn file(&self) -> io::Result<&File> {
+        self.file.as_ref().map_err(|e| *e)
+    }
+
     pub fn write_all(&self, bytes: &[u8]) -> io::Result<()> {
-        match &self.file {
-            Ok(file) => write_all_to(file, bytes),
-            Err(e) => Err(*e),
-        }
+        write_all_to(self.file()?, bytes)
     }
 }
 
 impl Read for &Given {
     fn read(&mut self, buf: &mut [u8]) -> io::Result<usize> {
-        match &self.file {
-            Ok(file) => read_from(file, buf),
-            Err(e) => Err(*e),
-        }
+        read_from(self.file()?, buf)
     }
 }
 
@@ -86,9 +84,7 @@ fn bad_descriptor() -> io::Error {
 
 // Opens what `link` leads to, if its descriptor is open for that.
 fn open_again(rt: &HostRuntime, link: &str, bit: u32, how: &OpenOptions) -> io::Result<File> {
-    let Ok(metadata) = fs::symlink_metadata(rt, link) else {
-        return Err(bad_descriptor());
-    };
+    let metadata = fs::symlink_metadata(rt, link).map_err(|_| bad_descriptor())?;
     if metadata.mode() & bit == 0 {
         return Err(bad_descriptor());
     }
@@ -101,10 +97,7 @@ fn open_again(rt: &HostRuntime, link: &str, bit: u32, how: &OpenOptions) -> io::
 // Both ends of a named pipe: it waits for whoever has the other end where it is opened, also where the other end was
 // there and is gone. Held open by both, it lets itself be opened at once.
 fn hold(rt: &HostRuntime, link: &str) -> Option<File> {
-    let Ok(metadata) = fs::metadata(rt, link) else {
-        return None;
-    };
-    if !metadata.file_type().is_fifo() {
+    if !fs::metadata(rt, link).ok()?.file_type().is_fifo() {
         return None;
     }
     OpenOptions::new()
@@ -164,6 +157,27 @@ pub fn input_again(desk: &Desk) -> Option<Again> {
     Some(Again { file, start })
 }
 
+// Where a second reading starts, in a file that is open.
+#[derive(Clone, Copy)]
+pub struct Start<'f> {
+    pub file: &'f File,
+    pub at: u64,
+}
+
+impl<'f> Start<'f> {
+    // Where the file stands, if it can be gone back there.
+    pub fn here(mut file: &'f File) -> Option<Start<'f>> {
+        let at = file.seek(SeekFrom::Current(0)).ok()?;
+        Some(Start { file, at })
+    }
+
+    pub fn go_back(self) -> io::Result<&'f File> {
+        let mut file = self.file;
+        file.seek(SeekFrom::Start(self.at))?;
+        Ok(file)
+    }
+}
+
 // Where a descriptor stands, as Linux tells it in the first line of a file: pos, a colon, a tab, the number.
 fn place_told(rt: &HostRuntime, name: &str) -> Option<u64> {
     let mut file = File::open(rt, name).ok()?;
@@ -175,10 +189,8 @@ fn place_told(rt: &HostRuntime, name: &str) -> Option<u64> {
 const PLACE: &[u8] = b"pos:\t";
 
 fn place_in(text: &[u8]) -> Option<u64> {
-    if !text.starts_with(PLACE) {
-        return None;
-    }
-    match decimal::leading_at(text, PLACE.len()) {
+    let place = text.strip_prefix(PLACE)?;
+    match decimal::leading_at(place, 0) {
         Some((place, _)) => Some(place),
         None => None,
     }

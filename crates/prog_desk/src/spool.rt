@@ -1,7 +1,5 @@
 // A temporary file that has no name, for what cannot be read twice.
-ghost use Rattle.std.specs.Prelude.{◌≤◌, length};
-
-use crate::{Desk, TEMPORARY, fail, word};
+use crate::{Broken, Desk, TEMPORARY, fail, path, word};
 use std::fs::{self, File, OpenOptions};
 use std::io::{self, ErrorKind};
 use std::os::unix::fs::OpenOptionsExt;
@@ -15,6 +13,9 @@ const RANDOM: usize = 6;
 
 const FILLER: u8 = b'X';
 
+// What the letters are: the 10 digits and 52 letters.
+const LETTERS: [u8; 62] = *b"0123456789ABCDEFGHIJKLMNOPQRSTUVWXYZabcdefghijklmnopqrstuvwxyz";
+
 // How many names are tried before it is given up: one that is taken is not used.
 const TRIES: usize = 1000;
 
@@ -23,16 +24,10 @@ const INVALID: i32 = 22;
 
 // Makes a temporary file that has no name, open for reading and writing, where the argument of this number says; its
 // words end in XXXXXX. Where it cannot be made, that is said.
-pub fn temporary(desk: &Desk, argument: usize) -> Option<File> {
-    let mut name = [0u8; NAME];
-    let n = word(desk, argument, &mut name);
-    match make(&desk.rt, &mut name[..n]) {
-        Ok(file) => Some(file),
-        Err(e) => {
-            fail(desk, TEMPORARY, e);
-            None
-        }
-    }
+pub fn temporary(desk: &Desk, argument: usize) -> Result<File, Broken> {
+    let mut buffer = [0u8; NAME];
+    let name = word(desk, argument, &mut buffer);
+    make(&desk.rt, name).map_err(|e| fail(desk, TEMPORARY, e))
 }
 
 fn make(rt: &HostRuntime, name: &mut [u8]) -> io::Result<File> {
@@ -53,32 +48,16 @@ fn make(rt: &HostRuntime, name: &mut [u8]) -> io::Result<File> {
 fn randomize(rt: &HostRuntime, name: &mut [u8]) -> io::Result<()> {
     let mut bytes = [0u8; RANDOM];
     rt.fill_bytes(&mut bytes)?;
-    let n = name.len();
-    if n >= RANDOM {
-        for i in 0..RANDOM {
-            name[n - RANDOM + i] = letter(bytes[i]);
-        }
+    let start = name.len().saturating_sub(RANDOM);
+    for (place, b) in name[start..].iter_mut().zip(&bytes) {
+        *place = LETTERS[(*b % 62) as usize];
     }
     Ok(())
 }
 
-// One of the 10 digits and 52 letters.
-fn letter(b: u8) -> u8 {
-    let k = b % 62;
-    if k < 10 {
-        b'0' + k
-    } else if k < 36 {
-        b'A' + (k - 10)
-    } else {
-        b'a' + (k - 36)
-    }
-}
-
 // Creates the file, for nobody else to read or write, and takes its name away.
 fn create(rt: &HostRuntime, name: &[u8]) -> io::Result<File> {
-    let Ok(path) = std::str::from_utf8(name) else {
-        return Err(crate::no_text());
-    };
+    let path = path(name)?;
     let file = OpenOptions::new()
         .read(true)
         .write(true)

@@ -4,31 +4,21 @@
 // bytes are only carried.
 #![tactic(auto)]
 
-use prog_desk::{Desk, ServedPair, Sources};
-use sample_channels::Levels;
+use prog_desk::{Broken, Desk, Ended, Pair};
 use sample_items::Items;
 
 // The most bytes that are read at once.
 const BYTES: usize = 65_536;
 
-fn count(desk: &Desk, items: Items) -> u8 {
+fn count(desk: &Desk, items: Items) -> Result<Ended, Broken> {
     let mut roll = [0u8; BYTES];
     let mut acceleration = [0u8; BYTES];
-    let start = comma_pair::open(items);
-    let mut from = Sources {
+    let from = Pair {
         roll: desk.input(),
         acceleration: desk.second(),
     };
-    let ServedPair::Counted(w) = prog_desk::serve_pair(
-        desk,
-        start,
-        &mut from,
-        &mut roll,
-        &mut acceleration,
-        prog_desk::watched(desk),
-    ) else {
-        return desk_line::FAILED;
-    };
+    let start = comma_pair::open(items);
+    let w = prog_desk::serve_pair(desk, start, from, &mut roll, &mut acceleration)?;
     let mut out = [0u8; desk_line::LONGEST_LINE];
     let f = comma_pair::finish(w, &mut out);
     prog_desk::answer(desk, &out, f)
@@ -36,14 +26,6 @@ fn count(desk: &Desk, items: Items) -> u8 {
 
 fn main(rt: HostRuntime) {
     let desk = Desk::with_second(rt);
-    let items = Items {
-        step: prog_desk::item(&desk, 1),
-        ramp: prog_desk::item(&desk, 2),
-        levels: Levels {
-            roll: prog_desk::item(&desk, 3),
-            acceleration: prog_desk::item(&desk, 5),
-        },
-        decorrelation: prog_desk::item(&desk, 4),
-    };
+    let items = prog_desk::items(&desk, 1, prog_desk::item(&desk, 5));
     prog_desk::end(&desk, count(&desk, items));
 }

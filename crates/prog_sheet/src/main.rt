@@ -9,10 +9,11 @@
 
 ghost use Rattle.std.specs.Prelude.{◌≡◌, length};
 
-use prog_desk::{Desk, Got, NextFile, NextPair};
+use prog_desk::{Broken, Desk, Ended, Names};
 use refusal::Refusal;
-use sample_channels::Levels;
 use sample_items::Items;
+use sheet_after::TakenUp;
+use sheet_files::Filed;
 use sheet_pairs::FiledPairs;
 
 // The most bytes that are read at once, of a file and of the list of names.
@@ -37,7 +38,7 @@ fn room_for_the_sheet() -> [u8; SHEET]
     [0; SHEET]
 }
 
-fn said(desk: &Desk, q: u64, a: FiledPairs, records: &[i32]) -> u8 {
+fn said(desk: &Desk, q: u64, a: FiledPairs, records: &[i32]) -> Result<Ended, Broken> {
     let mut out = room_for_the_sheet();
     let f = sheet_pairs::finish(q, a, records, &mut out);
     prog_desk::answer(desk, &out, f)
@@ -51,57 +52,37 @@ struct Job {
     two: bool,
 }
 
-// Where the names stand in their buffer: what is read of them and not used yet.
+// Where a day starts: what is filed, and the number of the first record.
+#[derive(Clone, Copy)]
+struct Start {
+    filed: FiledPairs,
+    number: u64,
+}
+
+// The bytes that are lent for a day: for the file of a record, for its second one, and for the records.
 #[derive(Drop)]
-struct List {
-    at: usize,
-    end: usize,
+struct Room<'r> {
+    text: &'r mut [u8],
+    other: &'r mut [u8],
+    records: &'r mut [i32],
 }
 
-// What a turn comes to: a record was filed, and where the names after its own are; or the program ends so.
-#[derive(Drop)]
-enum After {
-    On(FiledPairs, usize, usize),
-    Ended(u8),
-}
-
-// There is no name more: the list is over, or could not be read.
-fn no_file(desk: &Desk, q: u64, a: FiledPairs, records: &[i32], f: NextFile) -> u8 {
-    match f {
-        NextFile::Over => said(desk, q, a, records),
-        NextFile::Counted(_, _, _) => desk_line::FAILED,
-        NextFile::Broken => desk_line::FAILED,
-    }
-}
-
-fn no_pair(desk: &Desk, q: u64, a: FiledPairs, records: &[i32], p: NextPair) -> u8 {
-    match p {
-        NextPair::Over => said(desk, q, a, records),
-        NextPair::Counted(_, _, _) => desk_line::FAILED,
-        NextPair::Broken => desk_line::FAILED,
-    }
-}
-
-// The next record, of this number, from one file.
+// What is filed with the next record, which has this number, from one file; none where the list is over.
 fn one(
     desk: &Desk,
     number: u64,
     j: Job,
     a: FiledPairs,
-    names: &mut [u8],
-    text: &mut [u8],
-    records: &mut [i32],
-    l: List,
-) -> After {
+    names: &mut Names,
+    room: &mut Room,
+) -> Result<Option<FiledPairs>, Broken> {
     let start = comma_count::open(j.items);
-    let file = prog_desk::serve_next(desk, start, names, l.at, l.end, text);
-    let NextFile::Counted(c, next, upto) = file else {
-        return After::Ended(no_file(desk, j.standard, a, records, file));
+    let Some(c) = prog_desk::serve_next(desk, start, names, room.text)? else {
+        return Ok(None);
     };
-    prog_desk::show_files(desk, number, prog_desk::watched(desk));
-    let f = a.filed;
-    let filed = sheet_files::add(number, f, c, records);
-    After::On(FiledPairs { filed, channel: 0 }, next, upto)
+    prog_desk::show_files(desk, number);
+    let filed = sheet_files::add(number, a.filed, c, room.records);
+    Ok(Some(FiledPairs { filed, channel: 0 }))
 }
 
 // The same from two, the roll's and the acceleration's.
@@ -110,54 +91,33 @@ fn two(
     number: u64,
     j: Job,
     a: FiledPairs,
-    names: &mut [u8],
-    text: &mut [u8],
-    other: &mut [u8],
-    records: &mut [i32],
-    l: List,
-) -> After {
+    names: &mut Names,
+    room: &mut Room,
+) -> Result<Option<FiledPairs>, Broken> {
     let start = comma_pair::open(j.items);
-    let pair = prog_desk::serve_next_pair(desk, start, names, l.at, l.end, text, other);
-    let NextPair::Counted(w, next, upto) = pair else {
-        return After::Ended(no_pair(desk, j.standard, a, records, pair));
+    let Some(w) = prog_desk::serve_next_pair(desk, start, names, room.text, room.other)? else {
+        return Ok(None);
     };
-    prog_desk::show_files(desk, number.wrapping_add(number), prog_desk::watched(desk));
-    After::On(sheet_pairs::add(number, a, w, records), next, upto)
+    prog_desk::show_files(desk, number.wrapping_add(number));
+    Ok(Some(sheet_pairs::add(number, a, w, room.records)))
 }
 
-// The next record, unless one was refused.
-fn turn(
+// The next record; none, too, where one was refused.
+fn next(
     desk: &Desk,
     number: u64,
     j: Job,
     a: FiledPairs,
-    names: &mut [u8],
-    text: &mut [u8],
-    other: &mut [u8],
-    records: &mut [i32],
-    l: List,
-) -> After {
+    names: &mut Names,
+    room: &mut Room,
+) -> Result<Option<FiledPairs>, Broken> {
     if sheet_pairs::is_over(a) {
-        return After::Ended(said(desk, j.standard, a, records));
+        Ok(None)
+    } else if j.two {
+        two(desk, number, j, a, names, room)
+    } else {
+        one(desk, number, j, a, names, room)
     }
-    if j.two {
-        return two(desk, number, j, a, names, text, other, records, l);
-    }
-    one(desk, number, j, a, names, text, records, l)
-}
-
-fn how(a: After) -> u8 {
-    match a {
-        After::On(_, _, _) => desk_line::FAILED,
-        After::Ended(end) => end,
-    }
-}
-
-// Where a day starts: what is filed, and the number of the first record.
-#[derive(Drop)]
-struct Start {
-    filed: FiledPairs,
-    number: u64,
 }
 
 // Record after record, up to the first that is refused. The number of the next one is up by one with each, and ends the
@@ -166,94 +126,52 @@ fn each(
     desk: &Desk,
     j: Job,
     s: Start,
-    names: &mut [u8],
-    text: &mut [u8],
-    other: &mut [u8],
-    records: &mut [i32],
-) -> u8 {
+    names: &mut Names,
+    room: &mut Room,
+) -> Result<Ended, Broken> {
     let mut filed = s.filed;
-    let mut at = 0;
-    let mut end = 0;
     for number in s.number..u64::MAX {
-        let l = List { at: at, end: end };
-        let after = turn(desk, number, j, filed, names, text, other, records, l);
-        let After::On(a, next, upto) = after else {
-            return how(after);
+        let Some(a) = next(desk, number, j, filed, names, room)? else {
+            return said(desk, j.standard, filed, room.records);
         };
         filed = a;
-        at = next;
-        end = upto;
     }
-    desk_line::FAILED
+    Err(Broken)
 }
 
-// What taking yesterday's sheet up comes to, or that it could not be read. The buffer holds as much of a sheet as
-// decides (`demands`' NextDay.first_bytes), and is free again when today's files come.
-#[derive(Drop)]
-enum Morning {
-    Up(Result<(u64, u64, u64), (u64, u64, Refusal)>),
-    Broken,
+// What taking yesterday's sheet up comes to. The buffer holds as much of a sheet as decides (`demands`'
+// NextDay.first_bytes), and is free again when today's files come.
+fn take_up(desk: &Desk, items: Items, records: &mut [i32]) -> Result<TakenUp, Broken> {
+    let mut buffer = room_for_the_sheet();
+    let mut input = desk.input();
+    let sheet = prog_desk::read_whole(desk, &mut input, b"yesterday's sheet", &mut buffer)?;
+    Ok(sheet_after::take_up(items, sheet, records))
 }
 
-fn read_sheet(desk: &Desk, items: Items, sheet: &mut [u8], records: &mut [i32]) -> Morning {
-    let Got::Upto(n) = prog_desk::read_whole(desk, &mut desk.input(), b"yesterday's sheet", sheet)
-    else {
-        return Morning::Broken;
-    };
-    if sheet.len() < n {
-        return Morning::Broken;
-    }
-    Morning::Up(sheet_after::take_up(items, &sheet[..n], records))
-}
-
-fn take_up(desk: &Desk, items: Items, records: &mut [i32]) -> Morning {
-    let mut sheet = room_for_the_sheet();
-    read_sheet(desk, items, &mut sheet, records)
-}
-
-fn sheet_refused(desk: &Desk, line: u64, column: u64, r: Refusal) -> u8 {
+fn sheet_refused(desk: &Desk, line: u64, column: u64, r: Refusal) -> Result<Ended, Broken> {
     let mut out = [0u8; 128];
     let f = sheet_after::refuse(line, column, r, &mut out);
     prog_desk::answer(desk, &out, f)
 }
 
-// Whether the standard among the words, if there is one, is yesterday's sheet's; else it is said that it is not.
-fn agrees(desk: &Desk, given: u64, q: u64) -> bool {
-    if given == u64::MAX {
-        return true;
+// The standard among the words, if there is one, has to be yesterday's sheet's; else it is said that it is not.
+fn agrees(desk: &Desk, given: u64, q: u64) -> Result<(), Broken> {
+    if given == u64::MAX || given == q {
+        return Ok(());
     }
-    if given == q {
-        return true;
-    }
-    let mut out = [0u8; 128];
-    let word = text::write_bytes(b"sheet: the standard of yesterday's sheet is ", &mut out, 0);
-    let after = decimal::write_number(q, &mut out, word);
-    let n = text::write_bytes(b", and another was given\n", &mut out, after);
-    prog_desk::warn_line(desk, &out, n);
-    false
+    let to = desk.errors();
+    let _ = eprint!(to; "sheet: the standard of yesterday's sheet is {q}, and another was given\n");
+    Err(Broken)
 }
 
-fn next_day(
-    desk: &Desk,
-    j: Job,
-    names: &mut [u8],
-    text: &mut [u8],
-    other: &mut [u8],
-    records: &mut [i32],
-) -> u8 {
-    let Morning::Up(t) = take_up(desk, j.items, records) else {
-        return desk_line::FAILED;
-    };
-    match t {
+fn next_day(desk: &Desk, j: Job, names: &mut Names, room: &mut Room) -> Result<Ended, Broken> {
+    match take_up(desk, j.items, room.records)? {
         Err((line, column, r)) => sheet_refused(desk, line, column, r),
         Ok((q, n, failures)) => {
-            if !agrees(desk, j.standard, q) {
-                return desk_line::FAILED;
-            }
-            let items = j.items;
+            agrees(desk, j.standard, q)?;
             let day = Job {
                 standard: q,
-                items,
+                items: j.items,
                 two: j.two,
             };
             let s = Start {
@@ -263,7 +181,7 @@ fn next_day(
                 },
                 number: n.wrapping_add(1),
             };
-            each(desk, day, s, names, text, other, records)
+            each(desk, day, s, names, room)
         }
     }
 }
@@ -274,29 +192,23 @@ const WORDS: usize = 7;
 
 const SHEETS: usize = 6;
 
-fn day(
-    desk: &Desk,
-    j: Job,
-    names: &mut [u8],
-    text: &mut [u8],
-    other: &mut [u8],
-    records: &mut [i32],
-) -> u8 {
+fn day(desk: &Desk, j: Job, names: &mut Names, room: &mut Room) -> Result<Ended, Broken> {
     if prog_desk::item(desk, SHEETS) == 1 {
-        return next_day(desk, j, names, text, other, records);
+        return next_day(desk, j, names, room);
     }
     let s = Start {
         filed: sheet_pairs::open(j.standard, j.items),
         number: 1,
     };
-    each(desk, j, s, names, text, other, records)
+    each(desk, j, s, names, room)
 }
 
 fn level_beside(desk: &Desk, two: bool) -> u64 {
     if two {
-        return prog_desk::item(desk, WORDS);
+        prog_desk::item(desk, WORDS)
+    } else {
+        sample_items::HIGHEST_LEVEL
     }
-    sample_items::HIGHEST_LEVEL
 }
 
 fn main(rt: HostRuntime) {
@@ -306,22 +218,16 @@ fn main(rt: HostRuntime) {
     let mut other = [0u8; BYTES];
     let mut records = room_for_records();
     let two = prog_desk::count_words(&desk) > WORDS;
-    let items = Items {
-        step: prog_desk::item(&desk, 2),
-        ramp: prog_desk::item(&desk, 3),
-        levels: Levels {
-            roll: prog_desk::item(&desk, 4),
-            acceleration: level_beside(&desk, two),
-        },
-        decorrelation: prog_desk::item(&desk, 5),
-    };
     let j = Job {
         standard: prog_desk::item(&desk, 1),
-        items,
+        items: prog_desk::items(&desk, 2, level_beside(&desk, two)),
         two,
     };
-    prog_desk::end(
-        &desk,
-        day(&desk, j, &mut names, &mut text, &mut other, &mut records),
-    );
+    let mut names = Names::new(&desk, &mut names);
+    let mut room = Room {
+        text: &mut text,
+        other: &mut other,
+        records: &mut records,
+    };
+    prog_desk::end(&desk, day(&desk, j, &mut names, &mut room));
 }

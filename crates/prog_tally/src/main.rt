@@ -9,48 +9,24 @@ ghost use Rattle.std.specs.Prelude.{◌<◌, ◌≤◌, length};
 ghost use Rattle.sheet_line.specs.Form.{longest_sheet_line};
 ghost use Rattle.prog_tally.specs.Kept.{kept_by};
 
-use prog_desk::Desk;
+use prog_desk::{Broken, Desk, Ended};
 use refusal::Refusal;
 use sheet_line::Sheet;
-use sheet_text::Reading;
+use sheet_text::{Ran, Reading};
+use std::fmt::InlineText;
 use std::io::Read;
+use std::ops::ControlFlow;
 
-// What the program says of how it ended: the sheet was read to its end, was refused, or something could not be read or
-// written.
-const READ: u8 = b'0';
-
-const REFUSED: u8 = b'1';
-
-const FAILED: u8 = b'2';
-
-const TAB: u8 = b'\t';
-
-const LF: u8 = b'\n';
+const LF: u8 = 10;
 
 // The refusal of a malformed line.
 const MALFORMED: u64 = 9;
 
-// What a turn of the loop comes to: where the reading stands, with the bytes of a line begun; or how it ended.
-#[derive(Drop)]
-enum After {
-    On(Sheet, usize),
-    Over(u8),
-}
-
-// Where the line of `text` after so many others starts.
-fn start_of(text: &[u8], lines: u64) -> usize
-    ensures { result ≤ length text.now }
-{
-    let mut left = lines;
-    for at in 0..text.len() {
-        if left == 0 {
-            return at;
-        }
-        if text[at] == LF {
-            left -= 1;
-        }
-    }
-    text.len()
+// Where a reading that goes on stands, and the bytes of a line begun.
+#[derive(Clone, Copy)]
+struct Begun {
+    sheet: Sheet,
+    kept: usize,
 }
 
 // The lines that were taken before.
@@ -64,101 +40,101 @@ fn taken(s: Sheet) -> u64 {
 // Whether the line of that number, in `text` after the lines taken before, is one by which a command refused.
 fn is_refused(s: Sheet, text: &[u8], line: u64) -> bool {
     let before = taken(s).wrapping_add(1);
-    let at = start_of(text, line.wrapping_sub(before));
-    sheet_line::begins(&text[at..], b"refused\t")
+    text.split(|b| *b == LF)
+        .nth(line.wrapping_sub(before) as usize)
+        .is_some_and(|line| line.starts_with(b"refused\t"))
 }
 
 // What a command needs beside the refused line to say it in words: for a malformed line whether it is a refused line
 // itself, else what the refusal carries.
 fn beside(handed: bool, r: Refusal) -> u64 {
-    if refusal::number(r) != MALFORMED {
-        return refusal::carried(r);
+    if refusal::number(r) == MALFORMED {
+        u64::from(handed)
+    } else {
+        refusal::carried(r)
     }
-    if handed {
-        return 1;
-    }
-    0
 }
 
 // Tells it to whoever waits for how the program ends, and the refused line's fields with it.
-fn write_refusal(desk: &Desk, line: u64, column: u64, r: Refusal, handed: bool) -> u8 {
-    let mut out = [0u8; 128];
-    let after_beside = decimal::write_field(beside(handed, r), LF, &mut out, 0);
-    let after_word = text::write_bytes(b"refused\t", &mut out, after_beside);
-    let after_line = decimal::write_field(line, TAB, &mut out, after_word);
-    let after_number = decimal::write_field(refusal::number(r), TAB, &mut out, after_line);
-    let n = decimal::write_field(column, LF, &mut out, after_number);
-    prog_desk::tell_line(desk, &out, n);
-    REFUSED
+fn tell_refusal(desk: &Desk, line: u64, column: u64, r: Refusal, handed: bool) {
+    let beside = beside(handed, r);
+    let number = refusal::number(r);
+    let said = InlineText::<128>::of(format_args!(
+        "{beside}\nrefused\t{line}\t{number}\t{column}\n"
+    ));
+    prog_desk::tell(desk, said.as_str().as_bytes());
 }
 
 // How a reading that does not wait ended, from where it stood before `text`.
-fn ended(desk: &Desk, s: Sheet, text: &[u8], reading: Reading) -> u8 {
+fn ended(desk: &Desk, s: Sheet, text: &[u8], reading: Reading) -> Result<Ended, Broken> {
     match reading {
-        Reading::Read(_) => READ,
-        Reading::Stopped(line, column, r) => write_refusal(
-            desk,
-            line,
-            column,
-            r,
-            is_refused(s, text, line),
-        ),
-        Reading::Waiting(_, _) => FAILED,
+        Reading::Read(_) => Ok(Ended::Read),
+        Reading::Stopped(line, column, r) => {
+            tell_refusal(desk, line, column, r, is_refused(s, text, line));
+            Ok(Ended::Refused)
+        }
+        Reading::Waiting(_, _) => Err(Broken),
     }
 }
 
 // Works through the lines of the first `end` bytes of `text`, and writes what they give; a line begun goes to the
 // start of `text`.
-fn work(desk: &Desk, s: Sheet, text: &mut [u8], end: usize, more: bool, out: &mut [u8]) -> After
+fn work(
+    desk: &Desk,
+    s: Sheet,
+    text: &mut [u8],
+    end: usize,
+    more: bool,
+    out: &mut [u8],
+) -> Result<ControlFlow<Ended, Begun>, Broken>
     requires { end ≤ length text.old }
     ensures { kept_by result < longest_sheet_line }
 {
     let Ok((reading, put)) = sheet_text::run(s, &text[..end], more, out) else {
-        return After::Over(FAILED);
+        return Err(Broken);
     };
-    if !prog_desk::write_out(desk, out, put) {
-        return After::Over(FAILED);
-    }
-    let Reading::Waiting(t, left) = reading else {
-        return After::Over(ended(desk, s, &text[..end], reading));
+    prog_desk::write_out(desk, out, put)?;
+    let Reading::Waiting(sheet, kept) = reading else {
+        let how = ended(desk, s, &text[..end], reading)?;
+        return Ok(ControlFlow::Break(how));
     };
-    text::keep(text, end - left, left);
-    After::On(t, left)
+    text::keep(text, end - kept, kept);
+    Ok(ControlFlow::Continue(Begun { sheet, kept }))
 }
 
-// Reads once, after the `kept` bytes of a line begun.
-fn turn(desk: &Desk, s: Sheet, text: &mut [u8], kept: usize, out: &mut [u8]) -> After
-    requires { kept ≤ length text.old }
+// Reads once, after the bytes of a line begun.
+fn turn(
+    desk: &Desk,
+    b: Begun,
+    text: &mut [u8],
+    out: &mut [u8],
+) -> Result<ControlFlow<Ended, Begun>, Broken>
+    requires { b.kept ≤ length text.old }
     ensures { kept_by result < longest_sheet_line }
 {
-    match desk.input().read(&mut text[kept..]) {
-        Ok(more) => work(desk, s, text, kept + more, more > 0, out),
-        Err(e) => {
-            prog_desk::fail(desk, b"standard input", e);
-            After::Over(FAILED)
-        }
-    }
+    let more = desk
+        .input()
+        .read(&mut text[b.kept..])
+        .map_err(|e| prog_desk::fail(desk, b"standard input", e))?;
+    work(desk, b.sheet, text, b.kept + more, more > 0, out)
 }
 
 // Answers how it ended. A proved loop has to end, and nothing says that the input does; so its turns are counted, up to
 // a number that no run uses up.
-fn serve(desk: &Desk, text: &mut [u8], out: &mut [u8]) -> u8
+fn serve(desk: &Desk, text: &mut [u8], out: &mut [u8]) -> Result<Ended, Broken>
     requires { longest_sheet_line ≤ length text.old }
 {
-    let mut sheet = Sheet::Fresh;
-    let mut kept = 0;
+    let mut begun = Begun {
+        sheet: Sheet::Fresh,
+        kept: 0,
+    };
     for _ in 0..u64::MAX {
-        match turn(desk, sheet, text, kept, out) {
-            After::On(t, left) => {
-                sheet = t;
-                kept = left;
-            }
-            After::Over(end) => {
-                return end;
-            }
+        match turn(desk, begun, text, out)? {
+            ControlFlow::Continue(next) => begun = next,
+            ControlFlow::Break(end) => return Ok(end),
         }
     }
-    FAILED
+    Err(Broken)
 }
 
 // `out` has room for whatever `text` may give: five bytes for each, and 35; so each turn is a single pass.

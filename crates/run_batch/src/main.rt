@@ -8,33 +8,25 @@ ghost use Rattle.std.specs.Prelude.{◌≤◌, length};
 ghost use Rattle.sheet_text.specs.Sheet.{left_in};
 
 use sheet_line::Sheet;
-use sheet_text::Reading;
-use std::io::{Read, Stdin};
+use sheet_text::{Ran, Reading};
+use std::io::{self, ErrorKind, Read, Stdin};
 
-// What stands before a sheet.
-#[derive(Drop)]
+// What stands before a sheet, each a number of two bytes, low byte first.
+#[derive(Clone, Copy)]
 struct Head {
-    // Whether there is one.
-    here: bool,
     size: usize,
     cut: usize,
     room: usize,
 }
 
-// A number of two bytes, low byte first.
-fn pair(low: u8, high: u8) -> usize {
-    (low as usize) + (high as usize) * 256
-}
-
-fn read_head(from: &mut Stdin) -> Head {
+fn read_head(from: &mut Stdin) -> io::Result<Head> {
     let mut b = [0u8; 6];
-    let here = from.read_exact(&mut b).is_ok();
-    Head {
-        here: here,
-        size: pair(b[0], b[1]),
-        cut: pair(b[2], b[3]),
-        room: pair(b[4], b[5]),
-    }
+    from.read_exact(&mut b)?;
+    Ok(Head {
+        size: u16::from_le_bytes([b[0], b[1]]) as usize,
+        cut: u16::from_le_bytes([b[2], b[3]]) as usize,
+        room: u16::from_le_bytes([b[4], b[5]]) as usize,
+    })
 }
 
 // Runs over a piece and writes what it gives, or the refusal's number and what it carries. Answers what the reading
@@ -72,25 +64,22 @@ fn one(to: &impl Print, text: &[u8], cut: usize, room: usize, out: &mut [u8]) {
     piece(to, s, &text[from..], false, &mut out[..room]);
 }
 
-// Reads a sheet and answers whether there was one.
-fn next(from: &mut Stdin, to: &impl Print, text: &mut [u8], out: &mut [u8]) -> bool {
-    let h = read_head(from);
-    let size = h.size;
-    if !h.here {
-        return false;
+// Reads a sheet, unless there is none, and writes what it gives.
+fn next(from: &mut Stdin, to: &impl Print, text: &mut [u8], out: &mut [u8]) -> io::Result<()> {
+    let h = read_head(from)?;
+    if text.len() < h.size {
+        return Err(io::Error::from(ErrorKind::InvalidInput));
     }
-    if text.len() < size {
-        return false;
-    }
-    let _ = from.read_exact(&mut text[..size]);
-    one(to, &text[..size], h.cut, h.room, out);
-    to.write_all(b".\n").is_ok()
+    let sheet = &mut text[..h.size];
+    let _ = from.read_exact(sheet);
+    one(to, sheet, h.cut, h.room, out);
+    to.write_all(b".\n")
 }
 
 // A proved loop has to end, so its sheets are counted, up to a number that no run uses up.
 fn all(from: &mut Stdin, to: &impl Print, text: &mut [u8], out: &mut [u8]) {
     for _ in 0..u64::MAX {
-        if !next(from, to, text, out) {
+        if next(from, to, text, out).is_err() {
             return;
         }
     }

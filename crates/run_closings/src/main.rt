@@ -5,15 +5,17 @@
 
 use campaign_state::Campaign;
 use campaign_verdict::Verdict;
-use record_end::{Outcome, RecordResult};
+use record_end::Outcome;
 use record_state::Record;
 use refusal::Refusal;
 use sample_channels::{Levels, Moment};
 use sample_items::Items;
+use record_end::RecordResult;
 
 // Of each row: the campaign's standard, M, N, T, and 1 if the last record failed; a campaign without a record is
 // opened. Then a record, by its number (`numbered`), and how often its result is entered; the number of one record
-// more, 8 for an outcome told by hand, 9 for none; and that one's exposure.
+// more, 8 for an outcome told by hand, 9 for none; and that one's exposure. A row is an array and no struct: 9 names in
+// each of 23 would be no plainer.
 const ROWS: [[u64; 9]; 23] = [
     // J and K, and one ms more of each
     [7_200_000, 3, 0, 26_559_936, 0, 0, 0, 9, 0],
@@ -47,34 +49,29 @@ const ROWS: [[u64; 9]; 23] = [
     [7_200_000, 0, 0, 0, 0, 1, 100_000, 8, 0],
 ];
 
-// Writes a word; a write that fails is passed over, and so are those after it.
-fn text(out: &impl Print, s: &str) {
-    let _ = print!(out; "{s}");
-}
-
-fn number(out: &impl Print, name: &str, n: u64) {
-    let _ = print!(out; "{name}{n}");
-}
-
+// What is written: a write that fails is passed over, and so are those after it.
 fn refused(out: &impl Print, f: Refusal) {
-    number(out, " refused ", refusal::number(f));
-    number(out, " with ", refusal::carried(f));
+    let number = refusal::number(f);
+    let with = refusal::carried(f);
+    let _ = print!(out; " refused {number} with {with}");
 }
 
 fn censored(out: &impl Print, c: Campaign) {
     match campaign_verdict::censored(c) {
-        Ok(n) => number(out, " N* ", n),
+        Ok(n) => {
+            let _ = print!(out; " N* {n}");
+        }
         Err(f) => refused(out, f),
     }
 }
 
 fn letter(out: &impl Print, v: Verdict) {
-    match v {
-        Verdict::Accept(_) => text(out, " accept"),
-        Verdict::Reject(_) => text(out, " reject"),
-        Verdict::Continue(_, _) => text(out, " continue"),
-        Verdict::NoRecord => text(out, " no record"),
-    }
+    let _ = match v {
+        Verdict::Accept(_) => print!(out; " accept"),
+        Verdict::Reject(_) => print!(out; " reject"),
+        Verdict::Continue(_, _) => print!(out; " continue"),
+        Verdict::NoRecord => print!(out; " no record"),
+    };
 }
 
 fn verdict(out: &impl Print, c: Campaign) {
@@ -87,21 +84,17 @@ fn verdict(out: &impl Print, c: Campaign) {
 fn known(out: &impl Print, c: Campaign) {
     match campaign_verdict::rate(c) {
         Ok(Given(yes, _)) => {
-            if yes {
-                text(out, " rates");
-            } else {
-                text(out, " no rates");
-            }
+            let no = if yes { "" } else { " no" };
+            let _ = print!(out; "{no} rates");
         }
         Err(f) => refused(out, f),
     }
 }
 
 fn figures(out: &impl Print, c: Campaign) {
-    number(out, " M ", c.records);
-    number(out, " N ", c.failures);
+    let _ = print!(out; " M {} N {}", c.records, c.failures);
     censored(out, c);
-    number(out, " T ", c.exposure);
+    let _ = print!(out; " T {}", c.exposure);
     verdict(out, c);
     known(out, c);
 }
@@ -170,11 +163,9 @@ fn numbered(i: u64) -> Record {
 fn seen(out: &impl Print, a: Result<RecordResult, Refusal>) {
     match a {
         Ok(x) => {
-            number(out, " crossings ", x.crossings);
-            number(out, " counted ", x.counted);
-            number(out, " largest set ", x.largest);
-            number(out, " first ", x.first);
-            number(out, " exposure ", x.exposure);
+            let _ = print!(out; " crossings {} counted {}", x.crossings, x.counted);
+            let _ = print!(out; " largest set {} first {}", x.largest, x.first);
+            let _ = print!(out; " exposure {}", x.exposure);
         }
         Err(f) => refused(out, f),
     }
@@ -197,11 +188,7 @@ fn then(a: Result<Campaign, Refusal>, e: Result<RecordResult, Refusal>) -> Campa
 }
 
 // The same result so many times over.
-fn again(
-    a: Result<Campaign, Refusal>,
-    e: Result<RecordResult, Refusal>,
-    times: u64,
-) -> CampaignAnswer {
+fn again(a: Result<Campaign, Refusal>, e: Result<RecordResult, Refusal>, times: u64) -> CampaignAnswer {
     let mut b = a;
     for _ in 0..times {
         b = then(b, e);
@@ -248,17 +235,10 @@ fn entered(out: &impl Print, row: [u64; 9]) {
     answer(out, more(row, again(start(row), e, row[6])));
 }
 
-fn case(out: &impl Print, i: usize) {
-    if 23 <= i {
-        return;
-    }
-    number(out, "row ", (i as u64) + 1);
-    entered(out, ROWS[i]);
-    text(out, "\n");
-}
-
 fn main(rt: HostRuntime) {
-    for i in 0..23 {
-        case(&rt, i);
+    for (i, row) in ROWS.iter().enumerate() {
+        let _ = print!(rt; "row {}", i + 1);
+        entered(&rt, *row);
+        let _ = println!(rt);
     }
 }

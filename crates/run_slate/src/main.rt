@@ -10,7 +10,8 @@ use sample_items::Items;
 
 // Of each row: step, ramp, the roll's level, decorrelation time; how often the first piece is fed, its samples, and
 // all samples of the row, which the second piece ends; the places lent for the times; the roll's row of SAMPLES; the
-// acceleration's level and its row, of which row 6 has zeros for a one-channel job.
+// acceleration's level and its row, of which row 6 has zeros for a one-channel job. A row is an array and no struct: 11
+// names in each of 44 would be no plainer.
 const ROWS: [[u64; 11]; 44] = [
     // A to H
     [500, 0, 40000, 2000, 1, 7, 7, 3, 0, 9810, 6],
@@ -86,32 +87,24 @@ const SAMPLES: [[i32; 7]; 17] = [
     [0, 0, -1000001, 0, 0, 0, 0],
 ];
 
-// Writes a word; a write that fails is passed over, and so are those after it.
-fn text(out: &impl Print, s: &str) {
-    let _ = print!(out; "{s}");
-}
-
-fn number(out: &impl Print, name: &str, n: u64) {
-    let _ = print!(out; "{name}{n}");
-}
-
+// What is written: a write that fails is passed over, and so are those after it.
 fn refused(out: &impl Print, f: Refusal) {
-    number(out, " refused ", refusal::number(f));
-    number(out, " with ", refusal::carried(f));
+    let number = refusal::number(f);
+    let with = refusal::carried(f);
+    let _ = print!(out; " refused {number} with {with}");
     let channel = refusal::channel(f);
     if channel != 0 {
-        number(out, " channel ", channel);
+        let _ = print!(out; " channel {channel}");
     }
 }
 
 fn figures(out: &impl Print, r: Record) {
-    number(out, " n ", r.n);
-    number(out, " crossings ", r.crossings);
-    number(out, " groups ", r.groups);
-    number(out, " largest set ", r.largest);
-    number(out, " first ", r.first);
-    number(out, " last chosen ", r.last_chosen);
-    number(out, " last crossing ", r.last_crossing);
+    let _ = print!(out; " n {} crossings {} groups {}", r.n, r.crossings, r.groups);
+    let _ = print!(out; " largest set {} first {}", r.largest, r.first);
+    let _ = print!(out;
+        " last chosen {} last crossing {}",
+        r.last_chosen, r.last_crossing
+    );
 }
 
 fn answer(out: &impl Print, a: Result<Record, Refusal>) {
@@ -130,12 +123,7 @@ fn then(a: Result<Record, Refusal>, roll: &[i32], acceleration: &[i32]) -> Recor
 }
 
 // The same piece so many times over.
-fn again(
-    a: Result<Record, Refusal>,
-    roll: &[i32],
-    acceleration: &[i32],
-    times: u64,
-) -> RecordAnswer {
+fn again(a: Result<Record, Refusal>, roll: &[i32], acceleration: &[i32], times: u64) -> RecordAnswer {
     let mut b = a;
     for _ in 0..times {
         b = then(b, roll, acceleration);
@@ -143,13 +131,9 @@ fn again(
     b
 }
 
-fn wide(x: u32) -> u64 {
-    x as u64
-}
-
 fn times(out: &impl Print, slice: &[u32]) {
-    for i in 0..slice.len() {
-        number(out, " ", wide(slice[i]));
+    for time in slice {
+        let _ = print!(out; " {time}");
     }
 }
 
@@ -168,12 +152,10 @@ fn items(row: [u64; 11]) -> Items {
 // The record in two pieces.
 fn fed(out: &impl Print, row: [u64; 11], roll: &[i32], acceleration: &[i32]) {
     let cut = row[5] as usize;
-    if cut <= roll.len() {
-        if cut <= acceleration.len() {
-            let opened = record_state::open(items(row));
-            let first = again(opened, &roll[0..cut], &acceleration[0..cut], row[4]);
-            answer(out, then(first, &roll[cut..], &acceleration[cut..]));
-        }
+    if cut <= roll.len() && cut <= acceleration.len() {
+        let opened = record_state::open(items(row));
+        let first = again(opened, &roll[..cut], &acceleration[..cut], row[4]);
+        answer(out, then(first, &roll[cut..], &acceleration[cut..]));
     }
 }
 
@@ -181,7 +163,9 @@ fn fed(out: &impl Print, row: [u64; 11], roll: &[i32], acceleration: &[i32]) {
 fn listed(out: &impl Print, row: [u64; 11], roll: &[i32], acceleration: &[i32], slice: &mut [u32]) {
     let l = record_list::list(items(row), roll, acceleration, slice);
     match l {
-        Ok(k) => number(out, " times ", k),
+        Ok(k) => {
+            let _ = print!(out; " times {k}");
+        }
         Err(f) => refused(out, f),
     }
     times(out, slice);
@@ -196,42 +180,30 @@ fn case(out: &impl Print, row: [u64; 11], roll: &[i32], acceleration: &[i32]) {
     } else {
         listed(out, row, roll, acceleration, &mut slice);
     }
-    number(
-        out,
-        " found ",
-        crossing_search::first_crossing(roll, acceleration, row[1], items(row).levels) as u64,
-    );
+    let levels = items(row).levels;
+    let found = crossing_search::first_crossing(roll, acceleration, row[1], levels);
+    let _ = print!(out; " found {found}");
 }
 
 // A case of the first samples.
 fn first_of(out: &impl Print, row: [u64; 11], roll: &[i32], acceleration: &[i32]) {
     let count = row[6] as usize;
-    if count <= roll.len() {
-        if count <= acceleration.len() {
-            case(out, row, &roll[0..count], &acceleration[0..count]);
-        }
+    if count <= roll.len() && count <= acceleration.len() {
+        case(out, row, &roll[..count], &acceleration[..count]);
     }
 }
 
 fn samples_of(i: u64) -> [i32; 7] {
-    if i < 17 { SAMPLES[i as usize] } else { [0; 7] }
-}
-
-fn row(out: &impl Print, i: usize) {
-    if 44 <= i {
-        return;
-    }
-    let row = ROWS[i];
-    let roll = samples_of(row[8]);
-    let acceleration = samples_of(row[10]);
-    number(out, "row ", (i as u64) + 1);
-    first_of(out, row, &roll, &acceleration);
-    text(out, "\n");
+    SAMPLES.get(i as usize).copied().unwrap_or([0; 7])
 }
 
 fn rows(out: &impl Print) {
-    for i in 0..44 {
-        row(out, i);
+    for (i, row) in ROWS.iter().enumerate() {
+        let roll = samples_of(row[8]);
+        let acceleration = samples_of(row[10]);
+        let _ = print!(out; "row {}", i + 1);
+        first_of(out, *row, &roll, &acceleration);
+        let _ = println!(out);
     }
 }
 
@@ -241,10 +213,10 @@ fn seven(out: &impl Print) {
     let samples = [
         0i32, 41000, 0, -41000, 0, 41000, 0, -41000, 0, 0, 0, 0, 41000, 0, -41000, 0, 41000,
     ];
-    text(out, "seven");
+    let _ = print!(out; "seven");
     let zeros = [0i32; 17];
     first_of(out, row, &samples, &zeros);
-    text(out, "\n");
+    let _ = println!(out);
 }
 
 // A first failure without a crossing, which no samples lead to.
@@ -271,9 +243,9 @@ fn broken(out: &impl Print) {
         last_crossing: 2,
         groups: 0,
     };
-    text(out, "broken");
+    let _ = print!(out; "broken");
     answer(out, record_feed::feed(r, &[2000000i32], &[0i32]));
-    text(out, "\n");
+    let _ = println!(out);
 }
 
 // Slices of unequal lengths, which go before a bad sample; in listing after the items.
@@ -281,11 +253,11 @@ fn unequal(out: &impl Print) {
     let roll = [2000000i32; 3];
     let zeros = [0i32; 2];
     let row = [500u64, 0, 40_000, 2000, 0, 0, 0, 1, 0, 9810, 6];
-    text(out, "unequal");
+    let _ = print!(out; "unequal");
     answer(out, then(record_state::open(items(row)), &roll, &zeros));
     let mut place = [7u32; 1];
     listed(out, row, &roll, &zeros, &mut place);
-    text(out, "\n");
+    let _ = println!(out);
 }
 
 fn main(rt: HostRuntime) {

@@ -4,8 +4,8 @@ use Rattle.std.proofs.Common.{◌≡◌, ◌<◌, length}
 use Rattle.sheet_line.specs.Form.{longest_sheet_line}
 use Rattle.prog_condition.proofs.one.Given as goal
 
-abbrev pub invariant-loop-coming : goal.invariant-loop-coming
-invariant-loop-coming l = (length l.text ≡ length l.initial.text) × (l.kept < longest_sheet_line)
+abbrev pub invariant-loop-begun : goal.invariant-loop-begun
+invariant-loop-begun l = (length l.text ≡ length l.initial.text) × (l.begun.kept < longest_sheet_line)
 
-abbrev pub decreases-loop-coming : goal.decreases-loop-coming
-decreases-loop-coming l = l.coming
+abbrev pub decreases-loop-begun : goal.decreases-loop-begun
+decreases-loop-begun l = l.begun.coming

@@ -4,4 +4,4 @@ use Rattle.sheet_line.specs.Form.{longest_sheet_line}
 use Rattle.prog_tally.proofs.serve.Given as goal
 
 abbrev pub invariant-loop : goal.invariant-loop
-invariant-loop l = (length l.text ≡ length l.initial.text) × (l.kept < longest_sheet_line)
+invariant-loop l = (length l.text ≡ length l.initial.text) × (l.begun.kept < longest_sheet_line)

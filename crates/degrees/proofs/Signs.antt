@@ -63,7 +63,7 @@ pub record ReadsAs (s : List ℕ) (at : ℕ) (b : Bool) (n next : ℕ) : Type 0 
   pub place : next ≡ at + degrees_length (drop at s)
 
 module _ (s : List ℕ) (at : ℕ) where
-  never : {b : Bool} {n next : ℕ} → ¬ (None ≡ Some (b, n, next))
+  never : {p : Bool × ℕ × ℕ} → ¬ (None ≡ Some p)
   never e = impossible (cc)
 
   pub degrees_read : (b : Bool) (n next : ℕ) → degrees_at s at ≡ Some (b, n, next) → ReadsAs s at b n next
@@ -72,7 +72,13 @@ module _ (s : List ℕ) (at : ℕ) where
       by_test (is_degrees (drop at s))
       (λ h.
       let e : Some (below (drop at s), size (unsigned (drop at s)), at + degrees_length (drop at s)) ≡ Some (b, n, next) = rw h at r in
-      record { right = h; sign = cc (e); value = cc (e); place = cc (e) })
+      let all : (below (drop at s), size (unsigned (drop at s)), at + degrees_length (drop at s)) ≡ (b, n, next) = cc in
+      record {
+        right = h;
+        sign = ap (λ (p : Bool × ℕ × ℕ). p.0) all;
+        value = ap (λ (p : Bool × ℕ × ℕ). p.1) all;
+        place = sym (ap (λ (p : Bool × ℕ × ℕ). p.2) all);
+      })
       (λ h. absurd (never (rw h at r)))
 
   pub degrees_none : degrees_at s at ≡ None → is_degrees (drop at s) ≡ false

@@ -7,7 +7,7 @@ ghost use Rattle.std.specs.Prelude.{◌≡◌, cond, ◌+◌, ◌%◌, ◌≤◌
 ghost use Rattle.text.specs.Write.{written, place_after};
 ghost use Rattle.decimal.specs.Decimal.{zero_byte, longest, is_digit, is_number, leading_digits, value_of, digits_of};
 ghost use Rattle.decimal.specs.Decimal.{widest};
-ghost use Rattle.decimal.specs.Field.{field_text};
+ghost use Rattle.decimal.specs.Field.{ending, field_text};
 ghost use Rattle.decimal.specs.Leading.{leading, leading_at, stands_at};
 
 // The byte of the digit 0.
@@ -168,6 +168,21 @@ pub fn write_field(v: u64, end: u8, out: &mut [u8], at: usize) -> usize
     }
     let next = write_number(v, out, at);
     text::write_byte(end, out, next)
+}
+
+// Ends a line: writes `number`, and `more` after a tab where it is there, and LF into `out` from `at` on, all or nothing.
+pub fn end_line(number: u64, more: Option<u64>, out: &mut [u8], at: usize) -> usize
+    ensures value { result ≡ place_after out.old at (ending number more) }
+    ensures out_after { out.new ≡ written out.old at (ending number more) }
+{
+    let Some(value) = more else {
+        return write_field(number, b'\n', out, at);
+    };
+    if !text::has_room(out.len(), at, digits(number) + digits(value) + 2) {
+        return at;
+    }
+    let next = write_field(number, b'\t', out, at);
+    write_field(value, b'\n', out, next)
 }
 
 // The byte of the last digit of `v`.

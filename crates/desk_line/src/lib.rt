@@ -38,7 +38,7 @@ pub struct Finished {
 fn item(number: u64, value: u64) -> Option<u64>
     ensures { ending number result ≡ why_text number value }
 {
-    if number == ITEM { Some(value) } else { None }
+    (number == ITEM).then_some(value)
 }
 
 // Writes the refused line with the numbers of one place or two.

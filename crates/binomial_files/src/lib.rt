@@ -19,9 +19,9 @@ use record_state::Record;
 use refusal::Refusal;
 use sample_items::Items;
 
-const TAB: u8 = 9;
+const TAB: u8 = b'\t';
 
-const LF: u8 = 10;
+const LF: u8 = b'\n';
 
 // The sum of no files; or refusal 1 with the lowest item outside its range, which is no file's.
 pub fn open(items: Items) -> Result<Sum, (u64, u64, Refusal)>

@@ -1,5 +1,5 @@
 -- What an answer tells of the question, and back: a record that was added met every test on the way, and one that meets
--- them all is added. So what is handed out keeps the relations, and a sum grown by adding is never refused with 8.
+-- them all is added. So what is handed out keeps the relations, and a sum grown by adding is err_not_ok refused with 8.
 -- Assumes nothing.
 use mathlib.Core.Path.{◌≡◌, ap, sym}
 use mathlib.Core.Bool.{Bool, cond, false, not, true}
@@ -21,11 +21,9 @@ use Rattle.binomial_sum.specs.Kept.{Kept}
 use Rattle.binomial_sum.specs.State.{empty, grown, most_failures, most_samples, sound, timed, would_pass}
 use Rattle.binomial_sum.proofs.Relations.{brings, kept_from, sound_from}
 use Rattle.std.specs.Prelude.{Ok, Err}
+use Rattle.truth.proofs.Answers.{err_not_ok}
 
 -- a refusal is no answer
-never : {r : Refusal} {t : Sum} → ¬ (Err r ≡ Ok t)
-never e = impossible (cc)
-
 -- what adding a record that is taken has met, and what comes out
 pub record Added (s : Sum) (r : Record) (t : Sum) : Type 0 where
   pub sum : T (sound s)
@@ -39,11 +37,11 @@ pub record Added (s : Sum) (r : Record) (t : Sum) : Type 0 where
 pub added_from : (s : Sum) (r : Record) (t : Sum) → adding s r ≡ Ok t → Added s r t
 unfolding adding
 added_from s r t e =
-    let o = past (not (sound s)) never e in
-    let p = past (not (reading.sound r)) never o.1 in
-    let q = past (too_short r) never p.1 in
-    let u = past (not (eqb r.items.step s.step)) never q.1 in
-    let v = past (would_pass s r.groups (timed r)) never u.1 in
+    let o = past (not (sound s)) err_not_ok e in
+    let p = past (not (reading.sound r)) err_not_ok o.1 in
+    let q = past (too_short r) err_not_ok p.1 in
+    let u = past (not (eqb r.items.step s.step)) err_not_ok q.1 in
+    let v = past (would_pass s r.groups (timed r)) err_not_ok u.1 in
     let w = neither (ltb most_failures (s.failures + r.groups)) (ltb most_samples (s.samples + timed r)) v.0 in
     record {
       sum = holds {b = sound s} (not-false _ o.0);
@@ -66,7 +64,7 @@ opened_from D t e = go (step_in_range D) e
   where
     go : (b : Bool) → cond b (Ok (empty D)) (Err (Item 1)) ≡ Ok t → T b × (t ≡ empty D)
     go true e = (tt, cc)
-    go false e = absurd (never e)
+    go false e = absurd (err_not_ok e)
 
 empty_kept : (D : ℕ) → T (step_in_range D) → Kept (empty D)
 empty_kept D t =

@@ -18,6 +18,7 @@ use Rattle.campaign_condition.specs.Answers.{situations_in_range, broken_from, j
 use Rattle.campaign_condition.specs.declared.Standing.{Standing}
 use Rattle.campaign_condition.proofs.Front.{front_next}
 use Rattle.std.specs.Prelude.{Ok, Err}
+use Rattle.truth.proofs.Answers.{err_not_ok, same_ok}
 
 pub whole_next : (n : ℕ) (c : Campaign) (cs : List Campaign) → 1 ≤ n → broken_from n (c ∷ cs) ≡ 0 → (sound c ≡ true) × (broken_from (n + 1) cs ≡ 0)
 unfolding broken_from
@@ -42,9 +43,6 @@ pub record Stood (number : ℕ) (cs : List Campaign) (s : Standing) : Type 0 whe
   pub whole : lowest_broken cs ≡ 0
   pub is : s ≡ standing cs
 
-never : {s : Standing} {r : Refusal} → ¬ (Err r ≡ Ok s)
-never e = impossible (cc)
-
 pub stood : (number : ℕ) (cs : List Campaign) (s : Standing) → judging number cs ≡ Ok s → Stood number cs s
 unfolding judging
 stood number cs s e =
@@ -52,7 +50,7 @@ stood number cs s e =
     (λ range.
     by_test (eqb (lowest_broken cs) 0)
     (λ t.
-    let f : Ok (standing cs) ≡ Ok s = rw (range, t) at e in
+    let f : standing cs ≡ s = same_ok (rw (range, t) at e) in
     record { range = range; few = leb-true number 64 (and-true (leb 1 number) (leb number 64) range).1; whole = eqb-true _ _ t; is = cc (f) })
-    (λ t. absurd (never (rw (range, t) at e))))
-    (λ range. absurd (never (rw range at e)))
+    (λ t. absurd (err_not_ok (rw (range, t) at e))))
+    (λ range. absurd (err_not_ok (rw range at e)))

@@ -25,6 +25,7 @@ use Rattle.campaign_report.specs.Answers.{after_judging, writing_report}
 use Rattle.campaign_report.proofs.Texts.{line_bytes, next_bytes, total_bytes}
 use Rattle.campaign_condition.specs.declared.Standing.{Standing}
 use Rattle.std.specs.Prelude.{Result, Ok, Err}
+use Rattle.truth.proofs.Answers.{err_not_ok, same_ok}
 
 censored_few : (c : Campaign) → Kept c → censored c < 100
 unfolding censored
@@ -81,17 +82,14 @@ pub enough : (number : ℕ) (cs : List Campaign) (out : List ℕ) (n : ℕ) → 
 unfolding writing_report report_text
 enough number cs out n all e = go (judging number cs) refl e
   where
-    never : {r : Refusal} → ¬ (Err r ≡ Ok n)
-    never f = impossible (cc)
-
     go : (a : Result Standing Refusal) → judging number cs ≡ a → after_judging a (length (report_text cs)) (length out) ≡ Ok n → n ≤ 40 + 28 * number
-    go (Err r) is e = absurd (never e)
+    go (Err r) is e = absurd (err_not_ok e)
     go (Ok s) is e =
         let st = stood number cs s is in
         by_test (ltb (length out) (length (report_text cs)))
-        (λ t. absurd (never (rw t at e)))
+        (λ t. absurd (err_not_ok (rw t at e)))
         (λ t.
-        let f : Ok (length (report_text cs)) ≡ Ok n = rw t at e in
+        let f : length (report_text cs) ≡ n = same_ok (rw t at e) in
         let same : n ≡ length (report_text cs) = cc (f) in
         let letter = standing_letter (standing cs) in
         omega (

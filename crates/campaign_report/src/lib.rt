@@ -15,9 +15,9 @@ use campaign_state::Campaign;
 use campaign_verdict::Verdict;
 use refusal::Refusal;
 
-const TAB: u8 = 9;
+const TAB: u8 = b'\t';
 
-const LF: u8 = 10;
+const LF: u8 = b'\n';
 
 // Failures to a block that is billed.
 const BLOCK: u64 = 5;

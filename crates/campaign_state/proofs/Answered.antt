@@ -13,11 +13,9 @@ use Rattle.campaign_state.specs.declared.Campaign.{Campaign}
 use Rattle.campaign_state.specs.Answers.{entering, opened, outcome_kept, taken}
 use Rattle.campaign_state.specs.State.{empty, entered, most_records, sound, standard_in_range}
 use Rattle.std.specs.Prelude.{Ok, Err}
+use Rattle.truth.proofs.Answers.{err_not_ok}
 
 -- a refusal is no answer
-never : {r : Refusal} {d : Campaign} → ¬ (Err r ≡ Ok d)
-never e = impossible (cc)
-
 -- 5 and 6 were not given
 pub record Room (c : Campaign) (f : Bool) (t : ℕ) (d : Campaign) : Type 0 where
   pub records : ¬ (c.records ≡ most_records)
@@ -26,8 +24,8 @@ pub record Room (c : Campaign) (f : Bool) (t : ℕ) (d : Campaign) : Type 0 wher
 
 pub taken_room : (c : Campaign) (f : Bool) (t : ℕ) (d : Campaign) → taken c f t ≡ Ok d → Room c f t d
 taken_room c f t d e =
-    let p = past (eqb c.records most_records) never e in
-    let q = past (eqb c.failures 64) never p.1 in
+    let p = past (eqb c.records most_records) err_not_ok e in
+    let q = past (eqb c.failures 64) err_not_ok p.1 in
     record { records = eqb-false _ _ p.0; failures = eqb-false _ _ q.0; after = cc }
 
 pub record Entered (c : Campaign) (o : Outcome) (d : Campaign) : Type 0 where
@@ -39,8 +37,8 @@ pub record Entered (c : Campaign) (o : Outcome) (d : Campaign) : Type 0 where
 pub entered_from : (c : Campaign) (o : Outcome) (d : Campaign) → entering c o ≡ Ok d → Entered c o d
 unfolding entering
 entered_from c o d e =
-    let p = past (not (sound c)) never e in
-    let q = past (not (outcome_kept o)) never p.1 in
+    let p = past (not (sound c)) err_not_ok e in
+    let q = past (not (outcome_kept o)) err_not_ok p.1 in
     let k = and-true _ _ (not-false _ q.0) in
     record {
       sound = holds {b = sound c} (not-false _ p.0);
@@ -54,4 +52,4 @@ opened_from q d e = go (standard_in_range q) e
   where
     go : (b : Bool) → cond b (Ok (empty q)) (Err (Item 5)) ≡ Ok d → T b × (d ≡ empty q)
     go true e = (tt, cc)
-    go false e = absurd (never e)
+    go false e = absurd (err_not_ok e)

@@ -11,32 +11,21 @@ use Rattle.campaign_verdict.specs.Figures.{verdict_of}
 use Rattle.campaign_verdict.proofs.Only.{only}
 use Rattle.campaign_state.specs.State.{censored, sound}
 use Rattle.std.specs.Prelude.{Result, Ok, Err}
-
-never_given : {w : Verdict} {r : Refusal} → ¬ (Ok w ≡ Err r)
-never_given e = impossible (cc)
-
-never_counted : {n : ℕ} {r : Refusal} → ¬ (Ok n ≡ Err r)
-never_counted e = impossible (cc)
-
-same_verdict : {w v : Verdict} → Ok w ≡ Ok v → v ≡ w
-same_verdict e = cc
-
-same_count : {n m : ℕ} → Ok n ≡ Ok m → m ≡ n
-same_count e = cc
+use Rattle.truth.proofs.Answers.{ok_not_err, same_ok}
 
 module _ (c : Campaign) (s : sound c ≡ true) where
   pub has_verdict : (j : Result Verdict Refusal) {v : Verdict} → Judges c j → j ≡ Ok v → v ≡ verdict_of c
   unfolding judging
-  has_verdict j p f = same_verdict (rw (only c j p, s) at f)
+  has_verdict j p f = sym (same_ok (rw (only c j p, s) at f))
 
   pub not_refused : (j : Result Verdict Refusal) {r : Refusal} → Judges c j → j ≡ Err r → ⊥
   unfolding judging
-  not_refused j p f = never_given (rw (only c j p, s) at f)
+  not_refused j p f = ok_not_err (rw (only c j p, s) at f)
 
   pub has_count : {j : (Result ℕ Refusal)} {n : ℕ} → j ≡ counting c → j ≡ Ok n → n ≡ censored c
   unfolding counting
-  has_count e f = same_count (rw (e, s) at f)
+  has_count e f = sym (same_ok (rw (e, s) at f))
 
   pub count_not_refused : {j : (Result ℕ Refusal)} {r : Refusal} → j ≡ counting c → j ≡ Err r → ⊥
   unfolding counting
-  count_not_refused e f = never_counted (rw (e, s) at f)
+  count_not_refused e f = ok_not_err (rw (e, s) at f)

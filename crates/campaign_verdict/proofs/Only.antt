@@ -17,9 +17,7 @@ use Rattle.campaign_verdict.specs.Answers.{Judges, judging}
 use Rattle.campaign_verdict.specs.Figures.{IsVerdict, accepts, lower_rate, rejects, upper_rate, verdict_of, weighed}
 use Rattle.refusal.specs.declared.Refusal.{Refusal}
 use Rattle.std.specs.Prelude.{Result, Ok, Err}
-
-same : {v w : Verdict} → Ok v ≡ Ok w → v ≡ w
-same e = cc
+use Rattle.truth.proofs.Answers.{same_ok}
 
 module _ (c : Campaign) (kept : sound c ≡ true) where
   pub not_both : 1 ≤ c.records → accepts c ≡ true → rejects c ≡ true → ⊥
@@ -50,7 +48,7 @@ module _ (c : Campaign) (kept : sound c ≡ true) where
 
   pub given : (v : Verdict) → judging c ≡ Ok v → IsVerdict c v
   unfolding judging
-  given v e = let f : verdict_of c ≡ v = same (rw kept at e) in rw (← f) (is_verdict (eqb c.records 0) refl)
+  given v e = let f : verdict_of c ≡ v = same_ok (rw kept at e) in rw (← f) (is_verdict (eqb c.records 0) refl)
 
   pub gives : (v : Verdict) → IsVerdict c v → judging c ≡ Ok v
   unfolding judging

@@ -21,9 +21,9 @@ use record_state::Record;
 use refusal::Refusal;
 use sample_items::Items;
 
-const TAB: u8 = 9;
+const TAB: u8 = b'\t';
 
-const LF: u8 = 10;
+const LF: u8 = b'\n';
 
 // The most lines that are fed at once.
 const LINES: usize = 1024;

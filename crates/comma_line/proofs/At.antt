@@ -20,6 +20,7 @@ use Rattle.degrees.specs.Degrees.{first, below, unsigned, size, is_degrees, degr
 use Rattle.degrees.proofs.Signs.{ReadsAs}
 use Rattle.comma_line.specs.Line.{comma, roll, is_comma_line, right, line_length, line_at}
 use Rattle.std.specs.Prelude.{Some, None}
+use Rattle.truth.proofs.Answers.{none_not_some, same_first, same_second, same_some, some_not_none}
 
 module _ (s : List ℕ) (at time : ℕ) where
   pub no_number : is_number (leading (drop at s)) ≡ false → line_at s at time ≡ None
@@ -70,18 +71,20 @@ pub record LineRead (s : List ℕ) (at time : ℕ) (b : Bool) (n next : ℕ) : T
   pub place : next ≡ at + line_length (drop at s)
 
 module _ (s : List ℕ) (at time : ℕ) where
-  never : {b : Bool} {n next : ℕ} → ¬ (None ≡ Some (b, n, next))
-  never e = impossible (cc)
-
   pub line_read : (b : Bool) (n next : ℕ) → line_at s at time ≡ Some (b, n, next) → LineRead s at time b n next
   unfolding line_at
   line_read b n next r =
       by_test (right time (drop at s))
       (λ h.
-      let e : Some (below (roll (drop at s)), size (unsigned (roll (drop at s))), at + line_length (drop at s)) ≡ Some (b, n, next) = rw h at r in
-      record { is = h; sign = cc (e); value = cc (e); place = cc (e) })
-      (λ h. absurd (never (rw h at r)))
+      let e : ◌≡◌ {A = Bool × ℕ × ℕ} (below (roll (drop at s)), size (unsigned (roll (drop at s))), at + line_length (drop at s)) (b, n, next) = same_some (rw h at r) in
+      record {
+        is = h;
+        sign = sym (same_first e);
+        value = sym (same_first (same_second e));
+        place = sym (same_second (same_second e));
+      })
+      (λ h. absurd (none_not_some (rw h at r)))
 
   pub line_wrong : line_at s at time ≡ None → right time (drop at s) ≡ false
   unfolding line_at
-  line_wrong r = by_test (right time (drop at s)) (λ h. absurd (never (sym (rw h at r)))) (λ h. h)
+  line_wrong r = by_test (right time (drop at s)) (λ h. absurd (some_not_none (rw h at r))) (λ h. h)

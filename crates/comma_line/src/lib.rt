@@ -10,9 +10,9 @@ ghost use Rattle.comma_line.specs.Line.{line_at};
 // The largest sample without its sign (document 01, "Numbers a job may carry").
 pub const SAMPLE_LIMIT: u32 = 1_000_000;
 
-pub const COMMA: u8 = 44;
+pub const COMMA: u8 = b',';
 
-const LF: u8 = 10;
+const LF: u8 = b'\n';
 
 // Whether times may grow by this step.
 pub fn step_in_range(step: u64) -> bool

@@ -26,9 +26,9 @@ use record_state::Record;
 use refusal::Refusal;
 use sample_items::Items;
 
-const TAB: u8 = 9;
+const TAB: u8 = b'\t';
 
-const LF: u8 = 10;
+const LF: u8 = b'\n';
 
 // The channels, as document 02 numbers them.
 const ROLL: u64 = 1;

@@ -20,6 +20,7 @@ use Rattle.comma_peaks.specs.Timed.{timed_of, blocks, handing_blocks}
 use Rattle.comma_peaks.proofs.Blocks.{drop_join, small_drop, counted_anywhere}
 use Rattle.refusal.specs.declared.Refusal.{Refusal}
 use Rattle.std.specs.Prelude.{Result, Ok}
+use Rattle.truth.proofs.Answers.{same_ok}
 
 -- the timed samples of each block
 timed_blocks : ℕ → ℕ → List (List ℤ) → List (List ℤ)
@@ -38,9 +39,6 @@ timed_pieces : (n R lines : ℕ) (bs : List (List ℤ)) → Pieces n bs → Piec
 unfolding timed_blocks
 timed_pieces n R lines [] w = tt
 timed_pieces n R lines (x ∷ bs) w = (omega (arith, w.0, length-drop (R - lines) x), timed_pieces n R (lines + length x) bs w.1)
-
-same_survey : (s t : Surveying) → Ok s ≡ Ok t → s ≡ t
-same_survey s t e = cc
 
 module _ (n R : ℕ) (sizes times : List ℕ) (a : n ≤ length sizes) (b : n ≤ length times) where
   same_out : (bs : List (List ℤ)) (lines : ℕ) (h : Handing) (k : ℕ) → Pieces n bs → Set h (length (drop (R - lines) (together bs)))
@@ -90,9 +88,9 @@ module _ (n R : ℕ) (sizes times : List ℕ) (a : n ≤ length sizes) (b : n �
       let small = small_drop R (together bs) m in
       let p = passes_anywhere n sizes times a b D R τ (together bs) qs qs e e d t small l (timed_pieces n R 0 cs w) in
       let q = survey_anywhere D qs d (subst Small (sym e) small) (omega (arith, l, ap length e)) in
-      let u : Ok p.0 ≡ Ok q.0 = sym p.1 ∙ q.1 in
+      let u : p.0 ≡ q.0 = same_ok (sym p.1 ∙ q.1) in
       let total : Totalled D (drop R (together bs)) p.0 = subst (λ (s : Surveying). Totalled D (drop R (together
-      bs)) s) (sym (same_survey p.0 q.0 u)) (subst (λ (xs : List ℤ). Totalled D xs q.0) e q.2) in
+      bs)) s) (sym u) (subst (λ (xs : List ℤ). Totalled D xs q.0) e q.2) in
       let mine = counted_anywhere D R bs m l in
       from_begun D τ c.number c.sum cs d t k w
       ∙ ap (λ (x : ℕ). handing_out (length sizes) (length times) qs (begun D τ x c.sum)) (mine.number ∙ sym total.number)

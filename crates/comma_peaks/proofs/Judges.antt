@@ -32,7 +32,7 @@ module _ (f : Follow) (R : ℕ) (wrong : Bool) where
         unfolding judging
         judged_short k = rw (w, eq-eqb f.outside 0 o, le-ltb (most_in_range f.step R) f.lines h, lt-ltb f.lines (R + 2) k)
 
-        pub judged_peaks : R + 2 ≤ f.lines → (Ok tt) ≡ judging f R wrong
+        pub judged_peaks : R + 2 ≤ f.lines → (Ok (tt {0})) ≡ judging f R wrong
         unfolding judging
         judged_peaks k = rw (w, eq-eqb f.outside 0 o, le-ltb (most_in_range f.step R) f.lines h, le-ltb f.lines (R + 2) k)
 

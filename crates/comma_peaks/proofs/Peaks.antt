@@ -27,28 +27,26 @@ use Rattle.comma_peaks.proofs.Handed.{handed_anywhere}
 use Rattle.comma_peaks.proofs.Files.{some_left}
 use Rattle.refusal.specs.declared.Refusal.{Refusal}
 use Rattle.std.specs.Prelude.{Result, Ok, Err}
+use Rattle.truth.proofs.Answers.{err_not_ok}
 
 -- ---- nothing is refused
-never : {n : ℕ} {f : _} → Err (n, f) ≡ (Ok tt) → ⊥
-never e = impossible (cc)
-
 pub record Fine (D R : ℕ) (lines : List (List ℕ)) : Type 0 where
   pub right : length lines ≤ first_wrong D 0 lines
   pub good : length lines ≤ first_bad (samples_of lines)
   pub most : length lines ≤ most_in_range D R
 
-tests : (a b c d : Bool) (x y z w : Result (Unit {0}) (ℕ × Refusal)) → (x ≡ (Ok tt) → ⊥) → (y ≡ (Ok tt) → ⊥) → (z ≡ (Ok tt) → ⊥) → cond a x (cond b y (cond c z (cond d w (Ok tt)))) ≡ (Ok tt)
+tests : (a b c d : Bool) (x y z w : Result (Unit {0}) (ℕ × Refusal)) → (x ≡ (Ok (tt {0})) → ⊥) → (y ≡ (Ok (tt {0})) → ⊥) → (z ≡ (Ok (tt {0})) → ⊥) → cond a x (cond b y (cond c z (cond d w (Ok (tt {0}))))) ≡ (Ok (tt {0}))
     → (a ≡ false) × (b ≡ false) × (c ≡ false)
 tests true b c d x y z w p q r e = absurd (p e)
 tests false true c d x y z w p q r e = absurd (q e)
 tests false false true d x y z w p q r e = absurd (r e)
 tests false false false d x y z w p q r e = (refl, refl, refl)
 
-pub fine : (D R : ℕ) (lines : List (List ℕ)) → comes_to D R lines ≡ (Ok tt) → Fine D R lines
+pub fine : (D R : ℕ) (lines : List (List ℕ)) → comes_to D R lines ≡ (Ok (tt {0})) → Fine D R lines
 unfolding comes_to
 fine D R lines e =
     let n = length lines in
-    let t = tests (ltb (first_wrong D 0 lines) n) (ltb (first_bad (samples_of lines)) n) (ltb (most_in_range D R) n) (too_few R n) _ _ _ _ never never never e in
+    let t = tests (ltb (first_wrong D 0 lines) n) (ltb (first_bad (samples_of lines)) n) (ltb (most_in_range D R) n) (too_few R n) _ _ _ _ err_not_ok err_not_ok err_not_ok e in
     record { right = ltb-false _ _ t.0; good = ltb-false _ _ t.1; most = ltb-false _ _ t.2 }
 
 -- ---- all samples in range
@@ -115,14 +113,14 @@ module _ (D R : ℕ) (pieces : List (List ℕ)) (step : step_in_range D ≡ true
 -- TWO READINGS OF A FILE of which nothing is refused, each in pieces of its own, their samples in blocks cut anywhere
 -- of at most n, into slices of at least n places: the peaks of the text
 pub file_peaks : (n : ℕ) (sizes times : List ℕ) → n ≤ length sizes → n ≤ length times → (D R τ : ℕ) (ps qs : List (List ℕ)) (bs cs : List (List ℤ))
-    → joined ps ≡ joined qs → step_in_range D ≡ true → decorrelation_in_range τ ≡ true → comes_to D R (lines_of (joined ps)) ≡ (Ok tt)
+    → joined ps ≡ joined qs → step_in_range D ≡ true → decorrelation_in_range τ ≡ true → comes_to D R (lines_of (joined ps)) ≡ (Ok (tt {0}))
     → together bs ≡ map held (passing (nothing D) ps).samples → together cs ≡ map held (passing (nothing D) qs).samples → Pieces n cs
     → handing_blocks R (length sizes) (length times) 0 cs (begun D τ (blocks R 0 (none D) bs).number (blocks R 0 (none D) bs).sum)
     ≡ handed D R τ (samples_of (lines_of (joined ps)))
 file_peaks n sizes times a b D R τ ps qs bs cs same d t e f g w =
     let X = samples_of (lines_of (joined ps)) in
     let o = fine D R (lines_of (joined ps)) e in
-    let u = fine D R (lines_of (joined qs)) (subst (λ (text : List ℕ). comes_to D R (lines_of text) ≡ (Ok tt)) same e) in
+    let u = fine D R (lines_of (joined qs)) (subst (λ (text : List ℕ). comes_to D R (lines_of text) ≡ (Ok (tt {0}))) same e) in
     let x : together bs ≡ X = f ∙ samples_are D R ps d o in
     let y : together cs ≡ X = g ∙ samples_are D R qs d u ∙ ap (λ (text : List ℕ). samples_of (lines_of text)) (sym same) in
     handed_anywhere n R sizes times a b D τ bs cs (x ∙ sym y) d t (subst Small (sym x) (samples_small D R ps d o))

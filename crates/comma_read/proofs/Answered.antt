@@ -14,6 +14,7 @@ use Rattle.comma_line.specs.Text.{first_wrong, samples_of}
 use Rattle.comma_read.specs.Survey.{surveyed}
 use Rattle.comma_read.specs.Answers.{reading_lines, filled_by}
 use Rattle.std.specs.Prelude.{Ok, Err}
+use Rattle.truth.proofs.Answers.{err_not_ok, same_err, same_first, same_ok, same_second}
 
 wrong_within : (D time : ℕ) (lines : List (List ℕ)) → first_wrong D time lines ≤ length lines
 unfolding first_wrong
@@ -54,28 +55,24 @@ pub record FoundRight (D : ℕ) (lines : List (List ℕ)) (n s : ℕ) : Type 0 w
   pub low : s ≤ n
 
 module _ (D : ℕ) (lines : List (List ℕ)) where
-  apart : {n m s : ℕ} → ¬ (Err n ≡ Ok (m, s))
-  apart e = impossible (cc)
-
   pub found_wrong : (n : ℕ) → surveyed D lines ≡ Err n → FoundWrong D lines n
   unfolding surveyed
   found_wrong n e =
       by_test (ltb (first_wrong D 0 lines) (length lines))
       (λ t.
-      let f : Err (first_wrong D 0 lines) ≡ Err n = rw t at e in
-      let p : first_wrong D 0 lines ≡ n = cc (f) in
+      let p : first_wrong D 0 lines ≡ n = same_err (rw t at e) in
       record { place = p; some = omega (arith, ltb-true (first_wrong D 0 lines) (length lines) t) })
-      (λ t. absurd (apart (sym (rw t at e))))
+      (λ t. absurd (err_not_ok (sym (rw t at e))))
 
   pub found_right : (n s : ℕ) → surveyed D lines ≡ Ok (n, s) → FoundRight D lines n s
   unfolding surveyed
   found_right n s e =
       by_test (ltb (first_wrong D 0 lines) (length lines))
-      (λ t. absurd (apart (rw t at e)))
+      (λ t. absurd (err_not_ok (rw t at e)))
       (λ t.
-      let f : Ok (length lines, first_bad (samples_of lines)) ≡ Ok (n, s) = rw t at e in
-      let number : length lines ≡ n = cc (f) in
-      let bad : first_bad (samples_of lines) ≡ s = cc (f) in
+      let both : ◌≡◌ {A = ℕ × ℕ} (length lines, first_bad (samples_of lines)) (n, s) = same_ok (rw t at e) in
+      let number : length lines ≡ n = same_first both in
+      let bad : first_bad (samples_of lines) ≡ s = same_second both in
       record {
         all = omega (arith, ltb-false (first_wrong D 0 lines) (length lines) t, wrong_within D 0 lines);
         number = number;
@@ -128,16 +125,15 @@ samples_read D lines places n e =
     by_test (step_in_range D)
     (λ s.
     by_test (ltb (first_wrong D 0 lines) (length lines))
-    (λ w. absurd (never (rw (s, w) at e)))
+    (λ w. absurd (err_not_ok (rw (s, w) at e)))
     (λ w.
     by_test (ltb (first_bad (samples_of lines)) (length lines))
-    (λ b. absurd (never (rw (s, w, b) at e)))
+    (λ b. absurd (err_not_ok (rw (s, w, b) at e)))
     (λ b.
     by_test (ltb places (length lines))
-    (λ p. absurd (never (rw (s, w, b, p) at e)))
+    (λ p. absurd (err_not_ok (rw (s, w, b, p) at e)))
     (λ p.
-    let f : Ok (length lines) ≡ Ok n = rw (s, w, b, p) at e in
-    let c : length lines ≡ n = cc (f) in
+    let c : length lines ≡ n = same_ok (rw (s, w, b, p) at e) in
     record {
       step = s;
       all = omega (arith, ltb-false (first_wrong D 0 lines) (length lines) w, wrong_within D 0 lines);
@@ -145,7 +141,5 @@ samples_read D lines places n e =
       room = ltb-false places (length lines) p;
       count = c;
     }))))
-    (λ s. absurd (never (rw s at e)))
+    (λ s. absurd (err_not_ok (rw s at e)))
   where
-    never : {r : Refusal} → ¬ (Err r ≡ Ok n)
-    never f = impossible (cc)

@@ -23,11 +23,11 @@ ghost use Rattle.comma_read.specs.Survey.{AllGood, surveyed};
 
 use refusal::Refusal;
 
-const LF: u8 = 10;
+const LF: u8 = b'\n';
 
-const MINUS: u8 = 45;
+const MINUS: u8 = b'-';
 
-const POINT: u8 = 46;
+const POINT: u8 = b'.';
 
 // The most bytes of a plain line whose time has eight digits at most.
 const ROOM: usize = 17;

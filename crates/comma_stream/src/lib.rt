@@ -8,7 +8,7 @@ ghost use Rattle.comma_stream.specs.Follow.{unended, resting, waiting_for, takin
 
 use refusal::Refusal;
 
-const LF: u8 = 10;
+const LF: u8 = b'\n';
 
 // The most bytes of a line: two numbers of 12 digits, comma, minus, point, three digits, LF.
 const LONGEST_LINE: usize = 31;

@@ -9,11 +9,11 @@ ghost use Rattle.std.specs.Prelude.{◌≡◌, [], ◌∷◌, ◌+◌, ◌-◌, 
 ghost use Rattle.decimal.specs.Decimal.{zero_byte, all_digits, value_of};
 ghost use Rattle.comma_word.specs.Plain.{short_at, long_at, plain_bytes, short_size, long_size, plain_size};
 
-const ZERO: u8 = 48;
+const ZERO: u8 = b'0';
 
-const POINT: u8 = 46;
+const POINT: u8 = b'.';
 
-const LF: u8 = 10;
+const LF: u8 = b'\n';
 
 fn four_digits(a: u8, b: u8, c: u8, d: u8) -> bool
     ensures { result ≡ all_digits (a ∷ b ∷ c ∷ d ∷ []) }

@@ -10,7 +10,7 @@ ghost use Rattle.comma_write.specs.Answers.{writing_comma};
 
 use refusal::Refusal;
 
-const LF: u8 = 10;
+const LF: u8 = b'\n';
 
 // The longest time, of 12 digits.
 const LONGEST_TIME: u64 = 999_999_999_999;

@@ -40,6 +40,7 @@ use Rattle.condition_sheets.specs.Report.{after_sheet, condition_from, condition
 use Rattle.condition_sheets.specs.Taking.{Taken, by_reading, finishing, finish_left, is_over, opened_condition, place_read, placed, places_after}
 use Rattle.condition_sheets.specs.Taking.{report_kept, report_told, step_of, taken_after, with_sheet}
 use Rattle.std.specs.Prelude.{Result, Ok, Err}
+use Rattle.truth.proofs.Answers.{same_ok}
 
 -- ---- campaigns that are all sound are broken nowhere
 pub data AllSound : List Campaign → Type 0 where
@@ -100,9 +101,6 @@ comes_refused : (sheets : List (List (List ℕ))) (situation line column : ℕ) 
 comes_refused sheets situation line column r places =
     subst (Comes (refused_situation situation line column r)) (sym (refused_stays sheets situation line column r places))
     (record { says = refl; well = tt; many = λ n e. impossible (cc) })
-
-same_number : {m n : ℕ} → Ok m ≡ Ok n → n ≡ m
-same_number e = cc
 
 in_few : (n : ℕ) → situations_in_range n ≡ true → n ≤ 64
 in_few n t = leb-true n 64 (and-true (leb 1 n) (leb n 64) t).1
@@ -168,7 +166,7 @@ from : (sheets : List (List (List ℕ))) (number : ℕ) → Later number sheets
 unfolding taken_after condition_from
 from [] number n places k e few =
     let all : n ≡ number = omega (arith, e) in
-    record { says = refl; well = k; many = λ m f. ap situations_in_range (same_number f ∙ all) ∙ few }
+    record { says = refl; well = k; many = λ m f. ap situations_in_range (sym (same_ok f) ∙ all) ∙ few }
 from (pieces ∷ sheets) number n places k e few = one sheets number n places (from sheets number) k (omega (arith, e)) few pieces
 
 -- WHAT IS SAID OF THE SHEETS, however each is cut, is what is said of their texts

@@ -16,6 +16,7 @@ use Rattle.decimal.specs.Leading.{stands_at, leading, after_leading, leading_at}
 use Rattle.decimal.proofs.Text.{sound, number_below}
 use Rattle.decimal.proofs.Reading.{run, run_number}
 use Rattle.std.specs.Prelude.{Some, None}
+use Rattle.truth.proofs.Answers.{none_not_some, same_first, same_second, same_some, some_not_none}
 
 -- up to a byte that is no digit, digits are what a text starts with
 pub leading_is : (digits after : List ℕ) → all_digits digits ≡ true → is_digit (get_or after 0 0) ≡ false → leading (digits ++ after) ≡ digits
@@ -102,9 +103,6 @@ module _ (s : List ℕ) (at : ℕ) where
   abbrev Digits : List ℕ
   Digits = leading (drop at s)
 
-  never : {v end : ℕ} → ¬ (None ≡ Some (v, end))
-  never e = impossible (cc)
-
   -- the digits stand in the text
   inside : 1 ≤ length Digits → at + length Digits ≤ length s
   inside some = omega (arith, length-drop at s, simp length-append at (ap length (led (drop at s)).parts))
@@ -114,15 +112,15 @@ module _ (s : List ℕ) (at : ℕ) where
   leads_number v end r =
       by_test (is_number Digits)
       (λ n.
-      let e : Some (value_of Digits, at + length Digits) ≡ Some (v, end) = rw n at r in
-      let value : v ≡ value_of Digits = cc in
-      let place : end ≡ at + length Digits = cc in
+      let both : ◌≡◌ {A = ℕ × ℕ} (value_of Digits, at + length Digits) (v, end) = same_some (rw n at r) in
+      let value : v ≡ value_of Digits = sym (same_first both) in
+      let place : end ≡ at + length Digits = sym (same_second both) in
       record { number = n; value = value; place = place; small = rw value (number_below Digits n); within = omega (arith, inside (sound Digits n).some) })
-      (λ n. absurd (never (rw n at r)))
+      (λ n. absurd (none_not_some (rw n at r)))
 
   pub leads_none : leading_at s at ≡ None → is_number Digits ≡ false
   unfolding leading_at
-  leads_none r = by_test (is_number Digits) (λ n. absurd (never (sym (rw n at r)))) (λ n. n)
+  leads_none r = by_test (is_number Digits) (λ n. absurd (some_not_none (rw n at r))) (λ n. n)
 
 -- a byte other than 0 stands at a place if it is what is read there; and it stands inside
 module _ (s : List ℕ) (at b : ℕ) (some : 1 ≤ b) where

@@ -11,7 +11,7 @@ ghost use Rattle.decimal.specs.Field.{ending, field_text};
 ghost use Rattle.decimal.specs.Leading.{leading, leading_at, stands_at};
 
 // The byte of the digit 0.
-const ZERO: u8 = 48;
+const ZERO: u8 = b'0';
 
 // The most digits of a number.
 const LONGEST: usize = 12;

@@ -18,6 +18,7 @@ use Rattle.truth.proofs.Laws.{impossible, true≢false}
 use Rattle.decimal.specs.Decimal.{digits_of}
 use Rattle.degrees.specs.Degrees.{minus, below, sign_length, unsigned, size, is_degrees, degrees_length, degrees_at, size_at, sign, degrees_text}
 use Rattle.std.specs.Prelude.{Some, None}
+use Rattle.truth.proofs.Answers.{none_not_some, same_some, some_not_none}
 
 pub sign_below : (x : ℤ) → lt_z x (pos 0) ≡ true → sign x ≡ minus ∷ []
 sign_below (pos n) t = absurd (omega (arith, ltb-true n 0 t))
@@ -63,24 +64,20 @@ pub record ReadsAs (s : List ℕ) (at : ℕ) (b : Bool) (n next : ℕ) : Type 0 
   pub place : next ≡ at + degrees_length (drop at s)
 
 module _ (s : List ℕ) (at : ℕ) where
-  never : {p : Bool × ℕ × ℕ} → ¬ (None ≡ Some p)
-  never e = impossible (cc)
-
   pub degrees_read : (b : Bool) (n next : ℕ) → degrees_at s at ≡ Some (b, n, next) → ReadsAs s at b n next
   unfolding degrees_at
   degrees_read b n next r =
       by_test (is_degrees (drop at s))
       (λ h.
-      let e : Some (below (drop at s), size (unsigned (drop at s)), at + degrees_length (drop at s)) ≡ Some (b, n, next) = rw h at r in
-      let all : (below (drop at s), size (unsigned (drop at s)), at + degrees_length (drop at s)) ≡ (b, n, next) = cc in
+      let e : ◌≡◌ {A = Bool × ℕ × ℕ} (below (drop at s), size (unsigned (drop at s)), at + degrees_length (drop at s)) (b, n, next) = same_some (rw h at r) in
       record {
         right = h;
-        sign = ap (λ (p : Bool × ℕ × ℕ). p.0) all;
-        value = ap (λ (p : Bool × ℕ × ℕ). p.1) all;
-        place = sym (ap (λ (p : Bool × ℕ × ℕ). p.2) all);
+        sign = ap (λ (p : Bool × ℕ × ℕ). p.0) e;
+        value = ap (λ (p : Bool × ℕ × ℕ). p.1) e;
+        place = sym (ap (λ (p : Bool × ℕ × ℕ). p.2) e);
       })
-      (λ h. absurd (never (rw h at r)))
+      (λ h. absurd (none_not_some (rw h at r)))
 
   pub degrees_none : degrees_at s at ≡ None → is_degrees (drop at s) ≡ false
   unfolding degrees_at
-  degrees_none r = by_test (is_degrees (drop at s)) (λ h. absurd (never (sym (rw h at r)))) (λ h. h)
+  degrees_none r = by_test (is_degrees (drop at s)) (λ h. absurd (some_not_none (rw h at r))) (λ h. h)

@@ -7,9 +7,9 @@ ghost use Rattle.degrees.specs.Degrees.{point, sign_length, degrees_at, size_at,
 ghost use Rattle.degrees.specs.Degrees.{degrees_text, longest_degrees, largest_size};
 ghost use Rattle.text.specs.Write.{written, place_after};
 
-const MINUS: u8 = 45;
+const MINUS: u8 = b'-';
 
-const POINT: u8 = 46;
+const POINT: u8 = b'.';
 
 // Reads the degrees of `s` that start at `at`.
 pub fn degrees_at(s: &[u8], at: usize) -> Option<(bool, u64, usize)>

@@ -53,6 +53,7 @@ use Rattle.sheet_text.specs.Sheet.{meaning}
 use Rattle.sheet_text.proofs.Pieces.{cut_anywhere}
 use Rattle.sheet_line.proofs.Theorems.{result_line}
 use Rattle.std.specs.Prelude.{Some, None, Ok, Err}
+use Rattle.truth.proofs.Answers.{same_err}
 
 -- ---- the statement
 -- a condition, and the refusal that it gives
@@ -210,28 +211,6 @@ swapped : {A : Type 0} (b : Bool) (x y : A) → cond b x y ≡ cond (not b) y x
 swapped true x y = refl
 swapped false x y = refl
 
-module _ (r s : Refusal) where
-  own_record : Err r ≡ Err s → r ≡ s
-  own_record e = cc
-
-  own_list : Err r ≡ Err s → r ≡ s
-  own_list e = cc
-
-  own_campaign : Err r ≡ Err s → r ≡ s
-  own_campaign e = cc
-
-  own_result : Err r ≡ Err s → r ≡ s
-  own_result e = cc
-
-  own_verdict : Err r ≡ Err s → r ≡ s
-  own_verdict e = cc
-
-  own_rates : Err r ≡ Err s → r ≡ s
-  own_rates e = cc
-
-  own_count : Err r ≡ Err s → r ≡ s
-  own_count e = cc
-
 some : (n : ℕ) → ¬ (n ≡ 0) → 1 ≤ n
 some n h = omega arith
 
@@ -254,27 +233,27 @@ demand_1 =
     record {
       open_record =
           λ items.
-          decided Err (Ok (state_of items [])) own_record (λ r e. impossible (cc)) (item_tests items []) (opened items)
+          decided Err (Ok (state_of items [])) (λ r s. same_err) (λ r e. impossible (cc)) (item_tests items []) (opened items)
           (swapped (eqb (item_outside items) 0) _ _ ∙ first-item Err [] (Ok (state_of items []))
           (step_in_range items.step) (ramp_in_range items.ramp) (level_in_range items.levels.roll)
           (decorrelation_in_range items.decorrelation) (level_in_range items.levels.acceleration)
           (item_outside items) refl);
-      open_campaign = λ q. decided Err (Ok (empty q)) own_campaign (λ r e. impossible (cc)) _ (campaigns.opened q) (swapped (standard_in_range q) _ _);
-      feed = λ r xs ys. decided Err (Ok (foldl stepped r (moments xs ys))) own_record (λ f e. impossible (cc)) _ (fed r xs ys) refl;
-      end = λ r. decided Err (Ok (result_of r)) own_result (λ f e. impossible (cc)) _ (ending r) refl;
-      enter = λ c o. decided Err (Ok (entered c o.failed o.exposure)) own_campaign (λ r e. impossible (cc)) _ (entering c o) refl;
+      open_campaign = λ q. decided Err (Ok (empty q)) (λ r s. same_err) (λ r e. impossible (cc)) _ (campaigns.opened q) (swapped (standard_in_range q) _ _);
+      feed = λ r xs ys. decided Err (Ok (foldl stepped r (moments xs ys))) (λ r s. same_err) (λ f e. impossible (cc)) _ (fed r xs ys) refl;
+      end = λ r. decided Err (Ok (result_of r)) (λ r s. same_err) (λ f e. impossible (cc)) _ (ending r) refl;
+      enter = λ c o. decided Err (Ok (entered c o.failed o.exposure)) (λ r s. same_err) (λ r e. impossible (cc)) _ (entering c o) refl;
       list =
           λ items xs ys places.
-          decided Err (Ok (length (counted items (moments xs ys)))) own_list (λ r e. impossible (cc)) _ (listed items xs ys places)
+          decided Err (Ok (length (counted items (moments xs ys)))) (λ r s. same_err) (λ r e. impossible (cc)) _ (listed items xs ys places)
           (first-item Err (list_tests items xs ys places)
           (Ok (length (counted items (moments xs ys)))) (step_in_range items.step)
           (ramp_in_range items.ramp) (level_in_range items.levels.roll) (decorrelation_in_range
           items.decorrelation) (level_in_range items.levels.acceleration) (item_outside items) refl);
       kept = λ items xs ys before after r p. p.leaves;
-      verdict = λ c. decided Err (Ok (verdict_of c)) own_verdict (λ r e. impossible (cc)) _ (verdicts.judging c) (swapped (campaigning.sound c) _ _);
-      rates = λ c. decided Err (Ok (cond (not (eqb c.records 0)) (Some (rates_of c)) None)) own_rates (λ r e. impossible (cc)) _ (verdicts.rating c) (swapped (campaigning.sound c) _ _);
+      verdict = λ c. decided Err (Ok (verdict_of c)) (λ r s. same_err) (λ r e. impossible (cc)) _ (verdicts.judging c) (swapped (campaigning.sound c) _ _);
+      rates = λ c. decided Err (Ok (cond (not (eqb c.records 0)) (Some (rates_of c)) None)) (λ r s. same_err) (λ r e. impossible (cc)) _ (verdicts.rating c) (swapped (campaigning.sound c) _ _);
       sheet = cut_anywhere;
-      sheet_record = λ c f t g. decided Err (Ok (entered c f t)) own_campaign (λ r e. impossible (cc)) _ (telling c f t) (tells c f t g);
+      sheet_record = λ c f t g. decided Err (Ok (entered c f t)) (λ r s. same_err) (λ r e. impossible (cc)) _ (telling c f t) (tells c f t g);
       sheet_line = result_line;
-      censored = λ c. decided Err (Ok (censored c)) own_count (λ r e. impossible (cc)) _ (verdicts.counting c) (swapped (campaigning.sound c) _ _);
+      censored = λ c. decided Err (Ok (censored c)) (λ r s. same_err) (λ r e. impossible (cc)) _ (verdicts.counting c) (swapped (campaigning.sound c) _ _);
     }

@@ -49,10 +49,10 @@ pub record DeskPeaks : Type 0 where
   pub peaks_none : (D R τ : ℕ) (text : List ℕ) → eqb (item_outside (searched D R τ)) 0 ≡ true → peaks_said D R τ text ≡ file_said D R τ 0 text
   pub files_none : (D R τ : ℕ) (texts : List (List ℕ)) → eqb (item_outside (searched D R τ)) 0 ≡ true → files_said D R τ texts ≡ files_from D R τ 1 texts
   -- what a file comes to: the first test that holds, and its line or 0
-  pub peaks_order : (D R : ℕ) (lines : List (List ℕ)) → comes_to D R lines ≡ decide (λ r. Err (fault_line r, r)) (peaks_tests D R lines) (Ok tt)
+  pub peaks_order : (D R : ℕ) (lines : List (List ℕ)) → comes_to D R lines ≡ decide (λ r. Err (fault_line r, r)) (peaks_tests D R lines) (Ok (tt {0}))
   -- a file: refused with its line or 0, after its number where there are several, or its envelope peaks in order
   pub peaks_refused : (D R τ file : ℕ) (text : List ℕ) (line : ℕ) (r : Refusal) → comes_to D R (lines_of text) ≡ Err (line, r) → file_said D R τ file text ≡ refused (places_of file line) r
-  pub peaks_written : (D R τ file : ℕ) (text : List ℕ) → comes_to D R (lines_of text) ≡ (Ok tt)
+  pub peaks_written : (D R τ file : ℕ) (text : List ℕ) → comes_to D R (lines_of text) ≡ (Ok (tt {0}))
       → file_said D R τ file text ≡ record { line = peaks_text file (handed D R τ (samples_of (lines_of text))); end = 48 }
   -- one file after the other, until one is refused
   pub files_on : (D R τ file : ℕ) (text : List ℕ) (texts : List (List ℕ)) → eqb (file_said D R τ file text).end 48 ≡ true
@@ -70,7 +70,7 @@ pub record DeskPeaks : Type 0 where
   pub files_end : (D R τ file : ℕ) → files_from D R τ file [] ≡ record { line = []; end = 48 }
 
 -- ---- the proof
-by_tests : (D R : ℕ) (lines : List (List ℕ)) → comes_to D R lines ≡ decide (λ r. Err (fault_line r, r)) (peaks_tests D R lines) (Ok tt)
+by_tests : (D R : ℕ) (lines : List (List ℕ)) → comes_to D R lines ≡ decide (λ r. Err (fault_line r, r)) (peaks_tests D R lines) (Ok (tt {0}))
 unfolding comes_to decide
 by_tests D R lines = refl
 

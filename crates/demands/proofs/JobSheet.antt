@@ -38,6 +38,7 @@ use Rattle.demands.proofs.Demand1.{Decides, First, None, Test, ◌gives◌, deci
 use Rattle.demands.proofs.Refusal9.{Nine, refusal_9, standard_tests, tell_tests}
 use Rattle.demands.proofs.Request10.{request_10}
 use Rattle.std.specs.Prelude.{Result, Ok, Err}
+use Rattle.truth.proofs.Answers.{same_err}
 
 -- ---- the statement
 -- what a line says where the reading stands: the tests of what it tells, and where it leads
@@ -359,9 +360,6 @@ never_eight more (line ∷ lines) s g e =
     go (Err (n, k, r)) f rest z = not_eight s line g (ap number_in f ∙ z)
 
 -- ---- writing from a place on
-own_written : (r q : Refusal) → Err r ≡ Err q → r ≡ q
-own_written r q e = cc
-
 module _ (out : List ℕ) (at : ℕ) (text : List ℕ) where
   writing_tests : writing_reply out at text ≡ decide Err (room_tests out at text) (Ok (at + length text))
   unfolding writing_reply decide
@@ -394,9 +392,6 @@ module _ (c : Campaign) (out : List ℕ) (at : ℕ) where
       by_test (sound c) (λ g. rw g (writing_left out at (record_text c) n (rw g at e))) (λ g. impossible (cc (rw g at e)))
 
 -- ---- a text run
-own_run : (r q : Refusal) → Err r ≡ Err q → r ≡ q
-own_run r q e = cc
-
 module _ (more : Bool) (text : List ℕ) (s : Sheet) (out : List ℕ) where
   abbrev account : Account
   account = reading_sheet more (lines_of text) s
@@ -451,15 +446,15 @@ job_sheet =
       read_whole = λ text. refl;
       run = λ more text s out.
           decided Err (Ok ((reading_sheet more (lines_of text) s).end, length (reading_sheet more (lines_of text) s).text))
-          own_run (λ r e. impossible (cc)) _ (running more text s out) (run_tests more text s out);
+          (λ r q. same_err) (λ r e. impossible (cc)) _ (running more text s out) (run_tests more text s out);
       run_kept = run_keeps;
       run_left_lem = run_leaves;
       record_written = λ c out at.
-          decided Err (Ok (at + length (record_text c))) own_written (λ r e. impossible (cc)) _ (record_writing c out at) (record_tests c out at);
+          decided Err (Ok (at + length (record_text c))) (λ r q. same_err) (λ r e. impossible (cc)) _ (record_writing c out at) (record_tests c out at);
       record_kept = record_keeps;
       record_left_lem = record_leaves;
       refused_written = λ line column r out at. let text = refused_text line column r in
-          decided Err (Ok (at + length text)) own_written (λ q e. impossible (cc)) _ (writing_reply out at text) (writing_tests out at text);
+          decided Err (Ok (at + length text)) (λ r q. same_err) (λ q e. impossible (cc)) _ (writing_reply out at text) (writing_tests out at text);
       refused_kept = λ line column r out at q e. writing_kept out at (refused_text line column r) q e;
       refused_left = λ line column r out at n e. writing_left out at (refused_text line column r) n e;
     }

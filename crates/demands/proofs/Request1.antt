@@ -35,6 +35,7 @@ use Rattle.comma_write.specs.Answers.{last_time, writing_comma}
 use Rattle.comma_write.proofs.Back.{read_again, read_back}
 use Rattle.demands.proofs.Demand1.{Decides, Test, ◌gives◌, decide, decided}
 use Rattle.std.specs.Prelude.{Ok, Err}
+use Rattle.truth.proofs.Answers.{same_err}
 
 -- ---- the statement
 -- reading 1, 10 with the line's number, 2 with the sample's place, 7 with the number of samples
@@ -126,13 +127,6 @@ pub record Request1 : Type 0 where
   pub early : (time : ℕ) (text more : List ℕ) → may_begin text ≡ false → right time text ≡ false → right time (text ++ more) ≡ false
 
 -- ---- the proof
-module _ (r s : Refusal) where
-  own_read : Err r ≡ Err s → r ≡ s
-  own_read e = cc
-
-  own_write : Err r ≡ Err s → r ≡ s
-  own_write e = cc
-
 -- what was written keeps the tests, and is the text
 pub record Wrote (D : ℕ) (xs : List ℤ) (n : ℕ) : Type 0 where
   pub step : step_in_range D ≡ true
@@ -187,8 +181,8 @@ pub request_1 : Request1
 unfolding decide reading_lines writing_comma filled_by laid_by
 request_1 =
     record {
-      read = λ D text places. decided Err (Ok (length (lines_of text))) own_read (λ r e. impossible (cc)) (read_tests D (lines_of text) places) (reading_comma D text places) refl;
-      write = λ D xs out. decided Err (Ok (length (text_of D xs))) own_write (λ r e. impossible (cc)) (write_tests D xs (length out)) (writing_comma D xs out) refl;
+      read = λ D text places. decided Err (Ok (length (lines_of text))) (λ r s. same_err) (λ r e. impossible (cc)) (read_tests D (lines_of text) places) (reading_comma D text places) refl;
+      write = λ D xs out. decided Err (Ok (length (text_of D xs))) (λ r s. same_err) (λ r e. impossible (cc)) (write_tests D xs (length out)) (writing_comma D xs out) refl;
       samples_kept = λ r xs slice. refl;
       bytes_kept = λ r text out. refl;
       forms = computed_forms;

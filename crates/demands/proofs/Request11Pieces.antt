@@ -98,7 +98,7 @@ pub record Request11Pieces : Type 0 where
   -- and where nothing is refused, two readings of it, cut as ps and as qs, their samples in blocks bs and cs, hand
   -- out the peaks of the text
   pub file : (n : ℕ) (sizes times : List ℕ) → n ≤ length sizes → n ≤ length times → (D R τ : ℕ) (ps qs : List (List ℕ)) (bs cs : List (List ℤ))
-      → joined ps ≡ joined qs → step_in_range D ≡ true → decorrelation_in_range τ ≡ true → comes_to D R (lines_of (joined ps)) ≡ (Ok tt)
+      → joined ps ≡ joined qs → step_in_range D ≡ true → decorrelation_in_range τ ≡ true → comes_to D R (lines_of (joined ps)) ≡ (Ok (tt {0}))
       → together bs ≡ map held (passing (nothing D) ps).samples → together cs ≡ map held (passing (nothing D) qs).samples → Pieces n cs
       → handing_blocks R (length sizes) (length times) 0 cs (begun D τ (blocks R 0 (none D) bs).number (blocks R 0 (none D) bs).sum)
       ≡ handed D R τ (samples_of (lines_of (joined ps)))

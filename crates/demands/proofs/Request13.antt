@@ -41,6 +41,7 @@ use Rattle.campaign_report.proofs.WholeCase.{third_case, three_case, whole_case}
 use Rattle.demands.proofs.Exactly.{Exactly}
 use Rattle.demands.proofs.Demand1.{Decides, Test, ◌gives◌, decide, decided}
 use Rattle.std.specs.Prelude.{Ok, Err}
+use Rattle.truth.proofs.Answers.{same_err}
 
 -- ---- the statement
 -- 18, then 8 with the lowest situation; then what is tested after them
@@ -126,13 +127,6 @@ pub record Request13 : Type 0 where
   pub accepted_alone : report_text third_alone ≡ report_on_third
 
 -- ---- the proof
-module _ (r s : Refusal) where
-  own : Err r ≡ Err s → r ≡ s
-  own e = cc
-
-  own_writing : Err r ≡ Err s → r ≡ s
-  own_writing e = cc
-
 abbrev ranked : Standing → ℕ
 ranked Accepted = 0
 ranked Rejected = 1
@@ -216,9 +210,9 @@ pub request_13 : Request13
 unfolding laid_by
 request_13 =
     record {
-      judge = λ number cs. decided Err (Ok (standing cs)) own (λ r e. impossible (cc)) (tests number cs []) (judging number cs) (judging_decides number cs);
+      judge = λ number cs. decided Err (Ok (standing cs)) (λ r s. same_err) (λ r e. impossible (cc)) (tests number cs []) (judging number cs) (judging_decides number cs);
       write = λ number cs out.
-          decided Err (Ok (length (report_text cs))) own_writing (λ r e. impossible (cc)) (write_tests number cs (length out)) (writing_report number cs out) (writing_decides number cs out);
+          decided Err (Ok (length (report_text cs))) (λ r s. same_err) (λ r e. impossible (cc)) (write_tests number cs (length out)) (writing_report number cs out) (writing_decides number cs out);
       lowest = lowest_named;
       bytes_kept = λ r text out. refl;
       rejecting = rejected_rejects;

@@ -48,6 +48,7 @@ use Rattle.peak_reach.proofs.Rightly.{exponents_small}
 use Rattle.peak_reach.proofs.Unique.{extrapolate_unique}
 use Rattle.demands.proofs.Demand1.{Decides, Test, ◌gives◌, decide, decided}
 use Rattle.std.specs.Prelude.{Result, Ok, Err}
+use Rattle.truth.proofs.Answers.{same_err}
 
 -- ---- the statement
 -- 1 with the lowest of items 1, 3 and 5; 16; 17 with the first place; 19; 20 with the k-th peak; 21
@@ -163,9 +164,6 @@ pub record Request14 : Type 0 where
       → extrapolated ys k c D P q ≡ Ok (t, l) → ⊥
 
 -- ---- the proof
-own : (r s : Refusal) → Err r ≡ Err s → r ≡ s
-own r s e = cc
-
 -- an item's number and the tests of the three items
 first-item : (ts : List Test) (x : Result (Times × Letter) Refusal) (a b c : Bool) (n : ℕ) → n ≡ cond (not a) 1 (cond (not b) 3 (cond (not c) 5 0))
     → cond (not (eqb n 0)) (Err (Item n)) (decide Err ts x)
@@ -180,7 +178,7 @@ order : (ys : List ℕ) (k c D P q : ℕ)
     → Decides Err (beyond_tests ys k c D P q) (Ok (times ys k c D P, letter_for q (times ys k c D P))) (extrapolated ys k c D P q)
 unfolding decide extrapolated reached item_outside
 order ys k c D P q =
-    decided Err (Ok (times ys k c D P, letter_for q (times ys k c D P))) own (λ r e. impossible (cc)) (beyond_tests ys k c D P q) (extrapolated ys k c D P q)
+    decided Err (Ok (times ys k c D P, letter_for q (times ys k c D P))) (λ r s. same_err) (λ r e. impossible (cc)) (beyond_tests ys k c D P q) (extrapolated ys k c D P q)
     (first-item
     (tail_outside (length ys) k gives Tail
     ∷ (ltb (first_out ys) (length ys) gives Peak (first_out ys)

@@ -37,6 +37,7 @@ use Rattle.sheet_records.proofs.Back.{read_back, records_back}
 use Rattle.sheet_records.proofs.Clean.{written_again}
 use Rattle.demands.proofs.Demand1.{Decides, Test, ◌gives◌, decide, decided}
 use Rattle.std.specs.Prelude.{Result, Ok, Err}
+use Rattle.truth.proofs.Answers.{same_err, same_second}
 
 -- ---- the statement
 -- a record after so many records and failures: 4, 3, 5, 6; then the records after it, and what is tested after them
@@ -82,11 +83,8 @@ pub record Request2 : Type 0 where
 
 -- ---- the proof
 module _ (r s : Refusal) where
-  own : Err r ≡ Err s → r ≡ s
-  own e = cc
-
-  own_sheet : Err (0, 0, r) ≡ Err (0, 0, s) → r ≡ s
-  own_sheet e = cc
+  own_sheet : ◌≡◌ {A = Result (ℕ × ℕ) (ℕ × ℕ × Refusal)} (Err (0, 0, r)) (Err (0, 0, s)) → r ≡ s
+  own_sheet e = same_second (same_second (same_err e))
 
 -- what the records' tests decide is what is judged of them, from a campaign of so many records and failures
 module _ (needed room : ℕ) where
@@ -145,7 +143,7 @@ pub request_2 : Request2
 unfolding laid_by filled_by resuming campaign_of
 request_2 =
     record {
-      write = λ q xs out. decided Err (Ok (length (sheet_text q xs))) own (λ r e. impossible (cc)) (write_tests q xs (length out)) (writing_sheet q xs out) (written_decides q xs out);
+      write = λ q xs out. decided Err (Ok (length (sheet_text q xs))) (λ r s. same_err) (λ r e. impossible (cc)) (write_tests q xs (length out)) (writing_sheet q xs out) (written_decides q xs out);
       enough = λ q xs out n e. let w = wrote q xs out n e in omega (arith, w.bytes, enough q xs w.end w.clean);
       least = (refl, refl);
       refused_sheet = λ text places line column r e. rw e;

@@ -42,6 +42,7 @@ use Rattle.root.proofs.HalfWidth.{all_failures, half_width_lem, no_failure}
 use Rattle.binomial_bounds.proofs.Order.{ordered}
 use Rattle.demands.proofs.Demand1.{Decides, Test, ◌gives◌, decide, decided}
 use Rattle.std.specs.Prelude.{Some, None, Ok, Err}
+use Rattle.truth.proofs.Answers.{same_err}
 
 -- ---- the statement
 -- 8 for the sum and for the record, 4, 1 with item 1 for another step, 11
@@ -89,16 +90,6 @@ pub record Request7 : Type 0 where
   pub a_record : (s t : Sum) (r : Record) (rs : List Record) → AllAdded s (r ∷ rs) t → recorded t ≡ true
 
 -- ---- the proof
-module _ (r s : Refusal) where
-  own : Err r ≡ Err s → r ≡ s
-  own e = cc
-
-  own_bounds : Err r ≡ Err s → r ≡ s
-  own_bounds e = cc
-
-  own_rates : Err r ≡ Err s → r ≡ s
-  own_rates e = cc
-
 swapped : {A : Type 0} (b : Bool) (x y : A) → cond b x y ≡ cond (not b) y x
 swapped true x y = refl
 swapped false x y = refl
@@ -126,10 +117,10 @@ pub request_7 : Request7
 unfolding decide adding bounding rating
 request_7 =
     record {
-      opening = λ D. decided Err (Ok (empty D)) own (λ r e. impossible (cc)) _ (opened D) (swapped (step_in_range D) _ _);
-      add = λ s r. decided Err (Ok (grown s r.groups (timed r))) own (λ f e. impossible (cc)) (add_tests s r) (adding s r) refl;
-      bounds = λ s. decided Err (Ok (recorded s, bounds_of s)) own_bounds (λ r e. impossible (cc)) (broken_test s) (bounding s) (swapped (sound s) _ _);
-      rates = λ s. decided Err (Ok (cond (recorded s) (Some (rates_of s)) None)) own_rates (λ r e. impossible (cc)) (broken_test s) (rating s) (swapped (sound s) _ _);
+      opening = λ D. decided Err (Ok (empty D)) (λ r s. same_err) (λ r e. impossible (cc)) _ (opened D) (swapped (step_in_range D) _ _);
+      add = λ s r. decided Err (Ok (grown s r.groups (timed r))) (λ r s. same_err) (λ f e. impossible (cc)) (add_tests s r) (adding s r) refl;
+      bounds = λ s. decided Err (Ok (recorded s, bounds_of s)) (λ r s. same_err) (λ r e. impossible (cc)) (broken_test s) (bounding s) (swapped (sound s) _ _);
+      rates = λ s. decided Err (Ok (cond (recorded s) (Some (rates_of s)) None)) (λ r s. same_err) (λ r e. impossible (cc)) (broken_test s) (rating s) (swapped (sound s) _ _);
       opened_sound = λ D s e. is_true (sound s) (answered.opened_sound D s e);
       added_sound = λ s r t e. is_true (sound t) (answered.adding_sound s r t e);
       totals = grown_by_adding;

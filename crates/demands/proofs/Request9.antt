@@ -44,6 +44,7 @@ use Rattle.demands.proofs.Demand3.{Demand3, demand_3}
 use Rattle.bureau_table.specs.declared.Reply.TheVariants.{Entered, Freed, Judged, Placed, Rated}
 use Rattle.bureau_table.specs.declared.Reply.{Reply}
 use Rattle.std.specs.Prelude.{Some, None, Result, Ok, Err}
+use Rattle.truth.proofs.Answers.{same_err}
 
 -- ---- the statement
 -- 8 first of all, then 13
@@ -132,9 +133,6 @@ pub record Request9 : Type 0 where
       → Holds (after (called t b (Take q)).table cs) b q i (entries_at i (called t b (Take q)).table cs)
 
 -- ---- the proof
-own : (r s : Refusal) → Err r ≡ Err s → r ≡ s
-own r s e = cc
-
 -- document 01's refusals of an entry, as the bench hands them on
 handed_on : (b : ℕ) (c d : Campaign) (l m n : Bool)
     → (entry b c (cond l (Err BrokenState) (cond m (Err CampaignFull) (cond n (Err RowsUsedUp) (Ok d))))).answer
@@ -192,11 +190,11 @@ module _ (t : List Place) (b : ℕ) where
   order : Order t b
   order =
       record {
-        take = λ q. decided Err _ own (λ r e. impossible (cc)) _ _ (take_is q);
-        enter = λ i o. decided Err _ own (λ r e. impossible (cc)) _ _ (work_is i (Enter o) _ _ (enter_is i o));
-        verdict = λ i. decided Err _ own (λ r e. impossible (cc)) _ _ (work_is i Judge _ _ (verdict_is i));
-        rates = λ i. decided Err _ own (λ r e. impossible (cc)) _ _ (work_is i Rate _ _ (rates_is i));
-        give_back = λ i. decided Err _ own (λ r e. impossible (cc)) _ _ (work_is i GiveBack _ _ (λ s. given_is i));
+        take = λ q. decided Err _ (λ r s. same_err) (λ r e. impossible (cc)) _ _ (take_is q);
+        enter = λ i o. decided Err _ (λ r s. same_err) (λ r e. impossible (cc)) _ _ (work_is i (Enter o) _ _ (enter_is i o));
+        verdict = λ i. decided Err _ (λ r s. same_err) (λ r e. impossible (cc)) _ _ (work_is i Judge _ _ (verdict_is i));
+        rates = λ i. decided Err _ (λ r s. same_err) (λ r e. impossible (cc)) _ _ (work_is i Rate _ _ (rates_is i));
+        give_back = λ i. decided Err _ (λ r s. same_err) (λ r e. impossible (cc)) _ _ (work_is i GiveBack _ _ (λ s. given_is i));
       }
 
 each_call : (t : List Place) (b : ℕ) → EachCall t b

@@ -12,16 +12,16 @@ ghost use Rattle.desk_line.specs.Said.{why_text, refused, longest_said, Puts, pu
 use refusal::Refusal;
 
 // How a program ends: all was read, something was refused, or something could not be read or written.
-pub const READ: u8 = 48;
+pub const READ: u8 = b'0';
 
-pub const REFUSED: u8 = 49;
+pub const REFUSED: u8 = b'1';
 
-pub const FAILED: u8 = 50;
+pub const FAILED: u8 = b'2';
 
 // The most bytes of a line.
 pub const LONGEST_LINE: usize = 128;
 
-const TAB: u8 = 9;
+const TAB: u8 = b'\t';
 
 // The refusal that names an item.
 const ITEM: u64 = 1;

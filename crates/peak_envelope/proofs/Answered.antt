@@ -72,7 +72,7 @@ module _ (D R τ : ℕ) (xs : List ℤ) (sizes times : List ℕ) where
     where
       go : (i b l s : Bool)
           → cond (not i) (Err (Item (item_asked D R τ))) (cond b (Err (Sample (first_bad xs)))
-          (cond l (Err TooLong) (cond s (Err TooShort) (Ok tt)))) ≡ Err f
+          (cond l (Err TooLong) (cond s (Err TooShort) (Ok (tt {0}))))) ≡ Err f
           → Err f ≡ cond (not i) (Err (Item (item_asked D R τ))) (cond b (Err (Sample (first_bad xs)))
           (cond l (Err TooLong) (cond s (Err TooShort) (placed (length sizes) (length times)
           (length (handed D R τ xs))))))

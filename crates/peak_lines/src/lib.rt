@@ -7,9 +7,9 @@ ghost use Rattle.text.specs.Write.{written, place_after};
 ghost use Rattle.peak_lines.specs.Lines.{file_text, shown_time, peak_line, peak_lines};
 ghost use Rattle.peak_lines.specs.Lines.{room_for, lines_place, lines_left};
 
-const TAB: u8 = 9;
+const TAB: u8 = b'\t';
 
-const LF: u8 = 10;
+const LF: u8 = b'\n';
 
 const LATEST: u64 = 10_000_000;
 

@@ -171,11 +171,11 @@ pub record Answered (ys : List ℕ) (k c D P q : ℕ) (t : Times) (l : Letter) :
   pub letter : l ≡ letter_for q t
 
 module _ (ys : List ℕ) (k c D P q : ℕ) (t : Times) (l : Letter) where
-  given : Ok (times ys k c D P, letter_for q (times ys k c D P)) ≡ Ok (t, l) → (t ≡ times ys k c D P) × (l ≡ letter_for q t)
+  given : ◌≡◌ {A = Result (Times × Letter) Refusal} (Ok (times ys k c D P, letter_for q (times ys k c D P))) (Ok (t, l)) → (t ≡ times ys k c D P) × (l ≡ letter_for q t)
   given e =
-      let d : times ys k c D P ≡ t = cc in
-      let f : letter_for q (times ys k c D P) ≡ l = cc in
-      (cc, rw (← d) cc)
+      let both : ◌≡◌ {A = Times × Letter} (times ys k c D P, letter_for q (times ys k c D P)) (t, l) = cc in
+      let d = ap (λ (p : Times × Letter). p.0) both in
+      (sym d, rw (← d) (sym (ap (λ (p : Times × Letter). p.1) both)))
 
   pub answered : extrapolated ys k c D P q ≡ Ok (t, l) → Answered ys k c D P q t l
   unfolding extrapolated reached

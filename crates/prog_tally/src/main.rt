@@ -23,9 +23,9 @@ const REFUSED: u8 = b'1';
 
 const FAILED: u8 = b'2';
 
-const TAB: u8 = 9;
+const TAB: u8 = b'\t';
 
-const LF: u8 = 10;
+const LF: u8 = b'\n';
 
 // The refusal of a malformed line.
 const MALFORMED: u64 = 9;

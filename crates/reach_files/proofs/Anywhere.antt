@@ -107,9 +107,9 @@ module _ (j : Job) (d : step_in_range j.step ≡ true) (t : decorrelation_in_ran
     judged_is : came_to j r ≡ comes_to j.step j.ramp lines
     judged_is = file_judged j.step r.pieces d j.ramp ok.lines
 
-    module _ (e : comes_to j.step j.ramp lines ≡ (Ok tt)) where
-      again : comes_to j.step j.ramp (lines_of (joined r.again)) ≡ (Ok tt)
-      again = subst (λ (text : List ℕ). comes_to j.step j.ramp (lines_of text) ≡ (Ok tt)) ok.same e
+    module _ (e : comes_to j.step j.ramp lines ≡ (Ok (tt {0}))) where
+      again : comes_to j.step j.ramp (lines_of (joined r.again)) ≡ (Ok (tt {0}))
+      again = subst (λ (text : List ℕ). comes_to j.step j.ramp (lines_of text) ≡ (Ok (tt {0}))) ok.same e
 
       abbrev Z : List ℕ
       Z = replicate {A = ℕ} block 0
@@ -174,7 +174,7 @@ module _ (j : Job) (d : step_in_range j.step ≡ true) (t : decorrelation_in_ran
     abbrev proper : Said
     proper = grown_then (refused_in (files + 1)) (length more) time (reach_from j (files + 1) more time (map text_of rs))
 
-    module _ (e : comes_to j.step j.ramp (lines r ok) ≡ (Ok tt)) where
+    module _ (e : comes_to j.step j.ramp (lines r ok) ≡ (Ok (tt {0}))) where
       abbrev s : Stands
       s = second j (length ys) list r
 
@@ -184,7 +184,7 @@ module _ (j : Job) (d : step_in_range j.step ≡ true) (t : decorrelation_in_ran
       long : length more ≡ length ys + length (peaks_of j (lines r ok))
       long = length-append ys (peaks_of j (lines r ok))
 
-      too_long : longest_list < length more → later (desk (Ok tt)) ≡ proper
+      too_long : longest_list < length more → later (desk (Ok (tt {0}))) ≡ proper
       too_long k =
           rw (lt-ltb longest_list (length more) k, lt-ltb longest_list s.peaks (G.many (omega (arith, k, long))))
           (refused_said j rs (files + 1 + 1) (files + 1) 0 Tail s.list)
@@ -208,12 +208,12 @@ module _ (j : Job) (d : step_in_range j.step ≡ true) (t : decorrelation_in_ran
             ap (λ (z : List ℕ). later (record { gathered = Ok (record { files = files + 1; peaks = length more; samples = time }); list = z })) f.1
             ∙ after more time (sets list (length ys) (peaks_of j (lines r ok))) (holds_more ys (peaks_of j (lines r ok)) list h (omega (arith, k, long))) k
 
-        in_order : later (desk (Ok tt)) ≡ proper
+        in_order : later (desk (Ok (tt {0}))) ≡ proper
         in_order =
             ap (λ (x : Result Gathered (ℕ × ℕ × Refusal)). later (record { gathered = x; list = s.list })) stands_so
             ∙ rw (le-ltb longest_list (length more) k) (by_time (ltb most_timed time) refl)
 
-      with_peaks : later (desk (Ok tt)) ≡ proper
+      with_peaks : later (desk (Ok (tt {0}))) ≡ proper
       with_peaks = by_order longest_list (length more) too_long in_order
 
     by_came : (came : Result (Unit {0}) (ℕ × Refusal)) → comes_to j.step j.ramp (lines r ok) ≡ came → later (desk came) ≡ judged_then (refused_in (files + 1)) proper came

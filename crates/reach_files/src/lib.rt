@@ -28,9 +28,9 @@ use refusal::Refusal;
 use sample_channels::Levels;
 use sample_items::Items;
 
-const TAB: u8 = 9;
+const TAB: u8 = b'\t';
 
-const LF: u8 = 10;
+const LF: u8 = b'\n';
 
 // The most samples of a block.
 const LINES: usize = 1024;

@@ -14,6 +14,7 @@ use Rattle.record_state.specs.declared.Record.{Record}
 use Rattle.record_end.specs.declared.RecordResult.{RecordResult}
 use Rattle.record_end.specs.Result.{ending, exposure_of, result_of}
 use Rattle.std.specs.Prelude.{Ok, Err}
+use Rattle.truth.proofs.Answers.{err_not_ok}
 
 -- the exposure of a record that may be ended
 pub exposure_bounds : (r : Record) → sound r ≡ true → too_short r ≡ false → (1 ≤ exposure_of r) × (exposure_of r ≤ longest_time)
@@ -23,9 +24,6 @@ exposure_bounds r s l = go (failed r) (first_time_lem r s)
     go true f = f refl
     go false f = whole_time_lem r s l
 
-never : {r : Refusal} {x : RecordResult} → ¬ (Err r ≡ Ok x)
-never e = impossible (cc)
-
 pub record Comes (r : Record) (x : RecordResult) : Type 0 where
   pub sound : sound r ≡ true
   pub long : too_short r ≡ false
@@ -34,8 +32,8 @@ pub record Comes (r : Record) (x : RecordResult) : Type 0 where
 pub given : (r : Record) (x : RecordResult) → ending r ≡ Ok x → Comes r x
 unfolding ending
 given r x e =
-    let p = past (not (sound r)) never e in
-    let q = past (too_short r) never p.1 in
+    let p = past (not (sound r)) err_not_ok e in
+    let q = past (too_short r) err_not_ok p.1 in
     record { sound = not-false _ p.0; long = q.0; is = cc }
 
 pub given_bounds : (r : Record) (x : RecordResult) → ending r ≡ Ok x → (1 ≤ x.exposure) × (x.exposure ≤ longest_time)

@@ -18,6 +18,7 @@ use Rattle.record_state.specs.State.{sound}
 use Rattle.record_step.specs.Step.{stepped}
 use Rattle.sample_range.specs.Range.{first_bad}
 use Rattle.record_feed.specs.Answers.{fed}
+use Rattle.truth.proofs.Answers.{same_err}
 use Rattle.std.specs.Prelude.{Ok, Err}
 
 module _ (r : Record) (xs ys : List ℤ) where
@@ -78,13 +79,13 @@ taken r xs ys t e =
     }
 
 -- a sound state is never answered by refusal 8: the bad sample that is named is no broken state
-named : (b : Bool) (p q : ℕ) → Err (cond b (Sample p) (Acceleration q)) ≡ Err BrokenState → ⊥
+named : (b : Bool) (p q : ℕ) → cond b (Sample p) (Acceleration q) ≡ BrokenState → ⊥
 named true p q e = impossible (cc)
 named false p q e = impossible (cc)
 
 never : (d b c k : Bool) (p q : ℕ) (s : Record) → cond (not d) (Err Unequal) (cond b (Err (cond k (Sample p) (Acceleration q))) (cond c (Err TooLong) (Ok s))) ≡ Err BrokenState → ⊥
 never false b c k p q s e = impossible (cc)
-never true true c k p q s e = named k p q e
+never true true c k p q s e = named k p q (same_err e)
 never true false true k p q s e = impossible (cc)
 never true false false k p q s e = impossible (cc)
 

@@ -37,7 +37,7 @@ module _ (items : Items) (xs ys : List ℤ) where
     sized_unequal h = rw (eq-eqb _ 0 i, ne_eqb (length xs) (length ys) h)
 
     module _ (l : length xs ≡ length ys) where
-      pub sized_fits : (leb (length xs) (most_samples items.step items.ramp) && leb (items.ramp + 2) (length xs)) ≡ true → (Ok tt) ≡ sized items xs ys
+      pub sized_fits : (leb (length xs) (most_samples items.step items.ramp) && leb (items.ramp + 2) (length xs)) ≡ true → (Ok (tt {0})) ≡ sized items xs ys
       unfolding sized
       sized_fits s = rw (eq-eqb _ 0 i, eq-eqb (length xs) (length ys) l, s)
 
@@ -51,7 +51,7 @@ module _ (items : Items) (xs ys : List ℤ) where
         where
           go : (b : Bool) → ltb (most_samples items.step items.ramp) (length xs) ≡ b
               → cond (any_bad xs ys) (Err (bad_sample (first_bad xs) (first_bad ys))) (cond b (Err TooLong) (Err TooShort))
-              ≡ cond (any_bad xs ys) (Err (bad_sample (first_bad xs) (first_bad ys))) (cond b (Err TooLong) (cond (too_few items.ramp (length xs)) (Err TooShort) (Ok tt)))
+              ≡ cond (any_bad xs ys) (Err (bad_sample (first_bad xs) (first_bad ys))) (cond b (Err TooLong) (cond (too_few items.ramp (length xs)) (Err TooShort) (Ok (tt {0}))))
           go true e = refl
           go false e =
               let f : length xs < items.ramp + 2 = leb-false (items.ramp + 2) (length xs)
@@ -64,19 +64,19 @@ module _ (items : Items) (xs ys : List ℤ) where
   unfolding sized
   refused_tested f = go (in_size items (length xs) (length ys))
     where
-      go : (b : Bool) → cond b (Ok tt) (tested items xs ys) ≡ Err f → tested items xs ys ≡ Err f
+      go : (b : Bool) → cond b (Ok (tt {0})) (tested items xs ys) ≡ Err f → tested items xs ys ≡ Err f
       go true e = impossible (cc)
       go false e = e
 
   -- a record that passes all tests is in size
-  sound_size : tested items xs ys ≡ (Ok tt) → in_size items (length xs) (length ys) ≡ true
+  sound_size : tested items xs ys ≡ (Ok (tt {0})) → in_size items (length xs) (length ys) ≡ true
   unfolding tested
   sound_size = go (eqb (item_outside items) 0) (eqb (length xs) (length ys)) (any_bad xs ys) (ltb (most_samples items.step items.ramp) (length xs)) (too_few items.ramp (length xs)) refl refl
     where
       go : (i m b l s : Bool) → ltb (most_samples items.step items.ramp) (length xs) ≡ l → too_few items.ramp (length xs) ≡ s
           → cond (not i) (Err (Item (item_outside items))) (cond (not m) (Err Unequal)
           (cond b (Err (bad_sample (first_bad xs) (first_bad ys))) (cond l (Err TooLong)
-          (cond s (Err TooShort) (Ok tt))))) ≡ (Ok tt)
+          (cond s (Err TooShort) (Ok (tt {0})))))) ≡ (Ok (tt {0}))
           → (i && (m && (leb (length xs) (most_samples items.step items.ramp) && leb (items.ramp + 2) (length xs)))) ≡ true
       go true true false false false q r e = both_true (le-leb (length xs) (most_samples items.step items.ramp)
           (ltb-false (most_samples items.step items.ramp) (length xs) q)) (le-leb (items.ramp + 2) (length xs)
@@ -94,10 +94,10 @@ module _ (items : Items) (xs ys : List ℤ) where
       let n = and-true (leb (length xs) (most_samples items.step items.ramp)) (leb (items.ramp + 2) (length xs)) m.1 in
       record { ranged = eqb-true _ 0 i.0; equal = eqb-true (length xs) (length ys) m.0; most = leb-true _ _ n.0; few = leb-true _ _ n.1 }
 
-  pub fitting : sized items xs ys ≡ (Ok tt) → Fitting items (length xs) (length ys)
+  pub fitting : sized items xs ys ≡ (Ok (tt {0})) → Fitting items (length xs) (length ys)
   unfolding sized
   fitting = go (in_size items (length xs) (length ys)) refl
     where
-      go : (b : Bool) → in_size items (length xs) (length ys) ≡ b → cond b (Ok tt) (tested items xs ys) ≡ (Ok tt) → Fitting items (length xs) (length ys)
+      go : (b : Bool) → in_size items (length xs) (length ys) ≡ b → cond b (Ok (tt {0})) (tested items xs ys) ≡ (Ok (tt {0})) → Fitting items (length xs) (length ys)
       go true e f = in_size_lem e
       go false e f = in_size_lem (sound_size f)

@@ -11,7 +11,7 @@ ghost use Rattle.sheet_fault.specs.Fault.{number_then, refused_sheet};
 
 use desk_line::Finished;
 
-const TAB: u8 = 9;
+const TAB: u8 = b'\t';
 
 // What is written after a refusal's number: a number more where it is told.
 #[tactic(auto, unfolding(decimal::specs::Field::ending, crate::specs::Fault::number_then))]

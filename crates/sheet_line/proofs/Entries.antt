@@ -1,7 +1,7 @@
 -- What a line that is taken says, and which line a refusal names. A record's line is its number, flag and exposure and
 -- nothing else, and it enters the campaign as `telling` says; so does line 1 open it. Assumes nothing.
 use Prim.Native.Nat.{ℕ, ◌+◌, ◌≤◌, ◌<◌}
-use mathlib.Core.Path.{◌≡◌, refl, subst}
+use mathlib.Core.Path.{◌≡◌, refl, subst, sym}
 use mathlib.Core.List.{List}
 use native.Mathlib.Omega.{arith}
 use lib.Dec.{eqb}
@@ -15,6 +15,7 @@ use Rattle.sheet_line.specs.Texts.{entry_text, head_text}
 use Rattle.sheet_line.specs.Line.{line_after, malformed, outcome, record_line, standard_line, telling}
 use Rattle.sheet_line.proofs.Forms.{Reads, Told, ToldStandard, good, ill, record_reads, standard_reads}
 use Rattle.std.specs.Prelude.{Result, Ok, Err}
+use Rattle.truth.proofs.Answers.{err_not_ok, ok_not_err, same_err, same_first, same_ok, same_second}
 
 -- a step that is taken leads to a sheet of which P holds; one that is refused names the line
 pub data Says (P : Sheet → Type 0) (line : ℕ) : Result Sheet (ℕ × ℕ × Refusal) → Type 0 where
@@ -27,25 +28,16 @@ module _ {P : Sheet → Type 0} {line : ℕ} where
   says_outcome (Err r) f = stops {column = 0} (omega arith)
 
 -- from a step's answer back to what it says
-never : {s : Sheet} {line column : ℕ} {r : Refusal} → ¬ (Err (line, column, r) ≡ Ok s)
-never e = impossible (cc)
-
-same : {s t : Sheet} → Ok s ≡ Ok t → s ≡ t
-same e = cc
-
 pub says_next : {P : Sheet → Type 0} {line : ℕ} {step : (Result Sheet (ℕ × ℕ × Refusal))} {t : Sheet} → Says P line step → step ≡ Ok t → P t
-says_next {P} (goes p) e = subst P (same e) p
-says_next (stops k) e = absurd (never e)
+says_next {P} (goes p) e = subst P (same_ok e) p
+says_next (stops k) e = absurd (err_not_ok e)
 
-not_next : {s : Sheet} {line column : ℕ} {r : Refusal} → ¬ (Ok s ≡ Err (line, column, r))
-not_next e = impossible (cc)
-
-same_line : {n l k m : ℕ} {q r : Refusal} → k < 1000 → Err (n, k, q) ≡ Err (l, m, r) → (l ≡ n) × (m < 1000)
-same_line {n} {l} {k} {m} h e = let line : l ≡ n = cc in let column : k ≡ m = cc in (line, omega arith)
+same_line : {n l k m : ℕ} {q r : Refusal} → k < 1000 → ◌≡◌ {A = ℕ × ℕ × Refusal} (n, k, q) (l, m, r) → (l ≡ n) × (m < 1000)
+same_line h e = let column = same_first (same_second e) in (sym (same_first e), omega (arith, column))
 
 pub says_stop : {P : Sheet → Type 0} {line : ℕ} {step : (Result Sheet (ℕ × ℕ × Refusal))} {l column : ℕ} {r : Refusal} → Says P line step → step ≡ Err (l, column, r) → (l ≡ line) × (column < 1000)
-says_stop (goes p) e = absurd (not_next e)
-says_stop (stops k) e = same_line k e
+says_stop (goes p) e = absurd (ok_not_err e)
+says_stop (stops k) e = same_line k (same_err e)
 
 -- a record's line
 pub record Entry (c : Campaign) (line : List ℕ) (s : Sheet) : Type 0 where

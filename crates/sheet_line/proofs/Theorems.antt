@@ -1,7 +1,7 @@
 -- A sheet's lines and results do the same. A line that is taken is a record number, a flag and an exposure, and any
 -- result with that failure and that exposure enters to the same campaign (`line_results`); the line of a record that
--- was ended is never malformed, and comes to what entering its result answers, refusals and all (`result_line`). So is
--- line 1 of a standard never malformed, and comes to what opening answers (`standard_back`). Assumes nothing.
+-- was ended is err_not_ok malformed, and comes to what entering its result answers, refusals and all (`result_line`). So is
+-- line 1 of a standard err_not_ok malformed, and comes to what opening answers (`standard_back`). Assumes nothing.
 use Prim.Native.Nat.{ℕ, ◌+◌, ◌-◌, ◌^◌, ◌≤◌, ◌<◌}
 use mathlib.Core.Path.{◌≡◌, refl, ap, ◌∙◌}
 use mathlib.Core.Bool.{Bool, true, false, cond}
@@ -38,6 +38,7 @@ use Rattle.sheet_line.proofs.Columns.{record_few}
 use Rattle.sheet_line.specs.Line.{ended_by, field_then, line_after, outcome, record_line, standard_line, starts_with, stepping, telling, line_outcome}
 use Rattle.sheet_line.proofs.Entries.{Entry, record_says, says_next}
 use Rattle.std.specs.Prelude.{Ok, Err}
+use Rattle.truth.proofs.Answers.{err_not_ok}
 
 -- what a line that is taken says
 pub line_enters : (c : Campaign) (line : List ℕ) (s : Sheet) → sound c ≡ true → stepping (Open c) line ≡ Ok s → Entry c line s
@@ -52,11 +53,8 @@ module _ (c : Campaign) (f : Bool) (t : ℕ) where
 
   pub told_entered : (d : Campaign) → telling c f t ≡ Ok d → entering c (line_outcome f t) ≡ Ok d
   unfolding telling
-  told_entered d e = (past (ltb longest_time t) never (past (eqb t 0) never e).1).1
+  told_entered d e = (past (ltb longest_time t) err_not_ok (past (eqb t 0) err_not_ok e).1).1
     where
-      never : {r : Refusal} → ¬ (Err r ≡ Ok d)
-      never e = impossible (cc)
-
 -- and so is any result with that failure and that exposure
 pub line_results : (c : Campaign) (line : List ℕ) (s : Sheet) (e : Entry c line s) (x : RecordResult) → outcome_of x
     ≡ line_outcome (eqb e.flag 1) e.exposure → entering c (outcome_of x) ≡ Ok e.after

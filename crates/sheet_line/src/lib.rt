@@ -19,11 +19,11 @@ use record_end::Outcome;
 use refusal::Refusal;
 
 // The byte of the digit 0.
-const ZERO: u8 = 48;
+const ZERO: u8 = b'0';
 
-const TAB: u8 = 9;
+const TAB: u8 = b'\t';
 
-const LF: u8 = 10;
+const LF: u8 = b'\n';
 
 // What a field reads as.
 #[derive(Clone, Copy)]

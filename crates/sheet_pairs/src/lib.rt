@@ -22,9 +22,9 @@ use record_state::Record;
 use refusal::Refusal;
 use sample_items::Items;
 
-const TAB: u8 = 9;
+const TAB: u8 = b'\t';
 
-const LF: u8 = 10;
+const LF: u8 = b'\n';
 
 // What was filed, as of one file a record, and the channel of the line at fault, or 0.
 #[derive(Clone, Copy)]

@@ -26,9 +26,7 @@ use Rattle.sheet_line.specs.Texts.{entry_text, head_text}
 use Rattle.sheet_records.proofs.Puts.{line_parts}
 use Rattle.sheet_records.specs.Pass.{EntryHere, ExposureAt, ExposureHere, HeadOf}
 use Rattle.std.specs.Prelude.{Some, None}
-
-never : {v end : ℕ} → ¬ (None ≡ Some (v, end))
-never e = impossible (cc)
+use Rattle.truth.proofs.Answers.{none_not_some, same_first, same_second, same_some}
 
 -- ---- a number and a byte at a place, and the text from there on
 module _ (s : List ℕ) (at : ℕ) where
@@ -111,15 +109,13 @@ module _ (s : List ℕ) (at due : ℕ) where
   none_by fails f t rest small low high e = fails f t (stands f t rest small e)
 
   pub no_number : leading_at s at ≡ None → NoEntry
-  no_number e = none_by (λ f t p. never (sym e ∙ p.number))
+  no_number e = none_by (λ f t p. none_not_some (sym e ∙ p.number))
 
   module _ (n end : ℕ) (number : leading_at s at ≡ Some (n, end)) where
     same_end : {f : Bool} {t : ℕ} (p : Stands f t) → (n ≡ due) × (p.end ≡ end)
     same_end p =
-        let e : Some (n, end) ≡ Some (due, p.end) = sym number ∙ p.number in
-        let is : n ≡ due = cc (e) in
-        let place : p.end ≡ end = cc (e) in
-        (is, place)
+        let e : ◌≡◌ {A = ℕ × ℕ} (n, end) (due, p.end) = same_some (sym number ∙ p.number) in
+        (same_first e, sym (same_second e))
 
     pub other_number : ¬ (n ≡ due) → NoEntry
     other_number h = none_by (λ f t p. h (same_end p).0)
@@ -202,14 +198,14 @@ module _ (s : List ℕ) where
   no_word e q rest small h = true≢false (sym (opens q rest small h).word ∙ e)
 
   pub no_standard : leading_at s 9 ≡ None → NoHead
-  no_standard e q rest small h = never (sym e ∙ (opens q rest small h).number)
+  no_standard e q rest small h = none_not_some (sym e ∙ (opens q rest small h).number)
 
   module _ (v feed : ℕ) (number : leading_at s 9 ≡ Some (v, feed)) where
     pub no_end : stands_at s feed line_feed ≡ false → NoHead
     no_end e q rest small h =
         let o = opens q rest small h in
-        let same : Some (v, feed) ≡ Some (q, o.feed) = sym number ∙ o.number in
-        let place : o.feed ≡ feed = cc (same) in
+        let same : ◌≡◌ {A = ℕ × ℕ} (v, feed) (q, o.feed) = same_some (sym number ∙ o.number) in
+        let place : o.feed ≡ feed = sym (same_second same) in
         true≢false (sym (rw place at o.last) ∙ e)
 
     pub head_here : begins standard_start s ≡ true → stands_at s feed line_feed ≡ true → HeadOf s (Some (v, feed + 1))

@@ -29,6 +29,7 @@ use Rattle.sheet_records.proofs.Entered.{went_on}
 use Rattle.sheet_records.specs.Records.{record_in, records_of}
 use Rattle.sheet_records.proofs.Lines.{entry_lines, entry_says, head_lines}
 use Rattle.std.specs.Prelude.{Ok}
+use Rattle.truth.proofs.Answers.{same_ok}
 
 -- ---- a record's line, read from a campaign
 module _ (c : Campaign) (f : Bool) (t : ℕ) (g : sound c ≡ true) (small : t < 10 ^ longest) where
@@ -46,12 +47,9 @@ unfolding reading_sheet
 head_reads q small rest = rw (head_lines q rest, standard_back q small)
 
 -- ---- all lines
-same : {c d : Campaign} → Ok c ≡ Ok d → c ≡ d
-same e = cc
-
 read_lines : (c : Campaign) (xs : List ℤ) (d : Campaign) → sound c ≡ true → judged_from c xs ≡ Ok d → (reading_sheet false (lines_of (lines_from (c.records + 1) xs)) (Open c)).end ≡ Read d
 unfolding judged_from lines_from reading_sheet lines_of
-read_lines c [] d g e = ap Read (same e)
+read_lines c [] d g e = ap Read (same_ok e)
 read_lines c (x ∷ xs) d g e =
     let f = failed_in x in
     let t = exposure_in x in

@@ -91,7 +91,7 @@ pub lines_again : (lines : List (List ℕ)) (c d : Campaign) → sound c ≡ tru
 unfolding joined lines_from judged_from reading_sheet
 lines_again [] c d g e = (refl, same e)
   where
-    same : {c d : Campaign} → Read c ≡ Read d → Ok c ≡ Ok d
+    same : {c d : Campaign} → Read c ≡ Read d → ◌≡◌ {A = Result Campaign Refusal} (Ok c) (Ok d)
     same {c} {d} e = let f : c ≡ d = cc in ap Ok f
 lines_again (line ∷ lines) c d g e =
     let o = first_line c line lines d g e in

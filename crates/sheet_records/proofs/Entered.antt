@@ -23,18 +23,16 @@ use Rattle.sheet_records.specs.Ledger.{exposure_in, failed_in, outcome_in}
 use Rattle.sheet_records.specs.Answers.{judged, judged_from, onward}
 use Rattle.refusal.specs.declared.Refusal.{Refusal}
 use Rattle.std.specs.Prelude.{Result, Ok, Err}
+use Rattle.truth.proofs.Answers.{same_ok}
 
 -- an answer that goes on was a campaign
 pub went_on : (a : Result Campaign Refusal) (go : Campaign → Result Campaign Refusal) (d : Campaign) → onward a go ≡ Ok d → (c : Campaign) × (a ≡ Ok c) × (go c ≡ Ok d)
 went_on (Ok c) go d e = (c, refl, e)
 went_on (Err r) go d e = impossible (cc)
 
-same : {c d : Campaign} → Ok c ≡ Ok d → c ≡ d
-same e = cc
-
 judged_entered : (c : Campaign) (xs : List ℤ) (d : Campaign) → judged_from c xs ≡ Ok d → AllEntered c (map outcome_in xs) d
 unfolding judged_from
-judged_entered c [] d e = subst (AllEntered c []) (same e) none
+judged_entered c [] d e = subst (AllEntered c []) (same_ok e) none
 judged_entered c (x ∷ xs) d e =
     let (b, told, rest) = went_on (telling c (failed_in x) (exposure_in x)) (λ b. judged_from b xs) d e in
     one (told_entered c (failed_in x) (exposure_in x) b told) (judged_entered b xs d rest)

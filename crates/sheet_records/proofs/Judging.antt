@@ -92,7 +92,7 @@ module _ (c : Campaign) (f : Bool) (t : ℕ) (g : sound c ≡ true) where
       (λ n. rw (e, h, m, n, (told_taken c f t g low high (eqb-false c.records most_records m) (eqb-false c.failures 64 n)).0)))))
 
 -- what was judged is an answer
-pub judged_clean : (a : Result Campaign Refusal) → (Ok tt) ≡ judged_as a → (c : Campaign) × (a ≡ Ok c)
+pub judged_clean : (a : Result Campaign Refusal) → (Ok (tt {0})) ≡ judged_as a → (c : Campaign) × (a ≡ Ok c)
 judged_clean (Ok c) e = (c, refl)
 judged_clean (Err r) e = impossible (cc)
 
@@ -104,7 +104,7 @@ module _ {q : ℕ} {xs : List ℤ} {i failures : ℕ} (a : Along q xs i failures
   pub few_failures : failures ≤ 64
   few_failures = omega (arith, a.fails, (kept_from a.so_far (holds a.good)).failures_rows)
 
-  pub ended : length xs ≤ i → (Ok tt) ≡ judged_as (judged q xs)
+  pub ended : length xs ≤ i → (Ok (tt {0})) ≡ judged_as (judged q xs)
   unfolding judged_from
   ended past = rw (a.left, drop_of_length-le xs past)
 
@@ -125,7 +125,7 @@ module _ {q : ℕ} {xs : List ℤ} {i failures : ℕ} (a : Along q xs i failures
     pub decides : (r : Refusal) → judged_one i failures (exposure_in x) ≡ Err r → Err r ≡ judged_as (judged q xs)
     decides r e = rw (next, judged_fault (telling a.so_far (failed_in x) (exposure_in x)) r (sym e ∙ told_here))
 
-    pub on : judged_one i failures (exposure_in x) ≡ (Ok tt) → Along q xs (i + 1) (cond (failed_in x) (failures + 1) failures)
+    pub on : judged_one i failures (exposure_in x) ≡ (Ok (tt {0})) → Along q xs (i + 1) (cond (failed_in x) (failures + 1) failures)
     on e =
         let (d, taken) = judged_clean (telling a.so_far (failed_in x) (exposure_in x)) (sym e ∙ told_here) in
         let says = line_outcome (failed_in x) (exposure_in x) in

@@ -22,6 +22,7 @@ use Rattle.sheet_line.specs.Texts.{entry_text, head_text}
 use Rattle.sheet_records.specs.Ledger.{exposure_in, failed_in, signed_record_text, lines_from, sheet_text}
 use Rattle.sheet_records.specs.Answers.{after_judging, judged, judged_as, writing_sheet}
 use Rattle.std.specs.Prelude.{Result, Ok, Err}
+use Rattle.truth.proofs.Answers.{err_not_ok, same_ok}
 
 -- a record failed if its number is below zero
 pub failed_below : (x : ℤ) → lt_z x (pos 0) ≡ failed_in x
@@ -67,7 +68,7 @@ module _ (q : ℕ) (xs : List ℤ) (out : List ℕ) where
   unfolding writing_sheet
   at_fault r e = rw (judged_fault (judged q xs) r e)
 
-  module _ (clean : (Ok tt) ≡ judged_as (judged q xs)) where
+  module _ (clean : (Ok (tt {0})) ≡ judged_as (judged q xs)) where
     pub no_room : length out < length (sheet_text q xs) → Err (Room (length (sheet_text q xs))) ≡ writing_sheet q xs out
     unfolding writing_sheet
     no_room h = rw ((judged_clean (judged q xs) clean).1, lt-ltb _ _ h)
@@ -87,15 +88,12 @@ pub wrote : (q : ℕ) (xs : List ℤ) (out : List ℕ) (n : ℕ) → writing_she
 unfolding writing_sheet
 wrote q xs out n e = go (judged q xs) refl e
   where
-    never : {r : Refusal} → ¬ (Err r ≡ Ok n)
-    never f = impossible (cc)
-
     go : (a : Result Campaign Refusal) → judged q xs ≡ a → after_judging a (length (sheet_text q xs)) (length out) ≡ Ok n → Wrote q xs out n
-    go (Err r) is e = absurd (never e)
+    go (Err r) is e = absurd (err_not_ok e)
     go (Ok d) is e =
         by_test (ltb (length out) (length (sheet_text q xs)))
-        (λ t. absurd (never (rw t at e)))
+        (λ t. absurd (err_not_ok (rw t at e)))
         (λ t.
-        let f : Ok (length (sheet_text q xs)) ≡ Ok n = rw t at e in
+        let f : length (sheet_text q xs) ≡ n = same_ok (rw t at e) in
         let same : n ≡ length (sheet_text q xs) = cc (f) in
         record { end = d; clean = is; bytes = same; room = omega (arith, ltb-false (length out) (length (sheet_text q xs)) t) })

@@ -22,12 +22,12 @@ use refusal::Refusal;
 use sheet_line::Sheet;
 use sheet_text::Reading;
 
-const TAB: u8 = 9;
+const TAB: u8 = b'\t';
 
-const LF: u8 = 10;
+const LF: u8 = b'\n';
 
 // The byte of the digit 0; that of 1 follows it.
-const ZERO: u8 = 48;
+const ZERO: u8 = b'0';
 
 // The record that a number stands for. The least i32 is a failed record, and too long.
 fn outcome(x: i32) -> Outcome

@@ -17,7 +17,7 @@ use campaign_state::Campaign;
 use refusal::Refusal;
 use sheet_line::Sheet;
 
-const LF: u8 = 10;
+const LF: u8 = b'\n';
 
 // The most bytes of a line, with its LF.
 const LONGEST_LINE: usize = 64;

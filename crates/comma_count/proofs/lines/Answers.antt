@@ -10,7 +10,7 @@ use borrow.Author.Rules.{rules}
 use Rattle.sample_items.specs.Limits.{step_in_range}
 use Rattle.comma_count.proofs.Way.{Way, Took, way_start, took, never_refused, from, turn_few, turn_within, turn_falls, turn_on, turn_ends}
 use Rattle.comma_count.proofs.lines.Goals as goal
-use Rattle.comma_count.proofs.lines.Goals.{At-loop-f, In-Taken, Start}
+use Rattle.comma_count.proofs.lines.Goals.{At-loop-f, In-Ok, Start}
 
 -- the text has a length
 short : (c : Start) → length c.args.text.now ≤ 18446744073709551615
@@ -20,11 +20,11 @@ short c = search rules
 step : (c : At-loop-f) → step_in_range c.loop-f.follow.step ≡ true
 step c = ap step_in_range c.loop-f.invariant.1.step ∙ c.requires
 
-step₂ : (c : In-Taken) → step_in_range c.loop-f.follow.step ≡ true
+step₂ : (c : In-Ok) → step_in_range c.loop-f.follow.step ≡ true
 step₂ c = ap step_in_range c.loop-f.invariant.1.step ∙ c.requires
 
 -- lines were taken
-module _ (c : In-Taken) where
+module _ (c : In-Ok) where
   abbrev text : List ℕ
   text = c.args.text.now
 
@@ -56,22 +56,22 @@ slice_bounds-samples-end c = omega (arith, few c, later-long c)
 
 pub slice_bounds-answering-end : goal.slice_bounds-answering-end
 slice_bounds-answering-end c =
-    let at1 = (goal.at.slice_bounds-answering-end c).In-Taken in
+    let at1 = (goal.at.slice_bounds-answering-end c).In-Ok in
     sym (length-take-le _ _ (omega (arith, few at1, later-long at1)))
 
 pub overflow_add-at : goal.overflow_add-at
 overflow_add-at c =
-    omega (arith, turn_within c.loop-f.invariant.1 (taken (goal.at.overflow_add-at c).In-Taken), short (goal.at.overflow_add-at c).Start)
+    omega (arith, turn_within c.loop-f.invariant.1 (taken (goal.at.overflow_add-at c).In-Ok), short (goal.at.overflow_add-at c).Start)
 
 pub returns-then-n-lt-LINES : goal.returns-then-n-lt-LINES
 returns-then-n-lt-LINES c =
-    turn_ends c.loop-f.invariant.1 (taken (goal.at.returns-then-n-lt-LINES c).In-Taken) c.answering-answer.ensures (omega (arith, c.if-n-lt-LINES.true, c.loop-f.invariant.0))
+    turn_ends c.loop-f.invariant.1 (taken (goal.at.returns-then-n-lt-LINES c).In-Ok) c.answering-answer.ensures (omega (arith, c.if-n-lt-LINES.true, c.loop-f.invariant.0))
 
 pub loop-f-smaller : goal.loop-f-smaller
 loop-f-smaller c =
-    turn_falls c.loop-f.invariant.1 (taken (goal.at.loop-f-smaller c).In-Taken) (omega (arith, c.if-n-lt-LINES.false))
+    turn_falls c.loop-f.invariant.1 (taken (goal.at.loop-f-smaller c).In-Ok) (omega (arith, c.if-n-lt-LINES.false))
 
 pub loop-f-preserved : goal.loop-f-preserved
 loop-f-preserved c =
-    let k = (goal.at.loop-f-preserved c).In-Taken in
+    let k = (goal.at.loop-f-preserved c).In-Ok in
     (later-long k, turn_on c.loop-f.invariant.1 (taken k) c.answering-answer.ensures)

@@ -9,7 +9,7 @@ use Rattle.comma_line.proofs.At.{LineRead}
 use Rattle.comma_read.proofs.Times.{line_by_roll, roll_good, narrow_on}
 use Rattle.comma_read.proofs.Along.{of_front, all_right, put_none, put_all, filled_place, filled_on}
 use Rattle.comma_read.proofs.fill_rest.Goals as goal
-use Rattle.comma_read.proofs.fill_rest.Goals.{After-size_at, After-width_at-width, In-Says}
+use Rattle.comma_read.proofs.fill_rest.Goals.{After-size_at, After-width_at-width, In-Some}
 
 -- the line is right
 good : (c : After-width_at-width) → right c.loop-at.time (drop c.loop-at.at c.args.text.now) ≡ true
@@ -20,7 +20,7 @@ good₂ : (c : After-size_at) → right c.loop-at.time (drop c.loop-at.at c.args
 good₂ c =
     all_right c.loop-at.invariant.0 c.requires.1 c.loop-at-test.true
 
-good₃ : (c : In-Says) → right c.loop-at.time (drop c.loop-at.at c.args.text.now) ≡ true
+good₃ : (c : In-Some) → right c.loop-at.time (drop c.loop-at.at c.args.text.now) ≡ true
 good₃ c =
     all_right c.loop-at.invariant.0 c.requires.1 c.loop-at-test.true
 
@@ -31,14 +31,14 @@ wide c = c.width_at-width.ensures.1 (good c)
 wide₂ : (c : After-size_at) → c.width_at-width.result ≡ length (digits_of c.loop-at.time)
 wide₂ c = c.width_at-width.ensures.1 (good₂ c)
 
-wide₃ : (c : In-Says) → c.width_at-width.result ≡ length (digits_of c.loop-at.time)
+wide₃ : (c : In-Some) → c.width_at-width.result ≡ length (digits_of c.loop-at.time)
 wide₃ c = c.width_at-width.ensures.1 (good₃ c)
 
 narrow : (c : After-width_at-width) → c.width_at-width.result ≤ 13
 narrow c = let l = c.loop-at in omega (arith, wide c, digits_below 12 l.time (omega (arith, l.invariant.0.due)))
 
 -- what the reader of degrees said of it
-told : (c : In-Says) → let m = c.in-Some in
+told : (c : In-Some) → let m = c.in-Some in
     LineRead c.args.text.now c.loop-at.at c.loop-at.time m.minus m.size (m.next + 1)
 told c =
     let s = c.args.text.now in
@@ -90,17 +90,17 @@ returns-in_default c =
 
 pub overflow_add-at : goal.overflow_add-at
 overflow_add-at c =
-    omega (arith, (filled_place c.loop-at.invariant.0 (told (goal.at.overflow_add-at c).In-Says)).1)
+    omega (arith, (filled_place c.loop-at.invariant.0 (told (goal.at.overflow_add-at c).In-Some)).1)
 
 pub loop-at-smaller-then-bytes-eq0 : goal.loop-at-smaller-then-bytes-eq0
 loop-at-smaller-then-bytes-eq0 c =
-    omega (arith, (filled_place c.loop-at.invariant.0 (told (goal.at.loop-at-smaller-then-bytes-eq0 c).In-Says)).0, c.loop-at-test.true)
+    omega (arith, (filled_place c.loop-at.invariant.0 (told (goal.at.loop-at-smaller-then-bytes-eq0 c).In-Some)).0, c.loop-at-test.true)
 
 pub loop-at-preserved-then-bytes-eq0 : goal.loop-at-preserved-then-bytes-eq0
 loop-at-preserved-then-bytes-eq0 c =
     let f : SFits w32 c.sample.result = search rules in
     let stored = c.put.ensures ∙ ap (set c.loop-at.samples c.loop-at.count) (to_z-of_z f ∙ c.sample.ensures) in
-    let on = filled_on c.loop-at.invariant.0 (told (goal.at.loop-at-preserved-then-bytes-eq0 c).In-Says) c.requires.1 c.requires.0 c.loop-at.invariant.1 stored in
+    let on = filled_on c.loop-at.invariant.0 (told (goal.at.loop-at-preserved-then-bytes-eq0 c).In-Some) c.requires.1 c.requires.0 c.loop-at.invariant.1 stored in
     (on.0, on.1, narrow_on c.args.step c.width_at-width.ensures.0)
 
 pub overflow_add-at-in-loop-at : goal.overflow_add-at-in-loop-at

@@ -9,16 +9,16 @@ use Rattle.comma_read.specs.Answers.{filled_by}
 use Rattle.comma_read.proofs.Answered.{FoundWrong, FoundRight, lines_few, found_wrong, found_right, bad_step, wrong_line, bad_sample, no_room, all_read, samples_put}
 use Rattle.comma_read.proofs.Along.{of_front}
 use Rattle.comma_read.proofs.read.Goals as goal
-use Rattle.comma_read.proofs.read.Goals.{After-survey, Else-not-step_in_range, In-Right, In-Wrong}
+use Rattle.comma_read.proofs.read.Goals.{After-survey, Else-not-step_in_range, In-Ok, In-Err}
 
 -- the step is in range
 step : (c : Else-not-step_in_range) → step_in_range c.args.step ≡ true
 step c = (sym c.step_in_range.ensures ∙ c.if-not-step_in_range.false)
 
-step₂ : (c : In-Right) → step_in_range c.args.step ≡ true
+step₂ : (c : In-Ok) → step_in_range c.args.step ≡ true
 step₂ c = (sym c.step_in_range.ensures ∙ c.if-not-step_in_range.false)
 
-small : (c : In-Right) → c.args.step ≤ 10000
+small : (c : In-Ok) → c.args.step ≤ 10000
 small c = let d = c.args.step in leb-true d 10000 (and-true (leb 1 d) (leb d 10000) (step₂ c)).1
 
 some : (c : Else-not-step_in_range) → 1 ≤ c.args.step
@@ -32,34 +32,34 @@ module _ (c : After-survey) where
   abbrev Places : ℕ
   Places = length c.args.samples.now
 
-module _ (c : In-Right) where
+module _ (c : In-Ok) where
   abbrev Found₂ : List (List ℕ)
   Found₂ = lines_of c.args.text.now
 
   abbrev Places₂ : ℕ
   Places₂ = length c.args.samples.now
 
-module _ (c : In-Wrong) where
+module _ (c : In-Err) where
   abbrev Found₃ : List (List ℕ)
   Found₃ = lines_of c.args.text.now
 
   abbrev Places₃ : ℕ
   Places₃ = length c.args.samples.now
 
-right-found : (c : In-Right) → FoundRight c.args.step (Found₂ c) c.in-Ok.count c.in-Ok.sound
+right-found : (c : In-Ok) → FoundRight c.args.step (Found₂ c) c.in-Ok.count c.in-Ok.sound
 right-found c =
     found_right _ (Found₂ c) _ _ (sym c.survey.ensures ∙ c.in-Ok.is)
 
-wrong-found : (c : In-Wrong) → FoundWrong c.args.step (Found₃ c) c.in-Err.lines
+wrong-found : (c : In-Err) → FoundWrong c.args.step (Found₃ c) c.in-Err.lines
 wrong-found c =
     found_wrong _ (Found₃ c) _ (sym c.survey.ensures ∙ c.in-Err.is)
 
 -- the front has no more lines than the text
-fewer : (c : In-Right) → c.plain_front-front.result.lines ≤ c.in-Ok.count
+fewer : (c : In-Ok) → c.plain_front-front.result.lines ≤ c.in-Ok.count
 fewer c =
     omega (arith, (of_front c.plain_front-front.ensures (small c)).number, (right-found c).number)
 
-all_good : (c : In-Right) → c.in-Ok.count ≤ c.in-Ok.sound → AllGood c.args.step (Found₂ c)
+all_good : (c : In-Ok) → c.in-Ok.count ≤ c.in-Ok.sound → AllGood c.args.step (Found₂ c)
 all_good c all = let r = right-found c in record { right = r.all ∙ sym r.number; in_range = omega (arith, r.bad, r.number, r.low, all) }
 
 pub returns-then-not-step_in_range : goal.returns-then-not-step_in_range
@@ -70,13 +70,13 @@ returns-then-not-step_in_range c =
 
 pub overflow_add-result : goal.overflow_add-result
 overflow_add-result c =
-    omega (arith, (wrong-found (goal.at.overflow_add-result c).In-Wrong).some, lines_few c.args.text.now)
+    omega (arith, (wrong-found (goal.at.overflow_add-result c).In-Err).some, lines_few c.args.text.now)
 
 pub returns-then-sound-count : goal.returns-then-sound-count
 unfolding filled_by
 returns-then-sound-count c =
     let s = (goal.at.returns-then-sound-count c).After-survey in
-    record { value = bad_sample c.args.step (Found s) (Places s) (step (goal.at.returns-then-sound-count c).Else-not-step_in_range) _ _ (right-found (goal.at.returns-then-sound-count c).In-Right) c.if-sound-count.true; samples_after = refl }
+    record { value = bad_sample c.args.step (Found s) (Places s) (step (goal.at.returns-then-sound-count c).Else-not-step_in_range) _ _ (right-found (goal.at.returns-then-sound-count c).In-Ok) c.if-sound-count.true; samples_after = refl }
 
 pub returns-then-samples-count : goal.returns-then-samples-count
 unfolding filled_by
@@ -84,13 +84,13 @@ returns-then-samples-count c =
     let s = (goal.at.returns-then-samples-count c).After-survey in
     record {
       value = no_room c.args.step
-          (Found s) (Places s) (step (goal.at.returns-then-samples-count c).Else-not-step_in_range) _ _ (right-found (goal.at.returns-then-samples-count c).In-Right) c.if-sound-count.false c.if-samples-count.true;
+          (Found s) (Places s) (step (goal.at.returns-then-samples-count c).Else-not-step_in_range) _ _ (right-found (goal.at.returns-then-samples-count c).In-Ok) c.if-sound-count.false c.if-samples-count.true;
       samples_after = refl;
     }
 
 pub fill-requires : goal.fill-requires
 fill-requires c =
-    let k = (goal.at.fill-requires c).In-Right in (
+    let k = (goal.at.fill-requires c).In-Ok in (
       small k,
       all_good k c.if-sound-count.false,
       c.plain_front-front.ensures,
@@ -102,12 +102,12 @@ pub returns-in-Err : goal.returns-in-Err
 unfolding filled_by
 returns-in-Err c =
     let s = (goal.at.returns-in-Err c).After-survey in
-    record { value = wrong_line c.args.step (Found s) (Places s) (step (goal.at.returns-in-Err c).Else-not-step_in_range) _ (wrong-found (goal.at.returns-in-Err c).In-Wrong); samples_after = refl }
+    record { value = wrong_line c.args.step (Found s) (Places s) (step (goal.at.returns-in-Err c).Else-not-step_in_range) _ (wrong-found (goal.at.returns-in-Err c).In-Err); samples_after = refl }
 
 pub returns-else-samples-count : goal.returns-else-samples-count
 returns-else-samples-count c =
     let s = (goal.at.returns-else-samples-count c).After-survey in
-    let r = right-found (goal.at.returns-else-samples-count c).In-Right in
+    let r = right-found (goal.at.returns-else-samples-count c).In-Ok in
     let all = c.if-sound-count.false in
     let room = c.if-samples-count.false in
     record { value = all_read c.args.step (Found s) (Places s) (step (goal.at.returns-else-samples-count c).Else-not-step_in_range) _ _ r all room; samples_after = c.fill.ensures ∙ samples_put (Found s) c.args.samples.now _ r.number room }

@@ -6,7 +6,7 @@ use Rattle.comma_read.proofs.Times.{narrow_on}
 use Rattle.comma_read.proofs.Going.{going_low, going_length}
 use Rattle.comma_read.proofs.Way.{Way, way_as, way_start, way_run, way_line, way_full, way_stopped}
 use Rattle.comma_read.proofs.right_lines.Goals as goal
-use Rattle.comma_read.proofs.right_lines.Goals.{After-carried-sound, After-plain_taken-run, Else-samples-count, In-Says}
+use Rattle.comma_read.proofs.right_lines.Goals.{After-carried-sound, After-plain_taken-run, Else-samples-count, In-Some}
 
 -- the plain lines are passed
 module _ (c : After-plain_taken-run) where
@@ -84,7 +84,7 @@ module _ (c : Else-samples-count) where
   same₃ : length Later₃ ≡ length c.args.samples.now
   same₃ = going_length gone₃.going gone₃.room
 
-module _ (c : In-Says) where
+module _ (c : In-Some) where
   abbrev Text₄ : List ℕ
   Text₄ = c.args.text.now
 
@@ -120,7 +120,7 @@ module _ (c : Else-samples-count) where
   room = omega (arith, c.if-samples-count.false, same₃ c)
 
 -- which is a right line
-module _ (c : In-Says) where
+module _ (c : In-Some) where
   read : LineRead (Text₄ c) (At₄ c) (Due₄ c) c.in-Some.minus c.in-Some.size c.in-Some.end
   read =
       line_read (Text₄ c) (At₄ c) (Due₄ c) _ _ _ (sym c.line_at.ensures ∙ c.in-Some.is)
@@ -156,7 +156,7 @@ loop-count-preserved c =
     let a = c.args in
     let fits : SFits w32 c.sample.result = search rules in (
       rw c.store.ensures
-          (way_line a.step a.before a.text.now a.samples.now c.requires.0 (noted (goal.at.loop-count-preserved c).After-carried-sound) (read (goal.at.loop-count-preserved c).In-Says) (room (goal.at.loop-count-preserved c).Else-samples-count) c.tallied-sound.ensures
+          (way_line a.step a.before a.text.now a.samples.now c.requires.0 (noted (goal.at.loop-count-preserved c).After-carried-sound) (read (goal.at.loop-count-preserved c).In-Some) (room (goal.at.loop-count-preserved c).Else-samples-count) c.tallied-sound.ensures
           (to_z-of_z fits ∙ c.sample.ensures)),
       narrow_on _ (narrow_on _ c.width_at-width.ensures.0),
     )

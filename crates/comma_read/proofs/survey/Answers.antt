@@ -6,7 +6,7 @@ use Rattle.comma_read.proofs.Lines.{turn}
 use Rattle.comma_line.proofs.At.{LineRead, line_read, line_wrong}
 use Rattle.comma_read.proofs.Along.{Along, of_front, on, lines_ahead, all_on, stopped, ended}
 use Rattle.comma_read.proofs.survey.Goals as goal
-use Rattle.comma_read.proofs.survey.Goals.{After-plain_lines-run, In-Says}
+use Rattle.comma_read.proofs.survey.Goals.{After-plain_lines-run, In-Some}
 
 -- the plain lines are passed
 module _ (c : After-plain_lines-run) where
@@ -18,7 +18,7 @@ module _ (c : After-plain_lines-run) where
   gone = all_on c.loop-at.invariant.0 c.plain_lines-run.ensures c.requires.0
 
 -- what the line reader said of the line after them
-module _ (c : In-Says) where
+module _ (c : In-Some) where
   abbrev Text : List ℕ
   Text = c.args.text.now
 
@@ -82,11 +82,11 @@ overflow_add-due-in-loop-at c =
 
 pub loop-at-smaller : goal.loop-at-smaller
 loop-at-smaller c =
-    omega (arith, further (goal.at.loop-at-smaller c).In-Says, lines_ahead c.plain_lines-run.ensures, c.loop-at-test.true)
+    omega (arith, further (goal.at.loop-at-smaller c).In-Some, lines_ahead c.plain_lines-run.ensures, c.loop-at-test.true)
 
 pub loop-at-preserved : goal.loop-at-preserved
 loop-at-preserved c =
-    let d = (goal.at.loop-at-preserved c).In-Says in (
+    let d = (goal.at.loop-at-preserved c).In-Some in (
       rw (
         c.tallied-sound.ensures,
         c.carried-sound.ensures,

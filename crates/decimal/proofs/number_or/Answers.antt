@@ -12,7 +12,7 @@ use Rattle.decimal.specs.Decimal.{is_number, value_of}
 use Rattle.decimal.specs.Leading.{leading}
 use Rattle.decimal.proofs.Leading.{LeadsTo, all_lead, led_all, leads_none, leads_number}
 use Rattle.decimal.proofs.number_or.Goals as goal
-use Rattle.decimal.proofs.number_or.Goals.{In-Number}
+use Rattle.decimal.proofs.number_or.Goals.{In-Some}
 
 -- a text whose leading digits are no number, or not all of it, is none
 other-than : (s : List ℕ) (other : ℕ) → (is_number s ≡ true → leading s ≡ s → true ≡ false)
@@ -26,19 +26,19 @@ returns-in_default c =
     other-than a.s.now a.other (λ n same. sym n ∙ sym (ap is_number same) ∙ none)
 
 -- the number that was found, and where it ends
-leads : (c : In-Number) → LeadsTo c.args.s.now 0 c.in-Some.v c.in-Some.end
+leads : (c : In-Some) → LeadsTo c.args.s.now 0 c.in-Some.v c.in-Some.end
 leads c =
     leads_number _ 0 _ _ (sym c.leading_at.ensures ∙ c.in-Some.is)
 
 pub returns-then-end-s : goal.returns-then-end-s
 returns-then-end-s c =
-    let l = leads (goal.at.returns-then-end-s c).In-Number in
+    let l = leads (goal.at.returns-then-end-s c).In-Some in
     let a = c.args in
     other-than a.s.now a.other (λ n same. absurd (omega (arith, l.place, ap length same, c.if-end-s.true)))
 
 pub returns : goal.returns
 returns c =
-    let l = leads (goal.at.returns c).In-Number in
+    let l = leads (goal.at.returns c).In-Some in
     let a = c.args in
     let same = led_all a.s.now (omega (arith, l.place, c.if-end-s.false)) in
     rw (← same, l.number) l.value

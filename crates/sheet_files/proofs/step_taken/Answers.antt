@@ -14,7 +14,7 @@ use borrow.Author.Rules.{rules}
 use Rattle.sheet_files.proofs.step_taken.Goals as goal
 use Rattle.std.specs.Prelude.{Ok}
 
-placed : {place n failures more : ℕ} {x y : ℤ} → failures ≡ more → x ≡ y → Ok (place, n, failures, x) ≡ Ok (place, n, more, y)
+placed : {place n failures more : ℕ} {x y : ℤ} → failures ≡ more → x ≡ y → ◌≡◌ {A = Result (ℕ × ℕ × ℕ × ℤ) (ℕ × ℕ × Refusal)} (Ok (place, n, failures, x)) (Ok (place, n, more, y))
 placed {place} {n} e f j = Ok (place, n, e j, f j)
 
 pub returns-then-n-ge-MOST_RECORDS : goal.returns-then-n-ge-MOST_RECORDS

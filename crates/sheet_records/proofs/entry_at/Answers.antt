@@ -15,11 +15,11 @@ use Rattle.sheet_records.specs.Pass.{EntryAt, ExposureAt, ExposureHere}
 use Rattle.sheet_records.proofs.At.{entry_here, flag_stands, no_exposure, no_feed, no_flag, no_number, no_second, no_tab, other_number, stand_bytes}
 use borrow.Author.Rules.{rules}
 use Rattle.sheet_records.proofs.entry_at.Goals as goal
-use Rattle.sheet_records.proofs.entry_at.Goals.{Else-not-stands, Else-not-stands-2, In-Number, In-Upto}
+use Rattle.sheet_records.proofs.entry_at.Goals.{Else-not-stands, Else-not-stands-2, In-Some, In-Some}
 use Rattle.std.specs.Prelude.{Some}
 
 -- the record number that was read
-module _ (c : In-Number) where
+module _ (c : In-Some) where
   abbrev Text : List ℕ
   Text = c.args.text.now
 
@@ -61,7 +61,7 @@ module _ (c : Else-not-stands-2) where
   number₃ =
       sym c.leading_at.ensures ∙ c.in-Some.is
 
-module _ (c : In-Upto) where
+module _ (c : In-Some) where
   abbrev Text₄ : List ℕ
   Text₄ = c.args.text.now
 
@@ -102,7 +102,7 @@ module _ (c : Else-not-stands-2) where
   second = (sym c.stands-3.ensures ∙ c.if-not-stands-2.false)
 
 -- the exposure that was read
-module _ (c : In-Upto) where
+module _ (c : In-Some) where
   abbrev Feed : ℕ
   Feed = c.in-Some.feed
 
@@ -119,46 +119,46 @@ returns-in_default c =
 pub returns-then-number-due : goal.returns-then-number-due
 unfolding EntryAt
 returns-then-number-due c =
-    let k = (goal.at.returns-then-number-due c).In-Number in
+    let k = (goal.at.returns-then-number-due c).In-Some in
     other_number (Text k) c.args.at c.args.due (N k) (End k) (number k) c.if-number-due.true
 
 pub returns-then-not-stands : goal.returns-then-not-stands
 unfolding EntryAt
 returns-then-not-stands c =
-    let k = (goal.at.returns-then-not-stands c).In-Number in
+    let k = (goal.at.returns-then-not-stands c).In-Some in
     no_tab (Text k) c.args.at c.args.due (N k) (End k) (number k) (sym c.stands.ensures ∙ c.if-not-stands.true)
 
 pub returns-then-not-either : goal.returns-then-not-either
 unfolding EntryAt
 returns-then-not-either c =
-    let k = (goal.at.returns-then-not-either c).In-Number in
+    let k = (goal.at.returns-then-not-either c).In-Some in
     let (one, zero) = neither _ _ (sym c.either.ensures ∙ c.if-not-either.true) in
     no_flag (Text k) c.args.at c.args.due (N k) (End k) (number k) (sym c.stands-failed.ensures ∙ one) (sym c.stands-2.ensures ∙ zero)
 
 pub returns-then-not-stands-2 : goal.returns-then-not-stands-2
 unfolding EntryAt
 returns-then-not-stands-2 c =
-    let k = (goal.at.returns-then-not-stands-2 c).In-Number in
+    let k = (goal.at.returns-then-not-stands-2 c).In-Some in
     no_second (Text k) c.args.at c.args.due (N k) (End k) (number k) (sym c.stands-3.ensures ∙ c.if-not-stands-2.true)
 
 pub returns-in_default-exposure_at : goal.returns-in_default-exposure_at
 unfolding EntryAt
 returns-in_default-exposure_at c =
-    let k = (goal.at.returns-in_default-exposure_at c).In-Number in
+    let k = (goal.at.returns-in_default-exposure_at c).In-Some in
     no_exposure (Text k) c.args.at c.args.due (N k) (End k) (number k) (subst (ExposureAt (Text k) (End k + 3)) c.in_default-exposure_at.is c.exposure_at.ensures)
 
 pub returns-then-not-stands-3 : goal.returns-then-not-stands-3
 unfolding EntryAt
 returns-then-not-stands-3 c =
-    let k = (goal.at.returns-then-not-stands-3 c).In-Number in
-    let t = (goal.at.returns-then-not-stands-3 c).In-Upto in
+    let k = (goal.at.returns-then-not-stands-3 c).In-Some in
+    let t = (goal.at.returns-then-not-stands-3 c).In-Some in
     no_feed (Text k) c.args.at c.args.due (N k) (End k) (number k) (Feed t) (exposure t) (sym c.stands-4.ensures ∙ c.if-not-stands-3.true)
 
 pub returns : goal.returns
 unfolding EntryAt
 returns c =
-    let k = (goal.at.returns c).In-Number in
-    let t = (goal.at.returns c).In-Upto in
+    let k = (goal.at.returns c).In-Some in
+    let t = (goal.at.returns c).In-Some in
     let at3 = (goal.at.returns c).Else-not-stands-2 in
     let e = (goal.at.returns c).Else-not-stands in
     entry_here (Text k) c.args.at c.args.due (N k) (End k) (number k) (Feed t) (exposure t)

@@ -11,7 +11,7 @@ use Rattle.decimal.specs.Leading.{leading_at, stands_at}
 use Rattle.sheet_records.specs.Pass.{ExposureAt}
 use Rattle.sheet_records.proofs.Exposures.{few, no_digits, no_number, read, too_much, zero_first}
 use Rattle.sheet_records.proofs.exposure_at.Goals as goal
-use Rattle.sheet_records.proofs.exposure_at.Goals.{After-digits_end-end, Else-stands, In-Number}
+use Rattle.sheet_records.proofs.exposure_at.Goals.{After-digits_end-end, Else-stands, In-Some}
 use Rattle.std.specs.Prelude.{Some}
 
 module _ (c : After-digits_end-end) where
@@ -28,7 +28,7 @@ module _ (c : Else-stands) where
   abbrev At₂ : ℕ
   At₂ = c.args.at
 
-module _ (c : In-Number) where
+module _ (c : In-Some) where
   abbrev Text₃ : List ℕ
   Text₃ = c.args.text.now
 
@@ -40,7 +40,7 @@ other : (c : Else-stands) → stands_at (Text₂ c) (At₂ c) zero_byte ≡ fals
 other c = sym c.stands.ensures ∙ c.if-stands.false
 
 -- what more than seven digits read as
-module _ (c : In-Number) where
+module _ (c : In-Some) where
   abbrev Value : ℕ
   Value = c.in-Some.t
 
@@ -79,12 +79,12 @@ pub returns-then-t-gt-LONGEST_TIME : goal.returns-then-t-gt-LONGEST_TIME
 unfolding ExposureAt
 returns-then-t-gt-LONGEST_TIME c =
     let at1 = (goal.at.returns-then-t-gt-LONGEST_TIME c).After-digits_end-end in
-    let k = (goal.at.returns-then-t-gt-LONGEST_TIME c).In-Number in
+    let k = (goal.at.returns-then-t-gt-LONGEST_TIME c).In-Some in
     too_much (Text at1) (At at1) (Value k) (End k) (number k) c.if-t-gt-LONGEST_TIME.true
 
 pub returns : goal.returns
 unfolding ExposureAt
 returns c =
     let at1 = (goal.at.returns c).After-digits_end-end in
-    let k = (goal.at.returns c).In-Number in
+    let k = (goal.at.returns c).In-Some in
     read (Text at1) (At at1) (other (goal.at.returns c).Else-stands) (Value k) (End k) (number k) c.if-t-gt-LONGEST_TIME.false

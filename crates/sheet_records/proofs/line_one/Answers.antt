@@ -12,17 +12,17 @@ use Rattle.sheet_records.specs.Pass.{HeadOf}
 use Rattle.sheet_records.proofs.At.{head_here, no_end, no_standard, no_word}
 use borrow.Author.Rules.{rules}
 use Rattle.sheet_records.proofs.line_one.Goals as goal
-use Rattle.sheet_records.proofs.line_one.Goals.{After-begins, In-Number}
+use Rattle.sheet_records.proofs.line_one.Goals.{After-begins, In-Some}
 use Rattle.std.specs.Prelude.{Some}
 
 abbrev Text : After-begins → List ℕ
 Text c = c.args.text.now
 
-abbrev Text₂ : In-Number → List ℕ
+abbrev Text₂ : In-Some → List ℕ
 Text₂ c = c.args.text.now
 
 -- the number that was read
-module _ (c : In-Number) where
+module _ (c : In-Some) where
   abbrev Q : ℕ
   Q = c.in-Some.q
 
@@ -48,10 +48,10 @@ returns-in_default c =
 pub returns-then-not-stands : goal.returns-then-not-stands
 unfolding HeadOf
 returns-then-not-stands c =
-    let k = (goal.at.returns-then-not-stands c).In-Number in
+    let k = (goal.at.returns-then-not-stands c).In-Some in
     no_end (Text (goal.at.returns-then-not-stands c).After-begins) (Q k) (Feed k) (number k) (sym c.stands.ensures ∙ c.if-not-stands.true)
 
 pub returns : goal.returns
 returns c =
-    let k = (goal.at.returns c).In-Number in
+    let k = (goal.at.returns c).In-Some in
     head_here (Text (goal.at.returns c).After-begins) (Q k) (Feed k) (number k) (begun k) (sym c.stands.ensures ∙ c.if-not-stands.false)

@@ -9,13 +9,13 @@ use Rattle.truth.proofs.Laws.{said_no, said_yes}
 use Rattle.sheet_records.specs.Pass.{EntryAt, EntryHere, HeadOf, Passes, taken_after}
 use Rattle.sheet_records.proofs.Along.{Along, bad_standard, ended, few, few_failures, no_head, not_taken, on, other_line, start}
 use Rattle.sheet_records.proofs.pass.Goals as goal
-use Rattle.sheet_records.proofs.pass.Goals.{Else-not-takes, In-Says, In-Standard}
+use Rattle.sheet_records.proofs.pass.Goals.{Else-not-takes, In-Some, In-Some}
 use mathlib.Core.Path.{sym}
 use mathlib.Core.Path.{◌∙◌}
 use Rattle.std.specs.Prelude.{Some}
 
 -- line 1 was read
-module _ (c : In-Standard) where
+module _ (c : In-Some) where
   abbrev Text : List ℕ
   Text = c.args.text.now
 
@@ -29,7 +29,7 @@ module _ (c : In-Standard) where
   stands =
       subst (HeadOf Text) c.in-Some.is c.line_one.ensures
 
-module _ (c : In-Says) where
+module _ (c : In-Some) where
   abbrev Text₂ : List ℕ
   Text₂ = c.args.text.now
 
@@ -44,7 +44,7 @@ module _ (c : In-Says) where
       subst (HeadOf Text₂) c.in-Some.is c.line_one.ensures
 
 -- a record's line was read
-module _ (c : In-Says) where
+module _ (c : In-Some) where
   abbrev Failed : Bool
   Failed = c.in-Some.failed
 
@@ -72,12 +72,12 @@ returns-in_default c =
 pub returns-then-not-both : goal.returns-then-not-both
 unfolding Passes
 returns-then-not-both c =
-    let k = (goal.at.returns-then-not-both c).In-Standard in
+    let k = (goal.at.returns-then-not-both c).In-Some in
     bad_standard (Text k) (Q k) (Next k) (stands k) (sym c.both.ensures ∙ c.if-not-both.true)
 
 pub loop-at-init : goal.loop-at-init
 loop-at-init c =
-    let k = (goal.at.loop-at-init c).In-Standard in
+    let k = (goal.at.loop-at-init c).In-Some in
     start (Text k) (Q k) (Next k) (stands k) (sym c.both.ensures ∙ c.if-not-both.false)
 
 pub overflow_add-count : goal.overflow_add-count
@@ -86,13 +86,13 @@ overflow_add-count c = omega (arith, few c.loop-at.invariant)
 pub returns-in_default-entry_at : goal.returns-in_default-entry_at
 unfolding Passes
 returns-in_default-entry_at c =
-    let text = Text (goal.at.returns-in_default-entry_at c).In-Standard in
+    let text = Text (goal.at.returns-in_default-entry_at c).In-Some in
     other_line c.loop-at.invariant c.loop-at-test.true (subst (EntryAt text c.loop-at.at (c.loop-at.count + 1)) c.in_default-entry_at.is c.entry_at.ensures)
 
 pub returns-then-not-takes : goal.returns-then-not-takes
 unfolding Passes
 returns-then-not-takes c =
-    let k = (goal.at.returns-then-not-takes c).In-Says in
+    let k = (goal.at.returns-then-not-takes c).In-Some in
     not_taken c.loop-at.invariant (Failed k) (After k) (entry k) (sym c.takes.ensures ∙ c.if-not-takes.true)
 
 pub overflow_add-failures : goal.overflow_add-failures
@@ -104,12 +104,12 @@ overflow_add-count-in-loop-at c = omega (arith, few c.loop-at.invariant)
 
 pub loop-at-smaller : goal.loop-at-smaller
 loop-at-smaller c =
-    let k = (goal.at.loop-at-smaller c).In-Says in
+    let k = (goal.at.loop-at-smaller c).In-Some in
     omega (arith, (further k).0, (further k).1)
 
 pub loop-at-preserved : goal.loop-at-preserved
 loop-at-preserved c =
-    let k = (goal.at.loop-at-preserved c).In-Says in
+    let k = (goal.at.loop-at-preserved c).In-Some in
     let l = c.loop-at in
     rw c.pick-failures.ensures (on l.invariant (Failed k) (After k) (entry k) (taken (goal.at.loop-at-preserved c).Else-not-takes))
 

@@ -29,7 +29,7 @@ module _ (c : In-Clean) where
   abbrev Out : List ℕ
   Out = c.args.out.now
 
-  clean : (Ok tt) ≡ judged_as (judged Q Records)
+  clean : (Ok (tt {0})) ≡ judged_as (judged Q Records)
   clean = sym c.in-Clean.is ∙ c.judge.ensures
 
   few : length Records ≤ 100000

@@ -11,25 +11,25 @@ use Rattle.sheet_text.proofs.Put.{none_written}
 use Rattle.sheet_text.proofs.Running.{running_start, running_next, running_end, few_so_far, line_few, last_few, last_left}
 use Rattle.sheet_text.proofs.Turns.{Took, found_taken, found_waits, found_bad}
 use Rattle.sheet_text.proofs.pass.Goals as goal
-use Rattle.sheet_text.proofs.pass.Goals.{After-find, In-Taken, In-loop-at}
+use Rattle.sheet_text.proofs.pass.Goals.{After-find, In-Ok, In-loop-at}
 
 inside : (c : In-loop-at) → c.loop-at.at < length c.args.text.now
 inside c = c.loop-at-test.true
 
-inside₂ : (c : In-Taken) → c.loop-at.at < length c.args.text.now
+inside₂ : (c : In-Ok) → c.loop-at.at < length c.args.text.now
 inside₂ c = c.loop-at-test.true
 
 -- what was found at the loop's place
 found-is : (c : After-find) → found c.args.more c.args.text.now c.loop-at.at c.loop-at.sheet ≡ c.find.result
 found-is c = sym c.find.ensures
 
-found-is₂ : (c : In-Taken) → found c.args.more c.args.text.now c.loop-at.at c.loop-at.sheet ≡ c.find.result
+found-is₂ : (c : In-Ok) → found c.args.more c.args.text.now c.loop-at.at c.loop-at.sheet ≡ c.find.result
 found-is₂ c = sym c.find.ensures
 
-taken : (c : In-Taken) → found c.args.more c.args.text.now c.loop-at.at c.loop-at.sheet ≡ Taken c.in-Ok.t c.in-Ok.next
+taken : (c : In-Ok) → found c.args.more c.args.text.now c.loop-at.at c.loop-at.sheet ≡ Taken c.in-Ok.t c.in-Ok.next
 taken c = found-is₂ c ∙ c.in-Ok.is
 
-took : (c : In-Taken) → Took c.args.more c.args.text.now c.loop-at.at c.loop-at.sheet c.in-Ok.t c.in-Ok.next
+took : (c : In-Ok) → Took c.args.more c.args.text.now c.loop-at.at c.loop-at.sheet c.in-Ok.t c.in-Ok.next
 took c =
     found_taken _ _ _ _ (inside₂ c) c.loop-at.invariant.along.sound (taken c)
 
@@ -39,15 +39,15 @@ loop-at-init c =
 
 pub put_sheet-put-requires : goal.put_sheet-put-requires
 put_sheet-put-requires c =
-    line_few c.loop-at.invariant (inside (goal.at.put_sheet-put-requires c).In-loop-at) (taken (goal.at.put_sheet-put-requires c).In-Taken)
+    line_few c.loop-at.invariant (inside (goal.at.put_sheet-put-requires c).In-loop-at) (taken (goal.at.put_sheet-put-requires c).In-Ok)
 
 pub loop-at-smaller : goal.loop-at-smaller
 loop-at-smaller c =
-    let t = took (goal.at.loop-at-smaller c).In-Taken in omega (arith, t.further, t.within)
+    let t = took (goal.at.loop-at-smaller c).In-Ok in omega (arith, t.further, t.within)
 
 pub loop-at-preserved : goal.loop-at-preserved
 loop-at-preserved c =
-    running_next c.loop-at.invariant (inside (goal.at.loop-at-preserved c).In-loop-at) (taken (goal.at.loop-at-preserved c).In-Taken) (c.put_sheet-put.ensures.value, c.put_sheet-put.ensures.out_after)
+    running_next c.loop-at.invariant (inside (goal.at.loop-at-preserved c).In-loop-at) (taken (goal.at.loop-at-preserved c).In-Ok) (c.put_sheet-put.ensures.value, c.put_sheet-put.ensures.out_after)
 
 pub returns-in-Waits : goal.returns-in-Waits
 returns-in-Waits c =

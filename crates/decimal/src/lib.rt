@@ -170,7 +170,8 @@ pub fn write_field(v: u64, end: u8, out: &mut [u8], at: usize) -> usize
     text::write_byte(end, out, next)
 }
 
-// Ends a line: writes `number`, and `more` after a tab where it is there, and LF into `out` from `at` on, all or nothing.
+// Ends a line: writes `number`, and after a tab `more` where it is there, and LF into `out` from `at` on, all or
+// nothing.
 pub fn end_line(number: u64, more: Option<u64>, out: &mut [u8], at: usize) -> usize
     ensures value { result ≡ place_after out.old at (ending number more) }
     ensures out_after { out.new ≡ written out.old at (ending number more) }

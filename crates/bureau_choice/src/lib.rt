@@ -43,19 +43,13 @@ fn entry(b: u64, c: Campaign, a: Result<Campaign, Refusal>) -> Worked
 fn verdict_answer(a: Result<Verdict, Refusal>) -> Result<Reply, Refusal>
     ensures { result ≡ verdict_answer a }
 {
-    match a {
-        Ok(v) => Ok(Reply::Judged(v)),
-        Err(r) => Err(r),
-    }
+    Ok(Reply::Judged(a?))
 }
 
 fn rates_answer(a: Result<Option<Rates>, Refusal>) -> Result<Reply, Refusal>
     ensures { result ≡ rates_answer a }
 {
-    match a {
-        Ok(r) => Ok(Reply::Rated(r)),
-        Err(r) => Err(r),
-    }
+    Ok(Reply::Rated(a?))
 }
 
 fn read(b: u64, c: Campaign, a: Result<Reply, Refusal>) -> Worked

@@ -2,10 +2,10 @@
 // written into lent bytes once the condition is judged. The campaigns come as `campaign_condition` takes them.
 #![tactic(auto)]
 
-ghost use Rattle.std.specs.Prelude.{◌≡◌, true, ◌+◌, ◌≤◌, length, take};
+ghost use Rattle.std.specs.Prelude.{◌≡◌, true, ◌+◌, ◌≤◌, ◌++◌, length, take, Ok};
 ghost use Rattle.text.specs.Write.{laid_by, place_after, written};
 ghost use Rattle.campaign_state.specs.State.{censored, sound};
-ghost use Rattle.campaign_condition.specs.Answers.{lowest_broken};
+ghost use Rattle.campaign_condition.specs.Answers.{judging, lowest_broken};
 ghost use Rattle.campaign_report.specs.Report.{blocks, four_text, letter_for, situation_text, lines_from, report_text};
 ghost use Rattle.campaign_report.specs.Report.{standing_letter, total_of, total_text, verdict_letter};
 ghost use Rattle.campaign_report.specs.Answers.{writing_report};
@@ -203,24 +203,43 @@ fn put_total(t: Total, letter: u8, out: &mut [u8], at: usize) -> usize
     text::write_byte(LF, out, feed)
 }
 
+// Puts the whole report into `out`.
+fn put_report(campaigns: [Campaign; 64], number: usize, t: Total, letter: u8, out: &mut [u8])
+    requires { (number ≤ 64) × (lowest_broken (take number campaigns) ≡ 0)
+        × (length (lines_from 1 (take number campaigns)) + length (total_text t letter) ≤ length out.old) }
+    ensures { out.new ≡ written out.old 0 (lines_from 1 (take number campaigns) ++ total_text t letter) }
+{
+    let last = put_lines(campaigns, number, out);
+    put_total(t, letter, out, last);
+}
+
+// The same as `write`, for a condition whose standing is known.
+fn write_standing(
+    campaigns: [Campaign; 64],
+    number: usize,
+    s: Standing,
+    out: &mut [u8],
+) -> Result<u64, Refusal>
+    requires { judging number (take number campaigns) ≡ Ok s }
+    ensures value { result ≡ writing_report number (take number campaigns) out.old }
+    ensures out_after { out.new ≡ laid_by result (report_text (take number campaigns)) out.old }
+{
+    let t = sum(campaigns, number);
+    let letter = standing_letter(s);
+    let needed = lines_length(campaigns, number) + (total_length(t, letter) as u64);
+    if (out.len() as u64) < needed {
+        return Err(Refusal::Room(needed));
+    }
+    put_report(campaigns, number, t, letter, out);
+    Ok(needed)
+}
+
 // Writes the report on a loading condition into `out`, whose rest stays, and answers its bytes; or refusal 18, 8 with
 // the lowest situation, then 7 with the bytes needed, and `out` as it stood.
 pub fn write(campaigns: [Campaign; 64], number: usize, out: &mut [u8]) -> Result<u64, Refusal>
     ensures value { result ≡ writing_report number (take number campaigns) out.old }
     ensures out_after { out.new ≡ laid_by result (report_text (take number campaigns)) out.old }
 {
-    match campaign_condition::judge(campaigns, number) {
-        Err(r) => Err(r),
-        Ok(s) => {
-            let t = sum(campaigns, number);
-            let mark = standing_letter(s);
-            let needed = lines_length(campaigns, number) + (total_length(t, mark) as u64);
-            if (out.len() as u64) < needed {
-                return Err(Refusal::Room(needed));
-            }
-            let last = put_lines(campaigns, number, out);
-            put_total(t, mark, out, last);
-            Ok(needed)
-        }
-    }
+    let s = campaign_condition::judge(campaigns, number)?;
+    write_standing(campaigns, number, s, out)
 }

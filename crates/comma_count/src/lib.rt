@@ -88,10 +88,7 @@ fn onward(a: Result<Record, Refusal>, samples: &[i32]) -> Result<Record, Refusal
     requires { length samples.now ≤ 1024 }
     ensures { result ≡ onward a samples.now }
 {
-    match a {
-        Ok(r) => feed(r, samples),
-        Err(q) => Err(q),
-    }
+    feed(a?, samples)
 }
 
 // The answer after lines of these samples, up to `f`.

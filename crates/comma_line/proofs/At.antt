@@ -20,7 +20,7 @@ use Rattle.degrees.specs.Degrees.{first, below, unsigned, size, is_degrees, degr
 use Rattle.degrees.proofs.Signs.{ReadsAs}
 use Rattle.comma_line.specs.Line.{comma, roll, is_comma_line, right, line_length, line_at}
 use Rattle.std.specs.Prelude.{Some, None}
-use Rattle.truth.proofs.Answers.{none_not_some, same_first, same_second, same_some, some_not_none}
+use Rattle.truth.proofs.Answers.{none_not_some, same_some, some_not_none}
 
 module _ (s : List ℕ) (at time : ℕ) where
   pub no_number : is_number (leading (drop at s)) ≡ false → line_at s at time ≡ None
@@ -79,9 +79,9 @@ module _ (s : List ℕ) (at time : ℕ) where
       let e : ◌≡◌ {A = Bool × ℕ × ℕ} (below (roll (drop at s)), size (unsigned (roll (drop at s))), at + line_length (drop at s)) (b, n, next) = same_some (rw h at r) in
       record {
         is = h;
-        sign = sym (same_first e);
-        value = sym (same_first (same_second e));
-        place = sym (same_second (same_second e));
+        sign = ap (λ (p : Bool × ℕ × ℕ). p.0) e;
+        value = ap (λ (p : Bool × ℕ × ℕ). p.1) e;
+        place = sym (ap (λ (p : Bool × ℕ × ℕ). p.2) e);
       })
       (λ h. absurd (none_not_some (rw h at r)))
 

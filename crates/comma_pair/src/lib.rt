@@ -114,10 +114,7 @@ fn onward(
 ) -> Result<Record, Refusal>
     ensures { result ≡ onward a rolls.now accelerations.now }
 {
-    match a {
-        Ok(r) => record_feed::feed(r, rolls, accelerations),
-        Err(q) => Err(q),
-    }
+    record_feed::feed(a?, rolls, accelerations)
 }
 
 // Lines of one file: where it stands after them, their bytes and their number.

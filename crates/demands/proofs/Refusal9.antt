@@ -29,7 +29,7 @@ use Rattle.demands.proofs.Exactly.{Exactly}
 use Rattle.sheet_line.proofs.Forms.{Reads, Told, ToldStandard, good, ill, record_reads, standard_reads}
 use Rattle.demands.proofs.Demand1.{Decides, Test, ◌gives◌, decide, decided, room_tests, tells}
 use Rattle.std.specs.Prelude.{Result, Ok, Err}
-use Rattle.truth.proofs.Answers.{same_err, same_second}
+use Rattle.truth.proofs.Answers.{same_err}
 
 -- ---- the statement
 -- the answer refuses the line by 9 with this line number, at some column
@@ -61,7 +61,7 @@ pub record Refusal9 : Type 0 where
       (stepping (Open c) (entry_text (c.records + 1) flag exposure))
 
 own : (n k : ℕ) (r s : Refusal) → ◌≡◌ {A = Result Sheet (ℕ × ℕ × Refusal)} (Err (n, k, r)) (Err (n, k, s)) → r ≡ s
-own n k r s e = same_second (same_second (same_err e))
+own n k r s e = ap (λ (p : ℕ × ℕ × Refusal). p.2) (same_err e)
 
 -- the tests of a line are those of the answer
 outcome_decides : (n : ℕ) (ts : List Test) (d : Campaign)

@@ -37,7 +37,7 @@ use Rattle.sheet_records.proofs.Back.{read_back, records_back}
 use Rattle.sheet_records.proofs.Clean.{written_again}
 use Rattle.demands.proofs.Demand1.{Decides, Test, ◌gives◌, decide, decided}
 use Rattle.std.specs.Prelude.{Result, Ok, Err}
-use Rattle.truth.proofs.Answers.{same_err, same_second}
+use Rattle.truth.proofs.Answers.{same_err}
 
 -- ---- the statement
 -- a record after so many records and failures: 4, 3, 5, 6; then the records after it, and what is tested after them
@@ -84,7 +84,7 @@ pub record Request2 : Type 0 where
 -- ---- the proof
 module _ (r s : Refusal) where
   own_sheet : ◌≡◌ {A = Result (ℕ × ℕ) (ℕ × ℕ × Refusal)} (Err (0, 0, r)) (Err (0, 0, s)) → r ≡ s
-  own_sheet e = same_second (same_second (same_err e))
+  own_sheet e = ap (λ (p : ℕ × ℕ × Refusal). p.2) (same_err e)
 
 -- what the records' tests decide is what is judged of them, from a campaign of so many records and failures
 module _ (needed room : ℕ) where

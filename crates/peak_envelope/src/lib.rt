@@ -12,7 +12,8 @@ ghost use Rattle.peak_groups.specs.Peaks.{sum, kept, close};
 ghost use Rattle.peak_groups.specs.Groups.{tops};
 ghost use Rattle.peak_machine.specs.Step.{size_of, moment_of, stepped, Fits};
 ghost use Rattle.peak_envelope.specs.Step.{chosen, added, noting};
-ghost use Rattle.peak_envelope.specs.Answers.{HandsOut, FindsTo};
+ghost use Rattle.peak_envelope.specs.Answers.{HandsOut, FindsTo, unlevelled};
+ghost use Rattle.record_whole.proofs.Judged.{Fitting};
 
 use peak_groups::{Group, Peak, Run};
 use peak_machine::Envelope;
@@ -161,6 +162,27 @@ fn hand_out(
     Ok(needed)
 }
 
+// The same of a record whose items and length are right, as `unlevelled` has them; 2 goes before 7.
+fn find_fitting(
+    step: u64,
+    ramp: u64,
+    decorrelation: u64,
+    samples: &[i32],
+    sizes: &mut [u32],
+    times: &mut [u32],
+) -> Result<u64, Refusal>
+    requires { Fitting (unlevelled step ramp decorrelation) (length samples.now) (length samples.now) }
+    ensures { FindsTo step ramp decorrelation samples.now sizes.old times.old
+        result sizes.new times.new }
+{
+    let bad = sample_range::first_bad(samples);
+    if bad < samples.len() {
+        return Err(Refusal::Sample(bad as u64));
+    }
+    let from = ramp as usize;
+    hand_out(step, decorrelation, &samples[from..], sizes, times)
+}
+
 // The envelope peaks of a whole record: their magnitudes and times, in order, from the start of the two slices, whose
 // rest stays, and their number; or refusal 1 (items 1, 2 and 4: 1 stands for the levels, which are not asked for), 2,
 // 3, 4, or 7 with the places needed, and the slices as they stood.
@@ -184,14 +206,6 @@ pub fn find(
         },
         decorrelation,
     };
-    let size = record_whole::judge(items, samples, samples);
-    if let Err(f) = size {
-        return Err(f);
-    }
-    let bad = sample_range::first_bad(samples);
-    if bad < samples.len() {
-        return Err(Refusal::Sample(bad as u64));
-    }
-    let from = ramp as usize;
-    hand_out(step, decorrelation, &samples[from..], sizes, times)
+    record_whole::judge(items, samples, samples)?;
+    find_fitting(step, ramp, decorrelation, samples, sizes, times)
 }

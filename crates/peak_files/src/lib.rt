@@ -115,10 +115,8 @@ fn begun_by(
 ) -> Result<(Handing, u64), Refusal>
     ensures { result ≡ begun_by step decorrelation counted }
 {
-    match counted {
-        Ok(s) => peak_stream::begin(step, decorrelation, s.number, s.sum),
-        Err(q) => Err(q),
-    }
+    let s = counted?;
+    peak_stream::begin(step, decorrelation, s.number, s.sum)
 }
 
 // The second reading of a file, after what the first has counted.
@@ -143,10 +141,7 @@ fn counted_on(
 ) -> Result<Surveying, Refusal>
     ensures { result ≡ counted_on counted ramp lines samples.now }
 {
-    match counted {
-        Ok(s) => Ok(comma_peaks::count(s, ramp, lines, samples)),
-        Err(q) => Err(q),
-    }
+    Ok(comma_peaks::count(counted?, ramp, lines, samples))
 }
 
 // How many peaks were handed out.

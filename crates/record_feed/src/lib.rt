@@ -222,10 +222,7 @@ fn fault(roll: &[i32], acceleration: &[i32]) -> Result<Record, Refusal>
     ensures { result ≡ cond (any_bad roll.now acceleration.now)
         (Err (bad_sample (first_bad roll.now) (first_bad acceleration.now))) (Err TooLong) }
 {
-    let look = sample_channels::look_over(roll, acceleration);
-    if let Err(f) = look {
-        return Err(f);
-    }
+    sample_channels::look_over(roll, acceleration)?;
     Err(Refusal::TooLong)
 }
 

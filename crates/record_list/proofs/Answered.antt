@@ -52,7 +52,7 @@ module _ (items : Items) (xs ys : List ℤ) (slice : List ℕ) where
 
       go : (i m b l s : Bool)
           → cond (not i) (Err (Item (item_outside items))) (cond (not m) (Err Unequal)
-          (cond b (Err g) (cond l (Err TooLong) (cond s (Err TooShort) (Ok tt)))))
+          (cond b (Err g) (cond l (Err TooLong) (cond s (Err TooShort) (Ok (tt {0}))))))
           ≡ Err f
           → Err f ≡ cond (not i) (Err (Item (item_outside items))) (cond (not m) (Err Unequal)
           (cond b (Err g) (cond l (Err TooLong) (cond s (Err TooShort) (cond (ltb (length slice) n)

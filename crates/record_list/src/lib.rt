@@ -14,6 +14,7 @@ ghost use Rattle.sample_channels.specs.Channels.{moments, any_above, any_bad, ba
 ghost use Rattle.crossing_places.specs.Reading.{counted_times, unramped};
 ghost use Rattle.sample_range.specs.Range.{first_bad};
 ghost use Rattle.record_list.specs.Pass.{Passes, Heard};
+ghost use Rattle.record_whole.proofs.Judged.{Fitting};
 ghost use Rattle.record_list.specs.Answers.{WritesTo, SettlesTo, ListsTo};
 
 use refusal::Refusal;
@@ -425,11 +426,38 @@ fn fault(roll: &[i32], acceleration: &[i32]) -> Result<u64, Refusal>
     ensures { any_bad roll.now acceleration.now ≡ true → result
         ≡ Err (bad_sample (first_bad roll.now) (first_bad acceleration.now)) }
 {
-    let look = sample_channels::look_over(roll, acceleration);
-    if let Err(f) = look {
-        return Err(f);
-    }
+    sample_channels::look_over(roll, acceleration)?;
     Err(Refusal::TooShort)
+}
+
+// A record whose items and length are right, listed: a bad sample of the ramp goes before all that the timed samples
+// say.
+fn list_fitting(
+    items: Items,
+    roll: &[i32],
+    acceleration: &[i32],
+    times: &mut [u32],
+) -> Result<u64, Refusal>
+    requires { Fitting items (length roll.now) (length acceleration.now) }
+    ensures { ListsTo items roll.now acceleration.now
+        times.old result times.new }
+{
+    let from = items.ramp as usize;
+    if let Err(_) = sample_channels::look_over(&roll[..from], &acceleration[..from]) {
+        return fault(roll, acceleration);
+    }
+    let settled = list_timed(
+        items.step,
+        items.levels,
+        items.decorrelation,
+        &roll[from..],
+        &acceleration[from..],
+        times,
+    );
+    match settled {
+        Some(listed) => listed,
+        None => fault(roll, acceleration),
+    }
 }
 
 // A whole record at once: the counted times, in order, from the start of `times`, whose rest stays, and their number;
@@ -443,25 +471,6 @@ pub fn list(
     ensures { ListsTo items roll.now acceleration.now
         times.old result times.new }
 {
-    let size = record_whole::judge(items, roll, acceleration);
-    if let Err(f) = size {
-        return Err(f);
-    }
-    let from = items.ramp as usize;
-    let look = sample_channels::look_over(&roll[..from], &acceleration[..from]);
-    if let Err(_) = look {
-        return fault(roll, acceleration);
-    }
-    let settled = list_timed(
-        items.step,
-        items.levels,
-        items.decorrelation,
-        &roll[from..],
-        &acceleration[from..],
-        times,
-    );
-    match settled {
-        Some(l) => l,
-        None => fault(roll, acceleration),
-    }
+    record_whole::judge(items, roll, acceleration)?;
+    list_fitting(items, roll, acceleration, times)
 }

@@ -17,10 +17,7 @@ fn fault(roll: &[i32], acceleration: &[i32], long: bool) -> Result<(), Refusal>
         (Err (bad_sample (first_bad roll.now) (first_bad acceleration.now)))
         (cond long (Err TooLong) (Err TooShort)) }
 {
-    let look = sample_channels::look_over(roll, acceleration);
-    if let Err(f) = look {
-        return Err(f);
-    }
+    sample_channels::look_over(roll, acceleration)?;
     if long {
         Err(Refusal::TooLong)
     } else {

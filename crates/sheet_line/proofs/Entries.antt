@@ -1,7 +1,7 @@
 -- What a line that is taken says, and which line a refusal names. A record's line is its number, flag and exposure and
 -- nothing else, and it enters the campaign as `telling` says; so does line 1 open it. Assumes nothing.
 use Prim.Native.Nat.{ℕ, ◌+◌, ◌≤◌, ◌<◌}
-use mathlib.Core.Path.{◌≡◌, refl, subst, sym}
+use mathlib.Core.Path.{◌≡◌, refl, subst, sym, ap}
 use mathlib.Core.List.{List}
 use native.Mathlib.Omega.{arith}
 use lib.Dec.{eqb}
@@ -15,7 +15,7 @@ use Rattle.sheet_line.specs.Texts.{entry_text, head_text}
 use Rattle.sheet_line.specs.Line.{line_after, malformed, outcome, record_line, standard_line, telling}
 use Rattle.sheet_line.proofs.Forms.{Reads, Told, ToldStandard, good, ill, record_reads, standard_reads}
 use Rattle.std.specs.Prelude.{Result, Ok, Err}
-use Rattle.truth.proofs.Answers.{err_not_ok, ok_not_err, same_err, same_first, same_ok, same_second}
+use Rattle.truth.proofs.Answers.{err_not_ok, ok_not_err, same_err, same_ok}
 
 -- a step that is taken leads to a sheet of which P holds; one that is refused names the line
 pub data Says (P : Sheet → Type 0) (line : ℕ) : Result Sheet (ℕ × ℕ × Refusal) → Type 0 where
@@ -33,7 +33,7 @@ says_next {P} (goes p) e = subst P (same_ok e) p
 says_next (stops k) e = absurd (err_not_ok e)
 
 same_line : {n l k m : ℕ} {q r : Refusal} → k < 1000 → ◌≡◌ {A = ℕ × ℕ × Refusal} (n, k, q) (l, m, r) → (l ≡ n) × (m < 1000)
-same_line h e = let column = same_first (same_second e) in (sym (same_first e), omega (arith, column))
+same_line h e = let column = ap (λ (p : ℕ × ℕ × Refusal). p.1) e in (sym (ap (λ (p : ℕ × ℕ × Refusal). p.0) e), omega (arith, column))
 
 pub says_stop : {P : Sheet → Type 0} {line : ℕ} {step : (Result Sheet (ℕ × ℕ × Refusal))} {l column : ℕ} {r : Refusal} → Says P line step → step ≡ Err (l, column, r) → (l ≡ line) × (column < 1000)
 says_stop (goes p) e = absurd (ok_not_err e)

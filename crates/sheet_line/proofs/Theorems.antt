@@ -54,7 +54,7 @@ module _ (c : Campaign) (f : Bool) (t : ℕ) where
   pub told_entered : (d : Campaign) → telling c f t ≡ Ok d → entering c (line_outcome f t) ≡ Ok d
   unfolding telling
   told_entered d e = (past (ltb longest_time t) err_not_ok (past (eqb t 0) err_not_ok e).1).1
-    where
+
 -- and so is any result with that failure and that exposure
 pub line_results : (c : Campaign) (line : List ℕ) (s : Sheet) (e : Entry c line s) (x : RecordResult) → outcome_of x
     ≡ line_outcome (eqb e.flag 1) e.exposure → entering c (outcome_of x) ≡ Ok e.after

@@ -1,8 +1,8 @@
 -- Two answers that are the same carry the same, and a pair that is the same has the same parts. No answer is both `Ok`
--- and `Err`, or `Some` and `None`. Assumes nothing.
-use mathlib.Core.Path.{◌≡◌, ap}
-use Rattle.std.specs.Prelude.{Option, Some, None, Result, Ok, Err}
-use Rattle.truth.proofs.Laws.{impossible}
+-- and `Err`, or `Some` and `None`. What `?` hands on is the error that it was given. Assumes nothing.
+use mathlib.Core.Path.{◌≡◌, ap, sym}
+use Rattle.std.specs.Prelude.{Option, Some, None, Result, Ok, Err, IsErr, IsErrAnd}
+use Rattle.truth.proofs.Laws.{impossible, true≢false}
 
 module _ {A E : Type 0} where
   pub same_ok : {x y : A} → ◌≡◌ {A = Result A E} (Ok x) (Ok y) → x ≡ y
@@ -16,6 +16,10 @@ module _ {A E : Type 0} where
 
   pub err_not_ok : {x : A} {y : E} → ◌≡◌ {A = Result A E} (Err y) (Ok x) → ⊥
   err_not_ok e = impossible (cc)
+
+  pub handed_on : {e : E} (r : Result A E) → IsErr r × IsErrAnd r (λ (x : E). x ≡ e) → r ≡ Err e
+  handed_on (Ok x) h = absurd (true≢false (sym h.0))
+  handed_on (Err x) h = ap Err h.1
 
 module _ {A : Type 0} where
   pub same_some : {x y : A} → ◌≡◌ {A = Option A} (Some x) (Some y) → x ≡ y

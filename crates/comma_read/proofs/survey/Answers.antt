@@ -31,7 +31,7 @@ module _ (c : In-Some) where
   abbrev Next : ℕ
   Next = c.in-Some.end
 
-  read : LineRead Text At Due c.in-Some.field-0 c.in-Some.size Next
+  read : LineRead Text At Due c.in-Some.field-0-0 c.in-Some.size Next
   read =
       line_read Text At Due _ _ Next (sym c.line_at.ensures ∙ c.in-Some.is)
 

@@ -20,19 +20,19 @@ reads c = sym c.number_at-field.ensures
 pub returns-then-text-next : goal.returns-then-text-next
 unfolding field_then ended_by starts_with
 returns-then-text-next c =
-    rw (reads (goal.at.returns-then-text-next c).After-number_at-field ∙ c.in-Some.is, drop_of_length-le _ c.if-text-next.true)
+    rw (reads (goal.at.returns-then-text-next c).After-number_at-field ∙ c.in-Number.is, drop_of_length-le _ c.if-text-next.true)
 
 pub returns-then-text-next-2 : goal.returns-then-text-next-2
 unfolding field_then ended_by starts_with
 returns-then-text-next-2 c =
     let after-number-at = (goal.at.returns-then-text-next-2 c).After-number_at-field in
-    rw (reads after-number-at ∙ c.in-Some.is, drop-cons (text after-number-at) c.in-Some.next 0 c.if-text-next.false, ne_eqb _ _ c.if-text-next-2.true)
+    rw (reads after-number-at ∙ c.in-Number.is, drop-cons (text after-number-at) c.in-Number.next 0 c.if-text-next.false, ne_eqb _ _ c.if-text-next-2.true)
 
 pub returns-else-text-next-2 : goal.returns-else-text-next-2
 unfolding field_then ended_by starts_with
 returns-else-text-next-2 c =
     let after-number-at = (goal.at.returns-else-text-next-2 c).After-number_at-field in
-    rw (reads after-number-at ∙ c.in-Some.is, drop-cons (text after-number-at) c.in-Some.next 0 c.if-text-next.false, eq-eqb _ _ c.if-text-next-2.false)
+    rw (reads after-number-at ∙ c.in-Number.is, drop-cons (text after-number-at) c.in-Number.next 0 c.if-text-next.false, eq-eqb _ _ c.if-text-next-2.false)
 
 pub returns-in-Empty : goal.returns-in-Empty
 unfolding field_then ended_by

@@ -14,7 +14,7 @@ use Rattle.sheet_line.specs.Form.{is_sheet_line}
 use Rattle.sheet_line.specs.Line.{field_then, is_record, line_after, outcome, record_line}
 use Rattle.sheet_line.proofs.Fields.{other_field}
 use Rattle.sheet_line.proofs.record_line.Goals as goal
-use Rattle.sheet_line.proofs.record_line.Goals.{After-both-2, Else-not-is_line, In-Some, In-Some-field_then, In-Some-field_then-2}
+use Rattle.sheet_line.proofs.record_line.Goals.{After-both-2, Else-not-is_line, In-Number, In-Number-field_then, In-Number-field_then-2}
 
 -- a field's number, and the place after it
 abbrev Found : Type 0
@@ -24,53 +24,53 @@ Found = ℕ × ℕ
 abbrev Text : Else-not-is_line → List ℕ
 Text c = c.args.text.now
 
-abbrev Text₂ : In-Some → List ℕ
+abbrev Text₂ : In-Number → List ℕ
 Text₂ c = c.args.text.now
 
-abbrev Text₃ : In-Some-field_then → List ℕ
+abbrev Text₃ : In-Number-field_then → List ℕ
 Text₃ c = c.args.text.now
 
-abbrev Text₄ : In-Some-field_then-2 → List ℕ
+abbrev Text₄ : In-Number-field_then-2 → List ℕ
 Text₄ c = c.args.text.now
 
 abbrev Text₅ : After-both-2 → List ℕ
 Text₅ c = c.args.text.now
 
-abbrev number : In-Some → Found
-number c = (c.in-Some.number, c.in-Some.second)
+abbrev number : In-Number → Found
+number c = (c.in-Number.number, c.in-Number.second)
 
-abbrev number₂ : In-Some-field_then → Found
-number₂ c = (c.in-Some.number, c.in-Some.second)
+abbrev number₂ : In-Number-field_then → Found
+number₂ c = (c.in-Number.number, c.in-Number.second)
 
 abbrev number₃ : After-both-2 → Found
-number₃ c = (c.in-Some.number, c.in-Some.second)
+number₃ c = (c.in-Number.number, c.in-Number.second)
 
-abbrev flag : In-Some-field_then → Found
-flag c = (c.in-Some-field_then.flag, c.in-Some-field_then.third)
+abbrev flag : In-Number-field_then → Found
+flag c = (c.in-Number-field_then.flag, c.in-Number-field_then.third)
 
-abbrev flag₂ : In-Some-field_then-2 → Found
-flag₂ c = (c.in-Some-field_then.flag, c.in-Some-field_then.third)
+abbrev flag₂ : In-Number-field_then-2 → Found
+flag₂ c = (c.in-Number-field_then.flag, c.in-Number-field_then.third)
 
 abbrev flag₃ : After-both-2 → Found
-flag₃ c = (c.in-Some-field_then.flag, c.in-Some-field_then.third)
+flag₃ c = (c.in-Number-field_then.flag, c.in-Number-field_then.third)
 
-abbrev exposure : In-Some-field_then-2 → Found
-exposure c = (c.in-Some-field_then-2.exposure, c.in-Some-field_then-2.end)
+abbrev exposure : In-Number-field_then-2 → Found
+exposure c = (c.in-Number-field_then-2.exposure, c.in-Number-field_then-2.end)
 
 abbrev exposure₂ : After-both-2 → Found
-exposure₂ c = (c.in-Some-field_then-2.exposure, c.in-Some-field_then-2.end)
+exposure₂ c = (c.in-Number-field_then-2.exposure, c.in-Number-field_then-2.end)
 
 within : (c : Else-not-is_line) → is_sheet_line (Text c) ≡ true
 within c = (sym c.is_line.ensures ∙ c.if-not-is_line.false)
 
-first : (c : In-Some) → field_then tab (Text₂ c) 0 ≡ Number (number c).0 (number c).1
-first c = sym c.field_then.ensures ∙ c.in-Some.is
+first : (c : In-Number) → field_then tab (Text₂ c) 0 ≡ Number (number c).0 (number c).1
+first c = sym c.field_then.ensures ∙ c.in-Number.is
 
-second : (c : In-Some-field_then) → field_then tab (Text₃ c) (number₂ c).1 ≡ Number (flag c).0 (flag c).1
-second c = sym c.field_then-2.ensures ∙ c.in-Some-field_then.is
+second : (c : In-Number-field_then) → field_then tab (Text₃ c) (number₂ c).1 ≡ Number (flag c).0 (flag c).1
+second c = sym c.field_then-2.ensures ∙ c.in-Number-field_then.is
 
-third : (c : In-Some-field_then-2) → field_then line_feed (Text₄ c) (flag₂ c).1 ≡ Number (exposure c).0 (exposure c).1
-third c = sym c.field_then-3.ensures ∙ c.in-Some-field_then-2.is
+third : (c : In-Number-field_then-2) → field_then line_feed (Text₄ c) (flag₂ c).1 ≡ Number (exposure c).0 (exposure c).1
+third c = sym c.field_then-3.ensures ∙ c.in-Number-field_then-2.is
 
 tests : (c : After-both-2) → is_record c.args.c (Text₅ c) (number₃ c).0 (flag₃ c).0 (exposure₂ c).1 ≡ c.both-2.result
 tests c = cc
@@ -88,12 +88,12 @@ returns-in_default c =
 pub returns-in_default-field_then : goal.returns-in_default-field_then
 unfolding record_line
 returns-in_default-field_then c =
-    rw (within (goal.at.returns-in_default-field_then c).Else-not-is_line, first (goal.at.returns-in_default-field_then c).In-Some, ← c.field_then-2.ensures) (c.bad_record-in_default-field_then.ensures ∙ sym (other_field c.field_then-2.result _ _ c.in_default-field_then.not-Number))
+    rw (within (goal.at.returns-in_default-field_then c).Else-not-is_line, first (goal.at.returns-in_default-field_then c).In-Number, ← c.field_then-2.ensures) (c.bad_record-in_default-field_then.ensures ∙ sym (other_field c.field_then-2.result _ _ c.in_default-field_then.not-Number))
 
 pub returns-in_default-field_then-2 : goal.returns-in_default-field_then-2
 unfolding record_line
 returns-in_default-field_then-2 c =
-    rw (within (goal.at.returns-in_default-field_then-2 c).Else-not-is_line, first (goal.at.returns-in_default-field_then-2 c).In-Some, second (goal.at.returns-in_default-field_then-2 c).In-Some-field_then, ← c.field_then-3.ensures)
+    rw (within (goal.at.returns-in_default-field_then-2 c).Else-not-is_line, first (goal.at.returns-in_default-field_then-2 c).In-Number, second (goal.at.returns-in_default-field_then-2 c).In-Number-field_then, ← c.field_then-3.ensures)
     (c.bad_record-in_default-field_then-2.ensures ∙ sym (other_field c.field_then-3.result _ _ c.in_default-field_then-2.not-Number))
 
 pub overflow_add-c : goal.overflow_add-c
@@ -103,7 +103,7 @@ overflow_add-c c =
 pub returns-then-not-both : goal.returns-then-not-both
 unfolding record_line
 returns-then-not-both c =
-    rw (within (goal.at.returns-then-not-both c).Else-not-is_line, first (goal.at.returns-then-not-both c).In-Some, second (goal.at.returns-then-not-both c).In-Some-field_then, third (goal.at.returns-then-not-both c).In-Some-field_then-2, (sym (sym (tests (goal.at.returns-then-not-both c).After-both-2)) ∙ c.if-not-both.true)) c.bad_record-then-not-both.ensures
+    rw (within (goal.at.returns-then-not-both c).Else-not-is_line, first (goal.at.returns-then-not-both c).In-Number, second (goal.at.returns-then-not-both c).In-Number-field_then, third (goal.at.returns-then-not-both c).In-Number-field_then-2, (sym (sym (tests (goal.at.returns-then-not-both c).After-both-2)) ∙ c.if-not-both.true)) c.bad_record-then-not-both.ensures
 
 pub overflow_add-c-2 : goal.overflow_add-c-2
 overflow_add-c-2 c =
@@ -112,5 +112,5 @@ overflow_add-c-2 c =
 pub returns : goal.returns
 unfolding record_line
 returns c =
-    rw (within (goal.at.returns c).Else-not-is_line, first (goal.at.returns c).In-Some, second (goal.at.returns c).In-Some-field_then, third (goal.at.returns c).In-Some-field_then-2, (sym (sym (tests (goal.at.returns c).After-both-2)) ∙ c.if-not-both.false))
+    rw (within (goal.at.returns c).Else-not-is_line, first (goal.at.returns c).In-Number, second (goal.at.returns c).In-Number-field_then, third (goal.at.returns c).In-Number-field_then-2, (sym (sym (tests (goal.at.returns c).After-both-2)) ∙ c.if-not-both.false))
     (c.outcome.ensures ∙ ap (outcome (line_after c.args.c)) c.tell.ensures)

@@ -10,7 +10,7 @@ use Rattle.sheet_line.specs.Form.{standard_start, begins, is_sheet_line}
 use Rattle.sheet_line.specs.Line.{field_then, outcome, standard_line}
 use Rattle.sheet_line.proofs.Fields.{other_field}
 use Rattle.sheet_line.proofs.standard_line.Goals as goal
-use Rattle.sheet_line.proofs.standard_line.Goals.{Else-not-begins, Else-not-is_line, In-Some}
+use Rattle.sheet_line.proofs.standard_line.Goals.{Else-not-begins, Else-not-is_line, In-Number}
 
 -- what is known past each test and the field
 within : (c : Else-not-is_line) → is_sheet_line c.args.text.now ≡ true
@@ -20,11 +20,11 @@ worded : (c : Else-not-begins)
     → begins standard_start c.args.text.now ≡ true
 worded c = (sym c.begins.ensures ∙ c.if-not-begins.false)
 
-number : (c : In-Some) → field_then line_feed
+number : (c : In-Number) → field_then line_feed
     c.args.text.now
-    (length standard_start) ≡ Number c.in-Some.q c.in-Some.end
+    (length standard_start) ≡ Number c.in-Number.q c.in-Number.end
 number c =
-    sym c.field_then.ensures ∙ c.in-Some.is
+    sym c.field_then.ensures ∙ c.in-Number.is
 
 pub returns-then-not-is_line : goal.returns-then-not-is_line
 unfolding standard_line
@@ -44,10 +44,10 @@ returns-in_default c =
 pub returns-then-end-text : goal.returns-then-end-text
 unfolding standard_line
 returns-then-end-text c =
-    rw (within (goal.at.returns-then-end-text c).Else-not-is_line, worded (goal.at.returns-then-end-text c).Else-not-begins, number (goal.at.returns-then-end-text c).In-Some, ne_eqb _ _ c.if-end-text.true) c.bad_standard-then-end-text.ensures
+    rw (within (goal.at.returns-then-end-text c).Else-not-is_line, worded (goal.at.returns-then-end-text c).Else-not-begins, number (goal.at.returns-then-end-text c).In-Number, ne_eqb _ _ c.if-end-text.true) c.bad_standard-then-end-text.ensures
 
 pub returns : goal.returns
 unfolding standard_line
 returns c =
-    rw (within (goal.at.returns c).Else-not-is_line, worded (goal.at.returns c).Else-not-begins, number (goal.at.returns c).In-Some, eq-eqb _ _ c.if-end-text.false)
+    rw (within (goal.at.returns c).Else-not-is_line, worded (goal.at.returns c).Else-not-begins, number (goal.at.returns c).In-Number, eq-eqb _ _ c.if-end-text.false)
     (c.outcome.ensures ∙ ap (outcome 1) c.open.ensures)

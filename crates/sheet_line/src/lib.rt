@@ -120,32 +120,14 @@ pub fn is_line(text: &[u8]) -> bool
 pub fn begins(text: &[u8], word: &[u8]) -> bool
     ensures { result ≡ begins word.now text.now }
 {
-    let mut i = 0;
-    while i < word.len() {
-        if text.len() <= i {
-            return false;
-        }
-        if text[i] != word[i] {
-            return false;
-        }
-        i += 1;
-    }
-    true
+    text.starts_with(word)
 }
 
 // How often `byte` stands in `text`.
 fn how_many(byte: u8, text: &[u8]) -> usize
     ensures { result ≡ how_many byte text.now }
 {
-    let mut count: usize = 0;
-    let mut i = 0;
-    while i < text.len() {
-        if text[i] == byte {
-            count += 1;
-        }
-        i += 1;
-    }
-    count
+    text.iter().filter(|b| **b == byte).count()
 }
 
 // Whether `text` has one LF, and so many tabs between its fields.

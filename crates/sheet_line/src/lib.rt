@@ -162,15 +162,7 @@ fn look_at(text: &[u8], at: usize, low: u64, high: u64) -> Look
             column: (place as u64) + 1,
             next: 0,
         },
-        Field::Empty => Look {
-            column: first,
-            next: 0,
-        },
-        Field::LeadingZero => Look {
-            column: first,
-            next: 0,
-        },
-        Field::TooLong => Look {
+        Field::Empty | Field::LeadingZero | Field::TooLong => Look {
             column: first,
             next: 0,
         },
@@ -238,6 +230,7 @@ pub enum Sheet {
 }
 
 // The number field of `text` at `at` that the byte `end` ends, and the place after that byte.
+#[tactic(auto, unfolding(crate::specs::Line::field_then, crate::specs::Line::ended_by))]
 fn field_then(end: u8, text: &[u8], at: usize) -> Field
     ensures { result ≡ field_then end text.now at }
 {
@@ -252,10 +245,7 @@ fn field_then(end: u8, text: &[u8], at: usize) -> Field
             }
             Field::Number(value, next + 1)
         }
-        Field::Empty => field,
-        Field::Strange(_) => field,
-        Field::LeadingZero => field,
-        Field::TooLong => field,
+        Field::Empty | Field::Strange(_) | Field::LeadingZero | Field::TooLong => field,
     }
 }
 
@@ -344,10 +334,7 @@ fn record_line(c: Campaign, text: &[u8]) -> Result<Sheet, (u64, u64, Refusal)>
 fn outcome(line: u64, a: Result<Campaign, Refusal>) -> Result<Sheet, (u64, u64, Refusal)>
     ensures { result ≡ outcome line a }
 {
-    match a {
-        Ok(c) => Ok(Sheet::Open(c)),
-        Err(r) => Err((line, 0, r)),
-    }
+    a.map(Sheet::Open).map_err(|r| (line, 0, r))
 }
 
 impl Sheet {

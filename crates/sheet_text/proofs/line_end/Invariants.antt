@@ -10,6 +10,3 @@ use Rattle.sheet_text.proofs.line_end.Given as goal
 
 abbrev pub invariant-loop-i : goal.invariant-loop-i
 invariant-loop-i l = (l.at ≤ l.i) × (l.i ≤ l.stop) × (reached l.text l.at l.i ≡ l.at + cut longest_sheet_line (drop l.at l.text))
-
-abbrev pub decreases-loop-i : goal.decreases-loop-i
-decreases-loop-i l = l.stop - l.i

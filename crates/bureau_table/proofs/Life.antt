@@ -39,7 +39,7 @@ use Rattle.bureau_table.proofs.Keeping.{calls_keep, opened_is}
 use Rattle.bureau_table.proofs.Taking.{owner_called, taken_at}
 use Rattle.bureau_table.specs.declared.Reply.TheVariants.{Judged, Placed, Rated}
 use Rattle.bureau_table.specs.declared.Reply.{Reply}
-use Rattle.std.specs.Prelude.{Some, None, Result, Ok, Err}
+use Rattle.std.specs.Prelude.{cond, Some, None, Result, Ok, Err}
 
 -- ---- the statement
 -- place i of the table is bureau b's, its records at the standard q are os, and what it is told of them is document
@@ -67,7 +67,7 @@ work_refused GiveBack r = refl
 
 work_read : (w : Work) {x : (Result Reply Refusal)} → Reading x → work_enters w x ≡ []
 work_read (Enter y) (verdict v) = refl
-work_read (Enter y) (rates some r) = refl
+work_read (Enter y) (rates r) = refl
 work_read Judge r = refl
 work_read Rate r = refl
 work_read GiveBack r = refl

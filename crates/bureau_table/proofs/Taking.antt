@@ -40,7 +40,7 @@ taken {t} {b} i e (places q m) =
 freed : {t : List Place} {b i : ℕ} {d : Done} → d.answer ≡ (Ok Freed) → Made t b (On i GiveBack) d → d.table ≡ set t i free
 freed e (refuses a r) = impossible (cc)
 freed e (reads i w x (verdict v) o) = impossible (cc)
-freed e (reads i w x (rates some r) o) = impossible (cc)
+freed e (reads i w x (rates r) o) = impossible (cc)
 freed e (frees i o) = refl
 
 -- ---- the theorems

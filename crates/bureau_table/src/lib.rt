@@ -2,7 +2,6 @@
 // says what a call answers and leaves, proofs/ what follows from it.
 #![tactic(auto)]
 
-use bureau_table::Reply;
 use campaign_state::Campaign;
 use campaign_verdict::{Rates, Verdict};
 use record_end::Outcome;

@@ -25,6 +25,7 @@ use Rattle.comma_count.specs.Taking.{answering, Leads}
 use Rattle.comma_count.proofs.Joining.{answering_held, answering_join}
 use Rattle.record_state.specs.declared.Record.{Record}
 use Rattle.std.specs.Prelude.{Result, Ok, Err}
+use Rattle.truth.proofs.Answers.{same_ok}
 
 -- a text from a place on, by its bytes
 pub from : (text : List ℕ) (at : ℕ) → take (length text - at) (drop at text) ≡ drop at text
@@ -87,10 +88,11 @@ module _ (f : Follow) (text : List ℕ) (slice : List ℤ) (step : step_in_range
       → part ≡ text → r ≡ taking f part (length slice) → later ≡ leaving r part slice → r ≡ Ok (g, bytes, n) → Took g bytes n later
   unfolding taken_by leaving number_of
   took {part} {r} {g} {bytes} {n} {later} same e l is =
-      let all : Ok (g, bytes, n) ≡ taken_by f Here = sym is ∙ e ∙ ap (λ x. taking f x (length slice)) same ∙ took_all in
-      let count : n ≡ length Here = cc in
-      let at : bytes ≡ bytes_of Here = cc in
-      let stand : g ≡ after_lines f Here = cc in
+      let all : ◌≡◌ {A = Follow × ℕ × ℕ} (g, bytes, n) (after_lines f Here, bytes_of Here, length Here)
+      = same_ok (sym is ∙ e ∙ ap (λ x. taking f x (length slice)) same ∙ took_all) in
+      let count : n ≡ length Here = ap (λ (p : Follow × ℕ × ℕ). p.2) all in
+      let at : bytes ≡ bytes_of Here = ap (λ (p : Follow × ℕ × ℕ). p.1) all in
+      let stand : g ≡ after_lines f Here = ap (λ (p : Follow × ℕ × ℕ). p.0) all in
       record { stands = stand; place = at; number = count; samples = ap (take n) (l ∙ ap (λ x. leaving r x slice) same ∙ ap (λ x. leaving x text slice) is) ∙ left_front n count }
 
   pub never_refused : {part : List ℕ} {r : (Result (Follow × ℕ × ℕ) Refusal)} {q : Refusal} → part ≡ text → r ≡ taking f part (length slice) → r ≡ Err q → ⊥

@@ -1,6 +1,6 @@
 -- WHAT IS SAID OF A COMMA FILE (document 02, [1], [4], [5]; docs/CLERK.md, "From a simulator's file to the sheet"): one
 -- line and a digit, over the whole text. Each refusal is judged over the whole file: 1, 10, 2, 3, 4. Assumes nothing.
-use Rattle.std.specs.Prelude.{ℕ, ◌+◌, cond, not, List, [], ◌∷◌, ◌++◌, map, eqb, ltb, ℤ, pos, length, Result, Err}
+use Rattle.std.specs.Prelude.{ℕ, ◌+◌, cond, not, List, [], ◌∷◌, ◌++◌, map, eqb, ltb, ℤ, pos, length, Result, Ok, Err}
 use Rattle.refusal.specs.declared.Refusal.{Refusal}
 use Rattle.refusal.specs.declared.Refusal.TheVariants.{Item, Sample, TooLong, TooShort, CommaLine}
 use Rattle.sample_channels.specs.declared.Moment.{Moment}
@@ -84,7 +84,7 @@ count_said_of_lines i lines =
 unfoldable pub end_of_lines : Items → List (List ℕ) → Result Record (ℕ × Refusal)
 end_of_lines i lines =
     cond (not (eqb (item_outside i) 0)) (Err (0, Item (item_outside i)))
-    (lines_then i Err (lines, Ok (state_of i (one_channel (samples_of lines)))))
+    (lines_then i (λ line q. Err (line, q)) lines (Ok (state_of i (one_channel (samples_of lines)))))
 
 abbrev pub end_of_text : Items → List ℕ → Result Record (ℕ × Refusal)
 end_of_text i text = end_of_lines i (lines_of text)

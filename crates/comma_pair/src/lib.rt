@@ -19,7 +19,6 @@ ghost use Rattle.comma_pair.specs.Taking.{end_of, said_end, saying};
 ghost use Rattle.comma_pair.specs.Step.{Some, Both};
 
 use comma_count::Counting;
-use comma_pair::PairFault;
 use comma_stream::{Follow, Rest};
 use desk_line::Finished;
 use record_state::Record;

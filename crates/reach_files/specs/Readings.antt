@@ -1,6 +1,6 @@
 -- Two readings of each of several files, as a program makes them: a file comes in pieces, which may be others at the
 -- second reading, and its samples in blocks, cut anywhere. Assumes nothing.
-use Rattle.std.specs.Prelude.{ℕ, zero, suc, ◌+◌, ◌<◌, ◌≡◌, cond, not, List, [], ◌∷◌, ◌++◌, map, eqb, ℤ, length, take, drop, Result}
+use Rattle.std.specs.Prelude.{ℕ, zero, suc, ◌+◌, ◌<◌, ◌≡◌, cond, not, List, [], ◌∷◌, ◌++◌, map, eqb, ℤ, length, take, drop, Result, Ok, Err}
 use Rattle.crossing_sets.specs.Parting.{together}
 use Rattle.text.specs.Pieces.{joined}
 use Rattle.decimal.specs.Lines.{lines_of}
@@ -111,8 +111,8 @@ pub record Desk : Type 0 where
   pub list : List ℕ
 
 abbrev pub peaks_in : Result Gathered (ℕ × ℕ × Refusal) → ℕ
-peaks_in (Rattle.reach_files.specs.declared.Gathering.TheVariants.Of g) = g.peaks
-peaks_in (Rattle.reach_files.specs.declared.Gathering.TheVariants.Refused file line q) = 0
+peaks_in (Ok g) = g.peaks
+peaks_in (Err (file, line, q)) = 0
 
 abbrev pub with_file : Job → ℕ → Desk → Readings → Desk
 with_file j file d r =

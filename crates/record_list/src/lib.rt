@@ -18,7 +18,6 @@ ghost use Rattle.record_whole.proofs.Judged.{Fitting};
 ghost use Rattle.record_list.specs.Answers.{WritesTo, SettlesTo, ListsTo};
 
 use refusal::Refusal;
-use sample_channels::Levels;
 use sample_items::Items;
 
 // The walk before a timed sample: its time, whether a timed sample that is above in neither channel stands before it,
@@ -59,13 +58,13 @@ fn start() -> Walk
 }
 
 // The walk after k samples above in neither channel.
-fn passed(step: u64, decorrelation: u64, w: Walk, k: usize) -> Walk
-    requires { Ready step decorrelation w k }
-    ensures { result ≡ passed step w k }
+fn passed(items: Items, w: Walk, k: usize) -> Walk
+    requires { Ready items.step items.decorrelation w k }
+    ensures { result ≡ passed items.step w k }
 {
     Walk {
         below: true,
-        time: w.time + k as u64 * step,
+        time: w.time + k as u64 * items.step,
         count: w.count,
         due: w.due,
     }
@@ -84,116 +83,97 @@ fn put(time: u64, place: u64, times: &mut [u32])
 
 // The walk after a sample at which a level is crossed; the time of a group that starts there is put into the next
 // place.
-fn crossed(step: u64, decorrelation: u64, w: Walk, times: &mut [u32]) -> Walk
-    requires { Ready step decorrelation w 1 × (w.below ≡ true) }
-    ensures { noting result times.new ≡ marked step decorrelation (noting w times.old) true }
+fn crossed(items: Items, w: Walk, times: &mut [u32]) -> Walk
+    requires { Ready items.step items.decorrelation w 1 × (w.below ≡ true) }
+    ensures { noting result times.new ≡ marked items.step items.decorrelation (noting w times.old) true }
 {
     if starts(w) {
         put(w.time, w.count, times);
         return Walk {
             below: false,
-            time: w.time + step,
+            time: w.time + items.step,
             count: w.count + 1,
-            due: w.time + decorrelation,
+            due: w.time + items.decorrelation,
         };
     }
     Walk {
         below: false,
-        time: w.time + step,
+        time: w.time + items.step,
         count: w.count,
-        due: w.time + decorrelation,
+        due: w.time + items.decorrelation,
     }
 }
 
 // The walk after a sample that is above or not.
-fn stepped(step: u64, decorrelation: u64, w: Walk, up: bool, times: &mut [u32]) -> Walk
-    requires { Ready step decorrelation w 1 }
-    ensures { noting result times.new ≡ marked step decorrelation (noting w times.old) up }
+fn stepped(items: Items, w: Walk, up: bool, times: &mut [u32]) -> Walk
+    requires { Ready items.step items.decorrelation w 1 }
+    ensures { noting result times.new ≡ marked items.step items.decorrelation (noting w times.old) up }
 {
     if truth::both(w.below, up) {
-        return crossed(step, decorrelation, w, times);
+        return crossed(items, w, times);
     }
     Walk {
         below: !up,
-        time: w.time + step,
+        time: w.time + items.step,
         count: w.count,
         due: w.due,
     }
 }
 
 // The walk over samples of which it is known whether they are above.
-fn along(step: u64, decorrelation: u64, w: Walk, ups: &[bool], times: &mut [u32]) -> Walk
-    requires { Ready step decorrelation w (length ups.now) }
+fn along(items: Items, w: Walk, ups: &[bool], times: &mut [u32]) -> Walk
+    requires { Ready items.step items.decorrelation w (length ups.now) }
     ensures { noting result times.new
-        ≡ foldl (marked step decorrelation) (noting w times.old) ups.now }
+        ≡ foldl (marked items.step items.decorrelation) (noting w times.old) ups.now }
 {
     let mut v = w;
-    let mut i = 0;
-    while i < ups.len() {
-        v = stepped(step, decorrelation, v, ups[i], times);
-        i += 1;
+    for up in ups {
+        v = stepped(items, v, *up, times);
     }
     v
 }
 
 // The walk over a block: all its samples are looked at first, several at once, and then the walk goes along.
-fn walk_block(
-    step: u64,
-    levels: Levels,
-    decorrelation: u64,
-    w: Walk,
-    roll: &[i32],
-    acceleration: &[i32],
-    times: &mut [u32],
-) -> Walk
-    requires { Ready step decorrelation w (length roll.now) × (length roll.now ≡ length acceleration.now)
+fn walk_block(items: Items, w: Walk, roll: &[i32], acceleration: &[i32], times: &mut [u32]) -> Walk
+    requires { Ready items.step items.decorrelation w (length roll.now) × (length roll.now ≡ length acceleration.now)
         × (length roll.now ≤ 64) }
     ensures { noting result times.new
-        ≡ foldl (noted step levels decorrelation) (noting w times.old)
+        ≡ foldl (noted items.step items.levels items.decorrelation) (noting w times.old)
         (moments roll.now acceleration.now) }
 {
     let mut ups = [false; sample_block::BLOCK];
-    sample_channels::mark(levels, roll, acceleration, &mut ups);
-    along(step, decorrelation, w, &ups[..roll.len()], times)
+    sample_channels::mark(items.levels, roll, acceleration, &mut ups);
+    along(items, w, &ups[..roll.len()], times)
 }
 
 // The same, where it is known whether a sample of the block is above its level.
 fn advance(
-    step: u64,
-    levels: Levels,
-    decorrelation: u64,
+    items: Items,
     w: Walk,
     loud: bool,
     roll: &[i32],
     acceleration: &[i32],
     times: &mut [u32],
 ) -> Walk
-    requires { Ready step decorrelation w (length roll.now) × (length roll.now ≡ length acceleration.now)
-        × (length roll.now ≤ 64) × (loud ≡ any_above levels roll.now acceleration.now)
+    requires { Ready items.step items.decorrelation w (length roll.now) × (length roll.now ≡ length acceleration.now)
+        × (length roll.now ≤ 64) × (loud ≡ any_above items.levels roll.now acceleration.now)
         × (1 ≤ length roll.now) }
     ensures { noting result times.new
-        ≡ foldl (noted step levels decorrelation) (noting w times.old)
+        ≡ foldl (noted items.step items.levels items.decorrelation) (noting w times.old)
         (moments roll.now acceleration.now) }
 {
     if loud {
-        return walk_block(step, levels, decorrelation, w, roll, acceleration, times);
+        return walk_block(items, w, roll, acceleration, times);
     }
-    passed(step, decorrelation, w, roll.len())
+    passed(items, w, roll.len())
 }
 
 // The walk over timed samples, block by block, up to one with a bad sample. The ends of a block say whether it has
 // one, and whether a sample is above its level.
-fn pass(
-    step: u64,
-    levels: Levels,
-    decorrelation: u64,
-    roll: &[i32],
-    acceleration: &[i32],
-    times: &mut [u32],
-) -> Option<u64>
-    requires { Ready step decorrelation start (length roll.now)
+fn pass(items: Items, roll: &[i32], acceleration: &[i32], times: &mut [u32]) -> Option<u64>
+    requires { Ready items.step items.decorrelation start (length roll.now)
         × (length roll.now ≡ length acceleration.now) }
-    ensures { Passes step levels decorrelation roll.now acceleration.now
+    ensures { Passes items.step items.levels items.decorrelation roll.now acceleration.now
         times.old result times.new }
 {
     let mut w = start();
@@ -207,17 +187,8 @@ fn pass(
         if sample_channels::outside(e, f) {
             return None;
         }
-        let loud = sample_channels::past(levels, e, f);
-        w = advance(
-            step,
-            levels,
-            decorrelation,
-            w,
-            loud,
-            rolls,
-            accelerations,
-            times,
-        );
+        let loud = sample_channels::past(items.levels, e, f);
+        w = advance(items, w, loud, rolls, accelerations, times);
         i = end;
     }
     Some(w.count)
@@ -228,32 +199,26 @@ fn copy(kept: &[u32], k: usize, times: &mut [u32])
     requires { (k ≤ length kept.now) × (k ≤ length times.old) }
     ensures { times.new ≡ paste times.old 0 kept.now k }
 {
-    let mut i = 0;
-    while i < k {
-        times[i] = kept[i];
-        i += 1;
-    }
+    times[..k].copy_from_slice(&kept[..k]);
 }
 
 // Writes the counted times, if there are places for them: those kept aside, if they are all there, else by a second
 // pass.
 fn write(
-    step: u64,
-    levels: Levels,
-    decorrelation: u64,
+    items: Items,
     roll: &[i32],
     acceleration: &[i32],
     count: u64,
     kept: &[u32],
     times: &mut [u32],
 ) -> Result<u64, Refusal>
-    requires { Ready step decorrelation start (length roll.now) × (length roll.now ≡ length acceleration.now)
+    requires { Ready items.step items.decorrelation start (length roll.now) × (length roll.now ≡ length acceleration.now)
         × (any_bad roll.now acceleration.now ≡ false)
-        × (count ≡ length (counted_times (unramped step levels decorrelation) (moments roll.now acceleration.now)))
+        × (count ≡ length (counted_times (unramped items.step items.levels items.decorrelation) (moments roll.now acceleration.now)))
         × (count ≤ length kept.now → take count kept.now
-        ≡ counted_times (unramped step levels decorrelation) (moments roll.now acceleration.now)) }
+        ≡ counted_times (unramped items.step items.levels items.decorrelation) (moments roll.now acceleration.now)) }
     ensures { WritesTo
-        (counted_times (unramped step levels decorrelation) (moments roll.now acceleration.now))
+        (counted_times (unramped items.step items.levels items.decorrelation) (moments roll.now acceleration.now))
         times.old result times.new }
 {
     if (times.len() as u64) < count {
@@ -263,21 +228,14 @@ fn write(
         copy(kept, count as usize, times);
         return Ok(count);
     }
-    pass(step, levels, decorrelation, roll, acceleration, times);
+    pass(items, roll, acceleration, times);
     Ok(count)
 }
 
 // Whether the times are written straight into a slice of so many places. Room for half as many as samples it must
 // have; the rest is a guess, on which only the time that it takes depends.
-fn writes_at_once(
-    step: u64,
-    levels: Levels,
-    decorrelation: u64,
-    roll: &[i32],
-    acceleration: &[i32],
-    places: usize,
-) -> bool
-    requires { Ready step decorrelation start (length roll.now)
+fn writes_at_once(items: Items, roll: &[i32], acceleration: &[i32], places: usize) -> bool
+    requires { Ready items.step items.decorrelation start (length roll.now)
         × (length roll.now ≡ length acceleration.now) }
     ensures { result ≡ true → length roll.now ≤ 2 * places + 1 }
 {
@@ -290,9 +248,7 @@ fn writes_at_once(
     }
     let mut first = [0u32; 1];
     let found = pass(
-        step,
-        levels,
-        decorrelation,
+        items,
         &roll[half..half + LOOK],
         &acceleration[half..half + LOOK],
         &mut first,
@@ -305,63 +261,37 @@ fn writes_at_once(
 
 // What the first pass, which noted into `kept`, comes to.
 fn settle(
-    step: u64,
-    levels: Levels,
-    decorrelation: u64,
+    items: Items,
     roll: &[i32],
     acceleration: &[i32],
     found: Option<u64>,
     kept: &[u32],
     times: &mut [u32],
 ) -> Option<Result<u64, Refusal>>
-    requires { Ready step decorrelation start (length roll.now) × (length roll.now ≡ length acceleration.now)
-        × Heard step levels decorrelation roll.now acceleration.now found kept.now }
-    ensures { SettlesTo step levels decorrelation roll.now acceleration.now
+    requires { Ready items.step items.decorrelation start (length roll.now) × (length roll.now ≡ length acceleration.now)
+        × Heard items.step items.levels items.decorrelation roll.now acceleration.now found kept.now }
+    ensures { SettlesTo items.step items.levels items.decorrelation roll.now acceleration.now
         times.old result times.new }
 {
     match found {
         None => None,
-        Some(n) => Some(write(
-            step,
-            levels,
-            decorrelation,
-            roll,
-            acceleration,
-            n,
-            kept,
-            times,
-        )),
+        Some(n) => Some(write(items, roll, acceleration, n, kept, times)),
     }
 }
 
 // The walk over timed samples, block by block, of which none is passed over.
-fn walk_all(
-    step: u64,
-    levels: Levels,
-    decorrelation: u64,
-    roll: &[i32],
-    acceleration: &[i32],
-    times: &mut [u32],
-) -> Walk
-    requires { Ready step decorrelation start (length roll.now)
+fn walk_all(items: Items, roll: &[i32], acceleration: &[i32], times: &mut [u32]) -> Walk
+    requires { Ready items.step items.decorrelation start (length roll.now)
         × (length roll.now ≡ length acceleration.now) }
     ensures { noting result times.new
-        ≡ foldl (noted step levels decorrelation) (noting start times.old)
+        ≡ foldl (noted items.step items.levels items.decorrelation) (noting start times.old)
         (moments roll.now acceleration.now) }
 {
     let mut w = start();
     let mut i = 0;
     while i < roll.len() {
         let end = sample_block::end(i, roll.len());
-        w = walk_block(
-            step,
-            levels,
-            decorrelation,
-            w,
-            &roll[i..end],
-            &acceleration[i..end],
-            times,
-        );
+        w = walk_block(items, w, &roll[i..end], &acceleration[i..end], times);
         i = end;
     }
     w
@@ -369,55 +299,42 @@ fn walk_all(
 
 // The timed samples, listed into a slice with room for all times there can be.
 fn list_at_once(
-    step: u64,
-    levels: Levels,
-    decorrelation: u64,
+    items: Items,
     roll: &[i32],
     acceleration: &[i32],
     times: &mut [u32],
 ) -> Option<Result<u64, Refusal>>
-    requires { Ready step decorrelation start (length roll.now) × (length roll.now ≡ length acceleration.now)
+    requires { Ready items.step items.decorrelation start (length roll.now) × (length roll.now ≡ length acceleration.now)
         × (length roll.now ≤ 2 * length times.old + 1) }
-    ensures { SettlesTo step levels decorrelation roll.now acceleration.now
+    ensures { SettlesTo items.step items.levels items.decorrelation roll.now acceleration.now
         times.old result times.new }
 {
     let look = sample_channels::look_over(roll, acceleration);
     if let Err(_) = look {
         return None;
     }
-    let w = walk_all(step, levels, decorrelation, roll, acceleration, times);
+    let w = walk_all(items, roll, acceleration, times);
     Some(Ok(w.count))
 }
 
 // The timed samples, listed.
 fn list_timed(
-    step: u64,
-    levels: Levels,
-    decorrelation: u64,
+    items: Items,
     roll: &[i32],
     acceleration: &[i32],
     times: &mut [u32],
 ) -> Option<Result<u64, Refusal>>
-    requires { Ready step decorrelation start (length roll.now)
+    requires { Ready items.step items.decorrelation start (length roll.now)
         × (length roll.now ≡ length acceleration.now) }
-    ensures { SettlesTo step levels decorrelation roll.now acceleration.now
+    ensures { SettlesTo items.step items.levels items.decorrelation roll.now acceleration.now
         times.old result times.new }
 {
-    if writes_at_once(step, levels, decorrelation, roll, acceleration, times.len()) {
-        return list_at_once(step, levels, decorrelation, roll, acceleration, times);
+    if writes_at_once(items, roll, acceleration, times.len()) {
+        return list_at_once(items, roll, acceleration, times);
     }
     let mut kept = [0u32; KEPT];
-    let found = pass(step, levels, decorrelation, roll, acceleration, &mut kept);
-    settle(
-        step,
-        levels,
-        decorrelation,
-        roll,
-        acceleration,
-        found,
-        &kept,
-        times,
-    )
+    let found = pass(items, roll, acceleration, &mut kept);
+    settle(items, roll, acceleration, found, &kept, times)
 }
 
 // Refusal 2 of a record that has a bad sample, which is looked for from its start.
@@ -446,14 +363,7 @@ fn list_fitting(
     if let Err(_) = sample_channels::look_over(&roll[..from], &acceleration[..from]) {
         return fault(roll, acceleration);
     }
-    let settled = list_timed(
-        items.step,
-        items.levels,
-        items.decorrelation,
-        &roll[from..],
-        &acceleration[from..],
-        times,
-    );
+    let settled = list_timed(items, &roll[from..], &acceleration[from..], times);
     match settled {
         Some(listed) => listed,
         None => fault(roll, acceleration),

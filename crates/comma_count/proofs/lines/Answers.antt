@@ -42,9 +42,6 @@ module _ (c : In-Ok) where
   few : c.in-Ok.n ≤ 1024
   few = omega (arith, turn_few c.loop-f.invariant.1 taken, c.loop-f.invariant.0)
 
-pub enum_told-1 : goal.enum_told-1
-enum_told-1 c = search rules
-
 pub returns-in_default : goal.returns-in_default
 returns-in_default c =
     let text = c.args.text.now in

@@ -14,5 +14,5 @@ pub returns : goal.returns
 returns c =
     let g = c.args in
     let n : length (moments g.roll.now g.acceleration.now) ≡ length g.roll.now = moments_length g.roll.now g.acceleration.now c.requires.1 in
-    let q = quiet_block g.step g.levels g.decorrelation g.times.now g.w g.roll.now g.acceleration.now (sym c.requires.3 ∙ c.if-loud.false) (omega (arith, c.requires.4)) in
+    let q = quiet_block g.items.step g.items.levels g.items.decorrelation g.times.now g.w g.roll.now g.acceleration.now (sym c.requires.3 ∙ c.if-loud.false) (omega (arith, c.requires.4)) in
     ap (λ (w : Walk). noting w g.times.now) c.passed.ensures ∙ sym (rw n at q)

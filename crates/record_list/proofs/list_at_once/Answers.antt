@@ -21,10 +21,10 @@ pub returns : goal.returns
 returns c =
     let g = c.args in
     let p = moments g.roll.now g.acceleration.now in
-    let ts = counted_times (unramped g.step g.levels g.decorrelation) p in
+    let ts = counted_times (unramped g.items.step g.items.levels g.items.decorrelation) p in
     let k = moments_length g.roll.now g.acceleration.now c.requires.1 in
-    let l : length ts ≤ length g.times.now = omega (arith, half_counted g.step g.levels g.decorrelation p, c.requires.2) in
+    let l : length ts ≤ length g.times.now = omega (arith, half_counted g.items.step g.items.levels g.items.decorrelation p, c.requires.2) in
     let e = c.walk_all-w.ensures in
-    let n = ap (λ (s : Noting). s.walk.count) e ∙ walked_count g.step g.levels g.decorrelation p g.times.now in
-    let t = ap (λ (s : Noting). s.times) e ∙ walked_times g.step g.levels g.decorrelation p g.times.now l in
+    let n = ap (λ (s : Noting). s.walk.count) e ∙ walked_count g.items.step g.items.levels g.items.decorrelation p g.times.now in
+    let t = ap (λ (s : Noting). s.times) e ∙ walked_times g.items.step g.items.levels g.items.decorrelation p g.times.now l in
     (looked_good g.roll.now g.acceleration.now (sym c.look_over-look.ensures ∙ c.in_default.is), rw (t, n) (writes_times ts g.times.now l))

@@ -55,7 +55,7 @@ advance-w-requires c =
     let e = c.end-end.result in
     let w = within in
     let k = block_length c.args.roll.now l.i e (omega arith) w.1 in
-    let q = ends_say c.args.levels _ _ _ _ (c.ends_of-e.ensures.lowest_value, c.ends_of-e.ensures.highest_value) (c.ends_of-f.ensures.lowest_value, c.ends_of-f.ensures.highest_value) in (
+    let q = ends_say c.args.items.levels _ _ _ _ (c.ends_of-e.ensures.lowest_value, c.ends_of-e.ensures.highest_value) (c.ends_of-f.ensures.lowest_value, c.ends_of-f.ensures.highest_value) in (
       ready_less (omega (arith, k)) l.invariant.0.ready,
       block_equal c.args.roll.now c.args.acceleration.now
           c.requires.1 l.i e (omega arith) w.1,

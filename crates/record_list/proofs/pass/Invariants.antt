@@ -9,7 +9,7 @@ use Rattle.record_list.proofs.Underway.{Underway}
 use Rattle.record_list.proofs.pass.Given as goal
 
 abbrev pub invariant-loop-i : goal.invariant-loop-i
-invariant-loop-i l = Underway l.step l.levels l.decorrelation l.roll l.acceleration l.initial.times l.times l.w l.i
+invariant-loop-i l = Underway l.items.step l.items.levels l.items.decorrelation l.roll l.acceleration l.initial.times l.times l.w l.i
     × (l.i + first_bad (drop l.i l.roll) ≡ first_bad l.roll)
     × (l.i + first_bad (drop l.i l.acceleration) ≡ first_bad l.acceleration)
 

@@ -6,7 +6,7 @@ use Rattle.record_list.proofs.Underway.{Underway}
 use Rattle.record_list.proofs.walk_all.Given as goal
 
 abbrev pub invariant-loop-i : goal.invariant-loop-i
-invariant-loop-i l = Underway l.step l.levels l.decorrelation l.roll l.acceleration l.initial.times l.times l.w l.i
+invariant-loop-i l = Underway l.items.step l.items.levels l.items.decorrelation l.roll l.acceleration l.initial.times l.times l.w l.i
 
 abbrev pub decreases-loop-i : goal.decreases-loop-i
 decreases-loop-i l = length l.roll - l.i

@@ -14,9 +14,9 @@ use Rattle.record_list.proofs.walk_block.Goals as goal
 pub returns : goal.returns
 returns c =
     let noted : let a = c.args in
-    take (length a.roll.now) c.mark.new.ups ≡ map (above a.levels) (moments a.roll.now a.acceleration.now) = let g = c.args in
-    ap (take (length g.roll.now)) c.mark.ensures ∙ marks_front g.levels g.roll.now g.acceleration.now (replicate 64 false) c.requires.1 (omega arith) in
+    take (length a.roll.now) c.mark.new.ups ≡ map (above a.items.levels) (moments a.roll.now a.acceleration.now) = let g = c.args in
+    ap (take (length g.roll.now)) c.mark.ensures ∙ marks_front g.items.levels g.roll.now g.acceleration.now (replicate 64 false) c.requires.1 (omega arith) in
     let g = c.args in
     let p = moments g.roll.now g.acceleration.now in
-    c.along.ensures ∙ ap (foldl (marked g.step g.decorrelation) (noting g.w g.times.now)) (noted)
-    ∙ sym (noted_marks g.step g.levels g.decorrelation (noting g.w g.times.now) p)
+    c.along.ensures ∙ ap (foldl (marked g.items.step g.items.decorrelation) (noting g.w g.times.now)) (noted)
+    ∙ sym (noted_marks g.items.step g.items.levels g.items.decorrelation (noting g.w g.times.now) p)

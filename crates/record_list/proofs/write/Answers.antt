@@ -18,4 +18,4 @@ returns-then-count-kept c =
 pub returns : goal.returns
 returns c =
     let g = c.args in
-    rw c.requires.3 (writes_passed g.step g.levels g.decorrelation g.roll.now g.acceleration.now g.times.now _ c.pass.result c.requires.2 (omega arith) c.pass.ensures)
+    rw c.requires.3 (writes_passed g.items.step g.items.levels g.items.decorrelation g.roll.now g.acceleration.now g.times.now _ c.pass.result c.requires.2 (omega arith) c.pass.ensures)

@@ -27,22 +27,22 @@ returns-then-not-sound c = rw (sym c.sound.ensures ∙ c.if-not-sound.true)
 
 pub loop-at-smaller : goal.loop-at-smaller
 loop-at-smaller c =
-    let t = found_taken _ _ _ _ (inside (goal.at.loop-at-smaller c).In-loop-at) c.loop-at.invariant.1.sound (found-is (goal.at.loop-at-smaller c).After-find ∙ c.in-Ok.is) in
+    let t = found_taken _ _ _ _ (inside (goal.at.loop-at-smaller c).In-loop-at) c.loop-at.invariant.1.sound (found-is (goal.at.loop-at-smaller c).After-find ∙ c.in-Taken.is) in
     omega (arith, t.further, t.within)
 
 pub loop-at-preserved : goal.loop-at-preserved
 loop-at-preserved c =
-    (_, along_next c.loop-at.invariant.1 (inside (goal.at.loop-at-preserved c).In-loop-at) (found-is (goal.at.loop-at-preserved c).After-find ∙ c.in-Ok.is))
+    (_, along_next c.loop-at.invariant.1 (inside (goal.at.loop-at-preserved c).In-loop-at) (found-is (goal.at.loop-at-preserved c).After-find ∙ c.in-Taken.is))
 
 pub returns-in-Waits : goal.returns-in-Waits
 unfolding reading_end
 returns-in-Waits c =
     rw (from-sound (goal.at.returns-in-Waits c).At-loop-at) (whole_end c.loop-at.invariant.1 (found_waits _ _ _ _ (inside (goal.at.returns-in-Waits c).In-loop-at) (found-is (goal.at.returns-in-Waits c).After-find ∙ c.in-Waits.is)).0)
 
-pub returns-in-Err : goal.returns-in-Err
+pub returns-in-Bad : goal.returns-in-Bad
 unfolding reading_end
-returns-in-Err c =
-    rw (from-sound (goal.at.returns-in-Err c).At-loop-at) (whole_end c.loop-at.invariant.1 (found_bad _ _ _ _ (inside (goal.at.returns-in-Err c).In-loop-at) c.loop-at.invariant.1.sound (found-is (goal.at.returns-in-Err c).After-find ∙ c.in-Err.is)).0)
+returns-in-Bad c =
+    rw (from-sound (goal.at.returns-in-Bad c).At-loop-at) (whole_end c.loop-at.invariant.1 (found_bad _ _ _ _ (inside (goal.at.returns-in-Bad c).In-loop-at) c.loop-at.invariant.1.sound (found-is (goal.at.returns-in-Bad c).After-find ∙ c.in-Bad.is)).0)
 
 pub returns : goal.returns
 unfolding reading_end

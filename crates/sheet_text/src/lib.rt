@@ -135,6 +135,7 @@ pub fn read(s: Sheet, text: &[u8], more: bool) -> Reading
     }
     let mut sheet = s;
     let mut at = 0;
+    // No range to go over: a turn's step is the line that `find` found.
     while at < text.len() {
         match find(sheet, text, at, more) {
             LineFound::Taken(t, next) => {
@@ -207,6 +208,7 @@ fn pass(s: Sheet, text: &[u8], more: bool, out: &mut [u8]) -> End
     let mut sheet = s;
     let mut at = 0;
     let mut put = 0;
+    // As in `read`, a turn's step is the line that `find` found.
     while at < text.len() {
         match find(sheet, text, at, more) {
             LineFound::Taken(t, next) => {
@@ -269,6 +271,5 @@ pub fn run(s: Sheet, text: &[u8], more: bool, out: &mut [u8]) -> Result<(Reading
         }
     }
     let passed = pass(s, text, more, out);
-    let came = passed.came;
-    Ok((came, passed.put))
+    Ok((passed.came, passed.put))
 }

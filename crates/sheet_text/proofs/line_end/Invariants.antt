@@ -1,6 +1,6 @@
 -- `sheet_text::line_end` meets its contract. The invariant: the search from i on, over what is left of the 64 bytes,
 -- ends where that from `at` on does. What is left falls. Assumes nothing.
-use Prim.Native.Nat.{◌+◌, ◌-◌, ◌≤◌}
+use Prim.Native.Nat.{◌+◌, ◌≤◌}
 use mathlib.Core.Path.{◌≡◌}
 use lib.ListN.{drop}
 use Rattle.sheet_line.specs.Form.{longest_sheet_line}

@@ -103,10 +103,8 @@ fn sheet_length(q: u64, records: &[i32]) -> u64
     ensures { result ≡ length (sheet_text q records.now) }
 {
     let mut total = (decimal::digits(q) as u64) + 10;
-    let mut i = 0;
-    while i < records.len() {
-        total += line_length((i as u64) + 1, records[i]) as u64;
-        i += 1;
+    for (i, x) in records.iter().enumerate() {
+        total += line_length((i as u64) + 1, *x) as u64;
     }
     total
 }
@@ -144,10 +142,8 @@ fn put_lines(records: &[i32], out: &mut [u8], at: usize) -> usize
     ensures out_after { out.new ≡ written out.old at (lines_from 1 records.now) }
 {
     let mut place = at;
-    let mut i = 0;
-    while i < records.len() {
-        place = put_line((i as u64) + 1, records[i], out, place);
-        i += 1;
+    for (i, x) in records.iter().enumerate() {
+        place = put_line((i as u64) + 1, *x, out, place);
     }
     place
 }
@@ -180,7 +176,6 @@ pub fn write(q: u64, records: &[i32], out: &mut [u8]) -> Result<u64, Refusal>
     }
 }
 
-// The byte of the digit 0; that of 1 follows it.
 // So many digits are always an exposure that is taken, if the first is not 0.
 const FREE_DIGITS: usize = 7;
 
@@ -258,7 +253,7 @@ fn number_for(failed: bool, exposure: u64) -> i32
     ensures { result ≡ signed failed exposure }
 {
     let x = exposure as i32;
-    if failed { 0 - x } else { x }
+    if failed { -x } else { x }
 }
 
 // Whether a record is taken after so many records and failures.
@@ -293,6 +288,7 @@ fn pass(text: &[u8]) -> Option<(u64, u64, usize)>
     let mut at = begin;
     let mut count: u64 = 0;
     let mut failures: u64 = 0;
+    // No range to go over: a turn's step is the line that `entry_at` read.
     while at < text.len() {
         let Some((failed, next)) = entry_at(text, at, count + 1) else {
             return None;
@@ -341,6 +337,7 @@ fn put_all(text: &[u8], begin: usize, places: &mut [i32])
     let mut count: u64 = 0;
     let mut width: u64 = 1;
     let mut limit: u64 = 10;
+    // No range to go over: a turn's step is the line that `record_at` read.
     while at < text.len() {
         let r = record_at(text, at, width as usize);
         put(number_for(r.failed, r.exposure), places, count as usize);

@@ -1,4 +1,4 @@
--- `sheet_records::put_lines` meets its contract: each line takes itself off what is left of them. What is left falls.
+-- `sheet_records::put_lines` meets its contract: each line takes itself off what is left of them.
 -- Assumes nothing.
 use mathlib.Core.Path.{◌≡◌, ap, subst, ◌∙◌}
 use mathlib.Core.List.{List, [], ◌++◌}
@@ -17,7 +17,4 @@ use Rattle.sheet_records.proofs.Puts.{lines_next, lines_none}
 use Rattle.sheet_records.proofs.put_lines.Given as goal
 
 abbrev pub invariant-loop-i : goal.invariant-loop-i
-invariant-loop-i l = (l.i ≤ length l.records) × Left l.initial.out l.at (lines_from 1 l.records) (lines_from (l.i + 1) (drop l.i l.records)) l.out l.place
-
-abbrev pub decreases-loop-i : goal.decreases-loop-i
-decreases-loop-i l = length l.records - l.i
+invariant-loop-i l = Left l.initial.out l.at (lines_from 1 l.records) (lines_from (l.i + 1) (drop l.i l.records)) l.out l.place

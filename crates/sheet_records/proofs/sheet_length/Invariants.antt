@@ -1,5 +1,5 @@
--- `sheet_records::sheet_length` meets its contract: what was added up and what is left are the whole. What is left
--- falls. Assumes nothing.
+-- `sheet_records::sheet_length` meets its contract: what was added up and what is left are the whole.
+-- Assumes nothing.
 use mathlib.Core.Path.{◌≡◌, ap, ◌∙◌}
 use mathlib.Core.List.{List}
 use Prim.Native.Nat.{◌+◌, ◌*◌, ◌-◌, ◌≤◌}
@@ -16,7 +16,4 @@ use Rattle.sheet_records.proofs.Puts.{head_bytes, lines_none, next_bytes, sheet_
 use Rattle.sheet_records.proofs.sheet_length.Given as goal
 
 abbrev pub invariant-loop-i : goal.invariant-loop-i
-invariant-loop-i l = (l.i ≤ length l.records) × (l.total + length (lines_from (l.i + 1) (drop l.i l.records)) ≡ length (sheet_text l.q l.records)) × (l.total ≤ 30 + 44 * l.i)
-
-abbrev pub decreases-loop-i : goal.decreases-loop-i
-decreases-loop-i l = length l.records - l.i
+invariant-loop-i l = (l.total + length (lines_from (l.i + 1) (drop l.i l.records)) ≡ length (sheet_text l.q l.records)) × (l.total ≤ 30 + 44 * l.i)

@@ -275,8 +275,8 @@ module _ (i : Items) (ok : item_outside i ≡ 0) where
     call = rw agree (ap (λ s. judged s x mA y mB) side)
 
     -- ---- by which file has fewer lines left
-    abbrev Result : Took → Type 0
-    Result t = Out A mA B mB x y t
+    abbrev Reaches : Took → Type 0
+    Reaches t = Out A mA B mB x y t
 
     -- both at their ends
     ends_stand : (t : Took) → t.watching ≡ watched (after D A U) (after D B N) (answer_at A B (min U N)) → drop t.roll x ≡ Left D 0 A → drop t.acceleration y ≡ Left D 0 B
@@ -308,7 +308,7 @@ module _ (i : Items) (ok : item_outside i ≡ 0) where
           ∙ ap (λ z. acceleration_behind (resting z mB) S x mA (length y)) left_b
 
       -- the acceleration waits
-      waits_b : mB ≡ true → Result (acceleration_behind (Waits 0) S x mA (length y))
+      waits_b : mB ≡ true → Reaches (acceleration_behind (Waits 0) S x mA (length y))
       waits_b m =
           goes
           (record {
@@ -325,7 +325,7 @@ module _ (i : Items) (ok : item_outside i ≡ 0) where
           (inr (inl m))
 
       -- its next line is wrong
-      wrong_b : resting (Left D 0 B) mB ≡ Wrong → Result (acceleration_behind Wrong S x mA (length y))
+      wrong_b : resting (Left D 0 B) mB ≡ Wrong → Reaches (acceleration_behind Wrong S x mA (length y))
       wrong_b e =
           let w = rest_wrong (Left D 0 B) mB e in
           let number : (after D B (b + p)).lines ≡ N = ap (λ n. (after D B n).lines) b_end ∙ lines_at D B N (omega arith) in
@@ -349,10 +349,10 @@ module _ (i : Items) (ok : item_outside i ≡ 0) where
       alone_is : Alone ≡ T A mA (a + p) (omega (arith, a_before))
       alone_is = ap (λ z. count.taking (alone (after D A (a + p))) z mA) (unread_on D A a p)
 
-      on_b : Ended B mB N → Goes A mA (a + p) (omega (arith, a_before)) → ((s : ℕ) → (mA ≡ true) ⊎ ((mB ≡ true) ⊎ (Ended A mA U × Ended B mB N))) → Result (roll_alone Alone S mA (length x) (length y))
+      on_b : Ended B mB N → Goes A mA (a + p) (omega (arith, a_before)) → ((s : ℕ) → (mA ≡ true) ⊎ ((mB ≡ true) ⊎ (Ended A mA U × Ended B mB N))) → Reaches (roll_alone Alone S mA (length x) (length y))
       unfolding ends_stand
       on_b eB g why =
-          subst Result (sym (roll_goes_on Alone S mA (length x) (length y) (ap (λ q. q.counting.over) alone_is ∙ g.on)))
+          subst Reaches (sym (roll_goes_on Alone S mA (length x) (length y) (ap (λ q. q.counting.over) alone_is ∙ g.on)))
           (goes
           (ends_stand (record {
             watching = watched Alone.counting.follow (after D B (b + p))
@@ -369,10 +369,10 @@ module _ (i : Items) (ok : item_outside i ≡ 0) where
           (λ h. eB))
           (why 0))
 
-      over_b : Ended B mB N → (r : Rest) → resting (Left D 0 A) mA ≡ r → Result (roll_alone Alone S mA (length x) (length y))
+      over_b : Ended B mB N → (r : Rest) → resting (Left D 0 A) mA ≡ r → Reaches (roll_alone Alone S mA (length x) (length y))
       over_b eB Wrong e =
           let g = goes_wrong A mA (a + p) (omega (arith, a_before)) e in
-          subst Result (sym (roll_ends Alone S mA (length x) (length y) (ap (λ q. q.counting.over) alone_is ∙ g.0)))
+          subst Reaches (sym (roll_ends Alone S mA (length x) (length y) (ap (λ q. q.counting.over) alone_is ∙ g.0)))
           (wrong_roll_lem Alone.counting.follow (after D B (b + p))
           (ap (λ q. stopped Alone.counting.follow (after D B (b + p)) q 1) (ap (λ q. q.counting.answer) alone_is ∙ g.1))
           (rest_wrong (Left D 0 A) mA e)
@@ -385,13 +385,13 @@ module _ (i : Items) (ok : item_outside i ≡ 0) where
           on_b eB (goes_on A mA (a + p) (omega (arith, a_before)) (Waits n) e (λ z. impossible (cc)))
           (λ s. inl (rest_waits (Left D 0 A) mA e))
 
-      by_b : (r : Rest) → resting (Left D 0 B) mB ≡ r → Result (acceleration_behind r S x mA (length y))
+      by_b : (r : Rest) → resting (Left D 0 B) mB ≡ r → Reaches (acceleration_behind r S x mA (length y))
       by_b (Waits n) e = waits_b (rest_waits (Left D 0 B) mB e)
       by_b Wrong e = wrong_b e
       by_b Over e = let o = rest_over (Left D 0 B) mB e in over_b (record { flag = o.0; all = refl; none = o.1 }) (resting (Left D 0 A) mA) refl
 
-      pub step_ahead : Result (taking w x mA y mB)
-      step_ahead = subst Result (sym (call ∙ judged_ahead)) (by_b (resting (Left D 0 B) mB) refl)
+      pub step_ahead : Reaches (taking w x mA y mB)
+      step_ahead = subst Reaches (sym (call ∙ judged_ahead)) (by_b (resting (Left D 0 B) mB) refl)
 
     -- ---- the roll has no line there
     module _ (l : U - a ≤ N - b) where
@@ -418,7 +418,7 @@ module _ (i : Items) (ok : item_outside i ≡ 0) where
           ∙ ap (λ z. roll_behind (resting z mA) S (length x) y mB) left_a
 
       -- the roll waits
-      waits_a : mA ≡ true → Result (roll_behind (Waits 0) S (length x) y mB)
+      waits_a : mA ≡ true → Reaches (roll_behind (Waits 0) S (length x) y mB)
       waits_a m =
           goes
           (record {
@@ -435,7 +435,7 @@ module _ (i : Items) (ok : item_outside i ≡ 0) where
           (inl m)
 
       -- its next line is wrong
-      wrong_a : resting (Left D 0 A) mA ≡ Wrong → Result (roll_behind Wrong S (length x) y mB)
+      wrong_a : resting (Left D 0 A) mA ≡ Wrong → Reaches (roll_behind Wrong S (length x) y mB)
       wrong_a e =
           let w = rest_wrong (Left D 0 A) mA e in
           let number : (after D A (a + p)).lines ≡ U = ap (λ n. (after D A n).lines) a_end ∙ lines_at D A U (omega arith) in
@@ -462,10 +462,10 @@ module _ (i : Items) (ok : item_outside i ≡ 0) where
       other_is : Other ≡ T B mB (b + p) b_within
       other_is = ap (λ z. count.taking (alone (after D B (b + p))) z mB) (unread_on D B b p)
 
-      on_a : Ended A mA U → Goes B mB (b + p) b_within → ((s : ℕ) → (mA ≡ true) ⊎ ((mB ≡ true) ⊎ (Ended A mA U × Ended B mB N))) → Result (acceleration_alone Other S mB (length x) (length y))
+      on_a : Ended A mA U → Goes B mB (b + p) b_within → ((s : ℕ) → (mA ≡ true) ⊎ ((mB ≡ true) ⊎ (Ended A mA U × Ended B mB N))) → Reaches (acceleration_alone Other S mB (length x) (length y))
       unfolding ends_stand
       on_a eA g why =
-          subst Result (sym (acceleration_goes_on Other S mB (length x) (length y) (ap (λ q. q.counting.over) other_is ∙ g.on)))
+          subst Reaches (sym (acceleration_goes_on Other S mB (length x) (length y) (ap (λ q. q.counting.over) other_is ∙ g.on)))
           (goes
           (ends_stand (record {
             watching = watched (after D A (a + p)) Other.counting.follow
@@ -482,10 +482,10 @@ module _ (i : Items) (ok : item_outside i ≡ 0) where
           (λ h. let e = acceleration_less (omega (arith, a_end, b_within)) in record { flag = e.flag; all = refl; none = e.none }))
           (why 0))
 
-      over_a : Ended A mA U → (r : Rest) → resting (Left D 0 B) mB ≡ r → Result (acceleration_alone Other S mB (length x) (length y))
+      over_a : Ended A mA U → (r : Rest) → resting (Left D 0 B) mB ≡ r → Reaches (acceleration_alone Other S mB (length x) (length y))
       over_a eA Wrong e =
           let g = goes_wrong B mB (b + p) b_within e in
-          subst Result (sym (acceleration_ends Other S mB (length x) (length y) (ap (λ q. q.counting.over) other_is ∙ g.0)))
+          subst Reaches (sym (acceleration_ends Other S mB (length x) (length y) (ap (λ q. q.counting.over) other_is ∙ g.0)))
           (wrong_acceleration (after D A (a + p)) Other.counting.follow
           (ap (λ q. stopped (after D A (a + p)) Other.counting.follow q 2) (ap (λ q. q.counting.answer) other_is ∙ g.1))
           (rest_wrong (Left D 0 B) mB e)
@@ -498,15 +498,15 @@ module _ (i : Items) (ok : item_outside i ≡ 0) where
           on_a eA (goes_on B mB (b + p) b_within (Waits n) e (λ z. impossible (cc)))
           (λ s. inr (inl (rest_waits (Left D 0 B) mB e)))
 
-      by_a : (r : Rest) → resting (Left D 0 A) mA ≡ r → Result (roll_behind r S (length x) y mB)
+      by_a : (r : Rest) → resting (Left D 0 A) mA ≡ r → Reaches (roll_behind r S (length x) y mB)
       by_a (Waits n) e = waits_a (rest_waits (Left D 0 A) mA e)
       by_a Wrong e = wrong_a e
       by_a Over e = let o = rest_over (Left D 0 A) mA e in over_a (record { flag = o.0; all = refl; none = o.1 }) (resting (Left D 0 B) mB) refl
 
-      pub step_not_ahead : Result (taking w x mA y mB)
-      step_not_ahead = subst Result (sym (call ∙ judged_not)) (by_a (resting (Left D 0 A) mA) refl)
+      pub step_not_ahead : Reaches (taking w x mA y mB)
+      step_not_ahead = subst Reaches (sym (call ∙ judged_not)) (by_a (resting (Left D 0 A) mA) refl)
 
-    pub step-at : Result (taking w x mA y mB)
+    pub step-at : Reaches (taking w x mA y mB)
     step-at = by_order (N - b) (U - a) step_ahead step_not_ahead
 
   -- ---- A CALL from where both files stand

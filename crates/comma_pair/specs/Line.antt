@@ -68,7 +68,7 @@ both_channels ls ms = moments (samples_of ls) (samples_of ms)
 unfoldable pub end_of_both : Items → List (List ℕ) → List (List ℕ) → Result Record PairFault
 end_of_both i ls ms =
     cond (not (eqb (item_outside i) 0)) (Err (Plain (Item (item_outside i))))
-    (pair_then i Err (Plain (λ x. Err (AtLine x))) ls ms (Ok (state_of i (both_channels ls ms))))
+    (pair_then i (λ q. Err (Plain q)) (λ line q channel. Err (AtLine line q channel)) ls ms (Ok (state_of i (both_channels ls ms))))
 
 -- ---- what is said of the files: an item goes before all tests, 4 after them, and then it is bin/count's line
 unfoldable pub pair_said_of_lines : Items → List (List ℕ) → List (List ℕ) → Said

@@ -557,14 +557,23 @@ fn put_record(r: Record, out: &mut [u8]) -> Finished
     )
 }
 
+fn put_fault(f: PairFault, out: &mut [u8]) -> Finished
+    requires { longest_said ≤ length out.old }
+    ensures { Puts (said_end (Err f)) out.old result out.new }
+{
+    match f {
+        PairFault::Plain(q) => desk_line::refuse(0, q, out),
+        PairFault::AtLine(line, q, channel) => put_channel(line, q, channel, out),
+    }
+}
+
 fn put_end(e: Result<Record, PairFault>, out: &mut [u8]) -> Finished
     requires { longest_said ≤ length out.old }
     ensures { Puts (said_end e) out.old result out.new }
 {
     match e {
         Ok(r) => put_record(r, out),
-        Err(PairFault::Plain(q)) => desk_line::refuse(0, q, out),
-        Err(PairFault::AtLine(line, q, channel)) => put_channel(line, q, channel, out),
+        Err(f) => put_fault(f, out),
     }
 }
 

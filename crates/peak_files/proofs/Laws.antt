@@ -37,7 +37,7 @@ use Rattle.peak_files.specs.declared.Took.{Took}
 use Rattle.peak_files.specs.Passing.{hands_over, hands_out, unless_refused, number_of, Gives, Passes, with_samples, given_text, ended_as}
 use Rattle.peak_files.specs.Passing.{Called, rested, took_by, lines_in, samples_in, rest_of, calling, Calls}
 use Rattle.std.specs.Prelude.{Result, Ok, Err}
-use Rattle.truth.proofs.Answers.{err_not_ok}
+use Rattle.truth.proofs.Answers.{err_not_ok, same_ok, same_second}
 
 -- ---- lines written from the start, with room for each
 module _ (file : ℕ) (sizes times out : List ℕ) (same : length sizes ≡ length times) (room : length sizes * 48 ≤ length out) (small : file < 18446744073709551616) where
@@ -62,11 +62,11 @@ unfolding peaks_text
 nothing_out file = refl
 
 -- ---- what a second reading hands out of some samples
-tests : (a b c : Bool) (x y z : Refusal) (g f : Handing) (i k : ℕ) → cond a (Err x) (cond b (Err y) (cond c (Err z) (Ok (g, i)))) ≡ Ok (f, k) → i ≡ k
+tests : (a b c : Bool) (x y z : Refusal) (g f : Handing) (i k : ℕ) → ◌≡◌ {A = Result (Handing × ℕ) Refusal} (cond a (Err x) (cond b (Err y) (cond c (Err z) (Ok (g, i))))) (Ok (f, k)) → i ≡ k
 tests true b c x y z g f i k e = absurd (err_not_ok e)
 tests false true c x y z g f i k e = absurd (err_not_ok e)
 tests false false true x y z g f i k e = absurd (err_not_ok e)
-tests false false false x y z g f i k e = cc
+tests false false false x y z g f i k e = same_second (same_ok e)
 
 -- the number told is that of the peaks that were closed
 taken_number : (h f : Handing) (xs : List ℤ) (k m n : ℕ) → hands_on h xs m n ≡ Ok (f, k) → k ≡ length (closed_by h xs)

@@ -15,7 +15,7 @@ use Rattle.sheet_records.specs.Pass.{EntryAt, ExposureAt, ExposureHere}
 use Rattle.sheet_records.proofs.At.{entry_here, flag_stands, no_exposure, no_feed, no_flag, no_number, no_second, no_tab, other_number, stand_bytes}
 use borrow.Author.Rules.{rules}
 use Rattle.sheet_records.proofs.entry_at.Goals as goal
-use Rattle.sheet_records.proofs.entry_at.Goals.{Else-not-stands, Else-not-stands-2, In-Some, In-Some}
+use Rattle.sheet_records.proofs.entry_at.Goals.{Else-not-stands, Else-not-stands-2, In-Some, In-Some-exposure_at}
 use Rattle.std.specs.Prelude.{Some}
 
 -- the record number that was read
@@ -61,7 +61,7 @@ module _ (c : Else-not-stands-2) where
   number₃ =
       sym c.leading_at.ensures ∙ c.in-Some.is
 
-module _ (c : In-Some) where
+module _ (c : In-Some-exposure_at) where
   abbrev Text₄ : List ℕ
   Text₄ = c.args.text.now
 
@@ -102,14 +102,14 @@ module _ (c : Else-not-stands-2) where
   second = (sym c.stands-3.ensures ∙ c.if-not-stands-2.false)
 
 -- the exposure that was read
-module _ (c : In-Some) where
+module _ (c : In-Some-exposure_at) where
   abbrev Feed : ℕ
-  Feed = c.in-Some.feed
+  Feed = c.in-Some-exposure_at.feed
 
   exposure : ExposureHere (Text₄ c) (End₄ c + 3) Feed
   unfolding ExposureAt
   exposure =
-      subst (ExposureAt (Text₄ c) (End₄ c + 3)) c.in-Some.is c.exposure_at.ensures
+      subst (ExposureAt (Text₄ c) (End₄ c + 3)) c.in-Some-exposure_at.is c.exposure_at.ensures
 
 pub returns-in_default : goal.returns-in_default
 unfolding EntryAt
@@ -151,14 +151,14 @@ pub returns-then-not-stands-3 : goal.returns-then-not-stands-3
 unfolding EntryAt
 returns-then-not-stands-3 c =
     let k = (goal.at.returns-then-not-stands-3 c).In-Some in
-    let t = (goal.at.returns-then-not-stands-3 c).In-Some in
+    let t = (goal.at.returns-then-not-stands-3 c).In-Some-exposure_at in
     no_feed (Text k) c.args.at c.args.due (N k) (End k) (number k) (Feed t) (exposure t) (sym c.stands-4.ensures ∙ c.if-not-stands-3.true)
 
 pub returns : goal.returns
 unfolding EntryAt
 returns c =
     let k = (goal.at.returns c).In-Some in
-    let t = (goal.at.returns c).In-Some in
+    let t = (goal.at.returns c).In-Some-exposure_at in
     let at3 = (goal.at.returns c).Else-not-stands-2 in
     let e = (goal.at.returns c).Else-not-stands in
     entry_here (Text k) c.args.at c.args.due (N k) (End k) (number k) (Feed t) (exposure t)

@@ -52,7 +52,7 @@ pub loop-i-preserved : goal.loop-i-preserved
 loop-i-preserved c =
     let j = (goal.at.loop-i-preserved c).After-judge_one in
     let grown = c.pick-failures.ensures ∙ ap (λ (f : Bool). cond f (c.loop-i.failures + 1) c.loop-i.failures) (failed j) in
-    rw grown (on c.loop-i.invariant (inside j) (sym (says j) ∙ c.in-Clean.is))
+    rw grown (on c.loop-i.invariant (inside j) (sym (says j) ∙ c.in-Ok.is))
 
 pub returns : goal.returns
 returns c = ended c.loop-i.invariant c.loop-i-test.false

@@ -9,7 +9,7 @@ use Rattle.truth.proofs.Laws.{said_no, said_yes}
 use Rattle.sheet_records.specs.Pass.{EntryAt, EntryHere, HeadOf, Passes, taken_after}
 use Rattle.sheet_records.proofs.Along.{Along, bad_standard, ended, few, few_failures, no_head, not_taken, on, other_line, start}
 use Rattle.sheet_records.proofs.pass.Goals as goal
-use Rattle.sheet_records.proofs.pass.Goals.{Else-not-takes, In-Some, In-Some}
+use Rattle.sheet_records.proofs.pass.Goals.{Else-not-takes, In-Some-entry_at, In-Some}
 use mathlib.Core.Path.{sym}
 use mathlib.Core.Path.{◌∙◌}
 use Rattle.std.specs.Prelude.{Some}
@@ -29,7 +29,7 @@ module _ (c : In-Some) where
   stands =
       subst (HeadOf Text) c.in-Some.is c.line_one.ensures
 
-module _ (c : In-Some) where
+module _ (c : In-Some-entry_at) where
   abbrev Text₂ : List ℕ
   Text₂ = c.args.text.now
 
@@ -44,17 +44,17 @@ module _ (c : In-Some) where
       subst (HeadOf Text₂) c.in-Some.is c.line_one.ensures
 
 -- a record's line was read
-module _ (c : In-Some) where
+module _ (c : In-Some-entry_at) where
   abbrev Failed : Bool
-  Failed = c.in-Some.failed
+  Failed = c.in-Some-entry_at.failed
 
   abbrev After : ℕ
-  After = c.in-Some.next
+  After = c.in-Some-entry_at.next
 
   entry : EntryHere (Text₂ c) c.loop-at.at (c.loop-at.count + 1) Failed After
   unfolding EntryAt
   entry =
-      subst (EntryAt (Text₂ c) c.loop-at.at (c.loop-at.count + 1)) c.in-Some.is c.entry_at.ensures
+      subst (EntryAt (Text₂ c) c.loop-at.at (c.loop-at.count + 1)) c.in-Some-entry_at.is c.entry_at.ensures
 
   further : (c.loop-at.at < After) × (After ≤ length (Text₂ c))
   further = (entry.starts.further, entry.starts.within)
@@ -92,7 +92,7 @@ returns-in_default-entry_at c =
 pub returns-then-not-takes : goal.returns-then-not-takes
 unfolding Passes
 returns-then-not-takes c =
-    let k = (goal.at.returns-then-not-takes c).In-Some in
+    let k = (goal.at.returns-then-not-takes c).In-Some-entry_at in
     not_taken c.loop-at.invariant (Failed k) (After k) (entry k) (sym c.takes.ensures ∙ c.if-not-takes.true)
 
 pub overflow_add-failures : goal.overflow_add-failures
@@ -104,12 +104,12 @@ overflow_add-count-in-loop-at c = omega (arith, few c.loop-at.invariant)
 
 pub loop-at-smaller : goal.loop-at-smaller
 loop-at-smaller c =
-    let k = (goal.at.loop-at-smaller c).In-Some in
+    let k = (goal.at.loop-at-smaller c).In-Some-entry_at in
     omega (arith, (further k).0, (further k).1)
 
 pub loop-at-preserved : goal.loop-at-preserved
 loop-at-preserved c =
-    let k = (goal.at.loop-at-preserved c).In-Some in
+    let k = (goal.at.loop-at-preserved c).In-Some-entry_at in
     let l = c.loop-at in
     rw c.pick-failures.ensures (on l.invariant (Failed k) (After k) (entry k) (taken (goal.at.loop-at-preserved c).Else-not-takes))
 

@@ -11,7 +11,7 @@ use Rattle.sheet_records.specs.Records.{filled_by, records_of}
 use Rattle.sheet_records.proofs.Answered.{all_read, no_room, put_front, stopped_kept, unclean}
 use borrow.Author.Rules.{rules}
 use Rattle.sheet_records.proofs.records.Goals as goal
-use Rattle.sheet_records.proofs.records.Goals.{After-pass, In-Clean}
+use Rattle.sheet_records.proofs.records.Goals.{After-pass, In-Some}
 use Rattle.refusal.specs.declared.Refusal.{Refusal}
 use Rattle.std.specs.Prelude.{Result}
 
@@ -23,34 +23,34 @@ module _ (c : After-pass) where
   abbrev Places : List ℤ
   Places = c.args.places.now
 
-module _ (c : In-Clean) where
+module _ (c : In-Some) where
   abbrev Text₂ : List ℕ
   Text₂ = c.args.text.now
 
   abbrev Places₂ : List ℤ
   Places₂ = c.args.places.now
 
-module _ (c : In-Clean) where
+module _ (c : In-Some) where
   abbrev Q : ℕ
-  Q = c.in-Clean.q
+  Q = c.in-Some.q
 
   abbrev Count : ℕ
-  Count = c.in-Clean.count
+  Count = c.in-Some.count
 
   abbrev Begin : ℕ
-  Begin = c.in-Clean.begin
+  Begin = c.in-Some.begin
 
   clean : CleanPass (Text₂ c) Q Count Begin
   unfolding Passes
-  clean = subst (Passes (Text₂ c)) c.in-Clean.is c.pass.ensures
+  clean = subst (Passes (Text₂ c)) c.in-Some.is c.pass.ensures
 
 pub returns-then-places-count : goal.returns-then-places-count
 unfolding filled_by
 returns-then-places-count c =
-    record { value = no_room (clean (goal.at.returns-then-places-count c).In-Clean) (length (Places (goal.at.returns-then-places-count c).After-pass)) c.if-places-count.true; places_after = refl }
+    record { value = no_room (clean (goal.at.returns-then-places-count c).In-Some) (length (Places (goal.at.returns-then-places-count c).After-pass)) c.if-places-count.true; places_after = refl }
 
 pub put_all-requires : goal.put_all-requires
-put_all-requires c = (clean (goal.at.put_all-requires c).In-Clean).from
+put_all-requires c = (clean (goal.at.put_all-requires c).In-Some).from
 
 pub returns-in-None : goal.returns-in-None
 unfolding Passes reading_end meaning
@@ -62,6 +62,6 @@ returns-in-None c =
 
 pub returns-else-places-count : goal.returns-else-places-count
 returns-else-places-count c =
-    let k = (goal.at.returns-else-places-count c).In-Clean in
+    let k = (goal.at.returns-else-places-count c).In-Some in
     let p = (goal.at.returns-else-places-count c).After-pass in
     record { value = all_read (clean k) (length (Places p)) c.if-places-count.false; places_after = c.put_all.ensures ∙ put_front (records_of (Text p)) (Places p) (Q k) (Count k) (clean k).number c.if-places-count.false }

@@ -15,11 +15,11 @@ use Rattle.sheet_records.proofs.Entered.{judged_few}
 use Rattle.sheet_records.proofs.Judging.{judged_clean}
 use Rattle.sheet_records.proofs.Puts.{all_written, at_fault, no_room}
 use Rattle.sheet_records.proofs.write.Goals as goal
-use Rattle.sheet_records.proofs.write.Goals.{In-Clean}
+use Rattle.sheet_records.proofs.write.Goals.{In-Ok}
 use Rattle.std.specs.Prelude.{Ok}
 
 -- all records are clean
-module _ (c : In-Clean) where
+module _ (c : In-Ok) where
   abbrev Q : ℕ
   Q = c.args.q
 
@@ -30,7 +30,7 @@ module _ (c : In-Clean) where
   Out = c.args.out.now
 
   clean : (Ok (tt {0})) ≡ judged_as (judged Q Records)
-  clean = sym c.in-Clean.is ∙ c.judge.ensures
+  clean = sym c.in-Ok.is ∙ c.judge.ensures
 
   few : length Records ≤ 100000
   few = let (d, e) = judged_clean (judged Q Records) clean in judged_few Q Records d e
@@ -41,12 +41,12 @@ sheet_length-needed-requires c = few c
 pub returns-then-out-needed : goal.returns-then-out-needed
 unfolding laid_by
 returns-then-out-needed c =
-    let e = (goal.at.returns-then-out-needed c).In-Clean in
+    let e = (goal.at.returns-then-out-needed c).In-Ok in
     record { value = rw c.sheet_length-needed.ensures (no_room (Q e) (Records e) (Out e) (clean e) (omega (arith, c.sheet_length-needed.ensures, c.if-out-needed.true))); out_after = refl }
 
 pub put_sheet-requires : goal.put_sheet-requires
 put_sheet-requires c =
-    (few (goal.at.put_sheet-requires c).In-Clean, omega (arith, c.sheet_length-needed.ensures, c.if-out-needed.false))
+    (few (goal.at.put_sheet-requires c).In-Ok, omega (arith, c.sheet_length-needed.ensures, c.if-out-needed.false))
 
 pub returns-in-Err : goal.returns-in-Err
 unfolding laid_by
@@ -55,7 +55,7 @@ returns-in-Err c =
 
 pub returns-else-out-needed : goal.returns-else-out-needed
 returns-else-out-needed c =
-    let e = (goal.at.returns-else-out-needed c).In-Clean in
+    let e = (goal.at.returns-else-out-needed c).In-Ok in
     let text = sheet_text (Q e) (Records e) in
     let room : length text ≤ length (Out e) = omega (arith, c.sheet_length-needed.ensures, c.if-out-needed.false) in
     record { value = rw c.sheet_length-needed.ensures (all_written (Q e) (Records e) (Out e) (clean e) room); out_after = rw c.sheet_length-needed.ensures (c.put_sheet.ensures ∙ written_fits (Out e) 0 text (omega (arith, room)) ∙ laid_front (Out e) text) }

@@ -73,18 +73,10 @@ fn judge(q: u64, records: &[i32]) -> Result<(), Refusal>
         return Err(Refusal::Item(5));
     }
     let mut failures: u64 = 0;
-    let mut i = 0;
-    while i < records.len() {
-        let o = outcome(records[i]);
-        match judge_one(i as u64, failures, o.exposure) {
-            Err(r) => {
-                return Err(r);
-            }
-            Ok(()) => {
-                failures = truth::pick(o.failed, failures + 1, failures);
-                i += 1;
-            }
-        }
+    for (i, x) in records.iter().enumerate() {
+        let o = outcome(*x);
+        judge_one(i as u64, failures, o.exposure)?;
+        failures = truth::pick(o.failed, failures + 1, failures);
     }
     Ok(())
 }
@@ -163,17 +155,13 @@ pub fn write(q: u64, records: &[i32], out: &mut [u8]) -> Result<u64, Refusal>
     ensures value { result ≡ writing_sheet q records.now out.old }
     ensures out_after { out.new ≡ laid_by result (sheet_text q records.now) out.old }
 {
-    match judge(q, records) {
-        Err(r) => Err(r),
-        Ok(()) => {
-            let needed = sheet_length(q, records);
-            if (out.len() as u64) < needed {
-                return Err(Refusal::Room(needed));
-            }
-            put_sheet(q, records, out);
-            Ok(needed)
-        }
+    judge(q, records)?;
+    let needed = sheet_length(q, records);
+    if (out.len() as u64) < needed {
+        return Err(Refusal::Room(needed));
     }
+    put_sheet(q, records, out);
+    Ok(needed)
 }
 
 // So many digits are always an exposure that is taken, if the first is not 0.
@@ -193,9 +181,7 @@ fn exposure_at(text: &[u8], at: usize) -> Option<usize>
     if end - at <= FREE_DIGITS {
         return Some(end);
     }
-    let Some((t, next)) = decimal::leading_at(text, at) else {
-        return None;
-    };
+    let (t, next) = decimal::leading_at(text, at)?;
     if t > sample_items::LONGEST_TIME {
         return None;
     }
@@ -206,9 +192,7 @@ fn exposure_at(text: &[u8], at: usize) -> Option<usize>
 fn entry_at(text: &[u8], at: usize, due: u64) -> Option<(bool, usize)>
     ensures { EntryAt text.now at due result }
 {
-    let Some((number, end)) = decimal::leading_at(text, at) else {
-        return None;
-    };
+    let (number, end) = decimal::leading_at(text, at)?;
     if number != due {
         return None;
     }
@@ -222,9 +206,7 @@ fn entry_at(text: &[u8], at: usize, due: u64) -> Option<(bool, usize)>
     if !decimal::stands(text, end + 2, TAB) {
         return None;
     }
-    let Some(feed) = exposure_at(text, end + 3) else {
-        return None;
-    };
+    let feed = exposure_at(text, end + 3)?;
     if !decimal::stands(text, feed, LF) {
         return None;
     }
@@ -238,9 +220,7 @@ fn line_one(text: &[u8]) -> Option<(u64, usize)>
     if !sheet_line::begins(text, b"standard\t") {
         return None;
     }
-    let Some((q, feed)) = decimal::leading_at(text, 9) else {
-        return None;
-    };
+    let (q, feed) = decimal::leading_at(text, 9)?;
     if !decimal::stands(text, feed, LF) {
         return None;
     }
@@ -279,9 +259,7 @@ fn put(x: i32, places: &mut [i32], i: usize)
 fn pass(text: &[u8]) -> Option<(u64, u64, usize)>
     ensures { Passes text.now result }
 {
-    let Some((q, begin)) = line_one(text) else {
-        return None;
-    };
+    let (q, begin) = line_one(text)?;
     if !truth::both(1 <= q, q <= campaign_state::LONGEST_STANDARD) {
         return None;
     }
@@ -290,9 +268,7 @@ fn pass(text: &[u8]) -> Option<(u64, u64, usize)>
     let mut failures: u64 = 0;
     // No range to go over: a turn's step is the line that `entry_at` read.
     while at < text.len() {
-        let Some((failed, next)) = entry_at(text, at, count + 1) else {
-            return None;
-        };
+        let (failed, next) = entry_at(text, at, count + 1)?;
         if !takes(count, failures) {
             return None;
         }

@@ -9,7 +9,6 @@ use Rattle.sheet_text.specs.Sheet.{meaning, reading_end}
 use Rattle.sheet_records.specs.Pass.{CleanPass, Passes, stopped_from}
 use Rattle.sheet_records.specs.Records.{filled_by, records_of}
 use Rattle.sheet_records.proofs.Answered.{all_read, no_room, put_front, stopped_kept, unclean}
-use borrow.Author.Rules.{rules}
 use Rattle.sheet_records.proofs.records.Goals as goal
 use Rattle.sheet_records.proofs.records.Goals.{After-pass, In-Some}
 use Rattle.refusal.specs.declared.Refusal.{Refusal}

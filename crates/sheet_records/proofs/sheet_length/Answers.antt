@@ -1,6 +1,6 @@
 use mathlib.Core.Path.{◌≡◌, ap, ◌∙◌}
 use mathlib.Core.List.{List}
-use Prim.Native.Nat.{◌+◌, ◌*◌, ◌-◌, ◌≤◌}
+use Prim.Native.Nat.{◌+◌}
 use native.Mathlib.Omega.{arith}
 use lib.IntN.{ℤ, pos}
 use lib.ListN.{length, get_or, drop, drop_of_length-le}
@@ -9,7 +9,7 @@ use mir.Syntax.{w32}
 use mir.Val.{SFits}
 use borrow.Author.Rules.{rules}
 use Rattle.sample_size.proofs.Turn.{turn}
-use Rattle.sheet_records.specs.Ledger.{lines_from, sheet_text}
+use Rattle.sheet_records.specs.Ledger.{lines_from}
 use Rattle.sheet_records.proofs.Puts.{head_bytes, lines_none, next_bytes, sheet_bytes}
 use Rattle.sheet_records.proofs.sheet_length.Goals as goal
 

@@ -342,14 +342,12 @@ pub fn records(text: &[u8], places: &mut [i32]) -> Result<(u64, u64), (u64, u64,
     ensures value { result ≡ resuming text.now (length places.old) }
     ensures places_after { places.new ≡ filled_by result (records_of text.now) places.old }
 {
-    match pass(text) {
-        None => stopped(sheet_text::read(Sheet::Fresh, text, false)),
-        Some((q, count, begin)) => {
-            if (places.len() as u64) < count {
-                return Err((0, 0, Refusal::Room(count)));
-            }
-            put_all(text, begin, places);
-            Ok((q, count))
-        }
+    let Some((q, count, begin)) = pass(text) else {
+        return stopped(sheet_text::read(Sheet::Fresh, text, false));
+    };
+    if (places.len() as u64) < count {
+        return Err((0, 0, Refusal::Room(count)));
     }
+    put_all(text, begin, places);
+    Ok((q, count))
 }

@@ -327,15 +327,6 @@ fn survey(text: &[u8], step: u64, front: usize, lines: u64) -> Result<(u64, u64)
     Ok((count, sound))
 }
 
-// Puts `x` into its place, where `samples` has that place.
-fn put(x: i32, samples: &mut [i32], i: usize)
-    ensures { samples.new ≡ slice_set samples.old i x }
-{
-    if i < samples.len() {
-        samples[i] = x;
-    }
-}
-
 // What four digits are worth; their zeros are taken off at once.
 fn four_value(a: u8, b: u8, c: u8, d: u8) -> u64
     requires { all_digits (a ∷ b ∷ c ∷ d ∷ []) ≡ true }
@@ -449,13 +440,13 @@ fn fill_rest(text: &[u8], step: u64, front: usize, lines: u64, samples: &mut [i3
             let Some((minus, size, next)) = degrees::degrees_at(text, roll) else {
                 return;
             };
-            put(degrees::sample(minus, size), samples, count);
+            text::put(degrees::sample(minus, size), samples, count);
             count += 1;
             time += step;
             at = next + 1;
             continue;
         }
-        put(
+        text::put(
             degrees::sample(from != roll, comma_word::size_at(text, from, bytes)),
             samples,
             count,

@@ -246,15 +246,6 @@ fn takes(count: u64, failures: u64) -> bool
     )
 }
 
-// Puts `x` into its place, where `places` has that place.
-fn put(x: i32, places: &mut [i32], i: usize)
-    ensures { places.new ≡ set places.old i x }
-{
-    if i < places.len() {
-        places[i] = x;
-    }
-}
-
 // Goes over all lines of `text`, to judge them.
 fn pass(text: &[u8]) -> Option<(u64, u64, usize)>
     ensures { Passes text.now result }
@@ -316,7 +307,7 @@ fn put_all(text: &[u8], begin: usize, places: &mut [i32])
     // No range to go over: a turn's step is the line that `record_at` read.
     while at < text.len() {
         let r = record_at(text, at, width as usize);
-        put(number_for(r.failed, r.exposure), places, count as usize);
+        text::put(number_for(r.failed, r.exposure), places, count as usize);
         count += 1;
         width = truth::pick(count + 1 == limit, width + 1, width);
         limit = truth::pick(count + 1 == limit, limit * 10, limit);

@@ -1,9 +1,10 @@
 // Texts written into lent bytes: whole from a place on, or, where there is no room, not at all. The answer is the
 // place after the text, so that writes follow one another; without room it is the place handed in. And a part of lent
 // bytes moved to their front: what a reader through a fixed buffer does with a line that has begun and not ended yet.
+// And a value put into its place of lent memory, where there is that place.
 #![tactic(auto)]
 
-ghost use Rattle.std.specs.Prelude.{◌≡◌, [], ◌∷◌, ◌+◌, leb};
+ghost use Rattle.std.specs.Prelude.{◌≡◌, [], ◌∷◌, ◌+◌, leb, slice_set};
 ghost use Rattle.text.specs.Front.{kept};
 ghost use Rattle.text.specs.Write.{written, place_after};
 
@@ -58,4 +59,13 @@ pub fn write_byte(b: u8, out: &mut [u8], at: usize) -> usize
     }
     out[at] = b;
     at + 1
+}
+
+// Puts `x` into its place, where `places` has that place.
+pub fn put<T: Copy>(x: T, places: &mut [T], i: usize)
+    ensures { places.new ≡ slice_set places.old i x }
+{
+    if i < places.len() {
+        places[i] = x;
+    }
 }

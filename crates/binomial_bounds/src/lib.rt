@@ -63,8 +63,11 @@ fn three(s: Sum) -> Rates
     }
 }
 
+// Whether there is a record, and the bounds: without one they are 0, and are written all the same.
+pub type Bounded = Result<(bool, Bounds), Refusal>;
+
 // The bounds and whether there is a record; or refusal 8.
-pub fn bound(s: Sum) -> Result<(bool, Bounds), Refusal>
+pub fn bound(s: Sum) -> Bounded
     ensures { result ≡ bounding s }
 {
     if !binomial_sum::sound(s) {

@@ -11,9 +11,9 @@ ghost use Rattle.binomial_files.specs.Files.{summed};
 ghost use Rattle.binomial_files.specs.Adding.{opened_files, added_to, added_by, added_in, is_over, said_bounded};
 ghost use Rattle.binomial_files.specs.Adding.{added_said};
 
-use binomial_bounds::Bounds;
+use binomial_bounds::{Bounded, Bounds};
 use binomial_sum::Sum;
-use comma_count::Counting;
+use comma_count::{Counting, End};
 use desk_line::Finished;
 use record_state::Record;
 use refusal::Refusal;
@@ -23,8 +23,11 @@ const TAB: u8 = b'\t';
 
 const LF: u8 = b'\n';
 
+// The sum so far; or the number of the file at fault, its line or 0, and the refusal.
+pub type Added = Result<Sum, (u64, u64, Refusal)>;
+
 // The sum of no files; or refusal 1 with the lowest item outside its range, which is no file's.
-pub fn open(items: Items) -> Result<Sum, (u64, u64, Refusal)>
+pub fn open(items: Items) -> Added
     ensures { result ≡ opened_files items }
 {
     let item = sample_items::item_outside(items);
@@ -39,7 +42,7 @@ pub fn open(items: Items) -> Result<Sum, (u64, u64, Refusal)>
     }
 }
 
-fn added_to(file: u64, s: Sum, r: Record) -> Result<Sum, (u64, u64, Refusal)>
+fn added_to(file: u64, s: Sum, r: Record) -> Added
     ensures { result ≡ added_to file s r }
 {
     match s.add(r) {
@@ -48,11 +51,7 @@ fn added_to(file: u64, s: Sum, r: Record) -> Result<Sum, (u64, u64, Refusal)>
     }
 }
 
-fn added_by(
-    file: u64,
-    s: Sum,
-    e: Result<Record, (u64, Refusal)>,
-) -> Result<Sum, (u64, u64, Refusal)>
+fn added_by(file: u64, s: Sum, e: End) -> Added
     ensures { result ≡ added_by file s e }
 {
     match e {
@@ -61,11 +60,7 @@ fn added_by(
     }
 }
 
-fn added_in(
-    file: u64,
-    a: Result<Sum, (u64, u64, Refusal)>,
-    e: Result<Record, (u64, Refusal)>,
-) -> Result<Sum, (u64, u64, Refusal)>
+fn added_in(file: u64, a: Added, e: End) -> Added
     ensures { result ≡ added_in file a e }
 {
     match a {
@@ -76,18 +71,14 @@ fn added_in(
 
 // The sum with the record of a file, the one of that number, which was counted to its end; or 10, 2, 3 with the line at
 // fault, then 4, 11. What was refused stays.
-pub fn add(
-    file: u64,
-    a: Result<Sum, (u64, u64, Refusal)>,
-    c: Counting,
-) -> Result<Sum, (u64, u64, Refusal)>
+pub fn add(file: u64, a: Added, c: Counting) -> Added
     ensures { result ≡ added_in file a (end_of c) }
 {
     added_in(file, a, comma_count::came_to(c))
 }
 
 // Whether a file was refused: nothing that follows changes it.
-pub fn is_over(a: Result<Sum, (u64, u64, Refusal)>) -> bool
+pub fn is_over(a: Added) -> bool
     ensures { result ≡ is_over a }
 {
     match a {
@@ -112,7 +103,7 @@ fn put_sum(s: Sum, b: Bounds, out: &mut [u8]) -> Finished
     }
 }
 
-fn put_bounded(s: Sum, b: Result<(bool, Bounds), Refusal>, out: &mut [u8]) -> Finished
+fn put_bounded(s: Sum, b: Bounded, out: &mut [u8]) -> Finished
     requires { longest_said ≤ length out.old }
     ensures { Puts (said_bounded s b) out.old result out.new }
 {
@@ -122,7 +113,7 @@ fn put_bounded(s: Sum, b: Result<(bool, Bounds), Refusal>, out: &mut [u8]) -> Fi
     }
 }
 
-fn put_added(a: Result<Sum, (u64, u64, Refusal)>, out: &mut [u8]) -> Finished
+fn put_added(a: Added, out: &mut [u8]) -> Finished
     requires { longest_said ≤ length out.old }
     ensures { Puts (added_said a) out.old result out.new }
 {
@@ -135,7 +126,7 @@ fn put_added(a: Result<Sum, (u64, u64, Refusal)>, out: &mut [u8]) -> Finished
 // Writes the line of the files to the start of `out`: N, P, the estimate, its lower and its upper bound in thousandths
 // of a failure, and P·D in ms; or refused, the number of the file at fault or 0, its line or 0, the refusal's number,
 // and after 1 the item. Without room for any line nothing is written, and the program ends as failed.
-pub fn finish(a: Result<Sum, (u64, u64, Refusal)>, out: &mut [u8]) -> Finished
+pub fn finish(a: Added, out: &mut [u8]) -> Finished
     ensures value { result ≡ putting (added_said a) out.old }
     ensures out_after { out.new ≡ put_left (added_said a) out.old }
 {

@@ -20,7 +20,7 @@ ghost use Rattle.capi_peaks.specs.Told.{peak_times, peak_last};
 
 use peak_groups::{Group, Peak};
 use peak_machine::Envelope;
-use peak_stream::{Handing, Reading, Surveying};
+use peak_stream::{Handed, Handing, Reading, Surveying};
 use refusal::Refusal;
 
 const SURVEY_NUMBERS: usize = 10;
@@ -338,12 +338,7 @@ fn keep_survey(
 // The second pass of an answer in `state`, with what is left of the ramp, and how many peaks it closed; or refusal 8
 // for an array of another length, else the answer's.
 #[tactic(auto, unfolding(crate::specs::Told::handing_kept, crate::specs::Told::handing_told))]
-fn keep_handing(
-    a: Result<(Handing, u64), Refusal>,
-    left: u64,
-    state: &mut [u64],
-    carried: &mut u64,
-) -> u64
+fn keep_handing(a: Handed, left: u64, state: &mut [u64], carried: &mut u64) -> u64
     ensures { told result carried.new state.new ≡ handing_kept a left state.old }
 {
     if state.len() != HANDING_NUMBERS {
@@ -413,7 +408,7 @@ fn take(s: Surveying, left: u64, samples: &[i32]) -> Result<Surveying, Refusal>
 
 // The second pass before its first sample; or refusal 8, 1 with item 4, 4.
 #[tactic(auto, unfolding(crate::specs::Told::begun_from))]
-fn begin(s: Surveying, decorrelation: u64) -> Result<(Handing, u64), Refusal>
+fn begin(s: Surveying, decorrelation: u64) -> Handed
     ensures { result ≡ begun_from s decorrelation }
 {
     if !peak_stream::sound(s) {
@@ -435,13 +430,7 @@ fn begin(s: Surveying, decorrelation: u64) -> Result<(Handing, u64), Refusal>
 // The second pass with a piece more, of which what is left of the ramp is left out, and how many peaks it closed; or
 // refusal 8, 2 with the first place out of range, 3, 7 with the places needed.
 #[tactic(auto, unfolding(crate::specs::Told::handed_in))]
-fn hand_over(
-    h: Handing,
-    left: u64,
-    samples: &[i32],
-    sizes: &mut [u32],
-    times: &mut [u32],
-) -> Result<(Handing, u64), Refusal>
+fn hand_over(h: Handing, left: u64, samples: &[i32], sizes: &mut [u32], times: &mut [u32]) -> Handed
     ensures { (result ≡ handed_in h left samples.now (length sizes.old)
         (length times.old))
         × (sizes.new

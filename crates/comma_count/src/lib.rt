@@ -311,7 +311,10 @@ fn line_for(f: Follow, r: Refusal) -> u64
     )
 }
 
-fn by_answer(f: Follow, a: Result<Record, Refusal>) -> Result<Record, (u64, Refusal)>
+// What a file came to: its record, or the line at fault, 0 where none is, and the refusal.
+pub type End = Result<Record, (u64, Refusal)>;
+
+fn by_answer(f: Follow, a: Result<Record, Refusal>) -> End
     ensures { result ≡ end_by f a }
 {
     match a {
@@ -321,14 +324,14 @@ fn by_answer(f: Follow, a: Result<Record, Refusal>) -> Result<Record, (u64, Refu
 }
 
 // What the file came to, for a program that goes on from its record.
-pub fn came_to(c: Counting) -> Result<Record, (u64, Refusal)>
+pub fn came_to(c: Counting) -> End
     ensures { result ≡ end_of c }
 {
     let a = c.answer;
     by_answer(c.follow, a)
 }
 
-fn put_end(e: Result<Record, (u64, Refusal)>, out: &mut [u8]) -> Finished
+fn put_end(e: End, out: &mut [u8]) -> Finished
     requires { longest_said ≤ length out.old }
     ensures { Puts (said_end e) out.old result out.new }
 {

@@ -11,7 +11,7 @@ ghost use Rattle.peak_stream.specs.Hands.{HandsOver};
 ghost use Rattle.sample_items.specs.Limits.{most_in_range};
 
 use comma_stream::Follow;
-use peak_stream::{Handing, Reading, Surveying};
+use peak_stream::{Handed, Handing, Reading, Surveying};
 use refusal::Refusal;
 
 fn least(a: u64, b: usize) -> usize
@@ -69,7 +69,7 @@ pub fn hand(
     samples: &[i32],
     sizes: &mut [u32],
     times: &mut [u32],
-) -> Result<(Handing, u64), Refusal>
+) -> Handed
     ensures { HandsOver h (timed_of ramp lines h.reading samples.now)
         sizes.old times.old result sizes.new times.new }
 {
@@ -79,8 +79,11 @@ pub fn hand(
     peak_stream::hand_over(h, &timed[..n], sizes, times)
 }
 
+// What a file comes to after its first reading: its peaks, or the line at fault or 0 with the refusal.
+pub type Judged = Result<(), (u64, Refusal)>;
+
 // After the lines of `f`; `wrong` says that the next one is malformed or has a wrong time.
-pub fn judge(f: Follow, ramp: u64, wrong: bool) -> Result<(), (u64, Refusal)>
+pub fn judge(f: Follow, ramp: u64, wrong: bool) -> Judged
     ensures { result ≡ judging f ramp wrong }
 {
     if wrong {

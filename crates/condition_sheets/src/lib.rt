@@ -21,8 +21,12 @@ use sheet_text::Reading;
 // The refusal that has a column.
 const MALFORMED: u64 = 9;
 
+// How many campaigns are in their places; or the number of the situation at fault, its sheet's line and column or 0,
+// and the refusal.
+pub type Situations = Result<u64, (u64, u64, u64, Refusal)>;
+
 // No campaign yet; or 18 for no sheet or more than 64, which is no situation's.
-pub fn open(number: u64) -> Result<u64, (u64, u64, u64, Refusal)>
+pub fn open(number: u64) -> Situations
     ensures { result ≡ opened_condition number }
 {
     if !truth::both(1 <= number, number <= 64) {
@@ -31,7 +35,7 @@ pub fn open(number: u64) -> Result<u64, (u64, u64, u64, Refusal)>
     Ok(0)
 }
 
-fn by_reading(n: u64, r: Reading) -> Result<u64, (u64, u64, u64, Refusal)>
+fn by_reading(n: u64, r: Reading) -> Situations
     requires { n < 64 }
     ensures { result ≡ by_reading n r }
 {
@@ -44,10 +48,7 @@ fn by_reading(n: u64, r: Reading) -> Result<u64, (u64, u64, u64, Refusal)>
 
 // The situations with that of a sheet more, whose reading ended so: its campaign is the next, or it is refused by its
 // number, the line and the column. What was refused stays; a sheet after 64 is 18.
-pub fn add(
-    a: Result<u64, (u64, u64, u64, Refusal)>,
-    r: Reading,
-) -> Result<u64, (u64, u64, u64, Refusal)>
+pub fn add(a: Situations, r: Reading) -> Situations
     ensures { result ≡ step_of a r }
 {
     match a {
@@ -82,11 +83,7 @@ fn put_read(campaigns: [Campaign; 64], n: u64, r: Reading) -> [Campaign; 64]
 }
 
 // The places of the campaigns with that of the sheet: it goes to the next of them.
-pub fn place(
-    campaigns: [Campaign; 64],
-    a: Result<u64, (u64, u64, u64, Refusal)>,
-    r: Reading,
-) -> [Campaign; 64]
+pub fn place(campaigns: [Campaign; 64], a: Situations, r: Reading) -> [Campaign; 64]
     ensures { result ≡ places_after a r campaigns }
 {
     match a {
@@ -96,7 +93,7 @@ pub fn place(
 }
 
 // Whether a sheet was refused: nothing that follows changes it.
-pub fn is_over(a: Result<u64, (u64, u64, u64, Refusal)>) -> bool
+pub fn is_over(a: Situations) -> bool
     ensures { result ≡ is_over a }
 {
     match a {
@@ -138,11 +135,7 @@ fn report(campaigns: [Campaign; 64], n: u64, out: &mut [u8]) -> Finished
 // Writes what is said of the sheets to the start of `out`: the report on the first campaigns of `campaigns`, as many as
 // were taken; or the refused line, with the number of the situation at fault or 0, its sheet's line or 0, the refusal's
 // number, and after 9 the column. Without room for the report the refusal is 7, which is no situation's.
-pub fn finish(
-    a: Result<u64, (u64, u64, u64, Refusal)>,
-    campaigns: [Campaign; 64],
-    out: &mut [u8],
-) -> Finished
+pub fn finish(a: Situations, campaigns: [Campaign; 64], out: &mut [u8]) -> Finished
     ensures value { result ≡ finishing a campaigns out.old }
     ensures out_after { out.new ≡ finish_left a campaigns out.old }
 {

@@ -2,7 +2,7 @@
 // both channels have are looked at.
 #![tactic(auto)]
 
-ghost use Rattle.std.specs.Prelude.{◌≡◌, ◌≤◌, min, length};
+ghost use Rattle.std.specs.Prelude.{◌≡◌, ◌≤◌, length};
 ghost use Rattle.sample_channels.specs.Channels.{moments};
 ghost use Rattle.crossing_places.specs.Reading.{first_crossing};
 ghost use Rattle.crossing_search.specs.Rise.{FirstRise};
@@ -18,22 +18,14 @@ fn rise_in(roll: &[i32], acceleration: &[i32], levels: Levels, from: usize, end:
     if !sample_channels::loud(levels, &roll[from..end], &acceleration[from..end]) {
         return end;
     }
-    let mut i = from;
-    while i < end {
+    for i in from..end {
         let x = sample_channels::moment_at(roll, acceleration, i - 1);
         let y = sample_channels::moment_at(roll, acceleration, i);
         if crossing_places::rises(levels, x, y) {
             return i;
         }
-        i += 1;
     }
-    i
-}
-
-fn shorter(m: usize, n: usize) -> usize
-    ensures { result ≡ min m n }
-{
-    if m < n { m } else { n }
+    end
 }
 
 // The place of the first crossing of a whole record; its length, which is no place in it, if there is none.
@@ -41,21 +33,18 @@ pub fn first_crossing(roll: &[i32], acceleration: &[i32], ramp: u64, levels: Lev
     ensures { result ≡ first_crossing (length (moments roll.now acceleration.now)) ramp levels
         (moments roll.now acceleration.now) }
 {
-    let n = shorter(roll.len(), acceleration.len());
+    let n = roll.len().min(acceleration.len());
     if n as u64 <= ramp {
         return n;
     }
     let mut i = ramp as usize + 1;
-    let place = loop {
-        if i >= n {
-            break n;
-        }
+    while i < n {
         let end = sample_block::end(i, n);
         let at = rise_in(roll, acceleration, levels, i, end);
         if at < end {
-            break at;
+            return at;
         }
         i = end;
-    };
-    place
+    }
+    n
 }

@@ -9,3 +9,4 @@ pub mod Rows
 pub mod Terms
 pub mod Turn
 pub mod Unique
+pub mod Sides

@@ -8,13 +8,16 @@ ghost use Rattle.std.specs.Prelude.{◌+◌, ◌*◌, ◌^◌, ◌≤◌, ◌<�
 ghost use Rattle.logarithm.specs.Logarithm.{Logarithm};
 ghost use Rattle.logarithm.specs.Steps.{Quotient};
 
+// The bits of a figure after the point: one from each squaring.
+const BITS: u32 = 16;
+
 // The shift by the leading zeros, which brings the top bit of v to bit 31: v times that power of two lies from 2 ^ 31
 // up to 2 ^ 32.
 fn shift(v: u32) -> u32
     requires { 0 < v }
     ensures { (2 ^ 31 ≤ v * 2 ^ result) × (v * 2 ^ result < 2 ^ 32) × (result < 32) }
 {
-    u32::leading_zeros(v)
+    v.leading_zeros()
 }
 
 // A ratio as 2 ^ whole times part / 2 ^ 31, with part cut to a whole number.
@@ -34,14 +37,15 @@ fn scale(a: u32, b: u32) -> Scaled
     let bottom = (b as u64) << zb;
     let whole = (zb - za) as u64;
     if top < bottom {
-        return Scaled {
+        Scaled {
             whole: whole - 1,
             part: (top << 32) / bottom,
-        };
-    }
-    Scaled {
-        whole: whole,
-        part: (top << 31) / bottom,
+        }
+    } else {
+        Scaled {
+            whole,
+            part: (top << 31) / bottom,
+        }
     }
 }
 
@@ -50,24 +54,20 @@ fn scale(a: u32, b: u32) -> Scaled
 pub fn log2(a: u32, b: u32) -> u64
     ensures { Logarithm a b result }
 {
-    if b == 0 {
+    if b == 0 || a <= b {
         return 0;
     }
-    if a <= b {
-        return 0;
-    }
-    let s = scale(a, b);
-    let mut m = s.whole;
-    let mut x = s.part;
-    let mut i: u64 = 0;
-    while i < 16 {
+    let Scaled {
+        whole: mut m,
+        part: mut x,
+    } = scale(a, b);
+    for _ in 0..BITS {
         let square = x * x;
         let bit = square >> 63;
         // halved where the top bit is set: a choice of two and no shift by 31 + bit, of which the compiler makes a
         // loop that takes twice as long
         x = truth::pick(bit == 1, square >> 32, square >> 31);
         m = 2 * m + bit;
-        i += 1;
     }
     m
 }

@@ -15,10 +15,11 @@ ghost use Rattle.peak_files.specs.Passing.{handed_on, given_by, number_of, Gives
 ghost use Rattle.peak_files.specs.Passing.{calling, Calls, judged, alike_taken, alike_by, peak_in, last_by};
 ghost use Rattle.peak_files.specs.Passing.{finishing};
 
+use comma_peaks::Judged;
 use comma_stream::{Follow, Rest};
 use desk_line::Finished;
 use peak_groups::Peak;
-use peak_stream::{Handing, Surveying};
+use peak_stream::{Handed, Handing, Surveying};
 use refusal::Refusal;
 use sample_channels::Levels;
 use sample_items::Items;
@@ -39,7 +40,7 @@ pub struct Pass {
     // What the lines count, in either reading.
     pub counted: Result<Surveying, Refusal>,
     // What the second reading hands out; the first hands out nothing.
-    pub handing: Result<(Handing, u64), Refusal>,
+    pub handing: Handed,
     // Nothing that follows is read, and whether that is for a line that is wrong.
     pub over: bool,
     pub wrong: bool,
@@ -83,7 +84,7 @@ pub fn judge_items(step: u64, ramp: u64, decorrelation: u64, out: &mut [u8]) -> 
     desk_line::refuse(0, Refusal::Item(item), out)
 }
 
-fn begins(step: u64, ramp: u64, file: u64, handing: Result<(Handing, u64), Refusal>) -> Pass
+fn begins(step: u64, ramp: u64, file: u64, handing: Handed) -> Pass
     ensures { result ≡ begins step ramp file handing }
 {
     Pass {
@@ -108,11 +109,7 @@ pub fn open(step: u64, ramp: u64, file: u64) -> Pass
     begins(step, ramp, file, Err(Refusal::BrokenState))
 }
 
-fn begun_by(
-    step: u64,
-    decorrelation: u64,
-    counted: Result<Surveying, Refusal>,
-) -> Result<(Handing, u64), Refusal>
+fn begun_by(step: u64, decorrelation: u64, counted: Result<Surveying, Refusal>) -> Handed
     ensures { result ≡ begun_by step decorrelation counted }
 {
     let s = counted?;
@@ -145,7 +142,7 @@ fn counted_on(
 }
 
 // How many peaks were handed out.
-fn number_of(h: Result<(Handing, u64), Refusal>) -> usize
+fn number_of(h: Handed) -> usize
     ensures { result ≡ number_of h }
 {
     match h {
@@ -157,7 +154,7 @@ fn number_of(h: Result<(Handing, u64), Refusal>) -> usize
 // What is handed out after some samples, and how many bytes were written.
 #[derive(Clone, Copy)]
 struct Gave {
-    handing: Result<(Handing, u64), Refusal>,
+    handing: Handed,
     put: usize,
 }
 
@@ -176,14 +173,7 @@ fn hand(file: u64, h: Handing, ramp: u64, lines: u64, samples: &[i32], out: &mut
     Gave { handing, put }
 }
 
-fn handed_on(
-    file: u64,
-    a: Result<(Handing, u64), Refusal>,
-    ramp: u64,
-    lines: u64,
-    samples: &[i32],
-    out: &mut [u8],
-) -> Gave
+fn handed_on(file: u64, a: Handed, ramp: u64, lines: u64, samples: &[i32], out: &mut [u8]) -> Gave
     requires { (length samples.now ≤ 1024) × (49152 ≤ length out.old) }
     ensures { Gives (handed_on a ramp lines samples.now)
         (peaks_text file (given_by a ramp lines samples.now))
@@ -337,7 +327,7 @@ fn refuse_at(file: u64, line: u64, r: Refusal, out: &mut [u8]) -> Finished
     desk_line::refuse_in(file, line, r, out)
 }
 
-fn put_judged(file: u64, j: Result<(), (u64, Refusal)>, out: &mut [u8]) -> Finished
+fn put_judged(file: u64, j: Judged, out: &mut [u8]) -> Finished
     requires { longest_said ≤ length out.old }
     ensures { Puts (judged_said file nothing j) out.old result out.new }
 {
@@ -416,7 +406,7 @@ fn put_one(file: u64, p: Peak, out: &mut [u8]) -> Finished
     }
 }
 
-fn put_last(file: u64, a: Result<(Handing, u64), Refusal>, out: &mut [u8]) -> Finished
+fn put_last(file: u64, a: Handed, out: &mut [u8]) -> Finished
     requires { longest_said ≤ length out.old }
     ensures { Puts (peaks_read file (last_by a)) out.old result out.new }
 {

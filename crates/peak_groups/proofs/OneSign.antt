@@ -7,16 +7,15 @@ use mathlib.Core.Bool.{Bool, true, false, cond}
 use mathlib.Core.List.{List, [], ◌∷◌, ◌++◌}
 use borrow.Author.Tests.{eq-eqb, eqb-true, eqb-false, ne_eqb}
 use lib.Dec.{eqb}
-use lib.IntN.{ℤ, nat_abs, pos}
-use lib.Signed.{lt_z}
+use lib.IntN.{ℤ, nat_abs}
 use Rattle.truth.proofs.Laws.{true≢false}
 use Rattle.crossing_sets.specs.Groups.{groups}
 use Rattle.crossing_sets.specs.Parting.{Cut, Linked, Runs, last_from, together}
 use Rattle.crossing_sets.proofs.Parting.{groups_runs, groups_together}
 use Rattle.peak_groups.specs.declared.Peak.{Peak}
 use Rattle.peak_groups.specs.Largest.{All}
-use Rattle.peak_groups.specs.OneSign.{EachOneSign, IsPoint, IsPoints, OneSign, WithoutZeros, end, one, run}
-use Rattle.peak_groups.specs.Runs.{point, points, same, same_side, side, started}
+use Rattle.peak_groups.specs.OneSign.{EachOneSign, IsPoints, WithoutZeros, end, one, run}
+use Rattle.peak_groups.specs.Runs.{point, points, same_side, side, started}
 use Rattle.peak_groups.proofs.Ahead.{same_self, same_true}
 
 pub read : (D : ℕ) (s : Bool) (t : ℕ) (xs : List ℤ) → IsPoints D s t xs (points D s t xs)

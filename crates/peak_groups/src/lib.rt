@@ -5,7 +5,7 @@
 // record holds all kinds of group at once (`peak_envelope`).
 #![tactic(auto)]
 
-ghost use Rattle.std.specs.Prelude.{◌≡◌, false, length, get_or, pos, ◌<◌};
+ghost use Rattle.std.specs.Prelude.{◌≡◌, false, ◌∷◌, ◌<◌};
 ghost use Rattle.peak_groups.specs.Groups.{larger};
 ghost use Rattle.peak_groups.specs.Runs.{same, side, zeros, first_run, second};
 ghost use Rattle.peak_groups.specs.Step.{longer};
@@ -28,6 +28,7 @@ pub struct Group {
 }
 
 // The larger of two, the first on a tie.
+#[tactic(auto, unfolding(crate::specs::Groups::larger))]
 pub fn larger(p: Peak, q: Peak) -> Peak
     ensures { result ≡ larger p q }
 {
@@ -47,21 +48,19 @@ pub struct Run {
 pub fn zeros(samples: &[i32]) -> usize
     ensures { result ≡ zeros samples.now }
 {
-    let mut i = 0;
-    while i < samples.len() {
-        if sample_size::magnitude(samples[i]) != 0 {
+    for (i, x) in samples.iter().enumerate() {
+        if sample_size::magnitude(*x) != 0 {
             return i;
         }
-        i += 1;
     }
-    i
+    samples.len()
 }
 
 // Whether a sample belongs to the run before it.
 fn stays(below: bool, x: i32) -> bool
     ensures { result ≡ same below (side below x) }
 {
-    if below { !(0 < x) } else { !(x < 0) }
+    if below { x <= 0 } else { 0 <= x }
 }
 
 // The run with one sample more.
@@ -71,40 +70,37 @@ fn longer(r: Run, x: i32) -> Run
 {
     let size = sample_size::magnitude(x);
     if r.size < size {
-        return Run {
-            below: r.below,
+        Run {
             length: r.length + 1,
             place: r.length,
             size,
-        };
-    }
-    Run {
-        below: r.below,
-        length: r.length + 1,
-        place: r.place,
-        size: r.size,
+            ..r
+        }
+    } else {
+        Run {
+            length: r.length + 1,
+            ..r
+        }
     }
 }
 
-// The first run, on the side of its first sample. The side is an argument so that a call that knows it becomes a loop
-// of its own, with one test less.
-fn run_on(below: bool, samples: &[i32]) -> Run
-    requires { (0 < length samples.now) × (below ≡ side false (get_or samples.now 0 (pos 0))) }
-    ensures { result ≡ first_run samples.now }
+// The run that starts with the sample first, on its side, of it and the samples after it. The side is an argument so
+// that a call that knows it becomes a loop of its own, with one test less.
+fn run_on(below: bool, first: i32, rest: &[i32]) -> Run
+    requires { below ≡ side false first }
+    ensures { result ≡ first_run (first ∷ rest.now) }
 {
     let mut run = Run {
         below,
         length: 1,
         place: 0,
-        size: sample_size::magnitude(samples[0]),
+        size: sample_size::magnitude(first),
     };
-    let mut i = 1;
-    while i < samples.len() {
-        if !stays(below, samples[i]) {
+    for x in rest {
+        if !stays(below, *x) {
             return run;
         }
-        run = longer(run, samples[i]);
-        i += 1;
+        run = longer(run, *x);
     }
     run
 }
@@ -113,18 +109,21 @@ fn run_on(below: bool, samples: &[i32]) -> Run
 pub fn first_run(samples: &[i32]) -> Run
     ensures { result ≡ first_run samples.now }
 {
-    if samples.len() == 0 {
-        return Run {
+    match samples.split_first() {
+        None => Run {
             below: false,
             length: 0,
             place: 0,
             size: 0,
-        };
+        },
+        Some((first, rest)) => {
+            if *first < 0 {
+                run_on(true, *first, rest)
+            } else {
+                run_on(false, *first, rest)
+            }
+        }
     }
-    if samples[0] < 0 {
-        return run_on(true, samples);
-    }
-    run_on(false, samples)
 }
 
 // Where the second run starts: past the zeros at the start and the first run.
@@ -136,25 +135,18 @@ pub fn second_run(samples: &[i32]) -> usize
     start + run.length
 }
 
-fn same(a: bool, b: bool) -> bool
-    ensures { result ≡ same a b }
-{
-    if a { b } else { !b }
-}
-
 // Whether a peak is high among n with the sum s.
 pub fn high(n: u32, s: u64, p: Peak) -> bool
     ensures { result ≡ high n s p }
 {
-    s < p.size as u64 * n as u64
+    s < u64::from(p.size) * u64::from(n)
 }
 
 // Whether a peak goes on with the open stretch g of peaks: both are high, or both are not.
 pub fn in_stretch(n: u32, s: u64, g: Group, p: Peak) -> bool
     ensures { result ≡ alike n s g.last p }
 {
-    let last = g.last;
-    same(high(n, s, last), high(n, s, p))
+    high(n, s, g.last) == high(n, s, p)
 }
 
 // Whether a kept peak goes on with the open chain g: the gap from the kept peak before it is not more than the
@@ -162,8 +154,7 @@ pub fn in_stretch(n: u32, s: u64, g: Group, p: Peak) -> bool
 pub fn in_chain(decorrelation: u32, g: Group, p: Peak) -> bool
     ensures { result ≡ close decorrelation g.last p }
 {
-    let earlier = g.last;
-    p.time as u64 <= earlier.time as u64 + decorrelation as u64
+    u64::from(p.time) <= u64::from(g.last.time) + u64::from(decorrelation)
 }
 
 // Whether one of the two slices that peaks are handed out in, with so many places each, is too short.

@@ -35,22 +35,23 @@ fn empty() -> Group
 }
 
 // One member more: it joins the open group, or opens one.
+#[tactic(auto, unfolding(peak_groups::specs::Machine::turned))]
 fn turn(joins: bool, g: Group, y: Peak) -> Group
     requires { g.opened < 20000000 }
     ensures { result ≡ turned joins g y }
 {
-    if truth::both(0 < g.opened, joins) {
-        let best = g.best;
-        return Group {
-            opened: g.opened,
+    if 0 < g.opened && joins {
+        Group {
             last: y,
-            best: peak_groups::larger(best, y),
-        };
-    }
-    Group {
-        opened: g.opened + 1,
-        last: y,
-        best: y,
+            best: peak_groups::larger(g.best, y),
+            ..g
+        }
+    } else {
+        Group {
+            opened: g.opened + 1,
+            last: y,
+            best: y,
+        }
     }
 }
 
@@ -58,7 +59,7 @@ fn turn(joins: bool, g: Group, y: Peak) -> Group
 fn gave(g: Group, h: Group) -> bool
     ensures { result ≡ gave g h }
 {
-    truth::both(1 < g.opened, g.opened != h.opened)
+    1 < g.opened && g.opened != h.opened
 }
 
 // The stretches with the peak p.
@@ -74,26 +75,25 @@ fn chains_after(n: u32, s: u64, decorrelation: u32, e: Envelope, h: Group) -> Gr
     requires { e.chains.opened < 20000000 }
     ensures { result ≡ chains_after n s decorrelation e h }
 {
-    let stretches = e.stretches;
     let g = e.chains;
-    let best = stretches.best;
-    if truth::both(gave(stretches, h), peak_groups::high(n, s, best)) {
-        return turn(peak_groups::in_chain(decorrelation, g, best), g, best);
+    let best = e.stretches.best;
+    if gave(e.stretches, h) && peak_groups::high(n, s, best) {
+        turn(peak_groups::in_chain(decorrelation, g, best), g, best)
+    } else {
+        g
     }
-    g
 }
 
 // The pass with the peak p.
+#[tactic(auto, unfolding(crate::specs::Step::stepped))]
 fn step(n: u32, s: u64, decorrelation: u32, e: Envelope, p: Peak) -> Envelope
     requires { Fits 19999999 e }
     ensures { result ≡ stepped n s decorrelation e p }
 {
-    let stretches = e.stretches;
-    let h = met(n, s, stretches, p);
-    let c = chains_after(n, s, decorrelation, e, h);
+    let stretches = met(n, s, e.stretches, p);
     Envelope {
-        stretches: h,
-        chains: c,
+        stretches,
+        chains: chains_after(n, s, decorrelation, e, stretches),
     }
 }
 
@@ -101,30 +101,29 @@ fn step(n: u32, s: u64, decorrelation: u32, e: Envelope, p: Peak) -> Envelope
 fn roomy(e: Envelope) -> bool
     ensures { result ≡ roomy e }
 {
-    let stretches = e.stretches;
-    let chains = e.chains;
-    truth::both(stretches.opened < MANY, chains.opened < MANY)
+    e.stretches.opened < MANY && e.chains.opened < MANY
 }
 
 // The pass with the peak p, where n peaks have the sum s. One with more groups than a record has samples, which no
 // record leads to, stays as it is.
+#[tactic(auto, unfolding(crate::specs::Step::advanced))]
 pub fn advance(n: u32, s: u64, decorrelation: u32, e: Envelope, p: Peak) -> Envelope
     ensures { result ≡ advanced n s decorrelation e p }
 {
     if roomy(e) {
-        return step(n, s, decorrelation, e, p);
+        step(n, s, decorrelation, e, p)
+    } else {
+        e
     }
-    e
 }
 
 // A pass before the first peak.
 pub fn fresh() -> Envelope
     ensures { result ≡ fresh }
 {
-    let g = empty();
     Envelope {
-        stretches: g,
-        chains: g,
+        stretches: empty(),
+        chains: empty(),
     }
 }
 
@@ -132,8 +131,8 @@ pub fn fresh() -> Envelope
 pub fn place(slice: &mut [u32], k: usize, v: u32)
     ensures { slice.new ≡ set slice.old k v }
 {
-    if slice.len() <= k {
-        return;
+    // no plainer: by `get_mut` the proof does not learn what the slice holds where there is no such place
+    if k < slice.len() {
+        slice[k] = v;
     }
-    slice[k] = v;
 }

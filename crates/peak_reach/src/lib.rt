@@ -194,15 +194,11 @@ fn letter_for(standard: u64, t: Times) -> Letter
     Letter::Continue
 }
 
+// The three times with the verdict's letter, or the refusal.
+pub type Extrapolated = Result<(Times, Letter), Refusal>;
+
 // What a list comes to that 1, 16 and 17 are passed for.
-fn reach(
-    peaks: &[u32],
-    k: u64,
-    level: u64,
-    step: u64,
-    samples: u64,
-    standard: u64,
-) -> Result<(Times, Letter), Refusal>
+fn reach(peaks: &[u32], k: u64, level: u64, step: u64, samples: u64, standard: u64) -> Extrapolated
     requires { Judged peaks.now k level step }
     ensures { result ≡ reached peaks.now k level step samples standard }
 {
@@ -233,7 +229,7 @@ pub fn extrapolate(
     step: u64,
     samples: u64,
     standard: u64,
-) -> Result<(Times, Letter), Refusal>
+) -> Extrapolated
     ensures { ExtrapolatesTo peaks.now k level step samples standard result }
 {
     let item = item_outside(step, level, standard);

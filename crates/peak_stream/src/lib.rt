@@ -313,15 +313,13 @@ fn through(h: Handing, samples: &[i32], sizes: &mut [u32], times: &mut [u32]) ->
     }
 }
 
+// The second pass after a piece and how many peaks it handed out, or the refusal.
+pub type Handed = Result<(Handing, u64), Refusal>;
+
 // The second pass with a piece more, and how many peaks it closed, which stand in the slices then; or refusal 8 for the
 // state, 3 for a piece that makes the record too long, 7 where a slice has fewer places than the piece has samples, and
 // the slices as they stood.
-pub fn hand_over(
-    h: Handing,
-    samples: &[i32],
-    sizes: &mut [u32],
-    times: &mut [u32],
-) -> Result<(Handing, u64), Refusal>
+pub fn hand_over(h: Handing, samples: &[i32], sizes: &mut [u32], times: &mut [u32]) -> Handed
     ensures { HandsOver h samples.now sizes.old times.old result
         sizes.new times.new }
 {
@@ -342,12 +340,7 @@ pub fn hand_over(
 
 // The second pass before the first timed sample, with the number and the sum that the first pass found; or refusal 1
 // with item 1 or 4.
-pub fn begin(
-    step: u64,
-    decorrelation: u64,
-    number: u32,
-    sum: u64,
-) -> Result<(Handing, u64), Refusal>
+pub fn begin(step: u64, decorrelation: u64, number: u32, sum: u64) -> Handed
     ensures { result ≡ begun step decorrelation number sum }
 {
     if !truth::both(1 <= step, step <= sample_items::LONGEST_STEP) {

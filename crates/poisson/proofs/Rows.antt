@@ -1,10 +1,10 @@
 -- The two tables meet document 01's rule in every row. The checker computes one test over the rows of both; `carried`
 -- takes it to the rule of either, by `Turn`, and `met` a table of rows to what is promised of an answer for any number.
 -- Assumes nothing.
-use mathlib.Core.Path.{◌≡◌, ap, refl}
+use mathlib.Core.Path.{◌≡◌, refl}
 use mathlib.Core.Bool.{Bool, false, ◌&&◌}
 use mathlib.Core.List.{List}
-use Prim.Native.Nat.{ℕ, zero, suc, ◌-◌, ◌≤◌, ◌<◌, zero-le}
+use Prim.Native.Nat.{ℕ, zero, suc, ◌≤◌, ◌<◌, zero-le}
 use native.Mathlib.Nat.{le_refl, lt-suc_self, not-le_of_lt, not-suc-le-zero}
 use native.Mathlib.Decide.{dec_lt}
 use native.Mathlib.Omega.{arith}
@@ -100,8 +100,3 @@ upper_rows_lem n h k = (upper_met n).row h k
 
 pub lower_rows_lem : (n : ℕ) → 1 ≤ n → n ≤ rows → IsLowerRow n (l n)
 lower_rows_lem n h k = (lower_met n).row h k
-
--- how the code finds row n
-pub row_at : (xs : List ℕ) (n : ℕ) → 1 ≤ n → get_or xs (n - 1) 0 ≡ row_of xs n
-row_at xs zero h = absurd (not-suc-le-zero h)
-row_at xs (suc i) h = ap (λ (k : ℕ). get_or xs k 0) (omega arith)

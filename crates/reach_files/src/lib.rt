@@ -20,10 +20,11 @@ ghost use Rattle.reach_files.specs.Gathering.{grown_by, added_in, is_over, gathe
 ghost use Rattle.reach_files.specs.Steps.{kept_with, list_with, kept_on, list_on};
 ghost use Rattle.reach_files.specs.Files.{judged_then};
 
+use comma_peaks::Judged;
 use desk_line::Finished;
 use peak_groups::Peak;
-use peak_reach::{Letter, Times};
-use peak_stream::Handing;
+use peak_reach::{Extrapolated, Letter, Times};
+use peak_stream::{Handed, Handing};
 use refusal::Refusal;
 use sample_channels::Levels;
 use sample_items::Items;
@@ -86,8 +87,11 @@ fn items_outside(j: Job) -> u64
     })
 }
 
+// What files came to; or the number of the file at fault, its line or 0, and the refusal.
+pub type Gathering = Result<Gathered, (u64, u64, Refusal)>;
+
 // No files yet; or 1 with the lowest item outside its range, 16 for a k that no list has. Neither is a file's.
-pub fn open(j: Job) -> Result<Gathered, (u64, u64, Refusal)>
+pub fn open(j: Job) -> Gathering
     ensures { result ≡ opened j }
 {
     let item = items_outside(j);
@@ -108,7 +112,7 @@ pub fn open(j: Job) -> Result<Gathered, (u64, u64, Refusal)>
 }
 
 // Whether a file was refused: nothing that follows changes it.
-pub fn is_over(a: Result<Gathered, (u64, u64, Refusal)>) -> bool
+pub fn is_over(a: Gathering) -> bool
     ensures { result ≡ is_over a }
 {
     match a {
@@ -120,7 +124,7 @@ pub fn is_over(a: Result<Gathered, (u64, u64, Refusal)>) -> bool
 // The second reading of a file: where it stands, and how many peaks the list has, those of the files before with it.
 #[derive(Clone, Copy)]
 pub struct Kept {
-    pub handed: Result<(Handing, u64), Refusal>,
+    pub handed: Handed,
     pub peaks: u64,
 }
 
@@ -156,7 +160,7 @@ fn least(a: u64, b: usize) -> usize
 }
 
 // The peaks of a block that a pass has closed, which are the first of `sizes`.
-fn kept_by(a: Result<(Handing, u64), Refusal>, peaks: u64, sizes: &[u32], list: &mut [u32]) -> Kept
+fn kept_by(a: Handed, peaks: u64, sizes: &[u32], list: &mut [u32]) -> Kept
     requires { length sizes.now ≤ 1024 }
     ensures value { result ≡ kept_with a peaks sizes.now }
     ensures list_after { list.new
@@ -250,13 +254,7 @@ fn passes(samples: u64, more: u64) -> bool
     peak_reach::MOST_SAMPLES - samples < more
 }
 
-fn grown_by(
-    j: Job,
-    file: u64,
-    g: Gathered,
-    lines: u64,
-    peaks: u64,
-) -> Result<Gathered, (u64, u64, Refusal)>
+fn grown_by(j: Job, file: u64, g: Gathered, lines: u64, peaks: u64) -> Gathering
     ensures { result ≡ grown_by j file g lines peaks }
 {
     if peak_tail::LONGEST_LIST < peaks {
@@ -273,14 +271,7 @@ fn grown_by(
     })
 }
 
-fn judged_by(
-    j: Job,
-    file: u64,
-    g: Gathered,
-    came: Result<(), (u64, Refusal)>,
-    lines: u64,
-    peaks: u64,
-) -> Result<Gathered, (u64, u64, Refusal)>
+fn judged_by(j: Job, file: u64, g: Gathered, came: Judged, lines: u64, peaks: u64) -> Gathering
     ensures { result ≡ judged_then ((λ a b. Err (file, a, b))) (grown_by j file g lines peaks) came }
 {
     match came {
@@ -292,14 +283,7 @@ fn judged_by(
 // The gathering with a file, the one of that number: what its first reading came to, its lines, and how many peaks the
 // list has after its second. Or 10, 2, 3, 4 with the line at fault; 16 for a list that is too long, 19 for too many
 // timed samples. What was refused stays.
-pub fn add(
-    j: Job,
-    file: u64,
-    a: Result<Gathered, (u64, u64, Refusal)>,
-    came: Result<(), (u64, Refusal)>,
-    lines: u64,
-    peaks: u64,
-) -> Result<Gathered, (u64, u64, Refusal)>
+pub fn add(j: Job, file: u64, a: Gathering, came: Judged, lines: u64, peaks: u64) -> Gathering
     ensures { result ≡ added_in j file a came lines peaks }
 {
     match a {
@@ -463,7 +447,7 @@ fn put_answer(
     files: u64,
     samples: u64,
     ys: &[u32],
-    x: Result<(Times, Letter), Refusal>,
+    x: Extrapolated,
     out: &mut [u8],
 ) -> Finished
     requires { x ≡ extrapolated_for j samples ys.now }
@@ -499,12 +483,7 @@ fn put_list(j: Job, g: Gathered, list: &mut [u32], out: &mut [u8]) -> Finished
 // or refused, the number of the file at fault or 0, its line or 0, the refusal's number, after 1 the item, and after 20
 // the k-th peak. Without room for any line nothing is written, and the program ends as failed. The peaks are downwards
 // then.
-pub fn finish(
-    j: Job,
-    a: Result<Gathered, (u64, u64, Refusal)>,
-    list: &mut [u32],
-    out: &mut [u8],
-) -> Finished
+pub fn finish(j: Job, a: Gathering, list: &mut [u32], out: &mut [u8]) -> Finished
     ensures value { result ≡ putting (gathered_said j a list.old) out.old }
     ensures out_after { out.new ≡ put_left (gathered_said j a list.old) out.old }
     ensures list_after { list.new ≡ list_left a list.old }

@@ -1,4 +1,4 @@
 pub mod First
 pub mod HalfWidth
-pub mod Halving
+pub mod Rounding
 pub mod Unique

@@ -2,37 +2,16 @@
 // approximation, which is one.
 #![tactic(auto)]
 
-ghost use Rattle.std.specs.Prelude.{◌≡◌, ◌≤◌};
+ghost use Rattle.std.specs.Prelude.{◌≡◌};
 ghost use Rattle.root.specs.HalfWidth.{measured, width_within};
-ghost use Rattle.root.specs.Root.{Root, RoundedUp, least_root};
+ghost use Rattle.root.specs.Root.{Root, least_root};
 
-// a / p, rounded up.
-fn quotient_up(a: u64, p: u64) -> u64
-    requires { 1 ≤ p }
-    ensures { RoundedUp a p result }
-{
-    let q = a / p;
-    if q * p < a {
-        return q + 1;
-    }
-    q
-}
-
-// The least number whose square is at least b: the numbers below `low` are too small, and `high` is not.
+// The least number whose square is at least b.
 fn root_of(b: u64) -> u64
     ensures { Root b result }
 {
-    let mut low: u64 = 0;
-    let mut high: u64 = 4294967296;
-    while low < high {
-        let middle = (low + high) / 2;
-        if middle * middle < b {
-            low = middle + 1;
-        } else {
-            high = middle;
-        }
-    }
-    high
+    let root = b.isqrt();
+    if root * root < b { root + 1 } else { root }
 }
 
 // The least number whose square times p is at least a; 0 where p is 0.
@@ -42,16 +21,13 @@ pub fn least(a: u64, p: u64) -> u64
     if p == 0 {
         return 0;
     }
-    root_of(quotient_up(a, p))
+    root_of(a.div_ceil(p))
 }
 
 fn measured(factor: u64, n: u64, p: u64) -> bool
     ensures { result ≡ measured factor n p }
 {
-    truth::both(
-        factor <= 3_000,
-        truth::both(n <= 10_000, truth::both(n <= p, p <= 100_000_000)),
-    )
+    factor <= 3_000 && n <= 10_000 && n <= p && p <= 100_000_000
 }
 
 // The half-width of n failures among p samples, in thousandths of a failure, by a factor in thousandths; 0 for a factor

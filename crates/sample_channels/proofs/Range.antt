@@ -1,6 +1,5 @@
 -- Two channels without a bad sample are in range moment by moment; the parts of such a list are; the ends of two blocks
 -- say whether one has a bad sample; and what a look says. Assumes nothing.
-use Prim.Native.Nat.{ℕ}
 use mathlib.Core.Path.{◌≡◌, refl, sym}
 use mathlib.Core.Bool.{Bool, true, false, cond, not, ◌||◌}
 use mathlib.Core.List.{List, [], ◌∷◌, ◌++◌}

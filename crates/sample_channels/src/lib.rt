@@ -65,36 +65,21 @@ pub fn outside(roll: Ends, acceleration: Ends) -> bool
     )
 }
 
-// What both channels show at a place that they have.
-fn seen(roll: &[i32], acceleration: &[i32], i: usize) -> Moment
-    requires { (i < length roll.now) × (i < length acceleration.now) }
-    ensures { result ≡ get_or (moments roll.now acceleration.now) i still }
-{
-    Moment {
-        roll: roll[i],
-        acceleration: acceleration[i],
-    }
-}
-
 // What both channels show at a place; 0 where one of them has no such place.
 pub fn moment_at(roll: &[i32], acceleration: &[i32], i: usize) -> Moment
     ensures { result ≡ get_or (moments roll.now acceleration.now) i still }
 {
-    if i < roll.len() {
-        if i < acceleration.len() {
-            return seen(roll, acceleration, i);
+    if i < roll.len() && i < acceleration.len() {
+        Moment {
+            roll: roll[i],
+            acceleration: acceleration[i],
+        }
+    } else {
+        Moment {
+            roll: 0,
+            acceleration: 0,
         }
     }
-    Moment {
-        roll: 0,
-        acceleration: 0,
-    }
-}
-
-fn fewer(m: usize, n: usize) -> usize
-    ensures { result ≡ min m n }
-{
-    if m < n { m } else { n }
 }
 
 // Notes of each sample of both channels whether one of them is above its level, from the start of `ups`, as far as it
@@ -104,11 +89,9 @@ pub fn mark(levels: Levels, roll: &[i32], acceleration: &[i32], ups: &mut [bool]
         ≡ paste ups.old 0 (map (above levels) (moments roll.now acceleration.now))
         (min (length ups.old) (length (moments roll.now acceleration.now))) }
 {
-    let n = fewer(ups.len(), fewer(roll.len(), acceleration.len()));
-    let mut i = 0;
-    while i < n {
-        ups[i] = above(levels, seen(roll, acceleration, i));
-        i += 1;
+    let n = ups.len().min(roll.len()).min(acceleration.len());
+    for i in 0..n {
+        ups[i] = above(levels, moment_at(roll, acceleration, i));
     }
 }
 

@@ -1,7 +1,6 @@
 -- Document 01, "Numbers a job may carry", with document 02's [8]: items 1 to 4 and 6, and the timed length. Assumes
 -- nothing.
 use Rattle.std.specs.Prelude.{ℕ, ◌+◌, ◌/◌, Bool, cond, not, ◌&&◌, leb}
-use Rattle.sample_channels.specs.declared.Levels.{Levels}
 use Rattle.sample_items.specs.declared.Items.{Items}
 
 -- x is from low to high

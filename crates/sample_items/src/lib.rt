@@ -29,33 +29,35 @@ pub struct Items {
 fn between(low: u64, high: u64, x: u64) -> bool
     ensures { result ≡ within low high x }
 {
-    truth::both(low <= x, x <= high)
+    (low..=high).contains(&x)
 }
 
 // The number of the lowest item outside its range, 0 if there is none.
+#[tactic(auto, unfolding(crate::specs::Limits::item_outside))]
 pub fn item_outside(items: Items) -> u64
     ensures { result ≡ item_outside items }
 {
-    let levels = items.levels;
-    let sixth = truth::pick(!between(1, HIGHEST_LEVEL, levels.acceleration), 6, 0);
-    let fourth = truth::pick(
-        !between(0, LONGEST_DECORRELATION, items.decorrelation),
-        4,
-        sixth,
-    );
-    let third = truth::pick(!between(1, HIGHEST_LEVEL, levels.roll), 3, fourth);
-    let second = truth::pick(!between(0, LONGEST_RAMP, items.ramp), 2, third);
-    truth::pick(!between(1, LONGEST_STEP, items.step), 1, second)
+    if !between(1, LONGEST_STEP, items.step) {
+        1
+    } else if !between(0, LONGEST_RAMP, items.ramp) {
+        2
+    } else if !between(1, HIGHEST_LEVEL, items.levels.roll) {
+        3
+    } else if !between(0, LONGEST_DECORRELATION, items.decorrelation) {
+        4
+    } else if !between(1, HIGHEST_LEVEL, items.levels.acceleration) {
+        6
+    } else {
+        0
+    }
 }
 
 // The most samples that a record may have, 0 where its step or its ramp is outside its range.
+#[tactic(auto, unfolding(crate::specs::Limits::most_in_range))]
 pub fn most_samples(step: u64, ramp: u64) -> u64
     ensures { result ≡ most_in_range step ramp }
 {
-    if truth::both(
-        between(1, LONGEST_STEP, step),
-        between(0, LONGEST_RAMP, ramp),
-    ) {
+    if between(1, LONGEST_STEP, step) && between(0, LONGEST_RAMP, ramp) {
         ramp + 1 + LONGEST_TIME / step
     } else {
         0

@@ -9,18 +9,22 @@ use lib.Dec.{leb, ltb}
 use lib.IntN.{ℤ, nat_abs}
 use borrow.Author.Tests.{leb-true, leb-false, ltb-false, le-leb, le-ltb, lt-ltb}
 use Rattle.truth.proofs.Laws.{true≢false}
+use Rattle.std.specs.List.{prefix_len}
+use Rattle.sample_block.specs.declared.Ends.{Ends}
 use Rattle.sample_block.specs.Block.{lowest, highest, any_above}
 use Rattle.sample_block.proofs.Quiet.{first_quiet}
 use Rattle.sample_block.proofs.Sides.{ends_say}
 use Rattle.sample_range.specs.Range.{sample_limit, sample_in_range, first_bad}
 
-pub bad_in : (x : ℤ) (xs : List ℤ) → sample_in_range x ≡ true → first_bad (x ∷ xs) ≡ suc (first_bad xs)
+-- the first bad place is how many are in range before it
+pub counted : (xs : List ℤ) → first_bad xs ≡ prefix_len sample_in_range xs
 unfolding first_bad
-bad_in x xs e = rw e
-
-pub bad_out : (x : ℤ) (xs : List ℤ) → sample_in_range x ≡ false → first_bad (x ∷ xs) ≡ 0
-unfolding first_bad
-bad_out x xs e = rw e
+counted [] = refl
+counted (x ∷ xs) = rw (counted xs) (go (sample_in_range x))
+  where
+    go : (b : Bool) → cond b (suc (prefix_len sample_in_range xs)) 0 ≡ cond b (1 + prefix_len sample_in_range xs) 0
+    go true = omega arith
+    go false = refl
 
 -- where no sample is bad, the first is not, and none of the others
 pub good_head : (x : ℤ) (xs : List ℤ) → first_bad (x ∷ xs) ≡ suc (length xs) → (sample_in_range x ≡ true) × (first_bad xs ≡ length xs)
@@ -78,6 +82,14 @@ loud_bad (x ∷ p) h = go (sample_in_range x) refl (loud_bad p)
     go true e i = suc-le-suc (i (rw (le-ltb sample_limit (nat_abs x) (leb-true (nat_abs x) sample_limit e)) at h))
     go false e i = omega arith
 
+-- a block and what follows it: the first bad sample is the block's, where one of the block is above the limit, and else
+-- that of what follows
+pub loud_first : (p q : List ℤ) → any_above sample_limit p ≡ true → first_bad (p ++ q) ≡ prefix_len sample_in_range p
+loud_first p q e = bad_left p q (loud_bad p e) ∙ counted p
+
+pub quiet_passed : (p q : List ℤ) → any_above sample_limit p ≡ false → first_bad (p ++ q) ≡ length p + first_bad q
+quiet_passed p q e = bad_append p q (quiet_good p e)
+
 -- the ends of samples say whether one is bad
 turned : (n : ℕ) → not (leb n sample_limit) ≡ ltb sample_limit n
 turned n = go (leb n sample_limit) refl
@@ -92,3 +104,6 @@ neither false c = refl
 
 pub ends_bad : (p : List ℤ) → not (sample_in_range (lowest p) && sample_in_range (highest p)) ≡ any_above sample_limit p
 ends_bad p = neither (sample_in_range (lowest p)) (sample_in_range (highest p)) ∙ rw (turned (nat_abs (lowest p)), turned (nat_abs (highest p))) (ends_say sample_limit p)
+
+pub ends_tell : (p : List ℤ) (e : Ends) → e.lowest ≡ lowest p → e.highest ≡ highest p → not (sample_in_range e.lowest && sample_in_range e.highest) ≡ any_above sample_limit p
+ends_tell p e l h = rw (l, h) (ends_bad p)

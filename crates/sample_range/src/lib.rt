@@ -2,6 +2,7 @@
 #![tactic(auto)]
 
 ghost use Rattle.std.specs.Prelude.{◌≡◌, not, ◌&&◌};
+ghost use Rattle.std.specs.List.{prefix_len};
 ghost use Rattle.sample_range.specs.Range.{sample_in_range, first_bad};
 
 use sample_block::Ends;
@@ -26,16 +27,9 @@ pub fn outside(e: Ends) -> bool
 
 // The place of the first sample outside its range, looked for one by one; the length if there is none.
 fn first_of(block: &[i32]) -> usize
-    ensures { result ≡ first_bad block.now }
+    ensures { result ≡ prefix_len sample_in_range block.now }
 {
-    let mut i = 0;
-    while i < block.len() {
-        if !in_range(block[i]) {
-            return i;
-        }
-        i += 1;
-    }
-    i
+    block.iter().take_while(|x| in_range(**x)).count()
 }
 
 // The place of the first sample outside its range, the length if there is none. Block by block, so that samples in
@@ -43,15 +37,12 @@ fn first_of(block: &[i32]) -> usize
 pub fn first_bad(samples: &[i32]) -> usize
     ensures { result ≡ first_bad samples.now }
 {
-    let mut i = 0;
-    while i < samples.len() {
-        let end = sample_block::end(i, samples.len());
-        let part = &samples[i..end];
-        if outside(sample_block::ends_of(part)) {
-            let bad = first_of(part);
-            return i + bad;
+    let mut passed = 0;
+    for block in samples.chunks(sample_block::BLOCK) {
+        if outside(sample_block::ends_of(block)) {
+            return passed + first_of(block);
         }
-        i = end;
+        passed += block.len();
     }
-    i
+    passed
 }

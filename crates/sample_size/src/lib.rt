@@ -5,16 +5,11 @@
 ghost use Rattle.std.specs.Prelude.{◌≡◌, min, nat_abs};
 ghost use Rattle.sample_size.specs.Above.{above};
 
-// |x|, by way of i64, where the negation of the least i32 fits.
+// |x|, of the least i32 too.
 pub fn magnitude(x: i32) -> u32
     ensures { result ≡ nat_abs x }
 {
-    let wide = x as i64;
-    if wide < 0 {
-        (0 - wide) as u32
-    } else {
-        wide as u32
-    }
+    x.unsigned_abs()
 }
 
 // The level in 32 bits; where it has more, their most, which no magnitude is above either. A loop over samples then
@@ -22,11 +17,7 @@ pub fn magnitude(x: i32) -> u32
 fn narrow(level: u64) -> u32
     ensures { result ≡ min level 4294967295 }
 {
-    if level < 4_294_967_295 {
-        level as u32
-    } else {
-        4_294_967_295
-    }
+    level.min(4_294_967_295) as u32
 }
 
 // Whether |x| is above the level.

@@ -15,6 +15,7 @@ ghost use Rattle.sheet_after.specs.Taking.{counted_up, up_by, taking_up, taken_l
 use desk_line::Finished;
 use refusal::Refusal;
 use sample_items::Items;
+use sheet_files::Filed;
 
 // The refusals after whose number one more is told: an item, and the column of a malformed line.
 const ITEM: u64 = 1;
@@ -34,8 +35,12 @@ fn failures(records: &[i32]) -> u64
     n
 }
 
+// What taking a sheet up comes to: the standard, how many records are in their places, and how many of them failed;
+// or the sheet's line at fault or 0, the column of its fault or 0, and the refusal.
+pub type TakenUp = Result<(u64, u64, u64), (u64, u64, Refusal)>;
+
 // The standard and the first records of `records`, as many as were read.
-fn counted(q: u64, n: u64, records: &[i32]) -> Result<(u64, u64, u64), (u64, u64, Refusal)>
+fn counted(q: u64, n: u64, records: &[i32]) -> TakenUp
     ensures { result ≡ counted_up q n records.now }
 {
     let k = n as usize;
@@ -45,10 +50,7 @@ fn counted(q: u64, n: u64, records: &[i32]) -> Result<(u64, u64, u64), (u64, u64
     Ok((q, n, failures(&records[..k])))
 }
 
-fn by_reading(
-    r: Result<(u64, u64), (u64, u64, Refusal)>,
-    records: &[i32],
-) -> Result<(u64, u64, u64), (u64, u64, Refusal)>
+fn by_reading(r: Filed, records: &[i32]) -> TakenUp
     ensures { result ≡ up_by r records.now }
 {
     match r {
@@ -60,11 +62,7 @@ fn by_reading(
 // Takes yesterday's sheet up: its records go to the front of `records`, whose rest stays. Or 1 with the lowest item
 // outside its range, which is on no line of the sheet; then the sheet's first refusal with its line and column, 7 where
 // `records` has too few places, and `records` as it stood.
-pub fn take_up(
-    items: Items,
-    sheet: &[u8],
-    records: &mut [i32],
-) -> Result<(u64, u64, u64), (u64, u64, Refusal)>
+pub fn take_up(items: Items, sheet: &[u8], records: &mut [i32]) -> TakenUp
     ensures value { result ≡ taking_up items sheet.now (length records.old) }
     ensures records_after { records.new ≡ taken_left items sheet.now records.old }
 {

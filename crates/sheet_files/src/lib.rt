@@ -13,15 +13,19 @@ ghost use Rattle.sheet_files.specs.Filing.{opened_sheet, step_taken, step_ended,
 ghost use Rattle.sheet_files.specs.Filing.{is_over, writing_put, writing_left, sheet_put, sheet_left, finishing};
 ghost use Rattle.sheet_files.specs.Filing.{finish_left};
 
-use comma_count::Counting;
+use comma_count::{Counting, End};
 use desk_line::Finished;
 use record_end::RecordResult;
 use record_state::Record;
 use refusal::Refusal;
 use sample_items::Items;
 
+// How many records are in their places, and how many of them failed; or the number of the file at fault, its line or 0,
+// and the refusal.
+pub type Filed = Result<(u64, u64), (u64, u64, Refusal)>;
+
 // No records yet; or 1 with item 5 for the standard, or with the lowest item outside its range, which are no file's.
-pub fn open(q: u64, items: Items) -> Result<(u64, u64), (u64, u64, Refusal)>
+pub fn open(q: u64, items: Items) -> Filed
     ensures { result ≡ opened_sheet q items }
 {
     if !truth::both(1 <= q, q <= campaign_state::LONGEST_STANDARD) {
@@ -44,14 +48,12 @@ fn record_in(x: RecordResult) -> i32
     if x.first == 0 { t } else { 0 - t }
 }
 
+// What a file does: its record goes to a place, after which there are so many, so many of them failed; or it is
+// refused.
+pub type Step = Result<(u64, u64, u64, i32), (u64, u64, Refusal)>;
+
 // A record after `n` others, of which so many failed: 5, 6, 7 for want of places, or its place.
-fn step_taken(
-    number: u64,
-    n: u64,
-    failures: u64,
-    x: RecordResult,
-    places: u64,
-) -> Result<(u64, u64, u64, i32), (u64, u64, Refusal)>
+fn step_taken(number: u64, n: u64, failures: u64, x: RecordResult, places: u64) -> Step
     requires { x.exposure ≤ longest_time }
     ensures { result ≡ step_taken number n failures x places }
 {
@@ -73,13 +75,7 @@ fn step_taken(
     ))
 }
 
-fn step_ended(
-    number: u64,
-    n: u64,
-    failures: u64,
-    r: Record,
-    places: u64,
-) -> Result<(u64, u64, u64, i32), (u64, u64, Refusal)>
+fn step_ended(number: u64, n: u64, failures: u64, r: Record, places: u64) -> Step
     ensures { result ≡ step_ended number n failures r places }
 {
     match record_end::end(r) {
@@ -88,13 +84,7 @@ fn step_ended(
     }
 }
 
-fn step_by(
-    number: u64,
-    n: u64,
-    failures: u64,
-    e: Result<Record, (u64, Refusal)>,
-    places: u64,
-) -> Result<(u64, u64, u64, i32), (u64, u64, Refusal)>
+fn step_by(number: u64, n: u64, failures: u64, e: End, places: u64) -> Step
     ensures { result ≡ step_by number n failures e places }
 {
     match e {
@@ -103,12 +93,7 @@ fn step_by(
     }
 }
 
-fn step_in(
-    number: u64,
-    a: Result<(u64, u64), (u64, u64, Refusal)>,
-    e: Result<Record, (u64, Refusal)>,
-    places: u64,
-) -> Result<(u64, u64, u64, i32), (u64, u64, Refusal)>
+fn step_in(number: u64, a: Filed, e: End, places: u64) -> Step
     ensures { result ≡ step_in number a e places }
 {
     match a {
@@ -126,10 +111,7 @@ fn put(x: i32, records: &mut [i32], i: usize)
     }
 }
 
-fn stored(
-    s: Result<(u64, u64, u64, i32), (u64, u64, Refusal)>,
-    records: &mut [i32],
-) -> Result<(u64, u64), (u64, u64, Refusal)>
+fn stored(s: Step, records: &mut [i32]) -> Filed
     ensures value { result ≡ filed_of s }
     ensures records_after { records.new ≡ left_by s records.old }
 {
@@ -145,12 +127,7 @@ fn stored(
 // The records with that of a file, the one of this number, which was counted to its end: it goes to its place in
 // `records`, whose rest stays. Or 10, 2, 3 with the line at fault, then 4, 5, 6, 7 where `records` has no place for it.
 // What was refused stays.
-pub fn add(
-    number: u64,
-    a: Result<(u64, u64), (u64, u64, Refusal)>,
-    c: Counting,
-    records: &mut [i32],
-) -> Result<(u64, u64), (u64, u64, Refusal)>
+pub fn add(number: u64, a: Filed, c: Counting, records: &mut [i32]) -> Filed
     ensures value { result ≡ filed_of (step_in number a (end_of c) (length records.old)) }
     ensures records_after { records.new
         ≡ left_by (step_in number a (end_of c) (length records.old)) records.old }
@@ -161,7 +138,7 @@ pub fn add(
 }
 
 // Whether a file was refused: nothing that follows changes it.
-pub fn is_over(a: Result<(u64, u64), (u64, u64, Refusal)>) -> bool
+pub fn is_over(a: Filed) -> bool
     ensures { result ≡ is_over a }
 {
     match a {
@@ -198,12 +175,7 @@ fn put_sheet(q: u64, n: u64, records: &[i32], out: &mut [u8]) -> Finished
 // Writes what is said of the files to the start of `out`: the sheet of the standard and the first records of `records`,
 // as many as were taken; or the refused line, with the number of the file at fault or 0, its line or 0, the refusal's
 // number, and after 1 the item. Without room for the sheet the refusal is 7, which is no file's.
-pub fn finish(
-    q: u64,
-    a: Result<(u64, u64), (u64, u64, Refusal)>,
-    records: &[i32],
-    out: &mut [u8],
-) -> Finished
+pub fn finish(q: u64, a: Filed, records: &[i32], out: &mut [u8]) -> Finished
     ensures value { result ≡ finishing q a records.now out.old }
     ensures out_after { out.new ≡ finish_left q a records.now out.old }
 {

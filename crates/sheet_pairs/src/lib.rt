@@ -21,6 +21,7 @@ use desk_line::Finished;
 use record_state::Record;
 use refusal::Refusal;
 use sample_items::Items;
+use sheet_files::Filed;
 
 const TAB: u8 = b'\t';
 
@@ -29,7 +30,7 @@ const LF: u8 = b'\n';
 // What was filed, as of one file a record, and the channel of the line at fault, or 0.
 #[derive(Clone, Copy)]
 pub struct FiledPairs {
-    pub filed: Result<(u64, u64), (u64, u64, Refusal)>,
+    pub filed: Filed,
     pub channel: u64,
 }
 
@@ -59,12 +60,7 @@ fn counted(r: Record) -> Counting
     }
 }
 
-fn add_end(
-    number: u64,
-    f: Result<(u64, u64), (u64, u64, Refusal)>,
-    e: Result<Record, PairFault>,
-    records: &mut [i32],
-) -> FiledPairs
+fn add_end(number: u64, f: Filed, e: Result<Record, PairFault>, records: &mut [i32]) -> FiledPairs
     ensures value { result ≡ adding_end number f e (length records.old) }
     ensures records_after { records.new ≡ end_left number f e records.old }
 {
@@ -134,13 +130,7 @@ fn refuse_of(number: u64, line: u64, r: Refusal, channel: u64, out: &mut [u8]) -
     put_channel(number, line, r, channel, out)
 }
 
-fn finish_of(
-    q: u64,
-    f: Result<(u64, u64), (u64, u64, Refusal)>,
-    channel: u64,
-    records: &[i32],
-    out: &mut [u8],
-) -> Finished
+fn finish_of(q: u64, f: Filed, channel: u64, records: &[i32], out: &mut [u8]) -> Finished
     ensures value { result ≡ channel_put q f channel records.now out.old }
     ensures out_after { out.new ≡ channel_left q f channel records.now out.old }
 {

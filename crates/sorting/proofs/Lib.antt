@@ -1,5 +1,2 @@
-pub mod Extracting
-pub mod Ordering
-pub mod Sifting
-pub mod Swapping
+pub mod Library
 pub mod Unique

@@ -7,13 +7,13 @@ ghost use Rattle.std.specs.Prelude.{◌≡◌, cond, ◌&&◌, ◌||◌};
 pub fn both(b: bool, c: bool) -> bool
     ensures { result ≡ (b && c) }
 {
-    if b { c } else { false }
+    b & c
 }
 
 pub fn either(b: bool, c: bool) -> bool
     ensures { result ≡ (b || c) }
 {
-    if b { true } else { c }
+    b | c
 }
 
 pub fn pick(b: bool, x: u64, y: u64) -> u64

@@ -1,4 +1,4 @@
-use Prim.Native.Nat.{ℕ, ◌≤◌, ◌<◌, ◌-◌}
+use Prim.Native.Nat.{ℕ, ◌≤◌, ◌<◌}
 use mathlib.Core.Path.{◌≡◌, sym, ◌∙◌}
 use mathlib.Core.Bool.{true, false}
 use native.Mathlib.Omega.{arith}
@@ -12,11 +12,11 @@ use Rattle.sample_channels.proofs.Moments.{moments_shorter}
 use Rattle.crossing_places.specs.Reading.{crosses_at}
 use Rattle.crossing_places.proofs.First.{ramp_none, first-none, first-at}
 use Rattle.crossing_search.proofs.first_crossing.Goals as goal
-use Rattle.crossing_search.proofs.first_crossing.Goals.{After-end-end, After-rise_in-at, After-shorter-n, At-loop-i, Start}
+use Rattle.crossing_search.proofs.first_crossing.Goals.{After-end-end, After-rise_in-at, After-min-n, At-loop-i, Start}
 
 -- so many samples both channels have
-long : (c : After-shorter-n) → c.shorter-n.result ≡ length (moments c.args.roll.now c.args.acceleration.now)
-long c = c.shorter-n.ensures ∙ sym (moments_shorter _ _)
+long : (c : After-min-n) → c.min-n.result ≡ length (moments c.args.roll.now c.args.acceleration.now)
+long c = c.min-n.ensures ∙ sym (moments_shorter _ _)
 
 pub returns-then-n-ramp : goal.returns-then-n-ramp
 returns-then-n-ramp c =
@@ -25,13 +25,13 @@ returns-then-n-ramp c =
     long c.before ∙ sym (first-none (crosses_at g.ramp g.levels p) _ (length p) (λ k h. ramp_none g.ramp g.levels p k (omega (arith, long c.before))))
 
 -- the block is within the samples, and not empty
-within : (c : After-end-end) → (c.loop-i.i < c.end-end.result) × (c.end-end.result ≤ c.shorter-n.result)
+within : (c : After-end-end) → (c.loop-i.i < c.end-end.result) × (c.end-end.result ≤ c.min-n.result)
 within c = end_within _ _ c.end-end.ensures (omega arith)
 
 pub rise_in-at-requires : goal.rise_in-at-requires
 rise_in-at-requires c =
     let w = within c in
-    let m = c.shorter-n.ensures in
+    let m = c.min-n.ensures in
     (omega arith, omega arith, omega arith, omega arith)
 
 -- no crossing stands before what the block's search answers
@@ -52,9 +52,9 @@ loop-i-preserved c =
     let w = within after-end in
     (omega (arith, c.loop-i.invariant.0), w.1, λ k h. none c.before k (omega arith))
 
-pub returns-then-i-n : goal.returns-then-i-n
-returns-then-i-n c =
-    let b : After-shorter-n = search rules in
+pub returns : goal.returns
+returns c =
+    let b : After-min-n = search rules in
     let g = b.args in
     let p = moments g.roll.now g.acceleration.now in
     let l = long b in
@@ -63,12 +63,12 @@ returns-then-i-n c =
 pub returns-then-at-end : goal.returns-then-at-end
 returns-then-at-end c =
     let after-end : After-end-end = search rules in
-    let after-shorter : After-shorter-n = search rules in
+    let after-min : After-min-n = search rules in
     let g = c.args in
     let p = moments g.roll.now g.acceleration.now in
     let r = c.rise_in-at.result in
     let w = within after-end in
     let f = c.rise_in-at.ensures in
-    let l = long after-shorter in
+    let l = long after-min in
     let e : crosses_at g.ramp g.levels p r ≡ true = rw (lt-ltb g.ramp r (omega (arith, f.after, c.loop-i.invariant.0))) (f.found c.if-at-end.true) in
     sym (first-at (crosses_at g.ramp g.levels p) _ r (length p) (omega (arith, c.if-at-end.true)) (none c.before) e)

@@ -37,5 +37,4 @@ told c =
     c.rises.ensures ∙ rw (after-moment-at.moment_at-x.ensures, c.moment_at-y.ensures)
 
 pub loop-i-preserved : goal.loop-i-preserved
-loop-i-preserved c =
-    (omega arith, omega arith, below_more _ _ c.loop-i.invariant.2 (λ l. sym (told c.before) ∙ c.if-rises.false))
+loop-i-preserved c = below_more _ _ c.loop-i.invariant (λ l. sym (told c.before) ∙ c.if-rises.false)

@@ -32,8 +32,8 @@ returns-then-top-bottom c =
     )
     (quotient a.a a.b y z 1 (z - y - 1) (omega arith) (omega arith) (omega arith) (omega arith) (omega arith))
 
-pub returns : goal.returns
-returns c =
+pub returns-else-top-bottom : goal.returns-else-top-bottom
+returns-else-top-bottom c =
     let a = c.args in
     let y = c.shift-za.result in
     let z = c.shift-zb.result in

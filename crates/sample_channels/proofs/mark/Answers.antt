@@ -1,4 +1,4 @@
-use Prim.Native.Nat.{ℕ, ◌-◌, min}
+use Prim.Native.Nat.{ℕ, min}
 use mathlib.Core.Path.{◌≡◌, sym, ap, ◌∙◌}
 use mathlib.Core.Bool.{Bool}
 use mathlib.Core.List.{List, map}
@@ -21,10 +21,9 @@ loop-i-preserved c =
     let marks = map (above g.levels) p in
     let d = above g.levels still in
     let x = get_or marks i d in
-    let u : c.above.result ≡ x = c.above.ensures ∙ ap (above g.levels) c.seen.ensures ∙ sym (get_or-map (above g.levels) p i still) in (
-      omega arith,
-      length-set ups i c.above.result ∙ inv.1,
-      rw add-one (ap (set ups i) u ∙ ap (λ (l : List Bool). set l i x) inv.2 ∙ ap (λ (k : ℕ). set (paste g.ups.now 0 marks i) k x) (sym (zero-add i))
+    let u : c.above.result ≡ x = c.above.ensures ∙ ap (above g.levels) c.moment_at.ensures ∙ sym (get_or-map (above g.levels) p i still) in (
+      length-set ups i c.above.result ∙ inv.0,
+      rw add-one (ap (set ups i) u ∙ ap (λ (l : List Bool). set l i x) inv.1 ∙ ap (λ (k : ℕ). set (paste g.ups.now 0 marks i) k x) (sym (zero-add i))
           ∙ paste-suc g.ups.now 0 marks i d (omega arith) (omega (arith, length-map p (above g.levels), moments_shorter g.roll.now g.acceleration.now))),
     )
 
@@ -33,4 +32,4 @@ returns c =
     let g = c.args in
     let p = moments g.roll.now g.acceleration.now in
     let e : c.loop-i.i ≡ min (length g.ups.now) (length p) = omega (arith, moments_shorter g.roll.now g.acceleration.now) in
-    c.loop-i.invariant.2 ∙ ap (paste g.ups.now 0 (map (above g.levels) p)) e
+    c.loop-i.invariant.1 ∙ ap (paste g.ups.now 0 (map (above g.levels) p)) e

@@ -346,7 +346,7 @@ fn plain_size(s: &[u8], at: usize, bytes: usize) -> u64
     s[at] as u64 * 10000 + four_value(s[at + 1], s[at + 3], s[at + 4], s[at + 5]) - 480000
 }
 
-// So many thousandths as a sample.
+// So many thousandths as a sample. No call of `degrees::sample`, which tests the range of each again.
 fn signed_size(minus: bool, size: u64) -> i32
     requires { size < 100000 }
     ensures { result ≡ signed minus size }

@@ -227,7 +227,7 @@ fn line_one(text: &[u8]) -> Option<(u64, usize)>
     Some((q, feed + 1))
 }
 
-// The number of a record.
+// The number of a record. No call of `degrees::sample`, whose range is that of a sample.
 fn number_for(failed: bool, exposure: u64) -> i32
     requires { exposure ≤ longest_time }
     ensures { result ≡ signed failed exposure }

@@ -25,18 +25,14 @@ pub fn step_in_range(step: u64) -> bool
 pub fn line_at(s: &[u8], at: usize, time: u64) -> Option<(bool, u64, usize)>
     ensures { result ≡ line_at s.now at time }
 {
-    let Some((t, end)) = decimal::leading_at(s, at) else {
-        return None;
-    };
+    let (t, end) = decimal::leading_at(s, at)?;
     if t != time {
         return None;
     }
     if !decimal::stands(s, end, COMMA) {
         return None;
     }
-    let Some((minus, size, next)) = roll_at(s, end + 1) else {
-        return None;
-    };
+    let (minus, size, next) = roll_at(s, end + 1)?;
     if !decimal::stands(s, next, LF) {
         return None;
     }

@@ -1,9 +1,7 @@
 -- What a reading answers, by what the first pass over its lines found. Assumes nothing.
 use Rattle.std.proofs.Common.{◌≡◌, ℕ, ◌+◌, ◌<◌, ◌≤◌, true, false, eqb, ltb, List, [], ◌∷◌, length, ℤ, sym, refl, ◌∙◌, zero-add, arith, ltb-false, ltb-true, le-ltb, lt-ltb}
 use lib.Seq.{sets, sets-eq}
-use Rattle.truth.proofs.Laws.{impossible}
 use Rattle.truth.proofs.Cases.{by_test}
-use Rattle.refusal.specs.declared.Refusal.{Refusal}
 use Rattle.refusal.specs.declared.Refusal.TheVariants.{Item, Sample, Room, CommaLine}
 use Rattle.sample_items.specs.Limits.{step_in_range}
 use Rattle.sample_range.specs.Range.{sample_in_range, first_bad}

@@ -1,6 +1,6 @@
 -- A reader on its way through the right lines of a text. `Going`: the lines that were taken stand before those that are
 -- left, and what was noted and put is what they say. Assumes nothing.
-use Rattle.std.proofs.Common.{◌≡◌, ℕ, suc, ◌+◌, ◌*◌, ◌^◌, ◌<◌, ◌≤◌, Bool, true, false, cond, ◌&&◌, eqb, leb, List, [], ◌∷◌, ◌++◌, map, length, take, drop, set, ℤ, pos, sym, refl, ap, ◌∙◌, append_assoc, add-zero, add_assoc, mul-le-mul, zero-mul, add-one, arith, length-append, length-drop, length-take, take_all, drop-cons, take-take, drop-drop, take_at, eq-eqb, ne_eqb, le-leb}
+use Rattle.std.proofs.Common.{◌≡◌, ℕ, suc, ◌+◌, ◌*◌, ◌^◌, ◌<◌, ◌≤◌, Bool, true, false, cond, ◌&&◌, eqb, leb, List, [], ◌∷◌, ◌++◌, map, length, take, drop, set, ℤ, pos, sym, refl, ap, ◌∙◌, append_assoc, add-zero, add_assoc, mul-le-mul, zero-mul, add-one, arith, length-append, length-drop, take_all, drop-cons, take-take, drop-drop, take_at, eq-eqb, ne_eqb, le-leb}
 use mathlib.Core.List.{map-append}
 use lib.ListN.{length-map}
 use lib.Seq.{take-nil, set_at}

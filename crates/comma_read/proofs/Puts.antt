@@ -1,6 +1,6 @@
 -- The samples of plain lines put one after the other: each is what its line says, and the slice stays as long. Assumes
 -- nothing.
-use Rattle.std.proofs.Common.{◌≡◌, ℕ, ◌+◌, ◌*◌, ◌^◌, ◌≤◌, true, List, length, drop, set, ℤ, refl, ◌∙◌, arith, length-set, get_or-drop}
+use Rattle.std.proofs.Common.{◌≡◌, ℕ, ◌+◌, ◌*◌, ◌≤◌, true, List, length, drop, set, ℤ, refl, ◌∙◌, arith, length-set, get_or-drop}
 use Rattle.degrees.specs.Degrees.{sample_of}
 use Rattle.comma_line.specs.Line.{roll, right}
 use Rattle.comma_read.specs.Roll.{PlainRoll, roll_sample}

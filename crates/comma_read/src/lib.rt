@@ -164,7 +164,7 @@ fn plain_roll(s: &[u8], c: usize) -> usize
 fn no_lines(at: usize) -> Run
     ensures { (result.at ≡ at) × (result.lines ≡ 0) }
 {
-    Run { at: at, lines: 0 }
+    Run { at, lines: 0 }
 }
 
 // The last two digits of `n`, one a byte.
@@ -212,35 +212,24 @@ fn plain_run(text: &[u8], at: usize, width: usize, due: u64, step: u64) -> Run
     let mut time = due;
     let mut place = at;
     let mut lines: u64 = 0;
+    // No range to go over: a turn's step is the line that `plain_roll` found.
     while time < LATEST {
         if last < place {
-            return Run {
-                at: place,
-                lines: lines,
-            };
+            return Run { at: place, lines };
         }
         if eight(text, place) >> shift != digits + zeros {
-            return Run {
-                at: place,
-                lines: lines,
-            };
+            return Run { at: place, lines };
         }
         let roll = plain_roll(text, place + width);
         if roll == 0 {
-            return Run {
-                at: place,
-                lines: lines,
-            };
+            return Run { at: place, lines };
         }
         place = place + width + roll / 2;
         digits = moved_on(digits, by);
         time += step;
         lines += 1;
     }
-    Run {
-        at: place,
-        lines: lines,
-    }
+    Run { at: place, lines }
 }
 
 // Whether a plain line may stand at `at`, its time so wide: looked at before the digits are laid out, so that a file
@@ -293,22 +282,17 @@ fn plain_front(text: &[u8], step: u64) -> Run
     let mut at = 0;
     let mut passed: u64 = 0;
     let mut width = 1;
+    // No range to go over: a turn's step is the run that `plain_lines` found.
     while at < text.len() {
         width = width_at(text, at, width, passed * step);
         let run = plain_lines(text, at, width, passed * step, step);
         if run.lines == 0 {
-            return Run {
-                at: at,
-                lines: passed,
-            };
+            return Run { at, lines: passed };
         }
         at = run.at;
         passed += run.lines;
     }
-    Run {
-        at: at,
-        lines: passed,
-    }
+    Run { at, lines: passed }
 }
 
 // Judges all lines of `text`, those of its front being plain: one that may be of any form, and plain ones together.
@@ -321,6 +305,7 @@ fn survey(text: &[u8], step: u64, front: usize, lines: u64) -> Result<(u64, u64)
     let mut due = lines * step;
     let mut sound = lines;
     let mut width = 1;
+    // No range to go over: a turn's step is a run and the line after it.
     while at < text.len() {
         width = width_at(text, at, width, due);
         let run = plain_lines(text, at, width, due, step);
@@ -342,15 +327,6 @@ fn survey(text: &[u8], step: u64, front: usize, lines: u64) -> Result<(u64, u64)
     Ok((count, sound))
 }
 
-// Puts `x` into its place, where `samples` has that place.
-fn put(x: i32, samples: &mut [i32], i: usize)
-    ensures { samples.new ≡ slice_set samples.old i x }
-{
-    if i < samples.len() {
-        samples[i] = x;
-    }
-}
-
 // What four digits are worth; their zeros are taken off at once.
 fn four_value(a: u8, b: u8, c: u8, d: u8) -> u64
     requires { all_digits (a ∷ b ∷ c ∷ d ∷ []) ≡ true }
@@ -370,13 +346,13 @@ fn plain_size(s: &[u8], at: usize, bytes: usize) -> u64
     s[at] as u64 * 10000 + four_value(s[at + 1], s[at + 3], s[at + 4], s[at + 5]) - 480000
 }
 
-// So many thousandths as a sample.
+// So many thousandths as a sample. No call of `degrees::sample`, which tests the range of each again.
 fn signed_size(minus: bool, size: u64) -> i32
     requires { size < 100000 }
     ensures { result ≡ signed minus size }
 {
     let x = size as i32;
-    if minus { 0 - x } else { x }
+    if minus { -x } else { x }
 }
 
 // The sample of the plain degrees after the comma at `c`, of which `plain_roll` said so much: each of its four
@@ -432,8 +408,7 @@ fn fill_front(text: &[u8], step: u64, front: usize, lines: u64, samples: &mut [i
 {
     let mut at = 0;
     let mut width = 1;
-    let mut count: u64 = 0;
-    while count < lines {
+    for count in 0..lines {
         width = width_in(text, at, width, count * step);
         let roll = form_of(text, at + width);
         store(
@@ -442,7 +417,6 @@ fn fill_front(text: &[u8], step: u64, front: usize, lines: u64, samples: &mut [i
             count as usize,
         );
         at = at + width + roll / 2;
-        count += 1;
     }
 }
 
@@ -456,6 +430,7 @@ fn fill_rest(text: &[u8], step: u64, front: usize, lines: u64, samples: &mut [i3
     let mut time = lines * step;
     let mut width = 1;
     let mut count = lines as usize;
+    // No range to go over: a turn's step is the line whose degrees were found.
     while at < text.len() {
         width = width_at(text, at, width, time);
         let roll = at + width + 1;
@@ -465,13 +440,13 @@ fn fill_rest(text: &[u8], step: u64, front: usize, lines: u64, samples: &mut [i3
             let Some((minus, size, next)) = degrees::degrees_at(text, roll) else {
                 return;
             };
-            put(degrees::sample(minus, size), samples, count);
+            text::put(degrees::sample(minus, size), samples, count);
             count += 1;
             time += step;
             at = next + 1;
             continue;
         }
-        put(
+        text::put(
             degrees::sample(from != roll, comma_word::size_at(text, from, bytes)),
             samples,
             count,
@@ -504,6 +479,7 @@ pub fn read(text: &[u8], step: u64, samples: &mut [i32]) -> Result<u64, Refusal>
         return Err(Refusal::Item(1));
     }
     let front = plain_front(text, step);
+    // No `map_err`: a closure would not know that `lines + 1` fits.
     match survey(text, step, front.at, front.lines) {
         Err(lines) => Err(Refusal::CommaLine(lines + 1)),
         Ok((count, sound)) => {
@@ -545,6 +521,8 @@ fn plain_put(
     let mut time = due;
     let mut place = at;
     let mut lines: u64 = 0;
+    // No range to go over: a turn's step is the line that `plain_roll` found. No loop in common with `plain_run`: a trait
+    // for what is done with a line, and its law, are no plainer than the few lines that both have.
     while lines < places {
         if !truth::both(time < LATEST, place <= last) {
             break;
@@ -566,10 +544,7 @@ fn plain_put(
         time += step;
         lines += 1;
     }
-    Run {
-        at: place,
-        lines: lines,
-    }
+    Run { at: place, lines }
 }
 
 // The same, where the first is looked at before.
@@ -610,6 +585,7 @@ fn right_lines(
     let mut due = before * step;
     let mut sound: u64 = 0;
     let mut width = 1;
+    // No range to go over: a turn's step is a run and the line after it.
     while (count as usize) < samples.len() {
         width = width_at(text, at, width, due);
         let run = plain_taken(text, at, width, due, step, samples, count as usize);

@@ -1,7 +1,7 @@
 -- The pieces in which a file comes make no difference: whatever they are, the same lines are taken and the same bytes
 -- are left as if it came whole, and it ends as `comma_read` reads it (`followed_whole`). And a line that is told to be
 -- wrong before it has ended does not become right (`wrong_stays`). Assumes nothing.
-use Prim.Native.Nat.{ℕ, zero, suc, ◌+◌, ◌-◌, ◌*◌, ◌≤◌, ◌<◌}
+use Prim.Native.Nat.{ℕ, zero, suc, ◌+◌, ◌*◌, ◌≤◌, ◌<◌}
 use mathlib.Core.Path.{◌≡◌, refl, sym, ap, subst, ◌∙◌}
 use mathlib.Core.Bool.{true, false, cond}
 use mathlib.Core.List.{List, [], ◌∷◌, ◌++◌, append_assoc, append-nil, map-append}

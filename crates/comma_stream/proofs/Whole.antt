@@ -2,13 +2,12 @@
 -- (`part`), what is left of a text that is all right or not (`all_right`, `one_wrong`), and that a line told to be
 -- wrong before its end stays wrong (`stays`). Assumes nothing.
 use Prim.Native.Nat.{ℕ, zero, suc, ◌+◌, ◌-◌, ◌*◌, ◌^◌, ◌≤◌, ◌<◌}
-use mathlib.Core.Path.{◌≡◌, refl, sym, ap, subst, ◌∙◌}
+use mathlib.Core.Path.{◌≡◌, sym, ap, subst, ◌∙◌}
 use mathlib.Core.Bool.{true, false}
 use mathlib.Core.List.{List, [], ◌∷◌, ◌++◌, append-nil}
-use native.Mathlib.Nat.{zero-add, add-zero}
 use native.Mathlib.Omega.{arith}
 use lib.ListN.{length, take, drop, length-append}
-use lib.Seq.{length-take-le, take-nil}
+use lib.Seq.{length-take-le}
 use Rattle.truth.proofs.Cases.{by_test}
 use Rattle.decimal.specs.Decimal.{longest}
 use Rattle.decimal.specs.Lines.{lines_of}

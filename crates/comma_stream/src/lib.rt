@@ -34,19 +34,11 @@ pub enum Rest {
     Wrong,
 }
 
-// Whether `text` has no LF from `at` on.
-fn unended(text: &[u8], at: usize) -> bool
-    requires { at ≤ length text.now }
-    ensures { result ≡ unended (drop at text.now) }
+// Whether `text` has no LF.
+fn unended(text: &[u8]) -> bool
+    ensures { result ≡ unended text.now }
 {
-    let mut i = at;
-    while i < text.len() {
-        if text[i] == LF {
-            return false;
-        }
-        i += 1;
-    }
-    true
+    text.iter().all(|b| *b != LF)
 }
 
 // What stands at `at`, where no right line does, and whether more may come: a line may have begun that has no LF yet
@@ -67,7 +59,7 @@ pub fn left(text: &[u8], at: usize, more: bool) -> Rest
     if text.len() - at >= LONGEST_LINE {
         return Rest::Wrong;
     }
-    if !unended(text, at) {
+    if !unended(&text[at..]) {
         return Rest::Wrong;
     }
     Rest::Waits(text.len() - at)
@@ -92,16 +84,11 @@ pub fn take(f: Follow, text: &[u8], samples: &mut [i32]) -> Result<(Follow, usiz
     ensures samples_after { samples.new ≡ leaving result text.now samples.old }
     ensures result_in_bounds { number_of result ≤ length samples.old }
 {
-    match comma_read::take(text, f.step, f.lines, samples) {
-        Err(why) => Err(why),
-        Ok((number, bytes, sound)) => Ok((
-            Follow {
-                step: f.step,
-                lines: f.lines + number,
-                outside: noted(f, number, sound),
-            },
-            bytes,
-            number as usize,
-        )),
-    }
+    let (number, bytes, sound) = comma_read::take(text, f.step, f.lines, samples)?;
+    let after = Follow {
+        step: f.step,
+        lines: f.lines + number,
+        outside: noted(f, number, sound),
+    };
+    Ok((after, bytes, number as usize))
 }

@@ -15,6 +15,7 @@ const POINT: u8 = b'.';
 
 const LF: u8 = b'\n';
 
+// Whether the four are digits. No `all`, which branches after each byte.
 fn four_digits(a: u8, b: u8, c: u8, d: u8) -> bool
     ensures { result ≡ all_digits (a ∷ b ∷ c ∷ d ∷ []) }
 {

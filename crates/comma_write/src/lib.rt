@@ -29,11 +29,9 @@ fn text_length(samples: &[i32], step: u64) -> u64
 {
     let mut time: u64 = 0;
     let mut total: u64 = 0;
-    let mut i = 0;
-    while i < samples.len() {
-        total += line_length(time, samples[i]) as u64;
+    for x in samples {
+        total += line_length(time, *x) as u64;
         time += step;
-        i += 1;
     }
     total
 }
@@ -58,11 +56,9 @@ fn put_text(samples: &[i32], step: u64, out: &mut [u8])
 {
     let mut time: u64 = 0;
     let mut at = 0;
-    let mut i = 0;
-    while i < samples.len() {
-        at = put_line(time, samples[i], out, at);
+    for x in samples {
+        at = put_line(time, *x, out, at);
         time += step;
-        i += 1;
     }
 }
 

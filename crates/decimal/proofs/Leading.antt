@@ -10,7 +10,7 @@ use lib.Dec.{eqb, leb, ltb}
 use lib.Seq.{get_or-drop}
 use borrow.Author.Tests.{lt-leb, lt-ltb, le-ltb, ltb-true, ne_eqb}
 use Rattle.truth.proofs.Cases.{by_test, by_order}
-use Rattle.truth.proofs.Laws.{and-true, impossible}
+use Rattle.truth.proofs.Laws.{and-true}
 use Rattle.decimal.specs.Decimal.{zero_byte, longest, is_digit, all_digits, leading_digits, is_number, value_of}
 use Rattle.decimal.specs.Leading.{stands_at, leading, after_leading, leading_at}
 use Rattle.decimal.proofs.Text.{sound, number_below}

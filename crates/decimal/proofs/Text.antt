@@ -103,6 +103,15 @@ digits_below (suc k) v h =
     (λ l. rw (digits_one v l) (omega arith))
     (λ l. rw (digits_more v l, length-append) (omega (arith, digits_below k (v / 10) (omega arith))))
 
+-- so it has as many as the largest power of ten that the number reaches says
+pub length_one : (v : ℕ) → v ≡ 0 → length (digits_of v) ≡ 1
+length_one v h = rw (digits_one v (omega arith))
+
+pub length_reached : (v k : ℕ) → 10 ^ k ≤ v → v < 10 * 10 ^ k → length (digits_of v) ≡ k + 1
+length_reached v k low high =
+    let high' : v < 10 ^ suc k = rw pow-suc (omega arith) in
+    omega (arith, digits_above k v low, digits_below k v high')
+
 -- a field's text has a digit at least, and its end
 module _ (v end : ℕ) where
   pub field_some : 2 ≤ length (field_text v end)

@@ -6,7 +6,7 @@ use Prim.Native.Nat.{ℕ, ◌+◌, ◌%◌}
 use lib.ListN.{length, drop}
 use Rattle.text.specs.Write.{written, place_after}
 use Rattle.decimal.specs.Decimal.{zero_byte, is_digit, is_number, longest, leading_digits, value_of, digits_of}
-use Rattle.decimal.specs.Field.{field_text}
+use Rattle.decimal.specs.Field.{ending, field_text}
 use Rattle.decimal.specs.Leading.{leading, leading_at, stands_at}
 use Rattle.decimal.specs.declared.Run.{Run}
 use Rattle.std.specs.Prelude.{Option}
@@ -54,3 +54,11 @@ module _ (v end : ℕ) (out : List ℕ) (at : ℕ) where
 
   pub field_bytes_unique : (later other : List ℕ) → later ≡ written out at (field_text v end) → other ≡ written out at (field_text v end) → later ≡ other
   field_bytes_unique later other e f = cc
+
+-- of `end_line`
+module _ (number : ℕ) (more : Option ℕ) (out : List ℕ) (at : ℕ) where
+  pub end_place_unique : (r q : ℕ) → r ≡ place_after out at (ending number more) → q ≡ place_after out at (ending number more) → r ≡ q
+  end_place_unique r q e f = cc
+
+  pub end_bytes_unique : (later other : List ℕ) → later ≡ written out at (ending number more) → other ≡ written out at (ending number more) → later ≡ other
+  end_bytes_unique later other e f = cc

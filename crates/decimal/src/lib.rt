@@ -3,11 +3,11 @@
 // to the first.
 #![tactic(auto)]
 
-ghost use Rattle.std.specs.Prelude.{◌≡◌, cond, ◌+◌, ◌%◌, ◌≤◌, min, length, drop, get_or};
+ghost use Rattle.std.specs.Prelude.{◌≡◌, cond, ◌+◌, ◌%◌, ◌≤◌, max, min, length, drop, get_or};
 ghost use Rattle.text.specs.Write.{written, place_after};
 ghost use Rattle.decimal.specs.Decimal.{zero_byte, longest, is_digit, is_number, leading_digits, value_of, digits_of};
 ghost use Rattle.decimal.specs.Decimal.{widest};
-ghost use Rattle.decimal.specs.Field.{field_text};
+ghost use Rattle.decimal.specs.Field.{ending, field_text};
 ghost use Rattle.decimal.specs.Leading.{leading, leading_at, stands_at};
 
 // The byte of the digit 0.
@@ -83,30 +83,22 @@ pub fn run_at(s: &[u8], at: usize) -> Run
 {
     let stop = last_place(s.len(), at);
     let mut value: u64 = 0;
-    let mut i = at;
-    while i < stop {
+    for i in at..stop {
         let b = s[i];
         if !is_digit(b) {
-            return Run {
-                value: value,
-                end: i,
-            };
+            return Run { value, end: i };
         }
         value = value * 10 + ((b - ZERO) as u64);
-        i += 1;
     }
-    Run {
-        value: value,
-        end: i,
-    }
+    Run { value, end: stop }
 }
 
 // Where the digits from `at` on end at the latest, in `len` bytes.
 fn last_place(len: usize, at: usize) -> usize
-    ensures { result ≡ min len (at + longest) }
+    ensures { result ≡ max at (min len (at + longest)) }
 {
     if len <= at {
-        return len;
+        return at;
     }
     if len - at < LONGEST {
         return len;
@@ -118,14 +110,12 @@ fn last_place(len: usize, at: usize) -> usize
 pub fn digits_end(s: &[u8], at: usize) -> usize
     ensures { result ≡ at + length (leading (drop at s.now)) }
 {
-    let mut i = at;
-    while i < s.len() {
+    for i in at..s.len() {
         if !is_digit(s[i]) {
             return i;
         }
-        i += 1;
     }
-    i
+    at.max(s.len())
 }
 
 // Whether `b` is a decimal digit.
@@ -139,18 +129,15 @@ pub fn is_digit(b: u8) -> bool
 }
 
 // How many digits the decimal text of `v` has.
+#[tactic(auto, using(crate::proofs::Text::length_one, crate::proofs::Text::length_reached))]
 pub fn digits(v: u64) -> usize
     ensures value { result ≡ length (digits_of v) }
     ensures upper_bound { result ≤ widest }
 {
-    let tens = v / 10;
-    let mut count: usize = 1;
-    let mut power: u64 = 1;
-    while power <= tens {
-        power = power * 10;
-        count += 1;
+    match v.checked_ilog10() {
+        None => 1,
+        Some(power) => power as usize + 1,
     }
-    count
 }
 
 // Writes the decimal text of `v` into `out` from `at` on. Answers the place after it, or `at` where it has no room
@@ -164,13 +151,10 @@ pub fn write_number(v: u64, out: &mut [u8], at: usize) -> usize
         return at;
     }
     let mut rest = v;
-    let mut i = at + count;
-    while 10 <= rest {
-        i -= 1;
+    for i in (at..at + count).rev() {
         out[i] = last_digit(rest);
-        rest = rest / 10;
+        rest /= 10;
     }
-    out[at] = last_digit(rest);
     at + count
 }
 
@@ -184,6 +168,22 @@ pub fn write_field(v: u64, end: u8, out: &mut [u8], at: usize) -> usize
     }
     let next = write_number(v, out, at);
     text::write_byte(end, out, next)
+}
+
+// Ends a line: writes `number`, and after a tab `more` where it is there, and LF into `out` from `at` on, all or
+// nothing.
+pub fn end_line(number: u64, more: Option<u64>, out: &mut [u8], at: usize) -> usize
+    ensures value { result ≡ place_after out.old at (ending number more) }
+    ensures out_after { out.new ≡ written out.old at (ending number more) }
+{
+    let Some(value) = more else {
+        return write_field(number, b'\n', out, at);
+    };
+    if !text::has_room(out.len(), at, digits(number) + digits(value) + 2) {
+        return at;
+    }
+    let next = write_field(number, b'\t', out, at);
+    write_field(value, b'\n', out, next)
 }
 
 // The byte of the last digit of `v`.

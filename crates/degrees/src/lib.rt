@@ -33,9 +33,7 @@ pub fn past_minus(s: &[u8], at: usize) -> usize
 fn size_at(s: &[u8], at: usize, minus: bool) -> Option<(bool, u64, usize)>
     ensures { result ≡ size_at s.now at minus }
 {
-    let Some((whole, end)) = decimal::leading_at(s, at) else {
-        return None;
-    };
+    let (whole, end) = decimal::leading_at(s, at)?;
     if !decimal::stands(s, end, POINT) {
         return Some((minus, whole * 1000, end));
     }
@@ -125,5 +123,5 @@ pub fn sample(minus: bool, size: u64) -> i32
         return 0;
     }
     let x = size as i32;
-    if minus { 0 - x } else { x }
+    if minus { -x } else { x }
 }

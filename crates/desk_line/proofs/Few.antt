@@ -1,10 +1,10 @@
 -- How long refused lines are: any has room in 128 bytes, since a number of 64 bits has at most 20 digits. Assumes
 -- nothing.
-use Prim.Native.Nat.{ℕ, ◌+◌, ◌≤◌, ◌<◌}
-use mathlib.Core.List.{[], ◌∷◌, ◌++◌}
+use Prim.Native.Nat.{ℕ, suc, ◌+◌, ◌*◌, ◌≤◌, ◌<◌}
+use mathlib.Core.List.{List, [], ◌∷◌}
 use native.Mathlib.Omega.{arith}
 use lib.Dec.{eqb}
-use lib.ListN.{length, length-append}
+use lib.ListN.{length, get_or, length-append}
 use Rattle.truth.proofs.Cases.{by_test}
 use Rattle.decimal.specs.Field.{tab, line_feed, field_text}
 use Rattle.decimal.proofs.Text.{field_few}
@@ -27,13 +27,18 @@ why_few number value h k =
     (λ e. rw (e, length-append) (omega (arith, field_few number tab 1 h, field_small value line_feed k)))
     (λ e. rw e (omega (arith, field_few number line_feed 1 h)))
 
-module _ (line : ℕ) (r : Refusal) (h : Small line) (k : Small (value_of r)) where
-  pub refused_few : length (refused_line (line ∷ []) r) ≤ longest_said
-  unfolding refused_line places_then
-  refused_few = simp length-append (omega (arith, field_small line tab h, why_few (number_of r) (value_of r) (number_small r) k))
+-- each place has a number of 64 bits
+places_few : (places rest : List ℕ) → ((i : ℕ) → Small (get_or places i 0))
+    → length (places_then places rest) ≤ 21 * length places + length rest
+unfolding places_then
+places_few [] rest h = omega arith
+places_few (n ∷ places) rest h =
+    let tail = places_few places rest (λ i. h (suc i)) in
+    rw length-append (omega (arith, field_small n tab (h 0), tail))
 
-  pub refused_in_few : (file : ℕ) → Small file → length (refused_line (file ∷ line ∷ []) r) ≤ longest_said
-  unfolding refused_line places_then
-  refused_in_few file g =
-      simp length-append
-      (omega (arith, field_small file tab g, field_small line tab h, why_few (number_of r) (value_of r) (number_small r) k))
+pub refused_few : (places : List ℕ) (r : Refusal) → ((i : ℕ) → Small (get_or places i 0)) → length places ≤ 2 → Small (value_of r)
+    → length (refused_line places r) ≤ longest_said
+unfolding refused_line
+refused_few places r h few k =
+    let why = why_text (number_of r) (value_of r) in
+    simp length-append (omega (arith, places_few places why h, why_few (number_of r) (value_of r) (number_small r) k))

@@ -1,7 +1,7 @@
 -- What a command says: one line, fields parted by a tab and ended by LF, and a digit; the refused line (documents 01
 -- and 02, "refused"), with the item after 1 as 01's refusal numbers carry it; and what writing a line into lent bytes
 -- answers and leaves. Assumes nothing.
-use Rattle.std.specs.Prelude.{ℕ, ◌≤◌, ◌≡◌, cond, List, [], ◌∷◌, ◌++◌, eqb, ltb, length}
+use Rattle.std.specs.Prelude.{ℕ, ◌≡◌, cond, List, [], ◌∷◌, ◌++◌, eqb, ltb, length}
 use Rattle.refusal.specs.declared.Refusal.{Refusal}
 use Rattle.refusal.specs.Numbers.{number_of, value_of}
 use Rattle.text.specs.Write.{written}

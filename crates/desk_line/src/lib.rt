@@ -6,6 +6,7 @@
 
 ghost use Rattle.std.specs.Prelude.{◌≡◌, [], ◌∷◌, ◌+◌, ◌≤◌, length};
 ghost use Rattle.text.specs.Write.{written, place_after};
+ghost use Rattle.decimal.specs.Field.{ending};
 ghost use Rattle.desk_line.specs.Said.{why_text, refused, longest_said, Puts, putting, put_left};
 
 use refusal::Refusal;
@@ -22,8 +23,6 @@ pub const LONGEST_LINE: usize = 128;
 
 const TAB: u8 = b'\t';
 
-const LF: u8 = b'\n';
-
 // The refusal that names an item.
 const ITEM: u64 = 1;
 
@@ -34,48 +33,32 @@ pub struct Finished {
     pub end: u8,
 }
 
-// Writes a refusal's number, and its item where it is 1.
-fn put_why(number: u64, value: u64, out: &mut [u8], at: usize) -> usize
-    requires { at + length (why_text number value) ≤ length out.old }
-    ensures value { result ≡ place_after out.old at (why_text number value) }
-    ensures out_after { out.new ≡ written out.old at (why_text number value) }
+// What is written after a refusal's number: the item where it is 1.
+#[tactic(auto, unfolding(decimal::specs::Field::ending, crate::specs::Said::why_text))]
+fn item(number: u64, value: u64) -> Option<u64>
+    ensures { ending number result ≡ why_text number value }
 {
-    if number == ITEM {
-        let next = decimal::write_field(number, TAB, out, at);
-        return decimal::write_field(value, LF, out, next);
-    }
-    decimal::write_field(number, LF, out, at)
+    (number == ITEM).then_some(value)
 }
 
-fn put_refused(line: u64, r: Refusal, out: &mut [u8]) -> Finished
-    requires { longest_said ≤ length out.old }
-    ensures { Puts (refused (line ∷ []) r) out.old result out.new }
+// Writes the refused line with the numbers of one place or two.
+fn put_refused(places: &[u64], r: Refusal, out: &mut [u8]) -> Finished
+    requires { (longest_said ≤ length out.old) × (length places.now ≤ 2) }
+    ensures { Puts (refused places.now r) out.old result out.new }
 {
-    let number = text::write_bytes(b"refused\t", out, 0);
-    let why = decimal::write_field(line, TAB, out, number);
-    let n = put_why(refusal::number(r), refusal::carried(r), out, why);
-    Finished {
-        put: n,
-        end: REFUSED,
+    let number = refusal::number(r);
+    let item = item(number, refusal::carried(r));
+    let mut at = text::write_bytes(b"refused\t", out, 0);
+    for place in places {
+        at = decimal::write_field(*place, TAB, out, at);
     }
-}
-
-fn put_refused_in(file: u64, line: u64, r: Refusal, out: &mut [u8]) -> Finished
-    requires { longest_said ≤ length out.old }
-    ensures { Puts (refused (file ∷ line ∷ []) r) out.old result out.new }
-{
-    let number = text::write_bytes(b"refused\t", out, 0);
-    let place = decimal::write_field(file, TAB, out, number);
-    let why = decimal::write_field(line, TAB, out, place);
-    let n = put_why(refusal::number(r), refusal::carried(r), out, why);
-    Finished {
-        put: n,
-        end: REFUSED,
-    }
+    let put = decimal::end_line(number, item, out, at);
+    Finished { put, end: REFUSED }
 }
 
 // The refused line of one file, with the line at fault or 0. Without room for any line nothing is written, and the
 // program ends as failed.
+#[tactic(auto, unfolding(crate::specs::Said::putting, crate::specs::Said::put_left))]
 pub fn refuse(line: u64, r: Refusal, out: &mut [u8]) -> Finished
     ensures value { result ≡ putting (refused (line ∷ []) r) out.old }
     ensures out_after { out.new ≡ put_left (refused (line ∷ []) r) out.old }
@@ -86,10 +69,11 @@ pub fn refuse(line: u64, r: Refusal, out: &mut [u8]) -> Finished
             end: FAILED,
         };
     }
-    put_refused(line, r, out)
+    put_refused(&[line], r, out)
 }
 
 // The same of one file among several, with its number or 0.
+#[tactic(auto, unfolding(crate::specs::Said::putting, crate::specs::Said::put_left))]
 pub fn refuse_in(file: u64, line: u64, r: Refusal, out: &mut [u8]) -> Finished
     ensures value { result ≡ putting (refused (file ∷ line ∷ []) r) out.old }
     ensures out_after { out.new ≡ put_left (refused (file ∷ line ∷ []) r) out.old }
@@ -100,5 +84,5 @@ pub fn refuse_in(file: u64, line: u64, r: Refusal, out: &mut [u8]) -> Finished
             end: FAILED,
         };
     }
-    put_refused_in(file, line, r, out)
+    put_refused(&[file, line], r, out)
 }

@@ -55,10 +55,8 @@ fn put_peaks(file: u64, sizes: &[u32], times: &[u32], out: &mut [u8], from: usiz
         ≡ written out.old from (peak_lines file sizes.now times.now) }
 {
     let mut at = from;
-    let mut i = 0;
-    while i < sizes.len() {
-        at = put_peak(file, sizes[i], times[i], out, at);
-        i += 1;
+    for (size, time) in sizes.iter().zip(times) {
+        at = put_peak(file, *size, *time, out, at);
     }
     at
 }

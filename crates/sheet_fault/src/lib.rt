@@ -5,6 +5,7 @@
 
 ghost use Rattle.std.specs.Prelude.{◌≡◌, ◌+◌, ◌≤◌, length};
 ghost use Rattle.text.specs.Write.{written, place_after};
+ghost use Rattle.decimal.specs.Field.{ending};
 ghost use Rattle.desk_line.specs.Said.{longest_said, Puts, putting, put_left};
 ghost use Rattle.sheet_fault.specs.Fault.{number_then, refused_sheet};
 
@@ -12,19 +13,12 @@ use desk_line::Finished;
 
 const TAB: u8 = b'\t';
 
-const LF: u8 = b'\n';
-
-// Writes a refusal's number, and one number more where it is told.
-fn put_why(number: u64, told: bool, value: u64, out: &mut [u8], at: usize) -> usize
-    requires { at + length (number_then number told value) ≤ length out.old }
-    ensures value { result ≡ place_after out.old at (number_then number told value) }
-    ensures out_after { out.new ≡ written out.old at (number_then number told value) }
+// What is written after a refusal's number: a number more where it is told.
+#[tactic(auto, unfolding(decimal::specs::Field::ending, crate::specs::Fault::number_then))]
+fn more(number: u64, told: bool, value: u64) -> Option<u64>
+    ensures { ending number result ≡ number_then number told value }
 {
-    if told {
-        let next = decimal::write_field(number, TAB, out, at);
-        return decimal::write_field(value, LF, out, next);
-    }
-    decimal::write_field(number, LF, out, at)
+    told.then_some(value)
 }
 
 fn put_fault(place: u64, line: u64, number: u64, told: bool, value: u64, out: &mut [u8]) -> Finished
@@ -34,15 +28,16 @@ fn put_fault(place: u64, line: u64, number: u64, told: bool, value: u64, out: &m
     let first = text::write_bytes(b"refused\t", out, 0);
     let second = decimal::write_field(place, TAB, out, first);
     let third = decimal::write_field(line, TAB, out, second);
-    let n = put_why(number, told, value, out, third);
+    let put = decimal::end_line(number, more(number, told, value), out, third);
     Finished {
-        put: n,
+        put,
         end: desk_line::REFUSED,
     }
 }
 
 // The refused line of the sheet at this place, at its line, with the refusal's number and `value` where it is told.
 // Without room for any line nothing is written, and the program ends as failed.
+#[tactic(auto, unfolding(desk_line::specs::Said::putting, desk_line::specs::Said::put_left))]
 pub fn refuse(
     place: u64,
     line: u64,

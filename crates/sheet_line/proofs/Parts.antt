@@ -1,7 +1,7 @@
 -- A line as a whole: it is whole exactly if it has at most 64 bytes and is its fields, parted by one tab and ended by
 -- LF, in their right number; and where each of them starts. Assumes nothing.
 use mathlib.Core.Path.{◌≡◌, refl, sym, ap, ◌∙◌}
-use mathlib.Core.Bool.{true, false}
+use mathlib.Core.Bool.{true}
 use mathlib.Core.List.{List, [], ◌∷◌, ◌++◌, append_assoc}
 use Prim.Native.Nat.{ℕ, suc, ◌+◌, ◌-◌, ◌≤◌}
 use native.Mathlib.Numerals.{unary_clauses}

@@ -12,11 +12,9 @@ use lib.ListN.{length, drop, length-append}
 use lib.Seq.{drop-append-add, drop-append_seam, get_or-append_seam}
 use native.Mathlib.Nat.{add_assoc, zero-add}
 use borrow.Author.Tests.{le-leb, le-ltb, eq-eqb, ne_eqb}
-use Rattle.truth.proofs.Laws.{holds, impossible, past}
+use Rattle.truth.proofs.Laws.{holds, past}
 use Rattle.record_state.specs.declared.Record.{Record}
 use Rattle.sample_items.specs.Limits.{longest_time}
-use Rattle.refusal.specs.declared.Refusal.{Refusal}
-use Rattle.refusal.specs.declared.Refusal.TheVariants.{TooLong, TooShort}
 use Rattle.record_end.specs.Result.{ending, outcome_of}
 use Rattle.record_end.specs.declared.RecordResult.{RecordResult}
 use Rattle.record_end.proofs.Given.{given_bounds}
@@ -37,7 +35,7 @@ use Rattle.sheet_line.specs.Texts.{entry_text, head_text}
 use Rattle.sheet_line.proofs.Columns.{record_few}
 use Rattle.sheet_line.specs.Line.{ended_by, field_then, line_after, outcome, record_line, standard_line, starts_with, stepping, telling, line_outcome}
 use Rattle.sheet_line.proofs.Entries.{Entry, record_says, says_next}
-use Rattle.std.specs.Prelude.{Ok, Err}
+use Rattle.std.specs.Prelude.{Ok}
 use Rattle.truth.proofs.Answers.{err_not_ok}
 
 -- what a line that is taken says

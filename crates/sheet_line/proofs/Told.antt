@@ -3,13 +3,13 @@
 use mathlib.Core.Path.{◌≡◌, refl, ap}
 use mathlib.Core.Bool.{true, false, and-false}
 use mathlib.Core.List.{List, [], ◌∷◌, ◌++◌}
-use Prim.Native.Nat.{ℕ, ◌+◌, ◌≤◌}
+use Prim.Native.Nat.{ℕ, ◌≤◌}
 use native.Mathlib.Omega.{arith}
 use lib.Dec.{eqb, leb, ltb}
 use lib.ListN.{length, get_or}
 use borrow.Author.Tests.{eqb-true, eqb-false, ne_eqb, le-leb, lt-leb, lt-ltb}
 use Rattle.truth.proofs.Cases.{by_order, by_test}
-use Rattle.truth.proofs.Laws.{and-true, true≢false}
+use Rattle.truth.proofs.Laws.{true≢false}
 use Rattle.decimal.specs.Decimal.{all_digits, is_digit, is_number, zero_byte}
 use Rattle.decimal.proofs.Text.{all_append}
 use Rattle.decimal.proofs.Leading.{leading_is}

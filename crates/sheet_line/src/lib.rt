@@ -120,32 +120,14 @@ pub fn is_line(text: &[u8]) -> bool
 pub fn begins(text: &[u8], word: &[u8]) -> bool
     ensures { result ≡ begins word.now text.now }
 {
-    let mut i = 0;
-    while i < word.len() {
-        if text.len() <= i {
-            return false;
-        }
-        if text[i] != word[i] {
-            return false;
-        }
-        i += 1;
-    }
-    true
+    text.starts_with(word)
 }
 
 // How often `byte` stands in `text`.
 fn how_many(byte: u8, text: &[u8]) -> usize
     ensures { result ≡ how_many byte text.now }
 {
-    let mut count: usize = 0;
-    let mut i = 0;
-    while i < text.len() {
-        if text[i] == byte {
-            count += 1;
-        }
-        i += 1;
-    }
-    count
+    text.iter().filter(|b| **b == byte).count()
 }
 
 // Whether `text` has one LF, and so many tabs between its fields.
@@ -180,15 +162,7 @@ fn look_at(text: &[u8], at: usize, low: u64, high: u64) -> Look
             column: (place as u64) + 1,
             next: 0,
         },
-        Field::Empty => Look {
-            column: first,
-            next: 0,
-        },
-        Field::LeadingZero => Look {
-            column: first,
-            next: 0,
-        },
-        Field::TooLong => Look {
+        Field::Empty | Field::LeadingZero | Field::TooLong => Look {
             column: first,
             next: 0,
         },
@@ -256,6 +230,7 @@ pub enum Sheet {
 }
 
 // The number field of `text` at `at` that the byte `end` ends, and the place after that byte.
+#[tactic(auto, unfolding(crate::specs::Line::field_then, crate::specs::Line::ended_by))]
 fn field_then(end: u8, text: &[u8], at: usize) -> Field
     ensures { result ≡ field_then end text.now at }
 {
@@ -270,10 +245,7 @@ fn field_then(end: u8, text: &[u8], at: usize) -> Field
             }
             Field::Number(value, next + 1)
         }
-        Field::Empty => field,
-        Field::Strange(_) => field,
-        Field::LeadingZero => field,
-        Field::TooLong => field,
+        Field::Empty | Field::Strange(_) | Field::LeadingZero | Field::TooLong => field,
     }
 }
 
@@ -362,10 +334,7 @@ fn record_line(c: Campaign, text: &[u8]) -> Result<Sheet, (u64, u64, Refusal)>
 fn outcome(line: u64, a: Result<Campaign, Refusal>) -> Result<Sheet, (u64, u64, Refusal)>
     ensures { result ≡ outcome line a }
 {
-    match a {
-        Ok(c) => Ok(Sheet::Open(c)),
-        Err(r) => Err((line, 0, r)),
-    }
+    a.map(Sheet::Open).map_err(|r| (line, 0, r))
 }
 
 impl Sheet {

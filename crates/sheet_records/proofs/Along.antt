@@ -14,7 +14,6 @@ use Rattle.truth.proofs.Laws.{and-true, holds, impossible, is_true, true≢false
 use Rattle.poisson.specs.Rows.{rows}
 use Rattle.refusal.specs.declared.Refusal.{Refusal}
 use Rattle.refusal.specs.declared.Refusal.TheVariants.{Item}
-use Rattle.sample_items.specs.Limits.{within}
 use Rattle.campaign_state.specs.declared.Campaign.{Campaign}
 use Rattle.campaign_state.specs.Answers.{opened}
 use Rattle.campaign_state.specs.State.{empty, entered, most_records, sound, standard_in_range}

@@ -12,11 +12,11 @@ use lib.Dec.{eqb, ltb}
 use lib.ListN.{length, get_or, drop, length-drop}
 use lib.Seq.{drop-append_seam, drop-cons, drop-drop, get_or-drop}
 use borrow.Author.Tests.{eq-eqb, eqb-true, lt-ltb, ltb-true}
-use Rattle.truth.proofs.Laws.{and-true, impossible, true≢false}
+use Rattle.truth.proofs.Laws.{and-true, true≢false}
 use Rattle.sample_items.specs.Limits.{longest_time}
 use Rattle.decimal.specs.Decimal.{digits_of, is_digit, longest, zero_byte}
 use Rattle.decimal.specs.Field.{field_text, line_feed, tab}
-use Rattle.decimal.specs.Leading.{after_leading, leading, leading_at, stands_at}
+use Rattle.decimal.specs.Leading.{leading, leading_at, stands_at}
 use Rattle.decimal.proofs.Leading.{leading_is, leads_number, led}
 use Rattle.decimal.proofs.Text.{all_digits_lem, digits_value, number_digits, value_digits}
 use Rattle.sheet_line.specs.Form.{begins, standard_start}

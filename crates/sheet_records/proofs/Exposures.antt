@@ -5,11 +5,10 @@ use mathlib.Core.Bool.{true, false, and-false}
 use mathlib.Core.List.{List, [], ◌∷◌, ◌++◌}
 use Prim.Native.Nat.{ℕ, zero, suc, ◌+◌, ◌^◌, ◌≤◌, ◌<◌}
 use native.Mathlib.Nat.{add-zero}
-use native.Mathlib.Numerals.{add-one}
 use native.Mathlib.Omega.{arith}
 use lib.Dec.{ltb}
-use lib.ListN.{length, drop, get_or, drop_of_length-le}
-use lib.Seq.{drop-cons, get_or-drop}
+use lib.ListN.{length, drop, get_or}
+use lib.Seq.{get_or-drop}
 use borrow.Author.Tests.{eq-eqb, eqb-true, le-leb, ne_eqb}
 use Rattle.truth.proofs.Cases.{by_order}
 use Rattle.truth.proofs.Laws.{impossible, true≢false}

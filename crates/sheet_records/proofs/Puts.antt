@@ -9,7 +9,6 @@ use lib.ListN.{length, length-append}
 use lib.Signed.{lt_z}
 use lib.Dec.{ltb}
 use borrow.Author.Tests.{le-ltb, lt-ltb, ltb-false}
-use Rattle.truth.proofs.Laws.{impossible}
 use Rattle.truth.proofs.Cases.{by_test}
 use Rattle.refusal.specs.declared.Refusal.{Refusal}
 use Rattle.refusal.specs.declared.Refusal.TheVariants.{Room}

@@ -73,18 +73,10 @@ fn judge(q: u64, records: &[i32]) -> Result<(), Refusal>
         return Err(Refusal::Item(5));
     }
     let mut failures: u64 = 0;
-    let mut i = 0;
-    while i < records.len() {
-        let o = outcome(records[i]);
-        match judge_one(i as u64, failures, o.exposure) {
-            Err(r) => {
-                return Err(r);
-            }
-            Ok(()) => {
-                failures = truth::pick(o.failed, failures + 1, failures);
-                i += 1;
-            }
-        }
+    for (i, x) in records.iter().enumerate() {
+        let o = outcome(*x);
+        judge_one(i as u64, failures, o.exposure)?;
+        failures = truth::pick(o.failed, failures + 1, failures);
     }
     Ok(())
 }
@@ -103,10 +95,8 @@ fn sheet_length(q: u64, records: &[i32]) -> u64
     ensures { result ≡ length (sheet_text q records.now) }
 {
     let mut total = (decimal::digits(q) as u64) + 10;
-    let mut i = 0;
-    while i < records.len() {
-        total += line_length((i as u64) + 1, records[i]) as u64;
-        i += 1;
+    for (i, x) in records.iter().enumerate() {
+        total += line_length((i as u64) + 1, *x) as u64;
     }
     total
 }
@@ -144,10 +134,8 @@ fn put_lines(records: &[i32], out: &mut [u8], at: usize) -> usize
     ensures out_after { out.new ≡ written out.old at (lines_from 1 records.now) }
 {
     let mut place = at;
-    let mut i = 0;
-    while i < records.len() {
-        place = put_line((i as u64) + 1, records[i], out, place);
-        i += 1;
+    for (i, x) in records.iter().enumerate() {
+        place = put_line((i as u64) + 1, *x, out, place);
     }
     place
 }
@@ -167,20 +155,15 @@ pub fn write(q: u64, records: &[i32], out: &mut [u8]) -> Result<u64, Refusal>
     ensures value { result ≡ writing_sheet q records.now out.old }
     ensures out_after { out.new ≡ laid_by result (sheet_text q records.now) out.old }
 {
-    match judge(q, records) {
-        Err(r) => Err(r),
-        Ok(()) => {
-            let needed = sheet_length(q, records);
-            if (out.len() as u64) < needed {
-                return Err(Refusal::Room(needed));
-            }
-            put_sheet(q, records, out);
-            Ok(needed)
-        }
+    judge(q, records)?;
+    let needed = sheet_length(q, records);
+    if (out.len() as u64) < needed {
+        return Err(Refusal::Room(needed));
     }
+    put_sheet(q, records, out);
+    Ok(needed)
 }
 
-// The byte of the digit 0; that of 1 follows it.
 // So many digits are always an exposure that is taken, if the first is not 0.
 const FREE_DIGITS: usize = 7;
 
@@ -198,9 +181,7 @@ fn exposure_at(text: &[u8], at: usize) -> Option<usize>
     if end - at <= FREE_DIGITS {
         return Some(end);
     }
-    let Some((t, next)) = decimal::leading_at(text, at) else {
-        return None;
-    };
+    let (t, next) = decimal::leading_at(text, at)?;
     if t > sample_items::LONGEST_TIME {
         return None;
     }
@@ -211,9 +192,7 @@ fn exposure_at(text: &[u8], at: usize) -> Option<usize>
 fn entry_at(text: &[u8], at: usize, due: u64) -> Option<(bool, usize)>
     ensures { EntryAt text.now at due result }
 {
-    let Some((number, end)) = decimal::leading_at(text, at) else {
-        return None;
-    };
+    let (number, end) = decimal::leading_at(text, at)?;
     if number != due {
         return None;
     }
@@ -227,9 +206,7 @@ fn entry_at(text: &[u8], at: usize, due: u64) -> Option<(bool, usize)>
     if !decimal::stands(text, end + 2, TAB) {
         return None;
     }
-    let Some(feed) = exposure_at(text, end + 3) else {
-        return None;
-    };
+    let feed = exposure_at(text, end + 3)?;
     if !decimal::stands(text, feed, LF) {
         return None;
     }
@@ -243,22 +220,20 @@ fn line_one(text: &[u8]) -> Option<(u64, usize)>
     if !sheet_line::begins(text, b"standard\t") {
         return None;
     }
-    let Some((q, feed)) = decimal::leading_at(text, 9) else {
-        return None;
-    };
+    let (q, feed) = decimal::leading_at(text, 9)?;
     if !decimal::stands(text, feed, LF) {
         return None;
     }
     Some((q, feed + 1))
 }
 
-// The number of a record.
+// The number of a record. No call of `degrees::sample`, whose range is that of a sample.
 fn number_for(failed: bool, exposure: u64) -> i32
     requires { exposure ≤ longest_time }
     ensures { result ≡ signed failed exposure }
 {
     let x = exposure as i32;
-    if failed { 0 - x } else { x }
+    if failed { -x } else { x }
 }
 
 // Whether a record is taken after so many records and failures.
@@ -271,32 +246,20 @@ fn takes(count: u64, failures: u64) -> bool
     )
 }
 
-// Puts `x` into its place, where `places` has that place.
-fn put(x: i32, places: &mut [i32], i: usize)
-    ensures { places.new ≡ set places.old i x }
-{
-    if i < places.len() {
-        places[i] = x;
-    }
-}
-
 // Goes over all lines of `text`, to judge them.
 fn pass(text: &[u8]) -> Option<(u64, u64, usize)>
     ensures { Passes text.now result }
 {
-    let Some((q, begin)) = line_one(text) else {
-        return None;
-    };
+    let (q, begin) = line_one(text)?;
     if !truth::both(1 <= q, q <= campaign_state::LONGEST_STANDARD) {
         return None;
     }
     let mut at = begin;
     let mut count: u64 = 0;
     let mut failures: u64 = 0;
+    // No range to go over: a turn's step is the line that `entry_at` read.
     while at < text.len() {
-        let Some((failed, next)) = entry_at(text, at, count + 1) else {
-            return None;
-        };
+        let (failed, next) = entry_at(text, at, count + 1)?;
         if !takes(count, failures) {
             return None;
         }
@@ -341,9 +304,10 @@ fn put_all(text: &[u8], begin: usize, places: &mut [i32])
     let mut count: u64 = 0;
     let mut width: u64 = 1;
     let mut limit: u64 = 10;
+    // No range to go over: a turn's step is the line that `record_at` read.
     while at < text.len() {
         let r = record_at(text, at, width as usize);
-        put(number_for(r.failed, r.exposure), places, count as usize);
+        text::put(number_for(r.failed, r.exposure), places, count as usize);
         count += 1;
         width = truth::pick(count + 1 == limit, width + 1, width);
         limit = truth::pick(count + 1 == limit, limit * 10, limit);
@@ -369,14 +333,12 @@ pub fn records(text: &[u8], places: &mut [i32]) -> Result<(u64, u64), (u64, u64,
     ensures value { result ≡ resuming text.now (length places.old) }
     ensures places_after { places.new ≡ filled_by result (records_of text.now) places.old }
 {
-    match pass(text) {
-        None => stopped(sheet_text::read(Sheet::Fresh, text, false)),
-        Some((q, count, begin)) => {
-            if (places.len() as u64) < count {
-                return Err((0, 0, Refusal::Room(count)));
-            }
-            put_all(text, begin, places);
-            Ok((q, count))
-        }
+    let Some((q, count, begin)) = pass(text) else {
+        return stopped(sheet_text::read(Sheet::Fresh, text, false));
+    };
+    if (places.len() as u64) < count {
+        return Err((0, 0, Refusal::Room(count)));
     }
+    put_all(text, begin, places);
+    Ok((q, count))
 }

@@ -5,6 +5,7 @@
 ghost use Rattle.std.specs.Prelude.{◌≡◌, true, ◌+◌, ◌≤◌, length};
 ghost use Rattle.text.specs.Write.{written, place_after};
 ghost use Rattle.campaign_state.specs.State.{censored, sound};
+ghost use Rattle.decimal.specs.Field.{ending};
 ghost use Rattle.sheet_reply.specs.Written.{letter_for, reason_text, record_text, record_left, record_writing};
 ghost use Rattle.sheet_reply.specs.Written.{refused_text, writing_reply};
 
@@ -39,17 +40,16 @@ fn letter(c: Campaign) -> u8
 }
 
 // N* of a campaign that keeps its relations.
+#[tactic(auto, unfolding(campaign_verdict::specs::Answers::counting))]
 fn censored(c: Campaign) -> u64
     requires { sound c ≡ true }
     ensures { result ≡ censored c }
 {
-    let Ok(n) = campaign_verdict::censored(c) else {
-        return 0;
-    };
-    n
+    campaign_verdict::censored(c).unwrap_or(0)
 }
 
 // The bytes of a record's line.
+#[tactic(auto, unfolding(crate::specs::Written::record_text, crate::specs::Written::figures, decimal::specs::Field::field_text))]
 fn record_length(c: Campaign) -> usize
     requires { sound c ≡ true }
     ensures { result ≡ length (record_text c) }
@@ -102,6 +102,7 @@ pub fn write_record(c: Campaign, out: &mut [u8], at: usize) -> Result<usize, Ref
 }
 
 // The bytes of a refusal's number and its column.
+#[tactic(auto, unfolding(crate::specs::Written::reason_text, decimal::specs::Field::field_text))]
 fn reason_length(number: u64, column: u64) -> usize
     ensures value { result ≡ length (reason_text number column) }
     ensures upper_bound { result ≤ 42 }
@@ -112,20 +113,16 @@ fn reason_length(number: u64, column: u64) -> usize
     decimal::digits(number) + 1
 }
 
-// Writes a refusal's number and its column where they have room.
-fn put_reason(number: u64, column: u64, out: &mut [u8], at: usize) -> usize
-    requires { at + length (reason_text number column) ≤ length out.old }
-    ensures value { result ≡ place_after out.old at (reason_text number column) }
-    ensures out_after { out.new ≡ written out.old at (reason_text number column) }
+// What is written after a refusal's number: the column of a malformed line.
+#[tactic(auto, unfolding(decimal::specs::Field::ending, crate::specs::Written::reason_text))]
+fn told(number: u64, column: u64) -> Option<u64>
+    ensures { ending number result ≡ reason_text number column }
 {
-    if number == MALFORMED {
-        let next = decimal::write_field(number, TAB, out, at);
-        return decimal::write_field(column, LF, out, next);
-    }
-    decimal::write_field(number, LF, out, at)
+    (number == MALFORMED).then_some(column)
 }
 
 // The bytes of the refused line.
+#[tactic(auto, unfolding(crate::specs::Written::refused_text, decimal::specs::Field::field_text))]
 fn refused_length(line: u64, column: u64, r: Refusal) -> usize
     ensures { result ≡ length (refused_text line column r) }
 {
@@ -138,13 +135,15 @@ fn put_refused(line: u64, column: u64, r: Refusal, out: &mut [u8], at: usize) ->
     ensures value { result ≡ place_after out.old at (refused_text line column r) }
     ensures out_after { out.new ≡ written out.old at (refused_text line column r) }
 {
-    let number = text::write_bytes(b"refused\t", out, at);
-    let reason = decimal::write_field(line, TAB, out, number);
-    put_reason(refusal::number(r), column, out, reason)
+    let number = refusal::number(r);
+    let place = text::write_bytes(b"refused\t", out, at);
+    let reason = decimal::write_field(line, TAB, out, place);
+    decimal::end_line(number, told(number, column), out, reason)
 }
 
 // Writes the refused line into `out` from `at` on: refused, the line's number, the refusal's, and the column where
 // that is 9. Or refusal 7 with the bytes needed.
+#[tactic(auto, unfolding(crate::specs::Written::writing_reply, text::specs::Write::written, text::specs::Write::place_after))]
 pub fn write_refused(
     line: u64,
     column: u64,

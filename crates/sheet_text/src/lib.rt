@@ -61,14 +61,12 @@ fn line_end(text: &[u8], at: usize) -> usize
     ensures { result ≡ at + cut longest_sheet_line (drop at text.now) }
 {
     let stop = furthest(text.len(), at);
-    let mut i = at;
-    while i < stop {
+    for i in at..stop {
         if text[i] == LF {
             return i + 1;
         }
-        i += 1;
     }
-    i
+    stop
 }
 
 // Whether a line waits for its LF.
@@ -137,6 +135,7 @@ pub fn read(s: Sheet, text: &[u8], more: bool) -> Reading
     }
     let mut sheet = s;
     let mut at = 0;
+    // No range to go over: a turn's step is the line that `find` found.
     while at < text.len() {
         match find(sheet, text, at, more) {
             LineFound::Taken(t, next) => {
@@ -209,6 +208,7 @@ fn pass(s: Sheet, text: &[u8], more: bool, out: &mut [u8]) -> End
     let mut sheet = s;
     let mut at = 0;
     let mut put = 0;
+    // As in `read`, a turn's step is the line that `find` found.
     while at < text.len() {
         match find(sheet, text, at, more) {
             LineFound::Taken(t, next) => {
@@ -217,26 +217,19 @@ fn pass(s: Sheet, text: &[u8], more: bool, out: &mut [u8]) -> End
                 at = next;
             }
             LineFound::Waits(left) => {
-                return End {
-                    came: Reading::Waiting(sheet, left),
-                    put: put,
-                };
+                let came = Reading::Waiting(sheet, left);
+                return End { came, put };
             }
             LineFound::Bad(line, column, r) => {
-                let end = put_end(Reading::Stopped(line, column, r), out, put);
-                return End {
-                    came: Reading::Stopped(line, column, r),
-                    put: end,
-                };
+                let came = Reading::Stopped(line, column, r);
+                let end = put_end(came, out, put);
+                return End { came, put: end };
             }
         }
     }
     let came = last(sheet, more);
     let end = put_end(came, out, put);
-    End {
-        came: came,
-        put: end,
-    }
+    End { came, put: end }
 }
 
 // Whether `len` bytes are room for anything that `n` bytes of text may give.
@@ -278,6 +271,5 @@ pub fn run(s: Sheet, text: &[u8], more: bool, out: &mut [u8]) -> Result<(Reading
         }
     }
     let passed = pass(s, text, more, out);
-    let came = passed.came;
-    Ok((came, passed.put))
+    Ok((passed.came, passed.put))
 }

@@ -2,12 +2,12 @@
 -- takes the last byte off, and `laid_none` says that nothing is left to do. Assumes nothing.
 use mathlib.Core.Path.{◌≡◌}
 use mathlib.Core.List.{List, [], ◌∷◌, ◌++◌, append_assoc}
-use Prim.Native.Nat.{ℕ, zero, suc, ◌+◌, ◌-◌, ◌≤◌, ◌<◌}
+use Prim.Native.Nat.{ℕ, suc, ◌+◌, ◌≤◌, ◌<◌}
 use native.Mathlib.Nat.{add-zero, add-suc, add_assoc, zero-add}
-use native.Mathlib.Numerals.{add-one, sub-one}
+use native.Mathlib.Numerals.{add-one}
 use native.Mathlib.Omega.{arith}
-use lib.ListN.{length, get_or, take, drop, set, length-append, length-drop, take-append-drop}
-use lib.Seq.{length-take-le, take_at, take-suc, drop_at, drop-drop, take-set-le, set_split}
+use lib.ListN.{length, take, drop, set, length-append, length-drop, take-append-drop}
+use lib.Seq.{length-take-le, take_at, drop_at, drop-drop, take-set-le, set_split}
 use borrow.Author.Tests.{le-leb, lt-leb}
 use Rattle.truth.proofs.Cases.{by_order}
 use Rattle.text.specs.Write.{laid, laid_by, written, place_after}
@@ -79,14 +79,6 @@ wrote_short out at text short = (rw (after_short out at text short), rw (written
 -- a text of one byte is one store
 pub laid_one : (out : List ℕ) (at b : ℕ) → at < length out → laid out at (b ∷ []) ≡ set out at b
 laid_one out at b h = rw (laid_last out at [] b (omega arith), laid_none, add-zero)
-
--- a writer's turn over the first i bytes of a text: the last of them is stored, and the ones before it are left
-pub laid_turn : (out : List ℕ) (at : ℕ) (text : List ℕ) (i : ℕ) → 0 < i → i ≤ length text → at + length text ≤ length out
-    → laid (set out (at + (i - 1)) (get_or text (i - 1) 0)) at (take (i - 1) text) ≡ laid out at (take i text)
-laid_turn out at text zero some in-text room = absurd (omega arith)
-laid_turn out at text (suc j) some in-text room =
-    let n : length (take j text) ≡ j = length-take-le j text (omega arith) in
-    rw (sub-one, take-suc text j 0 in-text, laid_last out at (take j text) (get_or text j 0) (omega arith), n)
 
 -- writing never changes how many bytes there are
 pub length_written : (out : List ℕ) (at : ℕ) (text : List ℕ) → length (written out at text) ≡ length out

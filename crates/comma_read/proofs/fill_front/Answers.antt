@@ -1,4 +1,4 @@
-use Rattle.std.proofs.Common.{◌≡◌, ℕ, suc, ◌+◌, ◌-◌, ◌*◌, ◌/◌, ◌%◌, ◌<◌, ◌≤◌, Bool, cond, eqb, leb, List, length, set, pos, sym, ap, ◌∙◌, mul-le-mul_right, zero-mul, arith, to_z-of_z, w32, SFits, rules, le-leb}
+use Rattle.std.proofs.Common.{◌≡◌, ℕ, suc, ◌+◌, ◌*◌, ◌/◌, ◌%◌, ◌<◌, ◌≤◌, Bool, cond, eqb, leb, List, length, set, pos, sym, ap, ◌∙◌, mul-le-mul_right, zero-mul, arith, to_z-of_z, w32, SFits, rules, le-leb}
 use Rattle.decimal.specs.Decimal.{digits_of}
 use Rattle.decimal.proofs.Text.{digits_some}
 use Rattle.degrees.specs.Degrees.{signed, largest_size}
@@ -85,7 +85,6 @@ loop-count-init c = let a = c.args in (
   record { some = omega arith; few = digits_some (0 * a.step) },
   rw zero-mul
       (forward c.requires.2),
-  omega arith,
 )
 
 pub width_in-width-requires : goal.width_in-width-requires
@@ -113,7 +112,6 @@ loop-count-preserved c =
       on.1,
       rw later (narrow_on c.args.step c.width_in-width.ensures.0),
       rw later (rw (a.this.line.place ∙ sym (told b).place) at a.others),
-      omega (arith, c.loop-count-test.true),
     )
 
 pub returns : goal.returns

@@ -1,4 +1,4 @@
-use Rattle.std.proofs.Common.{◌≡◌, ◌+◌, ◌-◌, ◌*◌, ◌≤◌, true, not, eqb, length, drop, set, sym, ap, ◌∙◌, arith, to_z-of_z, w32, SFits, rules}
+use Rattle.std.proofs.Common.{◌≡◌, ◌+◌, ◌*◌, ◌≤◌, true, not, eqb, length, drop, set, sym, ap, ◌∙◌, arith, to_z-of_z, w32, SFits, rules}
 use Rattle.decimal.specs.Decimal.{digits_of}
 use Rattle.decimal.proofs.Text.{digits_some, digits_below}
 use Rattle.degrees.proofs.Signs.{degrees_read}

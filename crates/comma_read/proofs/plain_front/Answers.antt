@@ -1,4 +1,4 @@
-use Rattle.std.proofs.Common.{◌-◌, ◌*◌, add-mul, arith}
+use Rattle.std.proofs.Common.{◌*◌, add-mul, arith}
 use Rattle.decimal.proofs.Text.{digits_some}
 use Rattle.comma_read.specs.Plain.{none}
 use Rattle.comma_read.proofs.Times.{narrow_on}

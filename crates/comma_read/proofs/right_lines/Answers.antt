@@ -1,4 +1,4 @@
-use Rattle.std.proofs.Common.{◌≡◌, ℕ, ◌+◌, ◌-◌, ◌*◌, ◌<◌, cond, eqb, List, length, ℤ, sym, ◌∙◌, arith, to_z-of_z, w32, SFits, rules}
+use Rattle.std.proofs.Common.{◌≡◌, ℕ, ◌+◌, ◌*◌, ◌<◌, cond, eqb, List, length, ℤ, sym, ◌∙◌, arith, to_z-of_z, w32, SFits, rules}
 use Rattle.sample_items.proofs.Ranges.{high}
 use Rattle.decimal.proofs.Text.{digits_some}
 use Rattle.comma_line.proofs.At.{LineRead, line_read, line_wrong}

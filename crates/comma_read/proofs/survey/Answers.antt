@@ -1,4 +1,4 @@
-use Rattle.std.proofs.Common.{ℕ, ◌+◌, ◌-◌, ◌*◌, ◌<◌, cond, eqb, leb, List, drop, sym, ap, ◌∙◌, arith}
+use Rattle.std.proofs.Common.{ℕ, ◌+◌, ◌*◌, ◌<◌, cond, eqb, leb, List, drop, sym, ap, ◌∙◌, arith}
 use Rattle.degrees.specs.Degrees.{largest_size}
 use Rattle.decimal.proofs.Text.{digits_some}
 use Rattle.comma_read.proofs.Times.{narrow_on}

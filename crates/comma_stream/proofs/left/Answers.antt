@@ -1,15 +1,20 @@
 -- `comma_stream::left` meets its contract: each return has the tests that pick its case. Assumes nothing.
 use Prim.Native.Nat.{ℕ, ◌-◌, ◌≤◌, ◌<◌}
-use mathlib.Core.Path.{◌≡◌, sym, ◌∙◌}
+use mathlib.Core.Path.{◌≡◌, sym, ap, ◌∙◌}
 use mathlib.Core.Bool.{Bool, true, false, cond, ◌&&◌}
 use mathlib.Core.List.{List}
 use native.Mathlib.Omega.{arith}
-use lib.ListN.{length, drop, length-drop, drop_of_length-le}
+use lib.ListN.{length, take, drop, length-drop, drop_of_length-le}
 use borrow.Author.Tests.{ne_eqb, lt-ltb, le-ltb}
+use Rattle.std.proofs.lemmas.Slice.{between_to_end}
 use Rattle.comma_stream.specs.declared.Rest.TheVariants.{Waits, Wrong}
 use Rattle.comma_stream.specs.Follow.{longest_comma_line, unended, may_begin, resting, waiting_for}
 use Rattle.comma_stream.proofs.left.Goals as goal
 use Rattle.comma_stream.proofs.left.Goals.{Else-not-more}
+
+-- what was asked of the part from a place on is so of what is left there
+asked : (text : List ℕ) (at : ℕ) {b : Bool} → b ≡ unended (take (length text - at) (drop at text)) → unended (drop at text) ≡ b
+asked text at e = ap unended (sym (between_to_end text at (length text) (omega arith))) ∙ sym e
 
 -- something is left
 module _ (text : List ℕ) (at : ℕ) (inside : at < length text) where
@@ -66,10 +71,10 @@ pub returns-then-not-unended : goal.returns-then-not-unended
 unfolding waiting_for
 returns-then-not-unended c =
     let a = c.args in
-    record { value = rw (more-comes (goal.at.returns-then-not-unended c).Else-not-more) (sym (short a.text.now a.at c.if-text-at.false c.if-text-at-ge-LONGEST_LINE.false false (sym c.unended.ensures ∙ c.if-not-unended.true))); result_bound = omega arith }
+    record { value = rw (more-comes (goal.at.returns-then-not-unended c).Else-not-more) (sym (short a.text.now a.at c.if-text-at.false c.if-text-at-ge-LONGEST_LINE.false false (asked a.text.now a.at c.unended.ensures ∙ c.if-not-unended.true))); result_bound = omega arith }
 
 pub returns : goal.returns
 unfolding waiting_for
 returns c =
     let a = c.args in
-    record { value = rw (more-comes (goal.at.returns c).Else-not-more) (sym (short a.text.now a.at c.if-text-at.false c.if-text-at-ge-LONGEST_LINE.false true (sym c.unended.ensures ∙ c.if-not-unended.false))); result_bound = omega (arith, c.if-text-at-ge-LONGEST_LINE.false) }
+    record { value = rw (more-comes (goal.at.returns c).Else-not-more) (sym (short a.text.now a.at c.if-text-at.false c.if-text-at-ge-LONGEST_LINE.false true (asked a.text.now a.at c.unended.ensures ∙ c.if-not-unended.false))); result_bound = omega (arith, c.if-text-at-ge-LONGEST_LINE.false) }

@@ -1,6 +1,6 @@
 use mathlib.Core.Path.{◌≡◌, ap, ◌∙◌}
 use mathlib.Core.List.{List}
-use Prim.Native.Nat.{◌+◌, ◌-◌}
+use Prim.Native.Nat.{◌+◌}
 use native.Mathlib.Omega.{arith}
 use lib.IntN.{ℤ, pos}
 use lib.ListN.{length, get_or, drop, drop_of_length-le}
@@ -13,20 +13,20 @@ use Rattle.comma_line.specs.Text.{text_from}
 use Rattle.comma_write.proofs.Puts.{next_bytes, text_none}
 use Rattle.comma_write.proofs.text_length.Goals as goal
 
-pub loop-i-preserved : goal.loop-i-preserved
-loop-i-preserved c =
+pub loop-x-preserved : goal.loop-x-preserved
+loop-x-preserved c =
     let a = c.args in
     let p = a.samples.now in
-    let i = c.loop-i.i in
+    let i = c.loop-x.x-index in
     let f : SFits w32 (get_or p i (pos 0)) = search rules in
     let bytes = rw (to_z-of_z f) at c.line_length.ensures.0 in
-    let left = turn (λ (xs : List ℤ). length (text_from a.step c.loop-i.time xs)) p i (omega arith) ∙ next_bytes a.step c.loop-i.time (get_or p i (pos 0)) (drop (i + 1) p) in
-    (omega arith, omega (arith, bytes, left, c.loop-i.invariant.1), omega (arith, c.line_length.ensures.1, c.loop-i.invariant.2), omega (arith, c.loop-i.invariant.3))
+    let left = turn (λ (xs : List ℤ). length (text_from a.step c.loop-x.time xs)) p i (omega arith) ∙ next_bytes a.step c.loop-x.time (get_or p i (pos 0)) (drop (i + 1) p) in
+    (omega (arith, bytes, left, c.loop-x.invariant.0), omega (arith, c.line_length.ensures.1, c.loop-x.invariant.1), omega (arith, c.loop-x.invariant.2))
 
 pub returns : goal.returns
 returns c =
     let p = c.args.samples.now in
-    let none : length (text_from c.args.step c.loop-i.time (drop c.loop-i.i p)) ≡ 0 =
-    ap (λ (xs : List ℤ). length (text_from c.args.step c.loop-i.time xs)) (drop_of_length-le p {i =
-    c.loop-i.i} (omega arith)) ∙ ap length (text_none c.args.step c.loop-i.time) in
-    omega (arith, c.loop-i.invariant.1)
+    let none : length (text_from c.args.step c.loop-x.time (drop c.loop-x.x-index p)) ≡ 0 =
+    ap (λ (xs : List ℤ). length (text_from c.args.step c.loop-x.time xs)) (drop_of_length-le p {i =
+    c.loop-x.x-index} (omega arith)) ∙ ap length (text_none c.args.step c.loop-x.time) in
+    omega (arith, c.loop-x.invariant.0)

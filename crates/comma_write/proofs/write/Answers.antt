@@ -41,74 +41,17 @@ module _ (c : Else-not-step_in_range) where
   small : Step ≤ 10000
   small = leb-true Step 10000 (and-true (leb 1 Step) (leb Step 10000) step).1
 
-module _ (c : Else-bad-samples) where
-  abbrev Step₂ : ℕ
-  Step₂ = c.args.step
-
-  abbrev Samples₂ : List ℤ
-  Samples₂ = c.args.samples.now
-
-  abbrev Out₂ : List ℕ
-  Out₂ = c.args.out.now
-
-  step₂ : step_in_range Step₂ ≡ true
-  step₂ = (sym c.step_in_range.ensures ∙ c.if-not-step_in_range.false)
-
-  some₂ : 1 ≤ Step₂
-  some₂ = leb-true 1 Step₂ (and-true (leb 1 Step₂) (leb Step₂ 10000) step₂).0
-
-  small₂ : Step₂ ≤ 10000
-  small₂ = leb-true Step₂ 10000 (and-true (leb 1 Step₂) (leb Step₂ 10000) step₂).1
-
-module _ (c : After-too_long) where
-  abbrev Step₃ : ℕ
-  Step₃ = c.args.step
-
-  abbrev Samples₃ : List ℤ
-  Samples₃ = c.args.samples.now
-
-  abbrev Out₃ : List ℕ
-  Out₃ = c.args.out.now
-
-  step₃ : step_in_range Step₃ ≡ true
-  step₃ = (sym c.step_in_range.ensures ∙ c.if-not-step_in_range.false)
-
-  some₃ : 1 ≤ Step₃
-  some₃ = leb-true 1 Step₃ (and-true (leb 1 Step₃) (leb Step₃ 10000) step₃).0
-
-  small₃ : Step₃ ≤ 10000
-  small₃ = leb-true Step₃ 10000 (and-true (leb 1 Step₃) (leb Step₃ 10000) step₃).1
-
-module _ (c : Else-too_long) where
-  abbrev Step₄ : ℕ
-  Step₄ = c.args.step
-
-  abbrev Samples₄ : List ℤ
-  Samples₄ = c.args.samples.now
-
-  abbrev Out₄ : List ℕ
-  Out₄ = c.args.out.now
-
-  step₄ : step_in_range Step₄ ≡ true
-  step₄ = (sym c.step_in_range.ensures ∙ c.if-not-step_in_range.false)
-
-  some₄ : 1 ≤ Step₄
-  some₄ = leb-true 1 Step₄ (and-true (leb 1 Step₄) (leb Step₄ 10000) step₄).0
-
-  small₄ : Step₄ ≤ 10000
-  small₄ = leb-true Step₄ 10000 (and-true (leb 1 Step₄) (leb Step₄ 10000) step₄).1
-
 -- no sample is out of range, and the times are short
-good : (c : Else-bad-samples) → length (Samples₂ c) ≤ first_bad (Samples₂ c)
+good : (c : Else-bad-samples) → length c.args.samples.now ≤ first_bad c.args.samples.now
 good c = omega (arith, c.first_bad-bad.ensures, c.if-bad-samples.false)
 
-late : (c : After-too_long) → c.too_long.result ≡ leb (10 ^ longest) (last_time (Step₃ c) (Samples₃ c))
+late : (c : After-too_long) → c.too_long.result ≡ leb (10 ^ longest) (last_time c.args.step c.args.samples.now)
 late c = c.too_long.ensures
 
-late₂ : (c : Else-too_long) → c.too_long.result ≡ leb (10 ^ longest) (last_time (Step₄ c) (Samples₄ c))
+late₂ : (c : Else-too_long) → c.too_long.result ≡ leb (10 ^ longest) (last_time c.args.step c.args.samples.now)
 late₂ c = c.too_long.ensures
 
-short : (c : Else-too_long) → leb (10 ^ longest) (last_time (Step₄ c) (Samples₄ c)) ≡ false
+short : (c : Else-too_long) → leb (10 ^ longest) (last_time c.args.step c.args.samples.now) ≡ false
 short c = sym (late₂ c) ∙ c.if-too_long.false
 
 pub returns-then-not-step_in_range : goal.returns-then-not-step_in_range

@@ -73,5 +73,6 @@ pub returns : goal.returns
 returns c =
     let a = c.args in
     let l = c.loop-i in
+    let end : l.i ≡ c.last_place-stop.result = omega arith in
     let whole = stopped a.s.now a.at l.i l.value l.invariant.1.1 (left_none a.s.now a.at l.i (omega arith)) in
-    record { value_value = whole.0; end_value = whole.1 }
+    record { value_value = whole.0; end_value = sym end ∙ whole.1 }

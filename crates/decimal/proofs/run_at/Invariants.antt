@@ -14,6 +14,3 @@ invariant-loop-i l = (l.at ≤ l.i) ×
     ((l.value < 10 ^ (l.i - l.at)) ×
     ((foldl push l.value (left l.s l.at l.i) ≡ value_of (run l.s l.at)) ×
     (l.i + length (left l.s l.at l.i) ≡ l.at + length (run l.s l.at))))
-
-abbrev pub decreases-loop-i : goal.decreases-loop-i
-decreases-loop-i l = l.stop - l.i

@@ -1,6 +1,6 @@
 -- `peak_lines::put_peak` meets its contract: the line is written part by part, each taking itself off what is left of
 -- it. Assumes nothing.
-use Prim.Native.Nat.{ℕ, ◌+◌}
+use Prim.Native.Nat.{ℕ}
 use mathlib.Core.List.{List, [], ◌∷◌, ◌++◌}
 use mir.Facts.{to_z-of_z}
 use mir.Syntax.{w32}

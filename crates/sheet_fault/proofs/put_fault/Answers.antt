@@ -4,7 +4,7 @@ use mathlib.Core.Path.{refl}
 use mathlib.Core.List.{List, ◌++◌}
 use native.Mathlib.Omega.{arith}
 use Rattle.decimal.specs.Field.{tab, field_text}
-use Rattle.text.proofs.Parts.{Left, left_all, left_next, left-fits, left_last}
+use Rattle.text.proofs.Parts.{Left, left_all, left_next, left_last}
 use Rattle.desk_line.specs.Said.{refused_word}
 use Rattle.desk_line.proofs.Few.{Small}
 use Rattle.desk_line.proofs.Put.{puts}
@@ -44,11 +44,10 @@ left2 c = left_next (field_text c.args.place tab) _ (left1 c) (c.write_field-sec
 left3 : (c : After-write_field-third) → Stands c (Why c) c.write_field-third.new.out c.write_field-third.result
 left3 c = left_next (field_text c.args.line tab) _ (left2 c) (c.write_field-third.ensures.value, c.write_field-third.ensures.out_after)
 
-pub put_why-n-requires : goal.put_why-n-requires
-put_why-n-requires c = left-fits (left3 (goal.at.put_why-n-requires c).After-write_field-third)
-
 pub returns : goal.returns
 returns c =
     let d = (goal.at.returns c).After-write_field-third in
     let a = c.args in
-    puts (refused_sheet a.place a.line a.number a.told a.value) (room d) refl (left_last (left3 d) (c.put_why-n.ensures.value, c.put_why-n.ensures.out_after))
+    let value = rw c.more.ensures at c.end_line-put.ensures.value in
+    let bytes = rw c.more.ensures at c.end_line-put.ensures.out_after in
+    puts (refused_sheet a.place a.line a.number a.told a.value) (room d) refl (left_last (left3 d) (value, bytes))

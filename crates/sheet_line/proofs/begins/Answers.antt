@@ -1,45 +1,25 @@
-use Prim.Native.Nat.{ℕ, ◌+◌, ◌-◌, ◌<◌}
-use mathlib.Core.Path.{◌≡◌, sym, ◌∙◌}
-use mathlib.Core.Bool.{◌&&◌}
-use mathlib.Core.List.{List}
-use native.Mathlib.Numerals.{add-one}
-use native.Mathlib.Omega.{arith}
-use borrow.Author.Tests.{eq-eqb, ne_eqb}
+-- `sheet_line::begins` meets its contract: std's test of a start. Assumes nothing.
+use Prim.Native.Nat.{ℕ}
+use mathlib.Core.Path.{◌≡◌, refl, sym, ◌∙◌}
+use mathlib.Core.List.{List, [], ◌∷◌}
+use borrow.Author.Tests.{eq-eqb, eqb-true, eqb-false, ne_eqb}
 use lib.Dec.{eqb}
-use lib.ListN.{length, drop, get_or, drop_of_length-le}
-use lib.Seq.{drop-cons}
+use Rattle.std.specs.List.{starts_with}
+use Rattle.truth.proofs.Cases.{by_test}
 use Rattle.sheet_line.specs.Form.{begins}
 use Rattle.sheet_line.proofs.begins.Goals as goal
 
-module _ (text word : List ℕ) (i : ℕ) where
-  turn : i < length word → i < length text
-      → begins (drop i word) (drop i text) ≡ (eqb (get_or text i 0) (get_or word i 0) && begins (drop (i + 1) word) (drop (i + 1) text))
-  unfolding begins
-  turn h k = rw (add-one, drop-cons word i 0, drop-cons text i 0)
+either_way : (b w : ℕ) → eqb b w ≡ eqb w b
+either_way b w =
+    by_test (eqb b w)
+    (λ e. rw (e, eq-eqb w b (sym (eqb-true b w e))))
+    (λ e. rw (e, ne_eqb w b (λ h. eqb-false b w e (sym h))))
 
-pub returns-then-text-i : goal.returns-then-text-i
+started : (text word : List ℕ) → starts_with eqb text word ≡ begins word text
 unfolding begins
-returns-then-text-i c =
-    let a = c.args in
-    let i = c.loop-i.i in
-    let more : i < length a.word.now = omega arith in
-    sym (rw (drop_of_length-le a.text.now c.if-text-i.true, drop-cons a.word.now i 0 more) at (sym c.loop-i.invariant.1))
-
-pub returns-then-text-i-2 : goal.returns-then-text-i-2
-returns-then-text-i-2 c =
-    let a = c.args in
-    let i = c.loop-i.i in
-    sym (sym c.loop-i.invariant.1 ∙ rw (turn a.text.now a.word.now i (omega arith) (omega arith), ne_eqb _ _ c.if-text-i-2.true))
-
-pub loop-i-preserved : goal.loop-i-preserved
-loop-i-preserved c =
-    let a = c.args in
-    let i = c.loop-i.i in
-    let same = rw (turn a.text.now a.word.now i (omega arith) (omega arith), eq-eqb (get_or a.text.now i 0) (get_or a.word.now i 0) c.if-text-i-2.false) at c.loop-i.invariant.1 in
-    (omega arith, same)
+started text [] = refl
+started [] (w ∷ word) = refl
+started (b ∷ text) (w ∷ word) = rw (either_way b w, started text word)
 
 pub returns : goal.returns
-unfolding begins
-returns c =
-    let a = c.args in
-    sym (sym c.loop-i.invariant.1 ∙ rw (drop_of_length-le a.word.now c.loop-i-test.false))
+returns c = c.starts_with.ensures.value ∙ started c.args.text.now c.args.word.now

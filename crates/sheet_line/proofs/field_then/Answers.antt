@@ -33,23 +33,3 @@ unfolding field_then ended_by starts_with
 returns-else-text-next-2 c =
     let after-number-at = (goal.at.returns-else-text-next-2 c).After-number_at-field in
     rw (reads after-number-at ∙ c.in-Number.is, drop-cons (text after-number-at) c.in-Number.next 0 c.if-text-next.false, eq-eqb _ _ c.if-text-next-2.false)
-
-pub returns-in-Empty : goal.returns-in-Empty
-unfolding field_then ended_by
-returns-in-Empty c =
-    let e = c.in-Empty.is in rw (reads (goal.at.returns-in-Empty c).After-number_at-field ∙ e) e
-
-pub returns-in-Strange : goal.returns-in-Strange
-unfolding field_then ended_by
-returns-in-Strange c =
-    let e = c.in-Strange.is in rw (reads (goal.at.returns-in-Strange c).After-number_at-field ∙ e) e
-
-pub returns-in-LeadingZero : goal.returns-in-LeadingZero
-unfolding field_then ended_by
-returns-in-LeadingZero c =
-    let e = c.in-LeadingZero.is in rw (reads (goal.at.returns-in-LeadingZero c).After-number_at-field ∙ e) e
-
-pub returns-in-TooLong : goal.returns-in-TooLong
-unfolding field_then ended_by
-returns-in-TooLong c =
-    let e = c.in-TooLong.is in rw (reads (goal.at.returns-in-TooLong c).After-number_at-field ∙ e) e

@@ -1,34 +1,24 @@
-use Prim.Native.Nat.{ℕ, suc, ◌+◌, ◌-◌, ◌<◌}
-use mathlib.Core.Path.{◌≡◌, sym, ◌∙◌}
+-- `sheet_line::how_many` meets its contract: std's count of the bytes that are it. Assumes nothing.
+use Prim.Native.Nat.{ℕ, suc, ◌+◌}
+use mathlib.Core.Path.{◌≡◌, refl, sym, ap, ◌∙◌}
+use mathlib.Core.Bool.{cond}
 use mathlib.Core.List.{List}
-use native.Mathlib.Nat.{add-zero}
-use native.Mathlib.Numerals.{add-one}
 use native.Mathlib.Omega.{arith}
-use borrow.Author.Tests.{eq-eqb, ne_eqb}
-use lib.ListN.{length, drop, get_or, drop_of_length-le}
-use lib.Seq.{drop-cons}
+use borrow.Author.Rules.{rules}
+use lib.Dec.{eqb}
+use Rattle.std.specs.Prelude.{count_by}
+use Rattle.std.proofs.lemmas.List.Recursion.{is_count_by}
 use Rattle.sheet_line.specs.Column.{how_many}
 use Rattle.sheet_line.proofs.how_many.Goals as goal
-use Rattle.sheet_line.proofs.how_many.Goals.{else-text-i, then-text-i}
 
-module _ (byte : ℕ) (text : List ℕ) (i : ℕ) (h : i < length text) where
-  one : get_or text i 0 ≡ byte → how_many byte (drop i text) ≡ suc (how_many byte (drop (i + 1) text))
-  unfolding how_many
-  one e = rw (drop-cons text i 0 h, eq-eqb (get_or text i 0) byte e, add-one)
-
-  other : ¬ (get_or text i 0 ≡ byte) → how_many byte (drop i text) ≡ how_many byte (drop (i + 1) text)
-  unfolding how_many
-  other e = rw (drop-cons text i 0 h, ne_eqb (get_or text i 0) byte e, add-one)
-
-pub loop-i-preserved : goal.loop-i-preserved
-loop-i-preserved c =
-    let a = c.args in
-    elim c.if-text-i.branch [
-      | then-text-i w ↦ (omega arith, omega arith, omega (arith, one a.byte a.text.now c.loop-i.i (omega arith) w.if-text-i.true, c.loop-i.invariant.2))
-      | else-text-i w ↦ (omega arith, omega arith, omega (arith, other a.byte a.text.now c.loop-i.i (omega arith) w.if-text-i.false, c.loop-i.invariant.2))
-    ]
+counted : (byte : ℕ) (text : List ℕ) → how_many byte text ≡ count_by (λ b. eqb b byte) text
+unfolding how_many
+counted byte =
+    is_count_by (how_many byte) (λ b. eqb b byte) refl
+    (λ b text. let n = how_many byte text in ap (λ k. cond (eqb b byte) k n) (let e : suc n ≡ 1 + n = omega arith in e))
 
 pub returns : goal.returns
-unfolding how_many
 returns c =
-    sym (add-zero c.loop-i.count) ∙ (rw (drop_of_length-le _ c.loop-i-test.false) at c.loop-i.invariant.2)
+    let a = c.args in
+    let count : c.count.result ≡ count_by (λ b. eqb b a.byte) a.text.now = search rules in
+    count ∙ sym (counted a.byte a.text.now)

@@ -5,13 +5,12 @@ use mathlib.Core.Bool.{false}
 use mathlib.Core.List.{List}
 use Prim.Native.Nat.{ℕ}
 use native.Mathlib.Omega.{arith}
-use borrow.Author.Rules.{rules}
 use Rattle.decimal.specs.Decimal.{zero_byte}
 use Rattle.decimal.specs.Leading.{leading_at, stands_at}
 use Rattle.sheet_records.specs.Pass.{ExposureAt}
 use Rattle.sheet_records.proofs.Exposures.{few, no_digits, no_number, read, too_much, zero_first}
 use Rattle.sheet_records.proofs.exposure_at.Goals as goal
-use Rattle.sheet_records.proofs.exposure_at.Goals.{After-digits_end-end, Else-stands, In-Some}
+use Rattle.sheet_records.proofs.exposure_at.Goals.{After-digits_end-end, Else-stands, In_ok-t}
 use Rattle.std.specs.Prelude.{Some}
 
 module _ (c : After-digits_end-end) where
@@ -28,7 +27,7 @@ module _ (c : Else-stands) where
   abbrev At₂ : ℕ
   At₂ = c.args.at
 
-module _ (c : In-Some) where
+module _ (c : In_ok-t) where
   abbrev Text₃ : List ℕ
   Text₃ = c.args.text.now
 
@@ -40,16 +39,16 @@ other : (c : Else-stands) → stands_at (Text₂ c) (At₂ c) zero_byte ≡ fals
 other c = sym c.stands.ensures ∙ c.if-stands.false
 
 -- what more than seven digits read as
-module _ (c : In-Some) where
+module _ (c : In_ok-t) where
   abbrev Value : ℕ
-  Value = c.in-Some.t
+  Value = c.in_ok-t.t
 
   abbrev End : ℕ
-  End = c.in-Some.next
+  End = c.in_ok-t.next
 
   number : leading_at (Text₃ c) (At₃ c) ≡ Some (Value, End)
   number =
-      sym c.leading_at.ensures ∙ c.in-Some.is
+      sym c.leading_at.ensures ∙ c.in_ok-t.was
 
 pub returns-then-end-at : goal.returns-then-end-at
 unfolding ExposureAt
@@ -69,22 +68,22 @@ returns-then-end-at-le-FREE_DIGITS c =
     let d = (goal.at.returns-then-end-at-le-FREE_DIGITS c).After-digits_end-end in
     few (Text d) (At d) (other (goal.at.returns-then-end-at-le-FREE_DIGITS c).Else-stands) c.digits_end-end.result c.digits_end-end.ensures c.if-end-at.false (omega (arith, c.digits_end-end.ensures, c.if-end-at-le-FREE_DIGITS.true))
 
-pub returns-in_default : goal.returns-in_default
+pub returns-in_err-t : goal.returns-in_err-t
 unfolding ExposureAt
-returns-in_default c =
-    let d = (goal.at.returns-in_default c).After-digits_end-end in
-    no_number (Text d) (At d) (sym c.leading_at.ensures ∙ c.in_default.is)
+returns-in_err-t c =
+    let d = (goal.at.returns-in_err-t c).After-digits_end-end in
+    rw c.from_residual.ensures (no_number (Text d) (At d) (sym c.leading_at.ensures ∙ c.in_err-t.was))
 
 pub returns-then-t-gt-LONGEST_TIME : goal.returns-then-t-gt-LONGEST_TIME
 unfolding ExposureAt
 returns-then-t-gt-LONGEST_TIME c =
     let at1 = (goal.at.returns-then-t-gt-LONGEST_TIME c).After-digits_end-end in
-    let k = (goal.at.returns-then-t-gt-LONGEST_TIME c).In-Some in
+    let k = (goal.at.returns-then-t-gt-LONGEST_TIME c).In_ok-t in
     too_much (Text at1) (At at1) (Value k) (End k) (number k) c.if-t-gt-LONGEST_TIME.true
 
 pub returns : goal.returns
 unfolding ExposureAt
 returns c =
     let at1 = (goal.at.returns c).After-digits_end-end in
-    let k = (goal.at.returns c).In-Some in
+    let k = (goal.at.returns c).In_ok-t in
     read (Text at1) (At at1) (other (goal.at.returns c).Else-stands) (Value k) (End k) (number k) c.if-t-gt-LONGEST_TIME.false

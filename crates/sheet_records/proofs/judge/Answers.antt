@@ -1,6 +1,6 @@
 use mathlib.Core.Path.{◌≡◌, ap, sym, ◌∙◌}
 use mathlib.Core.Bool.{Bool, cond}
-use Prim.Native.Nat.{◌+◌, ◌-◌, ◌<◌}
+use Prim.Native.Nat.{◌+◌, ◌<◌}
 use native.Mathlib.Omega.{arith}
 use lib.IntN.{ℤ, pos}
 use lib.ListN.{length, get_or}
@@ -8,11 +8,11 @@ use mir.Facts.{to_z-of_z}
 use mir.Syntax.{w32}
 use mir.Val.{SFits}
 use borrow.Author.Rules.{rules}
-use Rattle.truth.proofs.Laws.{said_no, said_yes}
+use Rattle.truth.proofs.Answers.{handed_on}
 use Rattle.record_end.specs.declared.Outcome.{Outcome}
 use Rattle.sheet_records.specs.Answers.{judged_one}
 use Rattle.sheet_records.specs.Ledger.{exposure_in, failed_in, outcome_in}
-use Rattle.sheet_records.proofs.Judging.{Along, bad_standard, decides, ended, few_failures, on, start}
+use Rattle.sheet_records.proofs.Judging.{bad_standard, decides, ended, few_failures, on, start}
 use Rattle.sheet_records.proofs.judge.Goals as goal
 use Rattle.sheet_records.proofs.judge.Goals.{After-judge_one}
 
@@ -39,10 +39,10 @@ returns-then-not-both c = bad_standard _ _ (sym c.both.ensures ∙ c.if-not-both
 pub loop-i-init : goal.loop-i-init
 loop-i-init c = start _ _ (sym c.both.ensures ∙ c.if-not-both.false)
 
-pub returns-in-Err : goal.returns-in-Err
-returns-in-Err c =
-    let j = (goal.at.returns-in-Err c).After-judge_one in
-    decides c.loop-i.invariant (inside j) _ (sym (says j) ∙ c.in-Err.is)
+pub returns-in_err-judge_one : goal.returns-in_err-judge_one
+returns-in_err-judge_one c =
+    let j = (goal.at.returns-in_err-judge_one c).After-judge_one in
+    rw (handed_on _ c.from_residual.ensures) (decides c.loop-i.invariant (inside j) _ (sym (says j) ∙ c.in_err-judge_one.was))
 
 pub overflow_add-failures : goal.overflow_add-failures
 overflow_add-failures c =
@@ -52,7 +52,7 @@ pub loop-i-preserved : goal.loop-i-preserved
 loop-i-preserved c =
     let j = (goal.at.loop-i-preserved c).After-judge_one in
     let grown = c.pick-failures.ensures ∙ ap (λ (f : Bool). cond f (c.loop-i.failures + 1) c.loop-i.failures) (failed j) in
-    rw grown (on c.loop-i.invariant (inside j) (sym (says j) ∙ c.in-Ok.is))
+    rw grown (on c.loop-i.invariant (inside j) (sym (says j) ∙ c.in_ok-judge_one.was))
 
 pub returns : goal.returns
 returns c = ended c.loop-i.invariant c.loop-i-test.false

@@ -1,6 +1,5 @@
 -- `sheet_records::judge_one` meets its contract, test by test. Assumes nothing.
 use borrow.Author.Tests.{eq-eqb, ne_eqb, le-ltb, lt-ltb}
-use borrow.Author.Rules.{rules}
 use Rattle.sheet_records.specs.Answers.{judged_one}
 use Rattle.sheet_records.proofs.judge_one.Goals as goal
 

@@ -3,7 +3,6 @@ use mathlib.Core.Path.{ap, ◌∙◌}
 use native.Mathlib.Omega.{arith}
 use lib.ListN.{length}
 use mir.Facts.{to_z-of_z}
-use borrow.Author.Rules.{rules}
 use Rattle.record_end.specs.declared.Outcome.{Outcome}
 use Rattle.decimal.specs.Decimal.{digits_of}
 use Rattle.sheet_records.proofs.Puts.{line_bytes}

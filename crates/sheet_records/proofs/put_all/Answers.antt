@@ -1,14 +1,14 @@
 use mathlib.Core.Path.{◌≡◌, ap, ◌∙◌}
 use mathlib.Core.Bool.{Bool}
-use Prim.Native.Nat.{ℕ, ◌-◌}
+use Prim.Native.Nat.{ℕ}
 use native.Mathlib.Omega.{arith}
-use lib.ListN.{drop, length, set}
+use lib.ListN.{drop, set}
 use mir.Facts.{to_z-of_z}
 use mir.Syntax.{w32}
 use mir.Val.{SFits}
 use borrow.Author.Rules.{rules}
 use Rattle.degrees.specs.Degrees.{signed}
-use Rattle.sheet_records.proofs.Second.{Due, Putting, due, few, put-done, put_on, put-start, wide_room}
+use Rattle.sheet_records.proofs.Second.{Due, due, few, put-done, put_on, wide_room}
 use Rattle.sheet_records.proofs.put_all.Goals as goal
 use Rattle.sheet_records.proofs.put_all.Goals.{After-record_at-r, In-loop-at}
 

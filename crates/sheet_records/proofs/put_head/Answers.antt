@@ -2,7 +2,6 @@
 -- it. Assumes nothing.
 use mathlib.Core.List.{[], ◌∷◌}
 use native.Mathlib.Omega.{arith}
-use borrow.Author.Rules.{rules}
 use Rattle.text.proofs.Parts.{Left, left_all, left_next, left_last}
 use Rattle.decimal.specs.Decimal.{digits_of}
 use Rattle.decimal.specs.Field.{line_feed, field_text}

@@ -6,7 +6,6 @@ use mathlib.Core.List.{List, [], ◌∷◌, ◌++◌}
 use Prim.Native.Nat.{ℕ, ◌+◌}
 use lib.IntN.{ℤ}
 use mir.Facts.{to_z-of_z}
-use borrow.Author.Rules.{rules}
 use Rattle.text.proofs.Parts.{Left, left_all, left_next, left_last}
 use Rattle.record_end.specs.declared.Outcome.{Outcome}
 use Rattle.decimal.specs.Decimal.{zero_byte, digits_of}

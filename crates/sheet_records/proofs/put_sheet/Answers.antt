@@ -1,7 +1,6 @@
 -- `sheet_records::put_sheet` meets its contract: line 1 takes itself off the sheet, and the lines are the rest. Assumes
 -- nothing.
 use native.Mathlib.Omega.{arith}
-use borrow.Author.Rules.{rules}
 use Rattle.text.proofs.Parts.{Left, left_all, left-fits, left_next, left_last}
 use Rattle.sheet_line.specs.Texts.{head_text}
 use Rattle.sheet_records.specs.Ledger.{lines_from, sheet_text}

@@ -9,7 +9,6 @@ use Rattle.sheet_text.specs.Sheet.{meaning, reading_end}
 use Rattle.sheet_records.specs.Pass.{CleanPass, Passes, stopped_from}
 use Rattle.sheet_records.specs.Records.{filled_by, records_of}
 use Rattle.sheet_records.proofs.Answered.{all_read, no_room, put_front, stopped_kept, unclean}
-use borrow.Author.Rules.{rules}
 use Rattle.sheet_records.proofs.records.Goals as goal
 use Rattle.sheet_records.proofs.records.Goals.{After-pass, In-Some}
 use Rattle.refusal.specs.declared.Refusal.{Refusal}
@@ -52,16 +51,16 @@ returns-then-places-count c =
 pub put_all-requires : goal.put_all-requires
 put_all-requires c = (clean (goal.at.put_all-requires c).In-Some).from
 
-pub returns-in-None : goal.returns-in-None
+pub returns-in_default : goal.returns-in_default
 unfolding Passes reading_end meaning
-returns-in-None c =
-    let p = (goal.at.returns-in-None c).After-pass in
-    let never = subst (Passes (Text p)) c.in-None.is c.pass.ensures in
+returns-in_default c =
+    let p = (goal.at.returns-in_default c).After-pass in
+    let never = subst (Passes (Text p)) c.in_default.is c.pass.ensures in
     let is = c.stopped.ensures ∙ ap stopped_from c.read.ensures ∙ unclean (Text p) (length (Places p)) never in
     record { value = is; places_after = sym (ap (λ (r : Result (ℕ × ℕ) (ℕ × ℕ × Refusal)). filled_by r (records_of (Text p)) (Places p)) c.stopped.ensures ∙ stopped_kept c.read.result (records_of (Text p)) (Places p)) }
 
-pub returns-else-places-count : goal.returns-else-places-count
-returns-else-places-count c =
-    let k = (goal.at.returns-else-places-count c).In-Some in
-    let p = (goal.at.returns-else-places-count c).After-pass in
+pub returns : goal.returns
+returns c =
+    let k = (goal.at.returns c).In-Some in
+    let p = (goal.at.returns c).After-pass in
     record { value = all_read (clean k) (length (Places p)) c.if-places-count.false; places_after = c.put_all.ensures ∙ put_front (records_of (Text p)) (Places p) (Q k) (Count k) (clean k).number c.if-places-count.false }

@@ -1,6 +1,6 @@
 use mathlib.Core.Path.{◌≡◌, ap, ◌∙◌}
 use mathlib.Core.List.{List}
-use Prim.Native.Nat.{◌+◌, ◌*◌, ◌-◌, ◌≤◌}
+use Prim.Native.Nat.{◌+◌}
 use native.Mathlib.Omega.{arith}
 use lib.IntN.{ℤ, pos}
 use lib.ListN.{length, get_or, drop, drop_of_length-le}
@@ -9,14 +9,14 @@ use mir.Syntax.{w32}
 use mir.Val.{SFits}
 use borrow.Author.Rules.{rules}
 use Rattle.sample_size.proofs.Turn.{turn}
-use Rattle.sheet_records.specs.Ledger.{lines_from, sheet_text}
+use Rattle.sheet_records.specs.Ledger.{lines_from}
 use Rattle.sheet_records.proofs.Puts.{head_bytes, lines_none, next_bytes, sheet_bytes}
 use Rattle.sheet_records.proofs.sheet_length.Goals as goal
 
 pub loop-i-init : goal.loop-i-init
 loop-i-init c =
     let a = c.args in
-    (omega arith, omega (arith, c.digits.ensures.value, head_bytes a.q, sheet_bytes a.q a.records.now), omega (arith, c.digits.ensures.upper_bound))
+    (omega (arith, c.digits.ensures.value, head_bytes a.q, sheet_bytes a.q a.records.now), omega (arith, c.digits.ensures.upper_bound))
 
 pub loop-i-preserved : goal.loop-i-preserved
 loop-i-preserved c =
@@ -25,7 +25,7 @@ loop-i-preserved c =
     let f : SFits w32 (get_or p i (pos 0)) = search rules in
     let bytes = rw (to_z-of_z f) at c.line_length.ensures.0 in
     let left = turn (λ (xs : List ℤ). length (lines_from (i + 1) xs)) p i (omega arith) ∙ next_bytes (i + 1) (get_or p i (pos 0)) (drop (i + 1) p) in
-    (omega arith, omega (arith, bytes, left, c.loop-i.invariant.1), omega (arith, c.line_length.ensures.1, c.loop-i.invariant.2))
+    (omega (arith, bytes, left, c.loop-i.invariant.0), omega (arith, c.line_length.ensures.1, c.loop-i.invariant.1))
 
 pub returns : goal.returns
 returns c =
@@ -33,4 +33,4 @@ returns c =
     let none : length (lines_from (c.loop-i.i + 1) (drop c.loop-i.i p)) ≡ 0 = ap (λ (xs : List ℤ). length
     (lines_from (c.loop-i.i + 1) xs)) (drop_of_length-le p {i = c.loop-i.i} (omega arith)) ∙
     ap length (lines_none (c.loop-i.i + 1)) in
-    omega (arith, c.loop-i.invariant.1)
+    omega (arith, c.loop-i.invariant.0)

@@ -1,6 +1,5 @@
 -- `sheet_records::takes` meets its contract: test by test. Assumes nothing.
 use Rattle.sheet_records.specs.Pass.{taken_after}
-use borrow.Author.Rules.{rules}
 use Rattle.sheet_records.proofs.takes.Goals as goal
 
 pub returns : goal.returns

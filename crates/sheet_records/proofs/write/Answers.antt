@@ -6,7 +6,7 @@ use Prim.Native.Nat.{ℕ, ◌≤◌}
 use native.Mathlib.Omega.{arith}
 use lib.IntN.{ℤ}
 use lib.ListN.{length}
-use borrow.Author.Rules.{rules}
+use Rattle.truth.proofs.Answers.{handed_on}
 use Rattle.text.specs.Write.{laid_by}
 use Rattle.text.proofs.Laws.{laid_front, written_fits}
 use Rattle.sheet_records.specs.Ledger.{sheet_text}
@@ -15,11 +15,11 @@ use Rattle.sheet_records.proofs.Entered.{judged_few}
 use Rattle.sheet_records.proofs.Judging.{judged_clean}
 use Rattle.sheet_records.proofs.Puts.{all_written, at_fault, no_room}
 use Rattle.sheet_records.proofs.write.Goals as goal
-use Rattle.sheet_records.proofs.write.Goals.{In-Ok}
+use Rattle.sheet_records.proofs.write.Goals.{In_ok-judge}
 use Rattle.std.specs.Prelude.{Ok}
 
 -- all records are clean
-module _ (c : In-Ok) where
+module _ (c : In_ok-judge) where
   abbrev Q : ℕ
   Q = c.args.q
 
@@ -30,7 +30,7 @@ module _ (c : In-Ok) where
   Out = c.args.out.now
 
   clean : (Ok (tt {0})) ≡ judged_as (judged Q Records)
-  clean = sym c.in-Ok.is ∙ c.judge.ensures
+  clean = sym c.in_ok-judge.was ∙ c.judge.ensures
 
   few : length Records ≤ 100000
   few = let (d, e) = judged_clean (judged Q Records) clean in judged_few Q Records d e
@@ -41,21 +41,21 @@ sheet_length-needed-requires c = few c
 pub returns-then-out-needed : goal.returns-then-out-needed
 unfolding laid_by
 returns-then-out-needed c =
-    let e = (goal.at.returns-then-out-needed c).In-Ok in
+    let e = (goal.at.returns-then-out-needed c).In_ok-judge in
     record { value = rw c.sheet_length-needed.ensures (no_room (Q e) (Records e) (Out e) (clean e) (omega (arith, c.sheet_length-needed.ensures, c.if-out-needed.true))); out_after = refl }
 
 pub put_sheet-requires : goal.put_sheet-requires
 put_sheet-requires c =
-    (few (goal.at.put_sheet-requires c).In-Ok, omega (arith, c.sheet_length-needed.ensures, c.if-out-needed.false))
+    (few (goal.at.put_sheet-requires c).In_ok-judge, omega (arith, c.sheet_length-needed.ensures, c.if-out-needed.false))
 
-pub returns-in-Err : goal.returns-in-Err
+pub returns-in_err-judge : goal.returns-in_err-judge
 unfolding laid_by
-returns-in-Err c =
-    record { value = at_fault c.args.q c.args.records.now c.args.out.now _ (sym c.in-Err.is ∙ c.judge.ensures); out_after = refl }
+returns-in_err-judge c =
+    rw (handed_on _ c.from_residual.ensures) (record { value = at_fault c.args.q c.args.records.now c.args.out.now _ (sym c.in_err-judge.was ∙ c.judge.ensures); out_after = refl })
 
-pub returns-else-out-needed : goal.returns-else-out-needed
-returns-else-out-needed c =
-    let e = (goal.at.returns-else-out-needed c).In-Ok in
+pub returns : goal.returns
+returns c =
+    let e = (goal.at.returns c).In_ok-judge in
     let text = sheet_text (Q e) (Records e) in
     let room : length text ≤ length (Out e) = omega (arith, c.sheet_length-needed.ensures, c.if-out-needed.false) in
     record { value = rw c.sheet_length-needed.ensures (all_written (Q e) (Records e) (Out e) (clean e) room); out_after = rw c.sheet_length-needed.ensures (c.put_sheet.ensures ∙ written_fits (Out e) 0 text (omega (arith, room)) ∙ laid_front (Out e) text) }

@@ -1,5 +1,4 @@
-use Prim.Native.Nat.{◌-◌}
-use mathlib.Core.Path.{sym, ◌∙◌}
+use mathlib.Core.Path.{◌≡◌, sym, ◌∙◌}
 use native.Mathlib.Omega.{arith}
 use borrow.Author.Tests.{eq-eqb, ne_eqb}
 use Rattle.sheet_text.proofs.Lines.{reached_found, reached_on, reached_end}
@@ -14,4 +13,6 @@ loop-i-preserved c =
     (omega arith, omega arith, sym (reached_on _ _ c.loop-i.i (omega arith) (omega arith) (ne_eqb _ _ c.if-text-i-eq-LF.false)) ∙ c.loop-i.invariant.2)
 
 pub returns : goal.returns
-returns c = sym (reached_end _ _ _ (omega arith)) ∙ c.loop-i.invariant.2
+returns c =
+    let end : c.furthest-stop.result ≡ c.loop-i.i = omega arith in
+    end ∙ sym (reached_end _ _ _ (omega arith)) ∙ c.loop-i.invariant.2

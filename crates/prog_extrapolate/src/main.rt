@@ -77,11 +77,7 @@ fn take_lines<R: Read>(j: Job, start: Pass, from: &mut Source<R>, list: &mut [u3
     let mut samples = [0i32; LINES];
     let mut pass = start;
     for _ in 0..from.unused().len() {
-        let Ok((f, bytes, n)) = comma_stream::take(
-            pass.follow,
-            from.unused(),
-            &mut samples,
-        ) else {
+        let Ok((f, bytes, n)) = comma_stream::take(pass.follow, from.unused(), &mut samples) else {
             return pass;
         };
         pass = with_samples(j, pass, f, &samples[..n.min(LINES)], list);

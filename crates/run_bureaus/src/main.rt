@@ -4,12 +4,11 @@
 // other with. bin/tally has bureau 1's column from examples/issw2022.sheet.
 #![tactic(auto)]
 
-use bureau_table::{Ask, Call, Place, Work};
+use bureau_table::{Ask, Call, Place, Reply, Work};
 use campaign_state::Campaign;
 use campaign_verdict::Verdict;
 use record_end::Outcome;
 use refusal::Refusal;
-use bureau_table::Reply;
 
 // Document 003's 32 records, in ms. One that is shorter than 1,800 s ended at its first failure.
 const EXPOSURES: [u64; 32] = [

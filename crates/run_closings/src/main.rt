@@ -5,12 +5,11 @@
 
 use campaign_state::Campaign;
 use campaign_verdict::Verdict;
-use record_end::Outcome;
+use record_end::{Outcome, RecordResult};
 use record_state::Record;
 use refusal::Refusal;
 use sample_channels::{Levels, Moment};
 use sample_items::Items;
-use record_end::RecordResult;
 
 // Of each row: the campaign's standard, M, N, T, and 1 if the last record failed; a campaign without a record is
 // opened. Then a record, by its number (`numbered`), and how often its result is entered; the number of one record
@@ -83,8 +82,8 @@ fn verdict(out: &impl Print, c: Campaign) {
 
 fn known(out: &impl Print, c: Campaign) {
     match campaign_verdict::rate(c) {
-        Ok(Given(yes, _)) => {
-            let no = if yes { "" } else { " no" };
+        Ok(rates) => {
+            let no = if rates.is_some() { "" } else { " no" };
             let _ = print!(out; "{no} rates");
         }
         Err(f) => refused(out, f),
@@ -188,7 +187,11 @@ fn then(a: Result<Campaign, Refusal>, e: Result<RecordResult, Refusal>) -> Campa
 }
 
 // The same result so many times over.
-fn again(a: Result<Campaign, Refusal>, e: Result<RecordResult, Refusal>, times: u64) -> CampaignAnswer {
+fn again(
+    a: Result<Campaign, Refusal>,
+    e: Result<RecordResult, Refusal>,
+    times: u64,
+) -> CampaignAnswer {
     let mut b = a;
     for _ in 0..times {
         b = then(b, e);

@@ -123,7 +123,12 @@ fn then(a: Result<Record, Refusal>, roll: &[i32], acceleration: &[i32]) -> Recor
 }
 
 // The same piece so many times over.
-fn again(a: Result<Record, Refusal>, roll: &[i32], acceleration: &[i32], times: u64) -> RecordAnswer {
+fn again(
+    a: Result<Record, Refusal>,
+    roll: &[i32],
+    acceleration: &[i32],
+    times: u64,
+) -> RecordAnswer {
     let mut b = a;
     for _ in 0..times {
         b = then(b, roll, acceleration);

@@ -42,7 +42,7 @@ fn write_line(out: &impl Print, c: Campaign) {
     let Ok(censored) = campaign_verdict::censored(c) else {
         return;
     };
-    let Ok(Given(_, rates)) = campaign_verdict::rate(c) else {
+    let Ok(Some(rates)) = campaign_verdict::rate(c) else {
         return;
     };
     let _ = print!(out; "{}\t{}\t{censored}\t{}", c.records, c.failures, c.exposure);

@@ -21,8 +21,11 @@ pub fn step_in_range(step: u64) -> bool
     truth::both(1 <= step, step <= sample_items::LONGEST_STEP)
 }
 
+// What a right line says: whether the roll is below zero, its size, and the place after the line.
+pub type Line = Option<(bool, u64, usize)>;
+
 // Reads the line of `s` that starts at `at`, the line of the time `time`.
-pub fn line_at(s: &[u8], at: usize, time: u64) -> Option<(bool, u64, usize)>
+pub fn line_at(s: &[u8], at: usize, time: u64) -> Line
     ensures { result ≡ line_at s.now at time }
 {
     let (t, end) = decimal::leading_at(s, at)?;
@@ -40,7 +43,7 @@ pub fn line_at(s: &[u8], at: usize, time: u64) -> Option<(bool, u64, usize)>
 }
 
 // Reads the degrees of `s` that start at `at`, plain ones first.
-fn roll_at(s: &[u8], at: usize) -> Option<(bool, u64, usize)>
+fn roll_at(s: &[u8], at: usize) -> Line
     ensures { result ≡ degrees_at s.now at }
 {
     let from = degrees::past_minus(s, at);

@@ -140,4 +140,3 @@ samples_read D lines places n e =
       count = c;
     }))))
     (λ s. absurd (err_not_ok (rw s at e)))
-

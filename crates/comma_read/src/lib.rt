@@ -295,8 +295,12 @@ fn plain_front(text: &[u8], step: u64) -> Run
     Run { at, lines: passed }
 }
 
+// What all lines of a text come to: the number of lines, and the place of the first sample out of range, or that
+// number; or else the number of lines before the first wrong one.
+type LinesFound = Result<(u64, u64), u64>;
+
 // Judges all lines of `text`, those of its front being plain: one that may be of any form, and plain ones together.
-fn survey(text: &[u8], step: u64, front: usize, lines: u64) -> Result<(u64, u64), u64>
+fn survey(text: &[u8], step: u64, front: usize, lines: u64) -> LinesFound
     requires { (step ≤ 10000) × PlainLines text.now step 0 0 front lines }
     ensures { result ≡ surveyed step (lines_of text.now) }
 {
@@ -568,13 +572,12 @@ fn plain_taken(
     plain_put(text, at, width, due, step, samples, from)
 }
 
+// What taking a text's right lines comes to: their number, their bytes, and the samples before the first out of range;
+// or the refusal.
+pub type LinesTaken = Result<(u64, usize, u64), Refusal>;
+
 // The right lines at a step in range, the first of them having a time: plain ones together, then one of any form.
-fn right_lines(
-    text: &[u8],
-    step: u64,
-    before: u64,
-    samples: &mut [i32],
-) -> Result<(u64, usize, u64), Refusal>
+fn right_lines(text: &[u8], step: u64, before: u64, samples: &mut [i32]) -> LinesTaken
     requires { (step_in_range step ≡ true) × (before ≤ 1000000000000) }
     ensures value { result ≡ lines_taken step before text.now (length samples.old) }
     ensures samples_after { samples.new ≡ put_by result text.now samples.old }
@@ -611,12 +614,7 @@ fn right_lines(
 // Takes the right lines that `text` starts with, as many as `samples` has places, where `before` lines of the file
 // stand before them. Puts their samples, a 0 for one out of range; the rest of `samples` stays. Or refusal 1 for the
 // step.
-pub fn take(
-    text: &[u8],
-    step: u64,
-    before: u64,
-    samples: &mut [i32],
-) -> Result<(u64, usize, u64), Refusal>
+pub fn take(text: &[u8], step: u64, before: u64, samples: &mut [i32]) -> LinesTaken
     ensures value { result ≡ lines_taken step before text.now (length samples.old) }
     ensures samples_after { samples.new ≡ put_by result text.now samples.old }
     ensures result_bound { before + taken_of result < 18446744073709551616 }

@@ -77,9 +77,12 @@ fn noted(f: Follow, number: u64, sound: u64) -> u64
     f.outside
 }
 
+// What a piece comes to: where the reading stands after its right lines, their bytes, and their number; or the refusal.
+pub type Followed = Result<(Follow, usize, usize), Refusal>;
+
 // Takes the right lines that `text` starts with, as many as `samples` has places, and puts their samples there, a 0
 // for one out of range; the rest of `samples` stays. Or refusal 1 for the step.
-pub fn take(f: Follow, text: &[u8], samples: &mut [i32]) -> Result<(Follow, usize, usize), Refusal>
+pub fn take(f: Follow, text: &[u8], samples: &mut [i32]) -> Followed
     ensures value { result ≡ taking f text.now (length samples.old) }
     ensures samples_after { samples.new ≡ leaving result text.now samples.old }
     ensures result_in_bounds { number_of result ≤ length samples.old }

@@ -16,8 +16,11 @@ const ZERO: u8 = b'0';
 // The most digits of a number.
 const LONGEST: usize = 12;
 
+// A number that stands at a place, and the place after it; nothing where none does.
+pub type Lead = Option<(u64, usize)>;
+
 // Reads the number of `s` that starts at `at` and goes up to the first byte that is no digit, or to the end of `s`.
-pub fn leading_at(s: &[u8], at: usize) -> Option<(u64, usize)>
+pub fn leading_at(s: &[u8], at: usize) -> Lead
     ensures { result ≡ leading_at s.now at }
 {
     let run = run_at(s, at);

@@ -11,8 +11,11 @@ const MINUS: u8 = b'-';
 
 const POINT: u8 = b'.';
 
+// What degrees say: whether they are below zero, their size in thousandths, and the place after them.
+pub type Degrees = Option<(bool, u64, usize)>;
+
 // Reads the degrees of `s` that start at `at`.
-pub fn degrees_at(s: &[u8], at: usize) -> Option<(bool, u64, usize)>
+pub fn degrees_at(s: &[u8], at: usize) -> Degrees
     ensures { result ≡ degrees_at s.now at }
 {
     let from = past_minus(s, at);
@@ -30,7 +33,7 @@ pub fn past_minus(s: &[u8], at: usize) -> usize
 }
 
 // Reads degrees without a sign, `minus` being the sign that stood before them.
-fn size_at(s: &[u8], at: usize, minus: bool) -> Option<(bool, u64, usize)>
+fn size_at(s: &[u8], at: usize, minus: bool) -> Degrees
     ensures { result ≡ size_at s.now at minus }
 {
     let (whole, end) = decimal::leading_at(s, at)?;

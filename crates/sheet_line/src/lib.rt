@@ -249,15 +249,19 @@ fn field_then(end: u8, text: &[u8], at: usize) -> Field
     }
 }
 
+// What a line comes to: the sheet after it; or the line's number, the column of a malformed line's fault or 0, and the
+// refusal.
+pub type Step = Result<Sheet, (u64, u64, Refusal)>;
+
 // A malformed line 1.
-fn bad_standard(text: &[u8]) -> Result<Sheet, (u64, u64, Refusal)>
+fn bad_standard(text: &[u8]) -> Step
     ensures { result ≡ malformed 1 (standard_column text.now) }
 {
     Err((1, standard_column(text), Refusal::Line(1)))
 }
 
 // Line 1.
-fn standard_line(text: &[u8]) -> Result<Sheet, (u64, u64, Refusal)>
+fn standard_line(text: &[u8]) -> Step
     ensures { result ≡ standard_line (standard_column text.now) text.now }
 {
     if !is_line(text) {
@@ -292,7 +296,7 @@ fn tell(c: Campaign, failed: bool, exposure: u64) -> Result<Campaign, Refusal>
 }
 
 // A malformed line of the campaign's next record.
-fn bad_record(c: Campaign, text: &[u8]) -> Result<Sheet, (u64, u64, Refusal)>
+fn bad_record(c: Campaign, text: &[u8]) -> Step
     requires { sound c ≡ true }
     ensures { result ≡ malformed (line_after c) (record_column (c.records + 1) text.now) }
 {
@@ -305,7 +309,7 @@ fn bad_record(c: Campaign, text: &[u8]) -> Result<Sheet, (u64, u64, Refusal)>
 }
 
 // A later line, of the campaign's next record.
-fn record_line(c: Campaign, text: &[u8]) -> Result<Sheet, (u64, u64, Refusal)>
+fn record_line(c: Campaign, text: &[u8]) -> Step
     requires { sound c ≡ true }
     ensures { result ≡ record_line (record_column (c.records + 1) text.now) c text.now }
 {
@@ -331,7 +335,7 @@ fn record_line(c: Campaign, text: &[u8]) -> Result<Sheet, (u64, u64, Refusal)>
 }
 
 // What an answer about a line comes to.
-fn outcome(line: u64, a: Result<Campaign, Refusal>) -> Result<Sheet, (u64, u64, Refusal)>
+fn outcome(line: u64, a: Result<Campaign, Refusal>) -> Step
     ensures { result ≡ outcome line a }
 {
     a.map(Sheet::Open).map_err(|r| (line, 0, r))
@@ -340,7 +344,7 @@ fn outcome(line: u64, a: Result<Campaign, Refusal>) -> Result<Sheet, (u64, u64, 
 impl Sheet {
     // Takes the sheet's next line, its LF with it; or refuses it: 9; line 1: 1; later lines: 4, 3, 5, 6. A broken
     // campaign is 8.
-    pub fn line(self, text: &[u8]) -> Result<Sheet, (u64, u64, Refusal)>
+    pub fn line(self, text: &[u8]) -> Step
         ensures { result ≡ stepping self text.now }
     {
         match self {

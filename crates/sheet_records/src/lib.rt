@@ -188,8 +188,12 @@ fn exposure_at(text: &[u8], at: usize) -> Option<usize>
     Some(next)
 }
 
+// What stands at a record's line: whether the record failed, and the place after the line; nothing where it is no line
+// of that record, or one whose exposure is not taken.
+type Entry = Option<(bool, usize)>;
+
 // The line of the record numbered `due` at `at`.
-fn entry_at(text: &[u8], at: usize, due: u64) -> Option<(bool, usize)>
+fn entry_at(text: &[u8], at: usize, due: u64) -> Entry
     ensures { EntryAt text.now at due result }
 {
     let (number, end) = decimal::leading_at(text, at)?;
@@ -213,8 +217,11 @@ fn entry_at(text: &[u8], at: usize, due: u64) -> Option<(bool, usize)>
     Some((failed, feed + 1))
 }
 
+// What stands at line 1: the standard, and the place after the line.
+type Head = Option<(u64, usize)>;
+
 // Line 1.
-fn line_one(text: &[u8]) -> Option<(u64, usize)>
+fn line_one(text: &[u8]) -> Head
     ensures { HeadOf text.now result }
 {
     if !sheet_line::begins(text, b"standard\t") {
@@ -246,8 +253,12 @@ fn takes(count: u64, failures: u64) -> bool
     )
 }
 
+// What a pass over a sheet comes to: the standard, the number of records and the place after line 1 of a sheet that
+// reads cleanly.
+type Passed = Option<(u64, u64, usize)>;
+
 // Goes over all lines of `text`, to judge them.
-fn pass(text: &[u8]) -> Option<(u64, u64, usize)>
+fn pass(text: &[u8]) -> Passed
     ensures { Passes text.now result }
 {
     let (q, begin) = line_one(text)?;
@@ -315,8 +326,12 @@ fn put_all(text: &[u8], begin: usize, places: &mut [i32])
     }
 }
 
+// What reading the records of a sheet comes to: the standard, and the number of records; or the number of the first
+// bad line, the column of its fault or 0, and its refusal. Refusal 7 is on no line, 0.
+pub type Resumed = Result<(u64, u64), (u64, u64, Refusal)>;
+
 // What the sheet's reader says of a sheet that does not read cleanly.
-fn stopped(end: Reading) -> Result<(u64, u64), (u64, u64, Refusal)>
+fn stopped(end: Reading) -> Resumed
     ensures { result ≡ stopped_from end }
 {
     match end {
@@ -329,7 +344,7 @@ fn stopped(end: Reading) -> Result<(u64, u64), (u64, u64, Refusal)>
 // Reads the records of a sheet into `places`, whose rest stays: the exposures, with a minus on the failed ones.
 // Answers the standard and the number of records; or the sheet's first refusal with its line and column, then 7 with
 // the places needed, and `places` as it stood.
-pub fn records(text: &[u8], places: &mut [i32]) -> Result<(u64, u64), (u64, u64, Refusal)>
+pub fn records(text: &[u8], places: &mut [i32]) -> Resumed
     ensures value { result ≡ resuming text.now (length places.old) }
     ensures places_after { places.new ≡ filled_by result (records_of text.now) places.old }
 {

@@ -252,10 +252,13 @@ fn needed(s: Sheet, text: &[u8], more: bool) -> usize
     counted.put
 }
 
+// Where a text leads and how many bytes of answers were written, or the refusal.
+pub type Ran = Result<(Reading, usize), Refusal>;
+
 // Reads the lines of `text` as `read` does, and writes into `out`, from its start, what the program writes for them.
 // Answers what the reading came to and the bytes that it wrote; or refusal 8; 7 with the bytes needed. They are
 // counted first only where `out` might be too short.
-pub fn run(s: Sheet, text: &[u8], more: bool, out: &mut [u8]) -> Result<(Reading, usize), Refusal>
+pub fn run(s: Sheet, text: &[u8], more: bool, out: &mut [u8]) -> Ran
     ensures value { result ≡ running more text.now s out.old }
     ensures out_after { out.new ≡ run_left more text.now s out.old }
     ensures result_in_bounds { put_by result ≤ length out.old }

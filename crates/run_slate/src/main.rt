@@ -115,11 +115,7 @@ fn answer(out: &impl Print, a: Result<Record, Refusal>) {
 }
 
 // What a piece gives after an answer; a refusal stays.
-fn then(
-    a: Result<Record, Refusal>,
-    roll: &[i32],
-    acceleration: &[i32],
-) -> Result<Record, Refusal> {
+fn then(a: Result<Record, Refusal>, roll: &[i32], acceleration: &[i32]) -> Result<Record, Refusal> {
     record_feed::feed(a?, roll, acceleration)
 }
 

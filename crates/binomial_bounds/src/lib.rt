@@ -42,7 +42,8 @@ fn bounds_of(s: Sum) -> Bounds
     }
 }
 
-// One rounded division of two whole numbers that f64 holds exactly.
+// One rounded division of two whole numbers that f64 holds exactly. `campaign_verdict` has the same: neither is public,
+// since a public function asks nothing of its callers.
 fn quotient(n: u64, t: u64) -> f64
     requires { (n ≤ 9007199254740992) × (t ≤ 9007199254740992) }
     ensures { result ≡ quotient n t }

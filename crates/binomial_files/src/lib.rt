@@ -83,7 +83,7 @@ pub fn is_over(a: Added) -> bool
 {
     match a {
         Ok(_) => false,
-        Err((_, _, _)) => true,
+        Err(_) => true,
     }
 }
 

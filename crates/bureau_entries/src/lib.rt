@@ -17,10 +17,8 @@ pub fn serve(t: &mut [Place], c: Call) -> Result<Reply, Refusal>
         × (t.new ≡ (called t.old c.bureau c.ask).table) }
 {
     let mut s = bureau_survey::unseen();
-    let mut i: usize = 0;
-    while i < t.len() {
-        s = bureau_survey::look(s, i, t[i]);
-        i = i + 1;
+    for (i, place) in t.iter().enumerate() {
+        s = bureau_survey::look(s, i, *place);
     }
     let d = bureau_choice::choose(c, s, t.len());
     let at = d.at;

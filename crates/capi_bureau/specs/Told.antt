@@ -1,10 +1,10 @@
 -- What each C function tells of a call's answer: the number, what it carries, and lent rates, which a refusal leaves as
 -- they stood. Of an answer that the call never gets, nothing. Assumes nothing.
-use Rattle.std.specs.Prelude.{Float, Result, Ok, Err}
+use Rattle.std.specs.Prelude.{Float, Some, None, Result, Ok, Err}
 use Rattle.refusal.specs.Numbers.{number_of, value_of}
 use Rattle.campaign_verdict.specs.declared.Rates.{Rates}
-use Rattle.capi.specs.Numbers.{flag}
-use Rattle.capi_verdict.specs.Told.{Count, Judgement, Rating, count, judgement, ratings, verdict_told}
+use Rattle.campaign_verdict.specs.Figures.{zero64}
+use Rattle.capi_verdict.specs.Told.{Count, Judgement, Rating, count, judgement, rates, ratings, verdict_told}
 use Rattle.bureau_table.specs.declared.Reply.TheVariants.{Entered, Freed, Judged, Placed, Rated}
 use Rattle.refusal.specs.declared.Refusal.{Refusal}
 use Rattle.bureau_table.specs.declared.Reply.{Reply}

@@ -80,11 +80,8 @@ fn look(table: &[[u64; 6]]) -> Seen
     ensures { result ≡ looked unseen 0 (places_of table.now) }
 {
     let mut s = bureau_survey::unseen();
-    let mut i: usize = 0;
-    while i < table.len() {
-        let r = table[i];
-        s = bureau_survey::look(s, i, place_of(r));
-        i = i + 1;
+    for (i, row) in table.iter().enumerate() {
+        s = bureau_survey::look(s, i, place_of(*row));
     }
     s
 }

@@ -119,6 +119,7 @@ fn lines(start: Follow, before: Result<Record, Refusal>, text: &[u8]) -> Reached
     let mut follow = start;
     let mut answer = before;
     let mut at = 0;
+    // No range to go over: a turn's step is the lines that `take` found.
     loop {
         let Ok((f, bytes, n)) = comma_stream::take(follow, &text[at..], &mut samples) else {
             return Reached { follow, answer, at };

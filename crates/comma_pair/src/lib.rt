@@ -223,6 +223,7 @@ fn side_by_side(
     let mut answer = before;
     let mut at = 0;
     let mut beside = 0;
+    // No range to go over: a turn's step is the lines of both files that were found.
     loop {
         let p = next_pairs(
             r,

@@ -24,7 +24,7 @@ pub struct Follow {
     pub outside: u64,
 }
 
-// What stands after the right lines.
+// What stands after the right lines: three ends, of which none is a value or a failure to hand on.
 #[derive(Clone, Copy)]
 pub enum Rest {
     // So many bytes of a line that may have begun; more is to come.

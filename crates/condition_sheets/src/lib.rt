@@ -88,7 +88,7 @@ pub fn place(campaigns: [Campaign; 64], a: Situations, r: Reading) -> [Campaign;
 {
     match a {
         Ok(n) => put_read(campaigns, n, r),
-        Err((_, _, _, _)) => campaigns,
+        Err(_) => campaigns,
     }
 }
 
@@ -98,7 +98,7 @@ pub fn is_over(a: Situations) -> bool
 {
     match a {
         Ok(_) => false,
-        Err((_, _, _, _)) => true,
+        Err(_) => true,
     }
 }
 

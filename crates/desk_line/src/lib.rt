@@ -11,7 +11,8 @@ ghost use Rattle.desk_line.specs.Said.{why_text, refused, longest_said, Puts, pu
 
 use refusal::Refusal;
 
-// How a program ends: all was read, something was refused, or something could not be read or written.
+// How a program ends: all was read, something was refused, or something could not be read or written. Bytes and no
+// enum, since a program writes the byte itself as its last word, and `putting` promises which.
 pub const READ: u8 = b'0';
 
 pub const REFUSED: u8 = b'1';

@@ -97,6 +97,7 @@ fn count(timed: &[i32]) -> Totals
     let mut total = Totals { number: 0, sum: 0 };
     let mut i = peak_groups::second_run(timed);
     let mut next = peak_groups::first_run(&timed[i..]);
+    // No range to go over: a turn's step is the run that `first_run` found.
     while i + next.length < timed.len() {
         total = add(total, next.size);
         i += next.length;
@@ -125,6 +126,7 @@ fn pass(
     let mut e = peak_machine::fresh();
     let mut i = peak_groups::second_run(timed);
     let mut run = peak_groups::first_run(&timed[i..]);
+    // As in `count`, a turn's step is the run that was found.
     while i + run.length < timed.len() {
         e = onward(n, s, decorrelation, e, peak(step, i, run), sizes, times);
         i += run.length;

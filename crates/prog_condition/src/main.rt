@@ -74,6 +74,7 @@ fn one(desk: &Desk, size: u64, text: &mut [u8]) -> Result<Reading, Broken>
         kept: 0,
         coming: size,
     };
+    // No range to go over: a turn's step is what was read.
     while begun.coming > 0 {
         match turn(desk, begun, text)? {
             ControlFlow::Continue(next) => begun = next,

@@ -2,7 +2,7 @@
 use crate::source::Source;
 use crate::{Broken, Desk, Given, warn};
 
-const NAME_END: u8 = 0;
+const NAME_END: u8 = b'\0';
 
 #[derive(Drop)]
 pub struct Names<'t, 'a> {

@@ -127,7 +127,7 @@ fn go_over(
 fn peaks_in(a: Gathering) -> u64 {
     match a {
         Ok(g) => g.peaks,
-        Err((_, _, _)) => 0,
+        Err(_) => 0,
     }
 }
 

@@ -17,7 +17,7 @@ use std::fmt::InlineText;
 use std::io::Read;
 use std::ops::ControlFlow;
 
-const LF: u8 = 10;
+const LF: u8 = b'\n';
 
 // The refusal of a malformed line.
 const MALFORMED: u64 = 9;

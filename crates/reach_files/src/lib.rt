@@ -117,7 +117,7 @@ pub fn is_over(a: Gathering) -> bool
 {
     match a {
         Ok(_) => false,
-        Err((_, _, _)) => true,
+        Err(_) => true,
     }
 }
 

@@ -233,6 +233,7 @@ fn pass(r: Record, roll: &[i32], acceleration: &[i32]) -> Result<Record, Refusal
 {
     let mut s = r;
     let mut i = 0;
+    // By the place of a block, by which both slices are cut: `chunks` of each, zipped, would say no more.
     while i < roll.len() {
         let end = sample_block::end(i, roll.len());
         let rolls = &roll[i..end];

@@ -178,6 +178,7 @@ fn pass(items: Items, roll: &[i32], acceleration: &[i32], times: &mut [u32]) -> 
 {
     let mut w = start();
     let mut i = 0;
+    // By the place of a block, by which both slices are cut: `chunks` of each, zipped, would say no more.
     while i < roll.len() {
         let end = sample_block::end(i, roll.len());
         let rolls = &roll[i..end];
@@ -289,6 +290,7 @@ fn walk_all(items: Items, roll: &[i32], acceleration: &[i32], times: &mut [u32])
 {
     let mut w = start();
     let mut i = 0;
+    // By the place of a block, by which both slices are cut: `chunks` of each, zipped, would say no more.
     while i < roll.len() {
         let end = sample_block::end(i, roll.len());
         w = walk_block(items, w, &roll[i..end], &acceleration[i..end], times);

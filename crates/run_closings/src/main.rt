@@ -171,19 +171,16 @@ fn seen(out: &impl Print, a: Result<RecordResult, Refusal>) {
 }
 
 // What entering an outcome gives after an answer; a refusal stays.
-fn told(a: Result<Campaign, Refusal>, o: Outcome) -> CampaignAnswer {
-    match a {
-        Ok(c) => c.enter(o),
-        Err(f) => Err(f),
-    }
+fn told(a: Result<Campaign, Refusal>, o: Outcome) -> Result<Campaign, Refusal> {
+    a?.enter(o)
 }
 
 // What entering a result gives after an answer; a refusal stays.
-fn then(a: Result<Campaign, Refusal>, e: Result<RecordResult, Refusal>) -> CampaignAnswer {
-    match e {
-        Ok(x) => told(a, x.outcome()),
-        Err(f) => Err(f),
-    }
+fn then(
+    a: Result<Campaign, Refusal>,
+    e: Result<RecordResult, Refusal>,
+) -> Result<Campaign, Refusal> {
+    told(a, e?.outcome())
 }
 
 // The same result so many times over.
@@ -191,7 +188,7 @@ fn again(
     a: Result<Campaign, Refusal>,
     e: Result<RecordResult, Refusal>,
     times: u64,
-) -> CampaignAnswer {
+) -> Result<Campaign, Refusal> {
     let mut b = a;
     for _ in 0..times {
         b = then(b, e);

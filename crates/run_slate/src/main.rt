@@ -115,11 +115,8 @@ fn answer(out: &impl Print, a: Result<Record, Refusal>) {
 }
 
 // What a piece gives after an answer; a refusal stays.
-fn then(a: Result<Record, Refusal>, roll: &[i32], acceleration: &[i32]) -> RecordAnswer {
-    match a {
-        Ok(r) => record_feed::feed(r, roll, acceleration),
-        Err(f) => Err(f),
-    }
+fn then(a: Result<Record, Refusal>, roll: &[i32], acceleration: &[i32]) -> Result<Record, Refusal> {
+    record_feed::feed(a?, roll, acceleration)
 }
 
 // The same piece so many times over.
@@ -128,7 +125,7 @@ fn again(
     roll: &[i32],
     acceleration: &[i32],
     times: u64,
-) -> RecordAnswer {
+) -> Result<Record, Refusal> {
     let mut b = a;
     for _ in 0..times {
         b = then(b, roll, acceleration);

@@ -64,6 +64,7 @@ fn enter(out: &impl Print, c: Campaign, failed: bool, exposure: u64) -> Campaign
 fn enter_interval(out: &impl Print, c: Campaign, interval: u64) -> Campaign {
     let mut now = c;
     let mut left = interval;
+    // `for _ in 0..(interval - 1) / LONGEST` would say the same, and say less what is left.
     while LONGEST < left {
         now = enter(out, now, false, LONGEST);
         left -= LONGEST;

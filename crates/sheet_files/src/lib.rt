@@ -142,8 +142,8 @@ pub fn is_over(a: Filed) -> bool
     ensures { result ≡ is_over a }
 {
     match a {
-        Ok((_, _)) => false,
-        Err((_, _, _)) => true,
+        Ok(_) => false,
+        Err(_) => true,
     }
 }
 

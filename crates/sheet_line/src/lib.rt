@@ -220,7 +220,7 @@ pub fn record_column(due: u64, text: &[u8]) -> u64
     truth::pick(parted, column, 0)
 }
 
-// Where the reading of a sheet stands.
+// Where the reading of a sheet stands. No `Option`: each of the two states has lines of its own that it takes.
 #[derive(Clone, Copy)]
 pub enum Sheet {
     // Before line 1.

@@ -22,7 +22,7 @@ const LF: u8 = b'\n';
 // The most bytes of a line, with its LF.
 const LONGEST_LINE: usize = 64;
 
-// What a piece of a sheet comes to.
+// What a piece of a sheet comes to. No `Result`: that more is to come is neither a campaign nor a refusal.
 #[derive(Clone, Copy)]
 pub enum Reading {
     // The whole sheet was read.
@@ -33,7 +33,7 @@ pub enum Reading {
     Waiting(Sheet, usize),
 }
 
-// What a reader finds at a place of a text.
+// What a reader finds at a place of a text: three ends, since a piece may end within a line.
 #[derive(Clone, Copy)]
 enum LineFound {
     // A line that was taken, and the place after it.

@@ -6,7 +6,7 @@ use Prim.Native.Nat.{ℕ, ◌+◌}
 use Rattle.text.specs.Front.{kept}
 use mathlib.Core.Bool.{Bool}
 use lib.Dec.{leb}
-use lib.ListN.{set}
+use Rattle.std.specs.Prelude.{slice_set}
 use Rattle.text.specs.Write.{written, place_after}
 
 pub keep_unique : (from count : ℕ) (bytes later other : List ℕ) → later ≡ kept from count bytes → other ≡ kept from count bytes → later ≡ other
@@ -23,5 +23,5 @@ module _ (out : List ℕ) (at : ℕ) (text : List ℕ) where
   pub bytes_unique : (later other : List ℕ) → later ≡ written out at text → other ≡ written out at text → later ≡ other
   bytes_unique later other e f = cc
 
-pub put_unique : {A : Type 0} (x : A) (i : ℕ) (places later other : List A) → later ≡ set places i x → other ≡ set places i x → later ≡ other
+pub put_unique : {A : Type 0} (x : A) (i : ℕ) (places later other : List A) → later ≡ slice_set places i x → other ≡ slice_set places i x → later ≡ other
 put_unique x i places later other e f = cc

@@ -1,12 +1,9 @@
 -- `bureau_entries::serve` meets its contract. The loop looks at every place: the survey of what is left of the table goes
--- on to the survey of the whole. The measure is what is left. That choosing and acting come to what the call is said to
+-- on to the survey of the whole. That choosing and acting come to what the call is said to
 -- answer and leave is `serves`. Assumes nothing.
-use Rattle.std.proofs.Common.{◌≡◌, ◌-◌, ◌≤◌, length, drop}
+use Rattle.std.proofs.Common.{◌≡◌, ◌≤◌, length, drop}
 use Rattle.bureau_survey.specs.Survey.{looked, unseen}
 use Rattle.bureau_entries.proofs.serve.Given as goal
 
 abbrev pub invariant-loop-i : goal.invariant-loop-i
-invariant-loop-i l = (l.i ≤ length l.t) × (looked l.s l.i (drop l.i l.t) ≡ looked unseen 0 l.t)
-
-abbrev pub decreases-loop-i : goal.decreases-loop-i
-decreases-loop-i l = length l.t - l.i
+invariant-loop-i l = (l.i ≤ length l.place-items) × (looked l.s l.i (drop l.i l.place-items) ≡ looked unseen 0 l.place-items)

@@ -122,18 +122,7 @@ pub fn chim_sum_rates(
 {
     let a = binomial_bounds::rate(sum_of(state));
     match a {
-        Ok(Some(r)) => {
-            *estimate = r.estimate;
-            *lower = r.lower;
-            *upper = r.upper;
-            capi::give(1, carried)
-        }
-        Ok(None) => {
-            *estimate = 0.0;
-            *lower = 0.0;
-            *upper = 0.0;
-            capi::give(0, carried)
-        }
+        Ok(r) => capi_verdict::tell_rates(r, estimate, lower, upper, carried),
         Err(f) => capi::refuse(f, carried),
     }
 }

@@ -1,10 +1,9 @@
 -- What each C function tells of a call's answer: the number, what it carries, and lent rates, which a refusal leaves as
 -- they stood. Of an answer that the call never gets, nothing. Assumes nothing.
-use Rattle.std.specs.Prelude.{Float, Some, None, Result, Ok, Err}
+use Rattle.std.specs.Prelude.{Float, Result, Ok, Err}
 use Rattle.refusal.specs.Numbers.{number_of, value_of}
 use Rattle.campaign_verdict.specs.declared.Rates.{Rates}
-use Rattle.campaign_verdict.specs.Figures.{zero64}
-use Rattle.capi_verdict.specs.Told.{Count, Judgement, Rating, count, judgement, rates, ratings, verdict_told}
+use Rattle.capi_verdict.specs.Told.{Count, Judgement, Rating, count, judgement, ratings, told_rates, verdict_told}
 use Rattle.bureau_table.specs.declared.Reply.TheVariants.{Entered, Freed, Judged, Placed, Rated}
 use Rattle.refusal.specs.declared.Refusal.{Refusal}
 use Rattle.bureau_table.specs.declared.Reply.{Reply}
@@ -27,8 +26,7 @@ judged (Ok Freed) x y = judgement 0 0 x y
 judged (Err f) x y = judgement (number_of f) (value_of f) x y
 
 unfoldable pub rated : Result Reply Refusal → Rates → Rating
-rated (Ok (Rated (Some r))) y = ratings 0 1 r
-rated (Ok (Rated None)) y = ratings 0 0 (rates zero64 zero64 zero64)
+rated (Ok (Rated r)) y = told_rates r
 rated (Ok (Placed i)) y = ratings 0 0 y
 rated (Ok Entered) y = ratings 0 0 y
 rated (Ok (Judged v)) y = ratings 0 0 y

@@ -165,18 +165,7 @@ fn tell_rates(
         ≡ rated a (rates estimate.old lower.old upper.old) }
 {
     match a {
-        Ok(Reply::Rated(Some(r))) => {
-            *estimate = r.estimate;
-            *lower = r.lower;
-            *upper = r.upper;
-            capi::give(1, carried)
-        }
-        Ok(Reply::Rated(None)) => {
-            *estimate = 0.0;
-            *lower = 0.0;
-            *upper = 0.0;
-            capi::give(0, carried)
-        }
+        Ok(Reply::Rated(r)) => capi_verdict::tell_rates(r, estimate, lower, upper, carried),
         Err(f) => capi::refuse(f, carried),
         Ok(Reply::Placed(_)) => capi::give(0, carried),
         Ok(Reply::Entered) => capi::give(0, carried),

@@ -63,9 +63,12 @@ ratings n v x = record { number = n; carried = v; rates = x }
 abbrev pub rates : Float → Float → Float → Rates
 rates e x y = record { estimate = e; lower = x; upper = y }
 
+unfoldable pub told_rates : Option Rates → Rating
+told_rates (Some x) = ratings 0 1 x
+told_rates None = ratings 0 0 (rates zero64 zero64 zero64)
+
 unfoldable pub rated_told : Result (Option Rates) Refusal → Rates → Rating
-rated_told (Ok (Some x)) y = ratings 0 1 x
-rated_told (Ok None) y = ratings 0 0 (rates zero64 zero64 zero64)
+rated_told (Ok r) y = told_rates r
 rated_told (Err f) y = ratings (number_of f) (value_of f) y
 
 abbrev pub campaign_rated : List ℕ → Rates → Rating

@@ -5,10 +5,10 @@
 
 ghost use Rattle.std.specs.Prelude.{◌≡◌};
 ghost use Rattle.poisson.specs.Rows.{LowerRow, UpperRow};
-ghost use Rattle.capi_verdict.specs.Told.{campaign_censored, campaign_judged, campaign_rated, count, judgement};
+ghost use Rattle.capi_verdict.specs.Told.{campaign_censored, campaign_judged, campaign_rated, count, judgement, told_rates};
 ghost use Rattle.capi_verdict.specs.Told.{rates, ratings, verdict_told};
 
-use campaign_verdict::Verdict;
+use campaign_verdict::{Rates, Verdict};
 
 // The censored count N* in `carried`; or refusal 8.
 #[tactic(auto, unfolding(crate::specs::Told::count_told))]
@@ -69,6 +69,33 @@ pub fn chim_campaign_verdict(
     }
 }
 
+// What rates tell: themselves, and 1 in `carried`; without a record 0 each.
+#[tactic(auto, unfolding(crate::specs::Told::told_rates))]
+pub fn tell_rates(
+    given: Option<Rates>,
+    estimate: &mut f64,
+    lower: &mut f64,
+    upper: &mut f64,
+    carried: &mut u64,
+) -> u64
+    ensures { ratings result carried.new (rates estimate.new lower.new upper.new) ≡ told_rates given }
+{
+    match given {
+        Some(r) => {
+            *estimate = r.estimate;
+            *lower = r.lower;
+            *upper = r.upper;
+            capi::give(1, carried)
+        }
+        None => {
+            *estimate = 0.0;
+            *lower = 0.0;
+            *upper = 0.0;
+            capi::give(0, carried)
+        }
+    }
+}
+
 // The three rates, and 1 in `carried`; 0 and rates of 0 while there is no record; or refusal 8.
 #[tactic(auto, unfolding(crate::specs::Told::rated_told))]
 pub fn chim_campaign_rates(
@@ -84,18 +111,7 @@ pub fn chim_campaign_rates(
 {
     let a = campaign_verdict::rate(capi::campaign_of(state));
     match a {
-        Ok(Some(r)) => {
-            *estimate = r.estimate;
-            *lower = r.lower;
-            *upper = r.upper;
-            capi::give(1, carried)
-        }
-        Ok(None) => {
-            *estimate = 0.0;
-            *lower = 0.0;
-            *upper = 0.0;
-            capi::give(0, carried)
-        }
+        Ok(r) => tell_rates(r, estimate, lower, upper, carried),
         Err(f) => capi::refuse(f, carried),
     }
 }

@@ -35,10 +35,11 @@ pub enum Letter {
     Continue,
 }
 
+// `sample_items` has the same, which is private there too: one line.
 fn between(low: u64, high: u64, x: u64) -> bool
     ensures { result ≡ within low high x }
 {
-    truth::both(low <= x, x <= high)
+    (low..=high).contains(&x)
 }
 
 // The greatest f with f 2 ^ 31 at most r m 2 ^ s - less, or 2 ^ 60 - 1 where that is: r 2 ^ s in a high part and 31

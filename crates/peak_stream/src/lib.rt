@@ -38,6 +38,7 @@ pub struct Surveying {
     pub sum: u64,
 }
 
+// `a == b` in its place: the proof of `read` did not close.
 fn same(a: bool, b: bool) -> bool
     ensures { result ≡ same a b }
 {

@@ -46,27 +46,63 @@ struct Run {
 }
 
 // ---- plain lines: a time as wide as the last one, and plain degrees
-// How wide the time of the line at `at` is, where it is the line of the time `due`: as wide as the last time, or else
-// as wide as its digits.
-fn width_in(text: &[u8], at: usize, width: usize, due: u64) -> usize
-    requires { (at + width < length text.now) × Narrow width due }
-    ensures { Narrow result due × (right due (drop at text.now) ≡ true → result ≡ length (digits_of due)) }
-{
-    if text[at + width] == comma_line::COMMA {
-        return width;
-    }
-    decimal::digits(due)
+// The time that is due in a line, and how wide the last one was: its own digits are as many or more.
+#[derive(Clone, Copy)]
+struct Due {
+    time: u64,
+    width: usize,
+    ghost narrow: { Narrow width time },
 }
 
-// The same where the text may end before.
-fn width_at(text: &[u8], at: usize, width: usize, due: u64) -> usize
-    requires { (at ≤ length text.now) × Narrow width due }
-    ensures { Narrow result due × (right due (drop at text.now) ≡ true → result ≡ length (digits_of due)) }
-{
-    if text.len() <= at + width {
-        return decimal::digits(due);
+impl Due {
+    // The time of the first line, or of one after lines whose times were not looked at.
+    fn first(time: u64) -> Due
+        ensures { result.time ≡ time }
+    {
+        Due { time, width: 1 }
     }
-    width_in(text, at, width, due)
+
+    // The time so much later.
+    fn after(self, by: u64) -> Due
+        requires { self.time + by < 18446744073709551616 }
+        ensures { result.time ≡ self.time + by }
+    {
+        Due {
+            time: self.time + by,
+            width: self.width,
+        }
+    }
+
+    // As wide as it is in the line at `at`, if that is the line of this time: as wide as the last time, or else as
+    // wide as its digits.
+    fn in_line(self, text: &[u8], at: usize) -> Due
+        requires { at + self.width < length text.now }
+        ensures { (result.time ≡ self.time)
+            × (right self.time (drop at text.now) ≡ true → result.width ≡ length (digits_of self.time)) }
+    {
+        if text[at + self.width] == comma_line::COMMA {
+            return self;
+        }
+        Due {
+            time: self.time,
+            width: decimal::digits(self.time),
+        }
+    }
+
+    // The same where the text may end before.
+    fn at(self, text: &[u8], at: usize) -> Due
+        requires { at ≤ length text.now }
+        ensures { (result.time ≡ self.time)
+            × (right self.time (drop at text.now) ≡ true → result.width ≡ length (digits_of self.time)) }
+    {
+        if text.len() <= at + self.width {
+            return Due {
+                time: self.time,
+                width: decimal::digits(self.time),
+            };
+        }
+        self.in_line(text, at)
+    }
 }
 
 // Four bytes, and the eight bytes of `s` from `at` on, side by side in one number. Joined one by one they are one
@@ -197,19 +233,20 @@ fn moved_on(q: u64, d: u64) -> u64
     std::num::wrapping_sub_u64(x, ((x & 0x8080_8080_8080_8080) >> 7) * 0xF6)
 }
 
-// The plain lines of a text from `at` on, the first of the time `due`, whose times are `width` wide. The digits of
+// The plain lines of a text from `at` on, the first of the time that is due, whose times are as wide. The digits of
 // the time that is due are compared with a line's all at once, and moved on by the step. They are eight at most, and
 // so are those of the next time where this one is before the latest.
-fn plain_run(text: &[u8], at: usize, width: usize, due: u64, step: u64) -> Run
-    requires { (at + 17 ≤ length text.now) × Narrow width due × (width ≤ 8) × (step ≤ 10000) }
-    ensures { PlainLines text.now step at due result.at result.lines }
+fn plain_run(text: &[u8], at: usize, due: Due, step: u64) -> Run
+    requires { (at + 17 ≤ length text.now) × (due.width ≤ 8) × (step ≤ 10000) }
+    ensures { PlainLines text.now step at due.time result.at result.lines }
 {
     let last = text.len() - ROOM;
+    let width = due.width;
     let shift = 64 - 8 * width;
     let zeros = 0x3030_3030_3030_3030u64 >> shift;
     let by = eight_digits(step) + 0xF6F6_F6F6_F6F6_F6F6;
-    let mut digits = eight_digits(due);
-    let mut time = due;
+    let mut digits = eight_digits(due.time);
+    let mut time = due.time;
     let mut place = at;
     let mut lines: u64 = 0;
     // No range to go over: a turn's step is the line that `plain_roll` found.
@@ -247,14 +284,14 @@ fn looks_plain(text: &[u8], at: usize, width: usize) -> bool
 }
 
 // The same, where the first is looked at before.
-fn plain_lines(text: &[u8], at: usize, width: usize, due: u64, step: u64) -> Run
-    requires { Narrow width due × (step ≤ 10000) }
-    ensures { PlainLines text.now step at due result.at result.lines }
+fn plain_lines(text: &[u8], at: usize, due: Due, step: u64) -> Run
+    requires { step ≤ 10000 }
+    ensures { PlainLines text.now step at due.time result.at result.lines }
 {
-    if !looks_plain(text, at, width) {
+    if !looks_plain(text, at, due.width) {
         return no_lines(at);
     }
-    plain_run(text, at, width, due, step)
+    plain_run(text, at, due, step)
 }
 
 // ---- the two passes
@@ -281,16 +318,17 @@ fn plain_front(text: &[u8], step: u64) -> Run
 {
     let mut at = 0;
     let mut passed: u64 = 0;
-    let mut width = 1;
+    let mut due = Due::first(0);
     // No range to go over: a turn's step is the run that `plain_lines` found.
     while at < text.len() {
-        width = width_at(text, at, width, passed * step);
-        let run = plain_lines(text, at, width, passed * step, step);
+        due = due.at(text, at);
+        let run = plain_lines(text, at, due, step);
         if run.lines == 0 {
             return Run { at, lines: passed };
         }
         at = run.at;
         passed += run.lines;
+        due = due.after(run.lines * step);
     }
     Run { at, lines: passed }
 }
@@ -306,26 +344,25 @@ fn survey(text: &[u8], step: u64, front: usize, lines: u64) -> LinesFound
 {
     let mut at = front;
     let mut count = lines;
-    let mut due = lines * step;
+    let mut due = Due::first(lines * step);
     let mut sound = lines;
-    let mut width = 1;
     // No range to go over: a turn's step is a run and the line after it.
     while at < text.len() {
-        width = width_at(text, at, width, due);
-        let run = plain_lines(text, at, width, due, step);
+        due = due.at(text, at);
+        let run = plain_lines(text, at, due, step);
         sound = carried(sound, count, run.lines);
         count += run.lines;
-        due += run.lines * step;
+        due = due.after(run.lines * step);
         at = run.at;
         if text.len() <= at {
             return Ok((count, sound));
         }
-        let Some((_, size, end)) = comma_line::line_at(text, at, due) else {
+        let Some((_, size, end)) = comma_line::line_at(text, at, due.time) else {
             return Err(count);
         };
         sound = tallied(sound, count, size <= comma_line::SAMPLE_LIMIT as u64);
         count += 1;
-        due += step;
+        due = due.after(step);
         at = end;
     }
     Ok((count, sound))
@@ -411,16 +448,14 @@ fn fill_front(text: &[u8], step: u64, front: usize, lines: u64, samples: &mut [i
         ≡ sets samples.old 0 (samples_of (lines_of text.now)) }
 {
     let mut at = 0;
-    let mut width = 1;
+    let mut due = Due::first(0);
     for count in 0..lines {
-        width = width_in(text, at, width, count * step);
-        let roll = form_of(text, at + width);
-        store(
-            plain_sample(text, at + width, roll),
-            samples,
-            count as usize,
-        );
-        at = at + width + roll / 2;
+        due = due.in_line(text, at);
+        let comma = at + due.width;
+        let roll = form_of(text, comma);
+        store(plain_sample(text, comma, roll), samples, count as usize);
+        at = comma + roll / 2;
+        due = due.after(step);
     }
 }
 
@@ -431,13 +466,12 @@ fn fill_rest(text: &[u8], step: u64, front: usize, lines: u64, samples: &mut [i3
         ≡ sets samples.old lines (samples_of (lines_of (drop front text.now))) }
 {
     let mut at = front;
-    let mut time = lines * step;
-    let mut width = 1;
+    let mut due = Due::first(lines * step);
     let mut count = lines as usize;
     // No range to go over: a turn's step is the line whose degrees were found.
     while at < text.len() {
-        width = width_at(text, at, width, time);
-        let roll = at + width + 1;
+        due = due.at(text, at);
+        let roll = at + due.width + 1;
         let from = degrees::past_minus(text, roll);
         let bytes = comma_word::bytes_at(text, from);
         if bytes == 0 {
@@ -446,7 +480,7 @@ fn fill_rest(text: &[u8], step: u64, front: usize, lines: u64, samples: &mut [i3
             };
             text::put(degrees::sample(minus, size), samples, count);
             count += 1;
-            time += step;
+            due = due.after(step);
             at = next + 1;
             continue;
         }
@@ -456,7 +490,7 @@ fn fill_rest(text: &[u8], step: u64, front: usize, lines: u64, samples: &mut [i3
             count,
         );
         count += 1;
-        time += step;
+        due = due.after(step);
         at = from + bytes + 1;
     }
 }
@@ -501,28 +535,21 @@ pub fn read(text: &[u8], step: u64, samples: &mut [i32]) -> Result<u64, Refusal>
 
 // ---- the right lines of a text, one pass
 // Plain lines as `plain_run` has them, the sample of each put as it is judged, from `from` on: as many as have a place.
-fn plain_put(
-    text: &[u8],
-    at: usize,
-    width: usize,
-    due: u64,
-    step: u64,
-    samples: &mut [i32],
-    from: usize,
-) -> Run
-    requires { (at + 17 ≤ length text.now) × Narrow width due × (width ≤ 8) × (step ≤ 10000)
+fn plain_put(text: &[u8], at: usize, due: Due, step: u64, samples: &mut [i32], from: usize) -> Run
+    requires { (at + 17 ≤ length text.now) × (due.width ≤ 8) × (step ≤ 10000)
         × (from ≤ length samples.old) }
-    ensures plain_put { PlainPut text.now step at due samples.old from result.at result.lines
+    ensures plain_put { PlainPut text.now step at due.time samples.old from result.at result.lines
         samples.new }
     ensures lines_in_bounds { from + result.lines ≤ length samples.old }
 {
     let last = text.len() - ROOM;
     let places = (samples.len() - from) as u64;
+    let width = due.width;
     let shift = 64 - 8 * width;
     let zeros = 0x3030_3030_3030_3030u64 >> shift;
     let by = eight_digits(step) + 0xF6F6_F6F6_F6F6_F6F6;
-    let mut digits = eight_digits(due);
-    let mut time = due;
+    let mut digits = eight_digits(due.time);
+    let mut time = due.time;
     let mut place = at;
     let mut lines: u64 = 0;
     // No range to go over: a turn's step is the line that `plain_roll` found. No loop in common with `plain_run`: a trait
@@ -552,24 +579,16 @@ fn plain_put(
 }
 
 // The same, where the first is looked at before.
-fn plain_taken(
-    text: &[u8],
-    at: usize,
-    width: usize,
-    due: u64,
-    step: u64,
-    samples: &mut [i32],
-    from: usize,
-) -> Run
-    requires { Narrow width due × (step ≤ 10000) × (from ≤ length samples.old) }
-    ensures plain_put { PlainPut text.now step at due samples.old from result.at result.lines
+fn plain_taken(text: &[u8], at: usize, due: Due, step: u64, samples: &mut [i32], from: usize) -> Run
+    requires { (step ≤ 10000) × (from ≤ length samples.old) }
+    ensures plain_put { PlainPut text.now step at due.time samples.old from result.at result.lines
         samples.new }
     ensures lines_in_bounds { from + result.lines ≤ length samples.old }
 {
-    if !looks_plain(text, at, width) {
+    if !looks_plain(text, at, due.width) {
         return no_lines(at);
     }
-    plain_put(text, at, width, due, step, samples, from)
+    plain_put(text, at, due, step, samples, from)
 }
 
 // What taking a text's right lines comes to: their number, their bytes, and the samples before the first out of range;
@@ -585,27 +604,26 @@ fn right_lines(text: &[u8], step: u64, before: u64, samples: &mut [i32]) -> Line
 {
     let mut at = 0;
     let mut count: u64 = 0;
-    let mut due = before * step;
+    let mut due = Due::first(before * step);
     let mut sound: u64 = 0;
-    let mut width = 1;
     // No range to go over: a turn's step is a run and the line after it.
     while (count as usize) < samples.len() {
-        width = width_at(text, at, width, due);
-        let run = plain_taken(text, at, width, due, step, samples, count as usize);
+        due = due.at(text, at);
+        let run = plain_taken(text, at, due, step, samples, count as usize);
         sound = carried(sound, count, run.lines);
         count += run.lines;
-        due += run.lines * step;
+        due = due.after(run.lines * step);
         at = run.at;
         if samples.len() <= count as usize {
             break;
         }
-        let Some((minus, size, end)) = comma_line::line_at(text, at, due) else {
+        let Some((minus, size, end)) = comma_line::line_at(text, at, due.time) else {
             break;
         };
         store(degrees::sample(minus, size), samples, count as usize);
         sound = tallied(sound, count, size <= comma_line::SAMPLE_LIMIT as u64);
         count += 1;
-        due += step;
+        due = due.after(step);
         at = end;
     }
     Ok((count, at, sound))

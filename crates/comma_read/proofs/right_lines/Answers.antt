@@ -1,8 +1,6 @@
-use Rattle.std.proofs.Common.{◌≡◌, ℕ, ◌+◌, ◌*◌, ◌<◌, cond, eqb, List, length, ℤ, sym, ◌∙◌, arith, to_z-of_z, w32, SFits, rules}
+use Rattle.std.proofs.Common.{◌≡◌, ℕ, ◌+◌, ◌*◌, ◌<◌, cond, eqb, List, length, ℤ, sym, ap, subst, ◌∙◌, arith, to_z-of_z, w32, SFits, rules}
 use Rattle.sample_items.proofs.Ranges.{high}
-use Rattle.decimal.proofs.Text.{digits_some}
 use Rattle.comma_line.proofs.At.{LineRead, line_read, line_wrong}
-use Rattle.comma_read.proofs.Times.{narrow_on}
 use Rattle.comma_read.proofs.Going.{going_low, going_length}
 use Rattle.comma_read.proofs.Way.{Way, way_as, way_start, way_run, way_line, way_full, way_stopped}
 use Rattle.comma_read.proofs.right_lines.Goals as goal
@@ -20,7 +18,7 @@ module _ (c : After-plain_taken-run) where
   Count = c.loop-count.count + c.plain_taken-run.result.lines
 
   abbrev Due : ℕ
-  Due = c.loop-count.due + c.plain_taken-run.result.lines * c.args.step
+  Due = c.loop-count.due.time + c.plain_taken-run.result.lines * c.args.step
 
   abbrev Later : List ℤ
   Later = c.plain_taken-run.new.samples
@@ -28,8 +26,8 @@ module _ (c : After-plain_taken-run) where
   gone : Way c.args.step c.args.before Text c.args.samples.now At Count Due
       (cond (eqb c.loop-count.sound c.loop-count.count) (c.loop-count.sound + c.plain_taken-run.result.lines) c.loop-count.sound) Later
   gone =
-      way_run c.args.step c.args.before Text c.args.samples.now c.requires.0 c.loop-count.invariant.0 c.plain_taken-run.ensures.plain_put
-      (omega (arith, c.plain_taken-run.ensures.lines_in_bounds, going_length c.loop-count.invariant.0.going c.loop-count.invariant.0.room))
+      way_run c.args.step c.args.before Text c.args.samples.now c.requires.0 c.loop-count.invariant (rw c.at-due.ensures.0 at c.plain_taken-run.ensures.plain_put)
+      (omega (arith, c.plain_taken-run.ensures.lines_in_bounds, going_length c.loop-count.invariant.going c.loop-count.invariant.room))
 
   same : length Later ≡ length c.args.samples.now
   same = going_length gone.going gone.room
@@ -45,7 +43,7 @@ module _ (c : After-carried-sound) where
   Count₂ = c.loop-count.count + c.plain_taken-run.result.lines
 
   abbrev Due₂ : ℕ
-  Due₂ = c.loop-count.due + c.plain_taken-run.result.lines * c.args.step
+  Due₂ = c.loop-count.due.time + c.plain_taken-run.result.lines * c.args.step
 
   abbrev Later₂ : List ℤ
   Later₂ = c.plain_taken-run.new.samples
@@ -53,8 +51,8 @@ module _ (c : After-carried-sound) where
   gone₂ : Way c.args.step c.args.before Text₂ c.args.samples.now At₂ Count₂ Due₂
       (cond (eqb c.loop-count.sound c.loop-count.count) (c.loop-count.sound + c.plain_taken-run.result.lines) c.loop-count.sound) Later₂
   gone₂ =
-      way_run c.args.step c.args.before Text₂ c.args.samples.now c.requires.0 c.loop-count.invariant.0 c.plain_taken-run.ensures.plain_put
-      (omega (arith, c.plain_taken-run.ensures.lines_in_bounds, going_length c.loop-count.invariant.0.going c.loop-count.invariant.0.room))
+      way_run c.args.step c.args.before Text₂ c.args.samples.now c.requires.0 c.loop-count.invariant (rw c.at-due.ensures.0 at c.plain_taken-run.ensures.plain_put)
+      (omega (arith, c.plain_taken-run.ensures.lines_in_bounds, going_length c.loop-count.invariant.going c.loop-count.invariant.room))
 
   same₂ : length Later₂ ≡ length c.args.samples.now
   same₂ = going_length gone₂.going gone₂.room
@@ -70,7 +68,7 @@ module _ (c : Else-samples-count) where
   Count₃ = c.loop-count.count + c.plain_taken-run.result.lines
 
   abbrev Due₃ : ℕ
-  Due₃ = c.loop-count.due + c.plain_taken-run.result.lines * c.args.step
+  Due₃ = c.loop-count.due.time + c.plain_taken-run.result.lines * c.args.step
 
   abbrev Later₃ : List ℤ
   Later₃ = c.plain_taken-run.new.samples
@@ -78,8 +76,8 @@ module _ (c : Else-samples-count) where
   gone₃ : Way c.args.step c.args.before Text₃ c.args.samples.now At₃ Count₃ Due₃
       (cond (eqb c.loop-count.sound c.loop-count.count) (c.loop-count.sound + c.plain_taken-run.result.lines) c.loop-count.sound) Later₃
   gone₃ =
-      way_run c.args.step c.args.before Text₃ c.args.samples.now c.requires.0 c.loop-count.invariant.0 c.plain_taken-run.ensures.plain_put
-      (omega (arith, c.plain_taken-run.ensures.lines_in_bounds, going_length c.loop-count.invariant.0.going c.loop-count.invariant.0.room))
+      way_run c.args.step c.args.before Text₃ c.args.samples.now c.requires.0 c.loop-count.invariant (rw c.at-due.ensures.0 at c.plain_taken-run.ensures.plain_put)
+      (omega (arith, c.plain_taken-run.ensures.lines_in_bounds, going_length c.loop-count.invariant.going c.loop-count.invariant.room))
 
   same₃ : length Later₃ ≡ length c.args.samples.now
   same₃ = going_length gone₃.going gone₃.room
@@ -95,7 +93,7 @@ module _ (c : In-Some) where
   Count₄ = c.loop-count.count + c.plain_taken-run.result.lines
 
   abbrev Due₄ : ℕ
-  Due₄ = c.loop-count.due + c.plain_taken-run.result.lines * c.args.step
+  Due₄ = c.loop-count.due.time + c.plain_taken-run.result.lines * c.args.step
 
   abbrev Later₄ : List ℤ
   Later₄ = c.plain_taken-run.new.samples
@@ -103,8 +101,8 @@ module _ (c : In-Some) where
   gone₄ : Way c.args.step c.args.before Text₄ c.args.samples.now At₄ Count₄ Due₄
       (cond (eqb c.loop-count.sound c.loop-count.count) (c.loop-count.sound + c.plain_taken-run.result.lines) c.loop-count.sound) Later₄
   gone₄ =
-      way_run c.args.step c.args.before Text₄ c.args.samples.now c.requires.0 c.loop-count.invariant.0 c.plain_taken-run.ensures.plain_put
-      (omega (arith, c.plain_taken-run.ensures.lines_in_bounds, going_length c.loop-count.invariant.0.going c.loop-count.invariant.0.room))
+      way_run c.args.step c.args.before Text₄ c.args.samples.now c.requires.0 c.loop-count.invariant (rw c.at-due.ensures.0 at c.plain_taken-run.ensures.plain_put)
+      (omega (arith, c.plain_taken-run.ensures.lines_in_bounds, going_length c.loop-count.invariant.going c.loop-count.invariant.room))
 
   same₄ : length Later₄ ≡ length c.args.samples.now
   same₄ = going_length gone₄.going gone₄.room
@@ -123,47 +121,44 @@ module _ (c : Else-samples-count) where
 module _ (c : In-Some) where
   read : LineRead (Text₄ c) (At₄ c) (Due₄ c) c.in-Some.minus c.in-Some.size c.in-Some.end
   read =
-      line_read (Text₄ c) (At₄ c) (Due₄ c) _ _ _ (sym c.line_at.ensures ∙ c.in-Some.is)
+      subst (λ (t : ℕ). LineRead (Text₄ c) (At₄ c) t c.in-Some.minus c.in-Some.size c.in-Some.end)
+      (c.after-due.ensures ∙ ap (λ (t : ℕ). t + c.plain_taken-run.result.lines * c.args.step) c.at-due.ensures.0)
+      (line_read (Text₄ c) (At₄ c) c.after-due.result.time _ _ _ (sym c.line_at.ensures ∙ c.in-Some.is))
 
 pub loop-count-init : goal.loop-count-init
-loop-count-init c = let a = c.args in (
-  way_start a.step a.before a.text.now a.samples.now c.requires.0 c.requires.1,
-  record { some = omega arith; few = digits_some _ },
-)
+loop-count-init c = let a = c.args in rw c.first-due.ensures (way_start a.step a.before a.text.now a.samples.now c.requires.0 c.requires.1)
 
 pub carried-sound-requires : goal.carried-sound-requires
 carried-sound-requires c =
     let p = (goal.at.carried-sound-requires c).After-plain_taken-run in
-    omega (arith, (gone p).few, (gone p).early, going_low c.loop-count.invariant.0.going)
+    omega (arith, (gone p).few, (gone p).early, going_low c.loop-count.invariant.going)
 
-pub overflow_mul-due-in-loop-count : goal.overflow_mul-due-in-loop-count
-overflow_mul-due-in-loop-count c =
-    omega (arith, (gone (goal.at.overflow_mul-due-in-loop-count c).After-plain_taken-run).early)
+pub overflow_mul-run : goal.overflow_mul-run
+overflow_mul-run c =
+    omega (arith, (gone (goal.at.overflow_mul-run c).After-plain_taken-run).early)
 
-pub overflow_add-due : goal.overflow_add-due
-overflow_add-due c =
-    omega (arith, (gone (goal.at.overflow_add-due c).After-plain_taken-run).early)
+pub after-due-requires : goal.after-due-requires
+after-due-requires c =
+    omega (arith, (gone (goal.at.after-due-requires c).After-plain_taken-run).early, c.at-due.ensures.0)
 
 pub tallied-sound-requires : goal.tallied-sound-requires
 tallied-sound-requires c =
     let w = noted (goal.at.tallied-sound-requires c).After-carried-sound in (going_low w.going, omega (arith, w.few, w.early))
 
-pub overflow_add-due-in-loop-count : goal.overflow_add-due-in-loop-count
-overflow_add-due-in-loop-count c = omega (arith, (gone (goal.at.overflow_add-due-in-loop-count c).After-plain_taken-run).early, high 1 10000 c.args.step c.requires.0)
+pub after-due-requires-in-loop-count : goal.after-due-requires-in-loop-count
+after-due-requires-in-loop-count c = omega (arith, (gone (goal.at.after-due-requires-in-loop-count c).After-plain_taken-run).early, c.after-due.ensures, c.at-due.ensures.0, high 1 10000 c.args.step c.requires.0)
 
 pub loop-count-preserved : goal.loop-count-preserved
 loop-count-preserved c =
     let a = c.args in
-    let fits : SFits w32 c.sample.result = search rules in (
-      rw c.store.ensures
-          (way_line a.step a.before a.text.now a.samples.now c.requires.0 (noted (goal.at.loop-count-preserved c).After-carried-sound) (read (goal.at.loop-count-preserved c).In-Some) (room (goal.at.loop-count-preserved c).Else-samples-count) c.tallied-sound.ensures
-          (to_z-of_z fits ∙ c.sample.ensures)),
-      narrow_on _ (narrow_on _ c.width_at-width.ensures.0),
-    )
+    let fits : SFits w32 c.sample.result = search rules in
+    rw (c.store.ensures, c.after-due-in-loop-count.ensures, c.after-due.ensures, c.at-due.ensures.0)
+    (way_line a.step a.before a.text.now a.samples.now c.requires.0 (noted (goal.at.loop-count-preserved c).After-carried-sound) (read (goal.at.loop-count-preserved c).In-Some) (room (goal.at.loop-count-preserved c).Else-samples-count) c.tallied-sound.ensures
+    (to_z-of_z fits ∙ c.sample.ensures))
 
 pub returns-after-loop-count : goal.returns-after-loop-count
 returns-after-loop-count c =
-    let a = c.args in let w = c.loop-count.invariant.0 in
+    let a = c.args in let w = c.loop-count.invariant in
     let whole = way_full a.step a.before a.text.now a.samples.now c.requires.0 w (omega (arith, c.loop-count-test.false, going_length w.going w.room)) in record { value = whole.0; samples_after = whole.1.0; result_bound = whole.1.1 }
 
 pub returns-then-samples-count : goal.returns-then-samples-count
@@ -176,4 +171,4 @@ returns-in_default c =
     let p = (goal.at.returns-in_default c).After-plain_taken-run in
     let a = c.args in
     let whole = way_stopped a.step a.before a.text.now a.samples.now c.requires.0 (noted (goal.at.returns-in_default c).After-carried-sound)
-    (line_wrong (Text p) (At p) (Due p) (sym c.line_at.ensures ∙ c.in_default.is)) in record { value = whole.0; samples_after = whole.1.0; result_bound = whole.1.1 }
+    (rw (c.after-due.ensures, c.at-due.ensures.0) at (line_wrong (Text p) (At p) c.after-due.result.time (sym c.line_at.ensures ∙ c.in_default.is))) in record { value = whole.0; samples_after = whole.1.0; result_bound = whole.1.1 }

@@ -4,7 +4,6 @@
 
 ghost use Rattle.std.specs.Prelude.{◌≡◌, ◌+◌, ◌-◌, ◌%◌, ◌^◌, ◌<◌, ◌≤◌, true, ◌&&◌, [], ◌∷◌, length, take, drop, if◌then◌else◌, bit_and, bit_xor, nat_eq, slice_set};
 ghost use Rattle.std.proofs.lemmas.List.Edits.{sets};
-ghost use Rattle.sample_items.specs.Limits.{step_in_range};
 ghost use Rattle.decimal.specs.Decimal.{all_digits, value_of, digits_of};
 ghost use Rattle.decimal.specs.Lines.{lines_of};
 ghost use Rattle.degrees.specs.Degrees.{size, signed};
@@ -38,6 +37,14 @@ const LATEST: u64 = 99_990_000;
 // After so many lines no time has 12 digits.
 const MOST_LINES: u64 = 1_000_000_000_000;
 
+// A step in range.
+#[derive(Clone, Copy)]
+struct Step {
+    ms: u64,
+    ghost some: { 1 ≤ ms },
+    ghost few: { ms ≤ 10000 },
+}
+
 // Plain lines one after the other: the place after them, and their number.
 #[derive(Clone, Copy)]
 struct Run {
@@ -56,6 +63,7 @@ struct Due {
 
 impl Due {
     // The time of the first line, or of one after lines whose times were not looked at.
+    #[tactic(auto, using(decimal::proofs::Text::digits_some))]
     fn first(time: u64) -> Due
         ensures { result.time ≡ time }
     {
@@ -236,15 +244,15 @@ fn moved_on(q: u64, d: u64) -> u64
 // The plain lines of a text from `at` on, the first of the time that is due, whose times are as wide. The digits of
 // the time that is due are compared with a line's all at once, and moved on by the step. They are eight at most, and
 // so are those of the next time where this one is before the latest.
-fn plain_run(text: &[u8], at: usize, due: Due, step: u64) -> Run
-    requires { (at + 17 ≤ length text.now) × (due.width ≤ 8) × (step ≤ 10000) }
-    ensures { PlainLines text.now step at due.time result.at result.lines }
+fn plain_run(text: &[u8], at: usize, due: Due, step: Step) -> Run
+    requires { (at + 17 ≤ length text.now) × (due.width ≤ 8) }
+    ensures { PlainLines text.now step.ms at due.time result.at result.lines }
 {
     let last = text.len() - ROOM;
     let width = due.width;
     let shift = 64 - 8 * width;
     let zeros = 0x3030_3030_3030_3030u64 >> shift;
-    let by = eight_digits(step) + 0xF6F6_F6F6_F6F6_F6F6;
+    let by = eight_digits(step.ms) + 0xF6F6_F6F6_F6F6_F6F6;
     let mut digits = eight_digits(due.time);
     let mut time = due.time;
     let mut place = at;
@@ -263,7 +271,7 @@ fn plain_run(text: &[u8], at: usize, due: Due, step: u64) -> Run
         }
         place = place + width + roll / 2;
         digits = moved_on(digits, by);
-        time += step;
+        time += step.ms;
         lines += 1;
     }
     Run { at: place, lines }
@@ -284,9 +292,8 @@ fn looks_plain(text: &[u8], at: usize, width: usize) -> bool
 }
 
 // The same, where the first is looked at before.
-fn plain_lines(text: &[u8], at: usize, due: Due, step: u64) -> Run
-    requires { step ≤ 10000 }
-    ensures { PlainLines text.now step at due.time result.at result.lines }
+fn plain_lines(text: &[u8], at: usize, due: Due, step: Step) -> Run
+    ensures { PlainLines text.now step.ms at due.time result.at result.lines }
 {
     if !looks_plain(text, at, due.width) {
         return no_lines(at);
@@ -312,9 +319,8 @@ fn carried(sound: u64, count: u64, lines: u64) -> u64
 }
 
 // The plain lines that the text starts with: one run for each width of the times.
-fn plain_front(text: &[u8], step: u64) -> Run
-    requires { step ≤ 10000 }
-    ensures { PlainLines text.now step 0 0 result.at result.lines }
+fn plain_front(text: &[u8], step: Step) -> Run
+    ensures { PlainLines text.now step.ms 0 0 result.at result.lines }
 {
     let mut at = 0;
     let mut passed: u64 = 0;
@@ -328,7 +334,7 @@ fn plain_front(text: &[u8], step: u64) -> Run
         }
         at = run.at;
         passed += run.lines;
-        due = due.after(run.lines * step);
+        due = due.after(run.lines * step.ms);
     }
     Run { at, lines: passed }
 }
@@ -338,13 +344,13 @@ fn plain_front(text: &[u8], step: u64) -> Run
 type LinesFound = Result<(u64, u64), u64>;
 
 // Judges all lines of `text`, those of its front being plain: one that may be of any form, and plain ones together.
-fn survey(text: &[u8], step: u64, front: usize, lines: u64) -> LinesFound
-    requires { (step ≤ 10000) × PlainLines text.now step 0 0 front lines }
-    ensures { result ≡ surveyed step (lines_of text.now) }
+fn survey(text: &[u8], step: Step, front: usize, lines: u64) -> LinesFound
+    requires { PlainLines text.now step.ms 0 0 front lines }
+    ensures { result ≡ surveyed step.ms (lines_of text.now) }
 {
     let mut at = front;
     let mut count = lines;
-    let mut due = Due::first(lines * step);
+    let mut due = Due::first(lines * step.ms);
     let mut sound = lines;
     // No range to go over: a turn's step is a run and the line after it.
     while at < text.len() {
@@ -352,7 +358,7 @@ fn survey(text: &[u8], step: u64, front: usize, lines: u64) -> LinesFound
         let run = plain_lines(text, at, due, step);
         sound = carried(sound, count, run.lines);
         count += run.lines;
-        due = due.after(run.lines * step);
+        due = due.after(run.lines * step.ms);
         at = run.at;
         if text.len() <= at {
             return Ok((count, sound));
@@ -362,7 +368,7 @@ fn survey(text: &[u8], step: u64, front: usize, lines: u64) -> LinesFound
         };
         sound = tallied(sound, count, size <= comma_line::SAMPLE_LIMIT as u64);
         count += 1;
-        due = due.after(step);
+        due = due.after(step.ms);
         at = end;
     }
     Ok((count, sound))
@@ -441,9 +447,9 @@ fn store(x: i32, samples: &mut [i32], i: usize)
 }
 
 // Puts the samples of the front, whose lines are plain.
-fn fill_front(text: &[u8], step: u64, front: usize, lines: u64, samples: &mut [i32])
-    requires { (step ≤ 10000) × AllGood step (lines_of text.now) × PlainLines text.now step 0 0 front lines
-        × (1 ≤ step) × (lines ≤ length samples.old) }
+fn fill_front(text: &[u8], step: Step, front: usize, lines: u64, samples: &mut [i32])
+    requires { AllGood step.ms (lines_of text.now) × PlainLines text.now step.ms 0 0 front lines
+        × (lines ≤ length samples.old) }
     ensures { sets samples.new lines (samples_of (lines_of (drop front text.now)))
         ≡ sets samples.old 0 (samples_of (lines_of text.now)) }
 {
@@ -455,18 +461,18 @@ fn fill_front(text: &[u8], step: u64, front: usize, lines: u64, samples: &mut [i
         let roll = form_of(text, comma);
         store(plain_sample(text, comma, roll), samples, count as usize);
         at = comma + roll / 2;
-        due = due.after(step);
+        due = due.after(step.ms);
     }
 }
 
 // Puts the samples of the lines after the front, which are right and in range. Their times are passed over.
-fn fill_rest(text: &[u8], step: u64, front: usize, lines: u64, samples: &mut [i32])
-    requires { (step ≤ 10000) × AllGood step (lines_of text.now) × PlainLines text.now step 0 0 front lines }
+fn fill_rest(text: &[u8], step: Step, front: usize, lines: u64, samples: &mut [i32])
+    requires { AllGood step.ms (lines_of text.now) × PlainLines text.now step.ms 0 0 front lines }
     ensures { samples.new
         ≡ sets samples.old lines (samples_of (lines_of (drop front text.now))) }
 {
     let mut at = front;
-    let mut due = Due::first(lines * step);
+    let mut due = Due::first(lines * step.ms);
     let mut count = lines as usize;
     // No range to go over: a turn's step is the line whose degrees were found.
     while at < text.len() {
@@ -480,7 +486,7 @@ fn fill_rest(text: &[u8], step: u64, front: usize, lines: u64, samples: &mut [i3
             };
             text::put(degrees::sample(minus, size), samples, count);
             count += 1;
-            due = due.after(step);
+            due = due.after(step.ms);
             at = next + 1;
             continue;
         }
@@ -490,15 +496,15 @@ fn fill_rest(text: &[u8], step: u64, front: usize, lines: u64, samples: &mut [i3
             count,
         );
         count += 1;
-        due = due.after(step);
+        due = due.after(step.ms);
         at = from + bytes + 1;
     }
 }
 
 // Puts the samples of a text whose lines are all right and in range.
-fn fill(text: &[u8], step: u64, front: usize, lines: u64, samples: &mut [i32])
-    requires { (step ≤ 10000) × AllGood step (lines_of text.now) × PlainLines text.now step 0 0 front lines
-        × (1 ≤ step) × (lines ≤ length samples.old) }
+fn fill(text: &[u8], step: Step, front: usize, lines: u64, samples: &mut [i32])
+    requires { AllGood step.ms (lines_of text.now) × PlainLines text.now step.ms 0 0 front lines
+        × (lines ≤ length samples.old) }
     ensures { samples.new ≡ sets samples.old 0 (samples_of (lines_of text.now)) }
 {
     fill_front(text, step, front, lines, samples);
@@ -516,6 +522,7 @@ pub fn read(text: &[u8], step: u64, samples: &mut [i32]) -> Result<u64, Refusal>
     if !comma_line::step_in_range(step) {
         return Err(Refusal::Item(1));
     }
+    let step = Step { ms: step };
     let front = plain_front(text, step);
     // No `map_err`: a closure would not know that `lines + 1` fits.
     match survey(text, step, front.at, front.lines) {
@@ -535,10 +542,10 @@ pub fn read(text: &[u8], step: u64, samples: &mut [i32]) -> Result<u64, Refusal>
 
 // ---- the right lines of a text, one pass
 // Plain lines as `plain_run` has them, the sample of each put as it is judged, from `from` on: as many as have a place.
-fn plain_put(text: &[u8], at: usize, due: Due, step: u64, samples: &mut [i32], from: usize) -> Run
-    requires { (at + 17 ≤ length text.now) × (due.width ≤ 8) × (step ≤ 10000)
+fn plain_put(text: &[u8], at: usize, due: Due, step: Step, samples: &mut [i32], from: usize) -> Run
+    requires { (at + 17 ≤ length text.now) × (due.width ≤ 8)
         × (from ≤ length samples.old) }
-    ensures plain_put { PlainPut text.now step at due.time samples.old from result.at result.lines
+    ensures plain_put { PlainPut text.now step.ms at due.time samples.old from result.at result.lines
         samples.new }
     ensures lines_in_bounds { from + result.lines ≤ length samples.old }
 {
@@ -547,7 +554,7 @@ fn plain_put(text: &[u8], at: usize, due: Due, step: u64, samples: &mut [i32], f
     let width = due.width;
     let shift = 64 - 8 * width;
     let zeros = 0x3030_3030_3030_3030u64 >> shift;
-    let by = eight_digits(step) + 0xF6F6_F6F6_F6F6_F6F6;
+    let by = eight_digits(step.ms) + 0xF6F6_F6F6_F6F6_F6F6;
     let mut digits = eight_digits(due.time);
     let mut time = due.time;
     let mut place = at;
@@ -572,16 +579,23 @@ fn plain_put(text: &[u8], at: usize, due: Due, step: u64, samples: &mut [i32], f
         );
         place = place + width + roll / 2;
         digits = moved_on(digits, by);
-        time += step;
+        time += step.ms;
         lines += 1;
     }
     Run { at: place, lines }
 }
 
 // The same, where the first is looked at before.
-fn plain_taken(text: &[u8], at: usize, due: Due, step: u64, samples: &mut [i32], from: usize) -> Run
-    requires { (step ≤ 10000) × (from ≤ length samples.old) }
-    ensures plain_put { PlainPut text.now step at due.time samples.old from result.at result.lines
+fn plain_taken(
+    text: &[u8],
+    at: usize,
+    due: Due,
+    step: Step,
+    samples: &mut [i32],
+    from: usize,
+) -> Run
+    requires { (from ≤ length samples.old) }
+    ensures plain_put { PlainPut text.now step.ms at due.time samples.old from result.at result.lines
         samples.new }
     ensures lines_in_bounds { from + result.lines ≤ length samples.old }
 {
@@ -596,15 +610,15 @@ fn plain_taken(text: &[u8], at: usize, due: Due, step: u64, samples: &mut [i32],
 pub type LinesTaken = Result<(u64, usize, u64), Refusal>;
 
 // The right lines at a step in range, the first of them having a time: plain ones together, then one of any form.
-fn right_lines(text: &[u8], step: u64, before: u64, samples: &mut [i32]) -> LinesTaken
-    requires { (step_in_range step ≡ true) × (before ≤ 1000000000000) }
-    ensures value { result ≡ lines_taken step before text.now (length samples.old) }
+fn right_lines(text: &[u8], step: Step, before: u64, samples: &mut [i32]) -> LinesTaken
+    requires { (before ≤ 1000000000000) }
+    ensures value { result ≡ lines_taken step.ms before text.now (length samples.old) }
     ensures samples_after { samples.new ≡ put_by result text.now samples.old }
     ensures result_bound { before + taken_of result < 18446744073709551616 }
 {
     let mut at = 0;
     let mut count: u64 = 0;
-    let mut due = Due::first(before * step);
+    let mut due = Due::first(before * step.ms);
     let mut sound: u64 = 0;
     // No range to go over: a turn's step is a run and the line after it.
     while (count as usize) < samples.len() {
@@ -612,7 +626,7 @@ fn right_lines(text: &[u8], step: u64, before: u64, samples: &mut [i32]) -> Line
         let run = plain_taken(text, at, due, step, samples, count as usize);
         sound = carried(sound, count, run.lines);
         count += run.lines;
-        due = due.after(run.lines * step);
+        due = due.after(run.lines * step.ms);
         at = run.at;
         if samples.len() <= count as usize {
             break;
@@ -623,7 +637,7 @@ fn right_lines(text: &[u8], step: u64, before: u64, samples: &mut [i32]) -> Line
         store(degrees::sample(minus, size), samples, count as usize);
         sound = tallied(sound, count, size <= comma_line::SAMPLE_LIMIT as u64);
         count += 1;
-        due = due.after(step);
+        due = due.after(step.ms);
         at = end;
     }
     Ok((count, at, sound))
@@ -643,5 +657,5 @@ pub fn take(text: &[u8], step: u64, before: u64, samples: &mut [i32]) -> LinesTa
     if before > MOST_LINES {
         return Ok((0, 0, 0));
     }
-    right_lines(text, step, before, samples)
+    right_lines(text, Step { ms: step }, before, samples)
 }

@@ -18,8 +18,8 @@ module _ (c : In-loop-count) where
   abbrev Time : ℕ
   Time = c.loop-count.due.time
 
-  ahead : First Text c.args.step c.loop-count.at Time c.args.front (0 + c.args.lines * c.args.step)
-  ahead = first c.loop-count.invariant.2 (omega (arith, mul-le-mul_right {m = suc c.loop-count.count} c.args.step c.loop-count-test.true, c.loop-count.invariant.3, c.requires.3))
+  ahead : First Text c.args.step.ms c.loop-count.at Time c.args.front (0 + c.args.lines * c.args.step.ms)
+  ahead = first c.loop-count.invariant.2 (omega (arith, mul-le-mul_right {m = suc c.loop-count.count} c.args.step.ms c.loop-count-test.true, c.loop-count.invariant.3, c.args.step.some))
 
 module _ (c : After-in_line-due) where
   abbrev Text₂ : List ℕ
@@ -28,8 +28,8 @@ module _ (c : After-in_line-due) where
   abbrev Time₂ : ℕ
   Time₂ = c.loop-count.due.time
 
-  ahead₂ : First Text₂ c.args.step c.loop-count.at Time₂ c.args.front (0 + c.args.lines * c.args.step)
-  ahead₂ = first c.loop-count.invariant.2 (omega (arith, mul-le-mul_right {m = suc c.loop-count.count} c.args.step c.loop-count-test.true, c.loop-count.invariant.3, c.requires.3))
+  ahead₂ : First Text₂ c.args.step.ms c.loop-count.at Time₂ c.args.front (0 + c.args.lines * c.args.step.ms)
+  ahead₂ = first c.loop-count.invariant.2 (omega (arith, mul-le-mul_right {m = suc c.loop-count.count} c.args.step.ms c.loop-count-test.true, c.loop-count.invariant.3, c.args.step.some))
 
 module _ (c : After-form_of-roll) where
   abbrev Text₃ : List ℕ
@@ -38,8 +38,8 @@ module _ (c : After-form_of-roll) where
   abbrev Time₃ : ℕ
   Time₃ = c.loop-count.due.time
 
-  ahead₃ : First Text₃ c.args.step c.loop-count.at Time₃ c.args.front (0 + c.args.lines * c.args.step)
-  ahead₃ = first c.loop-count.invariant.2 (omega (arith, mul-le-mul_right {m = suc c.loop-count.count} c.args.step c.loop-count-test.true, c.loop-count.invariant.3, c.requires.3))
+  ahead₃ : First Text₃ c.args.step.ms c.loop-count.at Time₃ c.args.front (0 + c.args.lines * c.args.step.ms)
+  ahead₃ = first c.loop-count.invariant.2 (omega (arith, mul-le-mul_right {m = suc c.loop-count.count} c.args.step.ms c.loop-count-test.true, c.loop-count.invariant.3, c.args.step.some))
 
 -- its time is this wide, and plain degrees stand after it
 module _ (c : After-in_line-due) where
@@ -76,9 +76,9 @@ in_size_lem b n h = rw (le-leb n largest_size (omega arith))
 
 pub loop-count-init : goal.loop-count-init
 loop-count-init c = let a = c.args in (
-  rw c.first-due.ensures (start a.step a.text.now),
-  put_none a.step a.text.now 0 0 a.samples.now,
-  rw c.first-due.ensures (forward c.requires.2),
+  rw c.first-due.ensures (start a.step.ms a.text.now),
+  put_none a.step.ms a.text.now 0 0 a.samples.now,
+  rw c.first-due.ensures (forward c.requires.1),
   omega (arith, c.first-due.ensures),
 )
 
@@ -100,7 +100,7 @@ loop-count-preserved c =
     let stored = c.store.ensures ∙ ap (set c.loop-count.samples c.loop-count.count) (to_z-of_z fits ∙
     c.plain_sample.ensures ∙ in_size_lem (eqb (Roll b % 2) 1) (roll_size (Text in-loop) (c.loop-count.at + Width b)
     (Roll b)) size) in
-    let on = filled_on c.loop-count.invariant.0 (told b) c.requires.1 c.requires.0 c.loop-count.invariant.1 stored in
+    let on = filled_on c.loop-count.invariant.0 (told b) c.requires.0 c.args.step.few c.loop-count.invariant.1 stored in
     let a = ahead in-loop in (
       rw (c.after-due.ensures, c.in_line-due.ensures.0) on.0,
       on.1,
@@ -109,10 +109,10 @@ loop-count-preserved c =
     )
 
 pub after-due-requires : goal.after-due-requires
-after-due-requires c = omega (arith, c.in_line-due.ensures.0, c.loop-count.invariant.0.due, c.requires.0)
+after-due-requires c = omega (arith, c.in_line-due.ensures.0, c.loop-count.invariant.0.due, c.args.step.few)
 
 pub returns : goal.returns
 returns c =
-    let here : c.loop-count.at ≡ c.args.front = arrived c.loop-count.invariant.2 (omega (arith, mul-le-mul_right {m = c.args.lines} c.args.step c.loop-count-test.false, c.loop-count.invariant.3)) c.requires.3 in
-    let count : c.loop-count.count ≡ c.args.lines = omega (arith, rw here at c.loop-count.invariant.0.number, (of_front c.requires.2 c.requires.0).number) in
-    rw (← here, ← count) (c.loop-count.invariant.1.left c.requires.1)
+    let here : c.loop-count.at ≡ c.args.front = arrived c.loop-count.invariant.2 (omega (arith, mul-le-mul_right {m = c.args.lines} c.args.step.ms c.loop-count-test.false, c.loop-count.invariant.3)) c.args.step.some in
+    let count : c.loop-count.count ≡ c.args.lines = omega (arith, rw here at c.loop-count.invariant.0.number, (of_front c.requires.1 c.args.step.few).number) in
+    rw (← here, ← count) (c.loop-count.invariant.1.left c.requires.0)

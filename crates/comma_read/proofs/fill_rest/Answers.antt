@@ -14,15 +14,15 @@ use Rattle.comma_read.proofs.fill_rest.Goals.{After-size_at, After-at-due, In-So
 -- the line is right
 good : (c : After-at-due) → right c.loop-at.due.time (drop c.loop-at.at c.args.text.now) ≡ true
 good c =
-    all_right c.loop-at.invariant.0 c.requires.1 c.loop-at-test.true
+    all_right c.loop-at.invariant.0 c.requires.0 c.loop-at-test.true
 
 good₂ : (c : After-size_at) → right c.loop-at.due.time (drop c.loop-at.at c.args.text.now) ≡ true
 good₂ c =
-    all_right c.loop-at.invariant.0 c.requires.1 c.loop-at-test.true
+    all_right c.loop-at.invariant.0 c.requires.0 c.loop-at-test.true
 
 good₃ : (c : In-Some) → right c.loop-at.due.time (drop c.loop-at.at c.args.text.now) ≡ true
 good₃ c =
-    all_right c.loop-at.invariant.0 c.requires.1 c.loop-at-test.true
+    all_right c.loop-at.invariant.0 c.requires.0 c.loop-at-test.true
 
 -- and its time is this wide
 wide : (c : After-at-due) → c.at-due.result.width ≡ length (digits_of c.loop-at.due.time)
@@ -61,10 +61,10 @@ plainly c =
     (degrees_read s roll _ _ _ (sym (plain_read s roll c.past_minus-from.result c.past_minus-from.ensures (plain c)))))
 
 pub overflow_mul-lines : goal.overflow_mul-lines
-overflow_mul-lines c = omega (arith, (of_front c.requires.2 c.requires.0).due)
+overflow_mul-lines c = omega (arith, (of_front c.requires.1 c.args.step.few).due)
 
 pub loop-at-init : goal.loop-at-init
-loop-at-init c = let a = c.args in (rw c.first-due.ensures (of_front c.requires.2 c.requires.0), put_none a.step a.text.now a.front a.lines a.samples.now)
+loop-at-init c = let a = c.args in (rw c.first-due.ensures (of_front c.requires.1 c.args.step.few), put_none a.step.ms a.text.now a.front a.lines a.samples.now)
 
 pub overflow_add-roll : goal.overflow_add-roll
 overflow_add-roll c = omega (arith, narrow (goal.at.overflow_add-roll c).After-at-due, c.loop-at-test.true)
@@ -91,14 +91,14 @@ pub loop-at-preserved-then-bytes-eq0 : goal.loop-at-preserved-then-bytes-eq0
 loop-at-preserved-then-bytes-eq0 c =
     let f : SFits w32 c.sample.result = search rules in
     let stored = c.put.ensures ∙ ap (set c.loop-at.samples c.loop-at.count) (to_z-of_z f ∙ c.sample.ensures) in
-    let on = filled_on c.loop-at.invariant.0 (told (goal.at.loop-at-preserved-then-bytes-eq0 c).In-Some) c.requires.1 c.requires.0 c.loop-at.invariant.1 stored in
+    let on = filled_on c.loop-at.invariant.0 (told (goal.at.loop-at-preserved-then-bytes-eq0 c).In-Some) c.requires.0 c.args.step.few c.loop-at.invariant.1 stored in
     (rw (c.after-due.ensures, c.at-due.ensures.0) on.0, on.1)
 
 pub after-due-requires : goal.after-due-requires
-after-due-requires c = omega (arith, c.at-due.ensures.0, c.loop-at.invariant.0.due, c.requires.0)
+after-due-requires c = omega (arith, c.at-due.ensures.0, c.loop-at.invariant.0.due, c.args.step.few)
 
 pub after-due-requires-in-loop-at : goal.after-due-requires-in-loop-at
-after-due-requires-in-loop-at c = omega (arith, c.at-due.ensures.0, c.loop-at.invariant.0.due, c.requires.0)
+after-due-requires-in-loop-at c = omega (arith, c.at-due.ensures.0, c.loop-at.invariant.0.due, c.args.step.few)
 
 pub overflow_add-at-in-loop-at : goal.overflow_add-at-in-loop-at
 overflow_add-at-in-loop-at c =
@@ -112,9 +112,9 @@ pub loop-at-preserved : goal.loop-at-preserved
 loop-at-preserved c =
     let f : SFits w32 c.sample-in-loop-at.result = search rules in
     let stored = c.put-in-loop-at.ensures ∙ ap (set c.loop-at.samples c.loop-at.count) (to_z-of_z f ∙ c.sample-in-loop-at.ensures) in
-    let on = filled_on c.loop-at.invariant.0 (plainly (goal.at.loop-at-preserved c).After-size_at) c.requires.1 c.requires.0 c.loop-at.invariant.1 stored in
+    let on = filled_on c.loop-at.invariant.0 (plainly (goal.at.loop-at-preserved c).After-size_at) c.requires.0 c.args.step.few c.loop-at.invariant.1 stored in
     (rw (c.after-due-in-loop-at.ensures, c.at-due.ensures.0) on.0, on.1)
 
 pub returns : goal.returns
 returns c =
-    put_all c.loop-at.invariant.0 c.loop-at.invariant.1 c.loop-at-test.false c.requires.1
+    put_all c.loop-at.invariant.0 c.loop-at.invariant.1 c.loop-at-test.false c.requires.0

@@ -5,8 +5,8 @@ use Rattle.comma_read.proofs.Along.{Along, Putting}
 use Rattle.comma_read.proofs.fill_rest.Given as goal
 
 abbrev pub invariant-loop-at : goal.invariant-loop-at
-invariant-loop-at l = Along l.step l.text l.at
-    l.due.time l.count l.count × Putting l.step l.text l.front l.lines l.initial.samples l.samples l.at l.count
+invariant-loop-at l = Along l.step.ms l.text l.at
+    l.due.time l.count l.count × Putting l.step.ms l.text l.front l.lines l.initial.samples l.samples l.at l.count
 
 abbrev pub decreases-loop-at : goal.decreases-loop-at
 decreases-loop-at l = length l.text - l.at

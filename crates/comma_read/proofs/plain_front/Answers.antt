@@ -7,11 +7,11 @@ use Rattle.comma_read.proofs.plain_front.Goals.{After-plain_lines-run}
 
 -- the lines so far, those of the run with them
 module _ (c : After-plain_lines-run) where
-  passed : PlainLines c.args.text.now c.args.step 0 0 c.plain_lines-run.result.at (c.loop-at.passed + c.plain_lines-run.result.lines)
+  passed : PlainLines c.args.text.now c.args.step.ms 0 0 c.plain_lines-run.result.at (c.loop-at.passed + c.plain_lines-run.result.lines)
   passed = run_after_run c.loop-at.invariant.0 (rw (c.at-due.ensures.0, c.loop-at.invariant.1) at c.plain_lines-run.ensures)
 
-  gone : let n = c.loop-at.passed + c.plain_lines-run.result.lines in Along c.args.step c.args.text.now c.plain_lines-run.result.at (n * c.args.step) n n
-  gone = of_front passed c.requires
+  gone : let n = c.loop-at.passed + c.plain_lines-run.result.lines in Along c.args.step.ms c.args.text.now c.plain_lines-run.result.at (n * c.args.step.ms) n n
+  gone = of_front passed c.args.step.few
 
 pub loop-at-init : goal.loop-at-init
 loop-at-init c = (none, omega (arith, c.first-due.ensures))

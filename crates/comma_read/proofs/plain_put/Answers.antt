@@ -34,12 +34,12 @@ module _ (c : Else-roll-eq0) where
 
   line : RollLine c.args.text.now c.loop-lines.place c.loop-lines.time (c.loop-lines.place + c.args.due.width + c.plain_roll-roll.result / 2)
   line =
-      due_line c.args.text.now c.args.step c.args.at c.args.due.time c.args.due.width c.loop-lines.invariant.0
+      due_line c.args.text.now c.args.step.ms c.args.at c.args.due.time c.args.due.width c.loop-lines.invariant.0
       c.requires.1 (room c) c.eight.ensures.1 (early-inside c).0 stands found
 
   place-left : c.args.from + c.loop-lines.lines < length c.args.samples.now
   place-left =
-      omega (arith, c.loop-lines-test.true, c.requires.3)
+      omega (arith, c.loop-lines-test.true, c.requires.2)
 
 zeros-small : (k : ℕ) → 0x3030303030303030 / 2 ^ k ≤ 0x3030303030303030
 zeros-small k = div-le_self 0x3030303030303030 (2 ^ k)
@@ -47,13 +47,13 @@ zeros-small k = div-le_self 0x3030303030303030 (2 ^ k)
 pub overflow_add-by : goal.overflow_add-by
 unfolding each
 overflow_add-by c =
-    omega (arith, c.eight_digits-by.ensures, fits c.args.step)
+    omega (arith, c.eight_digits-by.ensures, fits c.args.step.ms)
 
 pub loop-lines-init : goal.loop-lines-init
 loop-lines-init c = let a = c.args in (
-  set_out a.text.now a.step a.at a.due.time a.due.width c.eight_digits-digits.result c.eight_digits-digits.ensures c.args.due.narrow (omega (arith, c.requires.0)),
+  set_out a.text.now a.step.ms a.at a.due.time a.due.width c.eight_digits-digits.result c.eight_digits-digits.ensures c.args.due.narrow (omega (arith, c.requires.0)),
   as_it_stood,
-  omega (arith, c.requires.3),
+  omega (arith, c.requires.2),
 )
 
 pub overflow_add-digits : goal.overflow_add-digits
@@ -69,8 +69,8 @@ loop-lines-preserved c =
     let fits : SFits w32 c.plain_sample.result = search rules in
     let said = to_z-of_z fits ∙ c.plain_sample.ensures ∙ roll_sample_lem a.text.now c.loop-lines.place a.due.width c.loop-lines.time (found e) (line e).line.is c.loop-lines.invariant.0.narrow in (
       rw (c.moved_on-digits.ensures, c.eight_digits-by.ensures)
-          (on_line a.text.now a.step a.at a.due.time a.due.width c.loop-lines.invariant.0 c.requires.1 (room e)
-          c.eight.ensures.1 (early-inside e).0 c.requires.2 (stands e) (found e)),
+          (on_line a.text.now a.step.ms a.at a.due.time a.due.width c.loop-lines.invariant.0 c.requires.1 (room e)
+          c.eight.ensures.1 (early-inside e).0 c.args.step.few (stands e) (found e)),
       rw c.store.ensures (put_on c.loop-lines.invariant.1 c.loop-lines.invariant.0.when (line e) said),
       omega (arith, place-left e),
     )

@@ -25,11 +25,11 @@ zeros-small k = div-le_self 0x3030303030303030 (2 ^ k)
 pub overflow_add-by : goal.overflow_add-by
 unfolding each
 overflow_add-by c =
-    omega (arith, c.eight_digits-by.ensures, fits c.args.step)
+    omega (arith, c.eight_digits-by.ensures, fits c.args.step.ms)
 
 pub loop-time-init : goal.loop-time-init
 loop-time-init c =
-    set_out c.args.text.now c.args.step c.args.at
+    set_out c.args.text.now c.args.step.ms c.args.at
     c.args.due.time c.args.due.width c.eight_digits-digits.result c.eight_digits-digits.ensures c.args.due.narrow
     (omega (arith, c.requires.0))
 
@@ -42,8 +42,8 @@ pub loop-time-preserved : goal.loop-time-preserved
 unfolding each
 loop-time-preserved c =
     rw (c.moved_on-digits.ensures, c.eight_digits-by.ensures)
-    (on_line c.args.text.now c.args.step c.args.at c.args.due.time c.args.due.width c.loop-time.invariant
+    (on_line c.args.text.now c.args.step.ms c.args.at c.args.due.time c.args.due.width c.loop-time.invariant
     c.requires.1 (room (goal.at.loop-time-preserved c).Else-last-place) c.eight.ensures.1
-    c.loop-time-test.true c.requires.2
+    c.loop-time-test.true c.args.step.few
     (ap (λ (v : ℕ). v / 2 ^ (64 - 8 * c.args.due.width)) (sym c.eight.ensures.0) ∙
     c.if-eight-shift.false) (found (goal.at.loop-time-preserved c).Else-roll-eq0))

@@ -6,7 +6,7 @@ use Rattle.comma_read.proofs.Way.{Way}
 use Rattle.comma_read.proofs.right_lines.Given as goal
 
 abbrev pub invariant-loop-count : goal.invariant-loop-count
-invariant-loop-count l = Way l.step l.before l.text l.initial.samples l.at l.count l.due.time l.sound l.samples
+invariant-loop-count l = Way l.step.ms l.before l.text l.initial.samples l.at l.count l.due.time l.sound l.samples
 
 abbrev pub decreases-loop-count : goal.decreases-loop-count
 decreases-loop-count l = length l.initial.samples - l.count

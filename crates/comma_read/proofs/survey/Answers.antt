@@ -8,12 +8,12 @@ use Rattle.comma_read.proofs.survey.Goals.{After-plain_lines-run, In-Some}
 
 -- the plain lines are passed
 module _ (c : After-plain_lines-run) where
-  gone : Along c.args.step c.args.text.now
+  gone : Along c.args.step.ms c.args.text.now
       c.plain_lines-run.result.at (c.loop-at.due.time + c.plain_lines-run.result.lines *
-      c.args.step) (c.loop-at.count + c.plain_lines-run.result.lines)
+      c.args.step.ms) (c.loop-at.count + c.plain_lines-run.result.lines)
       (cond (eqb c.loop-at.sound c.loop-at.count) (c.loop-at.sound + c.plain_lines-run.result.lines)
       c.loop-at.sound)
-  gone = all_on c.loop-at.invariant (rw c.at-due.ensures.0 at c.plain_lines-run.ensures) c.requires.0
+  gone = all_on c.loop-at.invariant (rw c.at-due.ensures.0 at c.plain_lines-run.ensures) c.args.step.few
 
 -- what the line reader said of the line after them
 module _ (c : In-Some) where
@@ -24,7 +24,7 @@ module _ (c : In-Some) where
   At = c.plain_lines-run.result.at
 
   abbrev Due : ℕ
-  Due = c.loop-at.due.time + c.plain_lines-run.result.lines * c.args.step
+  Due = c.loop-at.due.time + c.plain_lines-run.result.lines * c.args.step.ms
 
   abbrev Next : ℕ
   Next = c.in-Some.end
@@ -32,17 +32,17 @@ module _ (c : In-Some) where
   read : LineRead Text At Due c.in-Some.field-0-0 c.in-Some.size Next
   read =
       subst (λ (t : ℕ). LineRead Text At t c.in-Some.field-0-0 c.in-Some.size Next)
-      (c.after-due.ensures ∙ ap (λ (t : ℕ). t + c.plain_lines-run.result.lines * c.args.step) c.at-due.ensures.0)
+      (c.after-due.ensures ∙ ap (λ (t : ℕ). t + c.plain_lines-run.result.lines * c.args.step.ms) c.at-due.ensures.0)
       (line_read Text At c.after-due.result.time _ _ Next (sym c.line_at.ensures ∙ c.in-Some.is))
 
   further : At < Next
   further = omega (arith, read.place, (turn Due (drop At Text) read.is).some)
 
 pub overflow_mul-lines : goal.overflow_mul-lines
-overflow_mul-lines c = omega (arith, (of_front c.requires.1 c.requires.0).due)
+overflow_mul-lines c = omega (arith, (of_front c.requires c.args.step.few).due)
 
 pub loop-at-init : goal.loop-at-init
-loop-at-init c = rw c.first-due.ensures (of_front c.requires.1 c.requires.0)
+loop-at-init c = rw c.first-due.ensures (of_front c.requires c.args.step.few)
 
 pub carried-sound-requires : goal.carried-sound-requires
 carried-sound-requires c = omega (arith, (gone c).few, (gone c).within, c.loop-at.invariant.low)
@@ -79,7 +79,7 @@ overflow_add-count-in-loop-at c =
 
 pub after-due-requires-in-loop-at : goal.after-due-requires-in-loop-at
 after-due-requires-in-loop-at c =
-    omega (arith, (gone (goal.at.after-due-requires-in-loop-at c).After-plain_lines-run).due, c.after-due.ensures, c.at-due.ensures.0, c.requires.0)
+    omega (arith, (gone (goal.at.after-due-requires-in-loop-at c).After-plain_lines-run).due, c.after-due.ensures, c.at-due.ensures.0, c.args.step.few)
 
 pub loop-at-smaller : goal.loop-at-smaller
 loop-at-smaller c =
@@ -95,7 +95,7 @@ loop-at-preserved c =
       c.after-due.ensures,
       c.at-due.ensures.0,
       (read d).place,
-    ) (on (gone (goal.at.loop-at-preserved c).After-plain_lines-run) (read d).is c.requires.0 _ (ap (λ n. leb n largest_size)
+    ) (on (gone (goal.at.loop-at-preserved c).After-plain_lines-run) (read d).is c.args.step.few _ (ap (λ n. leb n largest_size)
     (sym (read d).value)))
 
 pub returns : goal.returns

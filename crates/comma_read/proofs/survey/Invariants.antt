@@ -5,7 +5,7 @@ use Rattle.comma_read.proofs.Along.{Along}
 use Rattle.comma_read.proofs.survey.Given as goal
 
 abbrev pub invariant-loop-at : goal.invariant-loop-at
-invariant-loop-at l = Along l.step l.text l.at l.due.time l.count l.sound
+invariant-loop-at l = Along l.step.ms l.text l.at l.due.time l.count l.sound
 
 abbrev pub decreases-loop-at : goal.decreases-loop-at
 decreases-loop-at l = length l.text - l.at

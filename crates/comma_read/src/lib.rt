@@ -344,14 +344,14 @@ fn plain_front(text: &[u8], step: Step) -> Run
 type LinesFound = Result<(u64, u64), u64>;
 
 // Judges all lines of `text`, those of its front being plain: one that may be of any form, and plain ones together.
-fn survey(text: &[u8], step: Step, front: usize, lines: u64) -> LinesFound
-    requires { PlainLines text.now step.ms 0 0 front lines }
+fn survey(text: &[u8], step: Step, front: Run) -> LinesFound
+    requires { PlainLines text.now step.ms 0 0 front.at front.lines }
     ensures { result ≡ surveyed step.ms (lines_of text.now) }
 {
-    let mut at = front;
-    let mut count = lines;
-    let mut due = Due::first(lines * step.ms);
-    let mut sound = lines;
+    let mut at = front.at;
+    let mut count = front.lines;
+    let mut due = Due::first(front.lines * step.ms);
+    let mut sound = front.lines;
     // No range to go over: a turn's step is a run and the line after it.
     while at < text.len() {
         due = due.at(text, at);
@@ -447,15 +447,15 @@ fn store(x: i32, samples: &mut [i32], i: usize)
 }
 
 // Puts the samples of the front, whose lines are plain.
-fn fill_front(text: &[u8], step: Step, front: usize, lines: u64, samples: &mut [i32])
-    requires { AllGood step.ms (lines_of text.now) × PlainLines text.now step.ms 0 0 front lines
-        × (lines ≤ length samples.old) }
-    ensures { sets samples.new lines (samples_of (lines_of (drop front text.now)))
+fn fill_front(text: &[u8], step: Step, front: Run, samples: &mut [i32])
+    requires { AllGood step.ms (lines_of text.now) × PlainLines text.now step.ms 0 0 front.at front.lines
+        × (front.lines ≤ length samples.old) }
+    ensures { sets samples.new front.lines (samples_of (lines_of (drop front.at text.now)))
         ≡ sets samples.old 0 (samples_of (lines_of text.now)) }
 {
     let mut at = 0;
     let mut due = Due::first(0);
-    for count in 0..lines {
+    for count in 0..front.lines {
         due = due.in_line(text, at);
         let comma = at + due.width;
         let roll = form_of(text, comma);
@@ -466,14 +466,14 @@ fn fill_front(text: &[u8], step: Step, front: usize, lines: u64, samples: &mut [
 }
 
 // Puts the samples of the lines after the front, which are right and in range. Their times are passed over.
-fn fill_rest(text: &[u8], step: Step, front: usize, lines: u64, samples: &mut [i32])
-    requires { AllGood step.ms (lines_of text.now) × PlainLines text.now step.ms 0 0 front lines }
+fn fill_rest(text: &[u8], step: Step, front: Run, samples: &mut [i32])
+    requires { AllGood step.ms (lines_of text.now) × PlainLines text.now step.ms 0 0 front.at front.lines }
     ensures { samples.new
-        ≡ sets samples.old lines (samples_of (lines_of (drop front text.now))) }
+        ≡ sets samples.old front.lines (samples_of (lines_of (drop front.at text.now))) }
 {
-    let mut at = front;
-    let mut due = Due::first(lines * step.ms);
-    let mut count = lines as usize;
+    let mut at = front.at;
+    let mut due = Due::first(front.lines * step.ms);
+    let mut count = front.lines as usize;
     // No range to go over: a turn's step is the line whose degrees were found.
     while at < text.len() {
         due = due.at(text, at);
@@ -502,13 +502,13 @@ fn fill_rest(text: &[u8], step: Step, front: usize, lines: u64, samples: &mut [i
 }
 
 // Puts the samples of a text whose lines are all right and in range.
-fn fill(text: &[u8], step: Step, front: usize, lines: u64, samples: &mut [i32])
-    requires { AllGood step.ms (lines_of text.now) × PlainLines text.now step.ms 0 0 front lines
-        × (lines ≤ length samples.old) }
+fn fill(text: &[u8], step: Step, front: Run, samples: &mut [i32])
+    requires { AllGood step.ms (lines_of text.now) × PlainLines text.now step.ms 0 0 front.at front.lines
+        × (front.lines ≤ length samples.old) }
     ensures { samples.new ≡ sets samples.old 0 (samples_of (lines_of text.now)) }
 {
-    fill_front(text, step, front, lines, samples);
-    fill_rest(text, step, front, lines, samples);
+    fill_front(text, step, front, samples);
+    fill_rest(text, step, front, samples);
 }
 
 // Reads a text into `samples`, thousandths of a degree, whose rest stays, and answers their number; or refusal 1, 10
@@ -525,7 +525,7 @@ pub fn read(text: &[u8], step: u64, samples: &mut [i32]) -> Result<u64, Refusal>
     let step = Step { ms: step };
     let front = plain_front(text, step);
     // No `map_err`: a closure would not know that `lines + 1` fits.
-    match survey(text, step, front.at, front.lines) {
+    match survey(text, step, front) {
         Err(lines) => Err(Refusal::CommaLine(lines + 1)),
         Ok((count, sound)) => {
             if sound < count {
@@ -534,7 +534,7 @@ pub fn read(text: &[u8], step: u64, samples: &mut [i32]) -> Result<u64, Refusal>
             if (samples.len() as u64) < count {
                 return Err(Refusal::Room(count));
             }
-            fill(text, step, front.at, front.lines, samples);
+            fill(text, step, front, samples);
             Ok(count)
         }
     }
@@ -559,8 +559,8 @@ fn plain_put(text: &[u8], at: usize, due: Due, step: Step, samples: &mut [i32], 
     let mut time = due.time;
     let mut place = at;
     let mut lines: u64 = 0;
-    // No range to go over: a turn's step is the line that `plain_roll` found. No loop in common with `plain_run`: a trait
-    // for what is done with a line, and its law, are no plainer than the few lines that both have.
+    // No range to go over: a turn's step is the line that `plain_roll` found. No loop in common with `plain_run`: a
+    // trait for what is done with a line, and its law, are no plainer than the few lines that both have.
     while lines < places {
         if !truth::both(time < LATEST, place <= last) {
             break;
@@ -594,7 +594,7 @@ fn plain_taken(
     samples: &mut [i32],
     from: usize,
 ) -> Run
-    requires { (from ≤ length samples.old) }
+    requires { from ≤ length samples.old }
     ensures plain_put { PlainPut text.now step.ms at due.time samples.old from result.at result.lines
         samples.new }
     ensures lines_in_bounds { from + result.lines ≤ length samples.old }
@@ -611,7 +611,7 @@ pub type LinesTaken = Result<(u64, usize, u64), Refusal>;
 
 // The right lines at a step in range, the first of them having a time: plain ones together, then one of any form.
 fn right_lines(text: &[u8], step: Step, before: u64, samples: &mut [i32]) -> LinesTaken
-    requires { (before ≤ 1000000000000) }
+    requires { before ≤ 1000000000000 }
     ensures value { result ≡ lines_taken step.ms before text.now (length samples.old) }
     ensures samples_after { samples.new ≡ put_by result text.now samples.old }
     ensures result_bound { before + taken_of result < 18446744073709551616 }

@@ -18,7 +18,7 @@ module _ (c : In-loop-count) where
   abbrev Time : ℕ
   Time = c.loop-count.due.time
 
-  ahead : First Text c.args.step.ms c.loop-count.at Time c.args.front (0 + c.args.lines * c.args.step.ms)
+  ahead : First Text c.args.step.ms c.loop-count.at Time c.args.front.at (0 + c.args.front.lines * c.args.step.ms)
   ahead = first c.loop-count.invariant.2 (omega (arith, mul-le-mul_right {m = suc c.loop-count.count} c.args.step.ms c.loop-count-test.true, c.loop-count.invariant.3, c.args.step.some))
 
 module _ (c : After-in_line-due) where
@@ -28,7 +28,7 @@ module _ (c : After-in_line-due) where
   abbrev Time₂ : ℕ
   Time₂ = c.loop-count.due.time
 
-  ahead₂ : First Text₂ c.args.step.ms c.loop-count.at Time₂ c.args.front (0 + c.args.lines * c.args.step.ms)
+  ahead₂ : First Text₂ c.args.step.ms c.loop-count.at Time₂ c.args.front.at (0 + c.args.front.lines * c.args.step.ms)
   ahead₂ = first c.loop-count.invariant.2 (omega (arith, mul-le-mul_right {m = suc c.loop-count.count} c.args.step.ms c.loop-count-test.true, c.loop-count.invariant.3, c.args.step.some))
 
 module _ (c : After-form_of-roll) where
@@ -38,7 +38,7 @@ module _ (c : After-form_of-roll) where
   abbrev Time₃ : ℕ
   Time₃ = c.loop-count.due.time
 
-  ahead₃ : First Text₃ c.args.step.ms c.loop-count.at Time₃ c.args.front (0 + c.args.lines * c.args.step.ms)
+  ahead₃ : First Text₃ c.args.step.ms c.loop-count.at Time₃ c.args.front.at (0 + c.args.front.lines * c.args.step.ms)
   ahead₃ = first c.loop-count.invariant.2 (omega (arith, mul-le-mul_right {m = suc c.loop-count.count} c.args.step.ms c.loop-count-test.true, c.loop-count.invariant.3, c.args.step.some))
 
 -- its time is this wide, and plain degrees stand after it
@@ -113,6 +113,6 @@ after-due-requires c = omega (arith, c.in_line-due.ensures.0, c.loop-count.invar
 
 pub returns : goal.returns
 returns c =
-    let here : c.loop-count.at ≡ c.args.front = arrived c.loop-count.invariant.2 (omega (arith, mul-le-mul_right {m = c.args.lines} c.args.step.ms c.loop-count-test.false, c.loop-count.invariant.3)) c.args.step.some in
-    let count : c.loop-count.count ≡ c.args.lines = omega (arith, rw here at c.loop-count.invariant.0.number, (of_front c.requires.1 c.args.step.few).number) in
+    let here : c.loop-count.at ≡ c.args.front.at = arrived c.loop-count.invariant.2 (omega (arith, mul-le-mul_right {m = c.args.front.lines} c.args.step.ms c.loop-count-test.false, c.loop-count.invariant.3)) c.args.step.some in
+    let count : c.loop-count.count ≡ c.args.front.lines = omega (arith, rw here at c.loop-count.invariant.0.number, (of_front c.requires.1 c.args.step.few).number) in
     rw (← here, ← count) (c.loop-count.invariant.1.left c.requires.0)

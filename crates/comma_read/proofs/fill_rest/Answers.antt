@@ -60,11 +60,11 @@ plainly c =
     (line_by_roll s c.loop-at.at c.loop-at.due.time c.at-due.result.width (good₂ c) (wide₂ c)
     (degrees_read s roll _ _ _ (sym (plain_read s roll c.past_minus-from.result c.past_minus-from.ensures (plain c)))))
 
-pub overflow_mul-lines : goal.overflow_mul-lines
-overflow_mul-lines c = omega (arith, (of_front c.requires.1 c.args.step.few).due)
+pub overflow_mul-front : goal.overflow_mul-front
+overflow_mul-front c = omega (arith, (of_front c.requires.1 c.args.step.few).due)
 
 pub loop-at-init : goal.loop-at-init
-loop-at-init c = let a = c.args in (rw c.first-due.ensures (of_front c.requires.1 c.args.step.few), put_none a.step.ms a.text.now a.front a.lines a.samples.now)
+loop-at-init c = let a = c.args in (rw c.first-due.ensures (of_front c.requires.1 c.args.step.few), put_none a.step.ms a.text.now a.front.at a.front.lines a.samples.now)
 
 pub overflow_add-roll : goal.overflow_add-roll
 overflow_add-roll c = omega (arith, narrow (goal.at.overflow_add-roll c).After-at-due, c.loop-at-test.true)

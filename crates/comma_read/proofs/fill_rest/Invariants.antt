@@ -6,7 +6,7 @@ use Rattle.comma_read.proofs.fill_rest.Given as goal
 
 abbrev pub invariant-loop-at : goal.invariant-loop-at
 invariant-loop-at l = Along l.step.ms l.text l.at
-    l.due.time l.count l.count × Putting l.step.ms l.text l.front l.lines l.initial.samples l.samples l.at l.count
+    l.due.time l.count l.count × Putting l.step.ms l.text l.fn.front.at l.fn.front.lines l.initial.samples l.samples l.at l.count
 
 abbrev pub decreases-loop-at : goal.decreases-loop-at
 decreases-loop-at l = length l.text - l.at

@@ -38,8 +38,8 @@ module _ (c : In-Some) where
   further : At < Next
   further = omega (arith, read.place, (turn Due (drop At Text) read.is).some)
 
-pub overflow_mul-lines : goal.overflow_mul-lines
-overflow_mul-lines c = omega (arith, (of_front c.requires c.args.step.few).due)
+pub overflow_mul-front : goal.overflow_mul-front
+overflow_mul-front c = omega (arith, (of_front c.requires c.args.step.few).due)
 
 pub loop-at-init : goal.loop-at-init
 loop-at-init c = rw c.first-due.ensures (of_front c.requires c.args.step.few)

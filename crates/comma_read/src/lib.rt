@@ -243,7 +243,9 @@ fn moved_on(q: u64, d: u64) -> u64
 
 // The plain lines of a text from `at` on, the first of the time that is due, whose times are as wide. The digits of
 // the time that is due are compared with a line's all at once, and moved on by the step. They are eight at most, and
-// so are those of the next time where this one is before the latest.
+// so are those of the next time where this one is before the latest. Text, place, time and step stay side by side here
+// and below: a struct that lends the text would be named by its entry in each promise, and the last two are types that
+// say what is asked of them.
 fn plain_run(text: &[u8], at: usize, due: Due, step: Step) -> Run
     requires { (at + 17 ≤ length text.now) × (due.width ≤ 8) }
     ensures { PlainLines text.now step.ms at due.time result.at result.lines }

@@ -37,19 +37,19 @@ const LATEST: u64 = 99_990_000;
 // After so many lines no time has 12 digits.
 const MOST_LINES: u64 = 1_000_000_000_000;
 
+// Plain lines one after the other: the place after them, and their number.
+#[derive(Clone, Copy)]
+struct Run {
+    at: usize,
+    lines: u64,
+}
+
 // A step in range.
 #[derive(Clone, Copy)]
 struct Step {
     ms: u64,
     ghost some: { 1 ≤ ms },
     ghost few: { ms ≤ 10000 },
-}
-
-// Plain lines one after the other: the place after them, and their number.
-#[derive(Clone, Copy)]
-struct Run {
-    at: usize,
-    lines: u64,
 }
 
 // ---- plain lines: a time as wide as the last one, and plain degrees

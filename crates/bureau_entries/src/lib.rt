@@ -75,6 +75,9 @@ fn for_entering(bureau: u64, place: u64, o: Outcome) -> Call
     }
 }
 
+// The entries that callers call. A table, a bureau and a place stand beside one another in four of them and in no
+// struct: what `serve` takes of them is a `Call`.
+
 // A job: the lowest free place, with a fresh campaign at this standard in it. Refusals 8, 13, 14, 1 with item 5.
 pub fn take(t: &mut [Place], bureau: u64, standard: u64) -> Result<Reply, Refusal>
     ensures { (result ≡ (called t.old bureau (Take standard)).answer)

@@ -8,7 +8,7 @@ use record_end::Outcome;
 use refusal::Refusal;
 
 // Bureau 1 or 2 and its campaign; or 0 and all zeros.
-#[derive(Clone, Copy)]
+#[derive(Clone, Copy, PartialEq, Eq)]
 pub struct Place {
     pub owner: u64,
     pub campaign: Campaign,

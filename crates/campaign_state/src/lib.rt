@@ -20,7 +20,7 @@ pub const MOST_RECORDS: u64 = 100_000;
 pub const ROWS: u64 = 64;
 
 // One failure in `standard` ms is asked for; M records, N failures, T ms of exposure; whether the last record failed.
-#[derive(Clone, Copy)]
+#[derive(Clone, Copy, PartialEq, Eq)]
 pub struct Campaign {
     pub standard: u64,
     pub records: u64,

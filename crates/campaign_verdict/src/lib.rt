@@ -29,7 +29,8 @@ pub struct Rates {
     pub upper: f64,
 }
 
-// N*, of a state that keeps the relations.
+// N*, of a state that keeps the relations. `Kept` stays a clause here and below: the public functions test `sound` of a
+// state that anyone may hand in, and a type that has the relations as its invariant would be a second `Campaign`.
 fn censored_of(c: Campaign) -> u64
     requires { Kept c }
     ensures { result ≡ censored c }

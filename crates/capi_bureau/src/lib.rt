@@ -10,7 +10,7 @@ ghost use Rattle.bureau_survey.specs.Survey.{looked, unseen};
 ghost use Rattle.bureau_table.specs.declared.Ask.TheVariants.{On, Take};
 ghost use Rattle.bureau_table.specs.declared.Work.TheVariants.{Enter, GiveBack, Judge, Rate};
 ghost use Rattle.capi_verdict.specs.Told.{count, judgement, rates, ratings};
-ghost use Rattle.capi_bureau.specs.Rows.{of_place, outcome_of, place_of, places_of, rows_left, same_campaign};
+ghost use Rattle.capi_bureau.specs.Rows.{of_place, outcome_of, place_of, places_of, rows_left};
 ghost use Rattle.capi_bureau.specs.Rows.{same_place};
 ghost use Rattle.capi_bureau.specs.Told.{judged, plain, rated};
 
@@ -49,32 +49,6 @@ fn row_of(p: Place) -> [u64; 6]
     ]
 }
 
-fn same_campaign(c: Campaign, d: Campaign) -> bool
-    ensures { result ≡ same_campaign c d }
-{
-    truth::both(
-        c.standard == d.standard,
-        truth::both(
-            c.records == d.records,
-            truth::both(
-                c.failures == d.failures,
-                truth::both(
-                    c.exposure == d.exposure,
-                    capi::flag(c.failed) == capi::flag(d.failed),
-                ),
-            ),
-        ),
-    )
-}
-
-fn same_place(p: Place, q: Place) -> bool
-    ensures { result ≡ same_place p q }
-{
-    let c = p.campaign;
-    let d = q.campaign;
-    truth::both(p.owner == q.owner, same_campaign(c, d))
-}
-
 // Every place, looked at.
 fn look(table: &[[u64; 6]]) -> Seen
     ensures { result ≡ looked unseen 0 (places_of table.now) }
@@ -92,7 +66,7 @@ fn put(table: &mut [[u64; 6]], i: usize, p: Place, q: Place)
     ensures { table.new
         ≡ cond (same_place p q) table.old (set table.old i (of_place q)) }
 {
-    if same_place(p, q) {
+    if p == q {
         return;
     }
     table[i] = row_of(q);

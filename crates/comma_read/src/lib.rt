@@ -4,7 +4,6 @@
 
 ghost use Rattle.std.specs.Prelude.{◌≡◌, ◌+◌, ◌-◌, ◌%◌, ◌^◌, ◌<◌, ◌≤◌, true, ◌&&◌, [], ◌∷◌, length, take, drop, if◌then◌else◌, bit_and, bit_xor, nat_eq, slice_set};
 ghost use Rattle.std.proofs.lemmas.List.Edits.{sets};
-ghost use Rattle.sample_items.specs.Limits.{step_in_range};
 ghost use Rattle.decimal.specs.Decimal.{all_digits, value_of, digits_of};
 ghost use Rattle.decimal.specs.Lines.{lines_of};
 ghost use Rattle.degrees.specs.Degrees.{size, signed};
@@ -45,28 +44,73 @@ struct Run {
     lines: u64,
 }
 
-// ---- plain lines: a time as wide as the last one, and plain degrees
-// How wide the time of the line at `at` is, where it is the line of the time `due`: as wide as the last time, or else
-// as wide as its digits.
-fn width_in(text: &[u8], at: usize, width: usize, due: u64) -> usize
-    requires { (at + width < length text.now) × Narrow width due }
-    ensures { Narrow result due × (right due (drop at text.now) ≡ true → result ≡ length (digits_of due)) }
-{
-    if text[at + width] == comma_line::COMMA {
-        return width;
-    }
-    decimal::digits(due)
+// A step in range.
+#[derive(Clone, Copy)]
+struct Step {
+    ms: u64,
+    ghost some: { 1 ≤ ms },
+    ghost few: { ms ≤ 10000 },
 }
 
-// The same where the text may end before.
-fn width_at(text: &[u8], at: usize, width: usize, due: u64) -> usize
-    requires { (at ≤ length text.now) × Narrow width due }
-    ensures { Narrow result due × (right due (drop at text.now) ≡ true → result ≡ length (digits_of due)) }
-{
-    if text.len() <= at + width {
-        return decimal::digits(due);
+// ---- plain lines: a time as wide as the last one, and plain degrees
+// The time that is due in a line, and how wide the last one was: its own digits are as many or more.
+#[derive(Clone, Copy)]
+struct Due {
+    time: u64,
+    width: usize,
+    ghost narrow: { Narrow width time },
+}
+
+impl Due {
+    // The time of the first line, or of one after lines whose times were not looked at.
+    #[tactic(auto, using(decimal::proofs::Text::digits_some))]
+    fn first(time: u64) -> Due
+        ensures { result.time ≡ time }
+    {
+        Due { time, width: 1 }
     }
-    width_in(text, at, width, due)
+
+    // The time so much later.
+    fn after(self, by: u64) -> Due
+        requires { self.time + by < 18446744073709551616 }
+        ensures { result.time ≡ self.time + by }
+    {
+        Due {
+            time: self.time + by,
+            width: self.width,
+        }
+    }
+
+    // As wide as it is in the line at `at`, if that is the line of this time: as wide as the last time, or else as
+    // wide as its digits.
+    fn in_line(self, text: &[u8], at: usize) -> Due
+        requires { at + self.width < length text.now }
+        ensures { (result.time ≡ self.time)
+            × (right self.time (drop at text.now) ≡ true → result.width ≡ length (digits_of self.time)) }
+    {
+        if text[at + self.width] == comma_line::COMMA {
+            return self;
+        }
+        Due {
+            time: self.time,
+            width: decimal::digits(self.time),
+        }
+    }
+
+    // The same where the text may end before.
+    fn at(self, text: &[u8], at: usize) -> Due
+        requires { at ≤ length text.now }
+        ensures { (result.time ≡ self.time)
+            × (right self.time (drop at text.now) ≡ true → result.width ≡ length (digits_of self.time)) }
+    {
+        if text.len() <= at + self.width {
+            return Due {
+                time: self.time,
+                width: decimal::digits(self.time),
+            };
+        }
+        self.in_line(text, at)
+    }
 }
 
 // Four bytes, and the eight bytes of `s` from `at` on, side by side in one number. Joined one by one they are one
@@ -197,19 +241,22 @@ fn moved_on(q: u64, d: u64) -> u64
     std::num::wrapping_sub_u64(x, ((x & 0x8080_8080_8080_8080) >> 7) * 0xF6)
 }
 
-// The plain lines of a text from `at` on, the first of the time `due`, whose times are `width` wide. The digits of
+// The plain lines of a text from `at` on, the first of the time that is due, whose times are as wide. The digits of
 // the time that is due are compared with a line's all at once, and moved on by the step. They are eight at most, and
-// so are those of the next time where this one is before the latest.
-fn plain_run(text: &[u8], at: usize, width: usize, due: u64, step: u64) -> Run
-    requires { (at + 17 ≤ length text.now) × Narrow width due × (width ≤ 8) × (step ≤ 10000) }
-    ensures { PlainLines text.now step at due result.at result.lines }
+// so are those of the next time where this one is before the latest. Text, place, time and step stay side by side here
+// and below: a struct that lends the text would be named by its entry in each promise, and the last two are types that
+// say what is asked of them.
+fn plain_run(text: &[u8], at: usize, due: Due, step: Step) -> Run
+    requires { (at + 17 ≤ length text.now) × (due.width ≤ 8) }
+    ensures { PlainLines text.now step.ms at due.time result.at result.lines }
 {
     let last = text.len() - ROOM;
+    let width = due.width;
     let shift = 64 - 8 * width;
     let zeros = 0x3030_3030_3030_3030u64 >> shift;
-    let by = eight_digits(step) + 0xF6F6_F6F6_F6F6_F6F6;
-    let mut digits = eight_digits(due);
-    let mut time = due;
+    let by = eight_digits(step.ms) + 0xF6F6_F6F6_F6F6_F6F6;
+    let mut digits = eight_digits(due.time);
+    let mut time = due.time;
     let mut place = at;
     let mut lines: u64 = 0;
     // No range to go over: a turn's step is the line that `plain_roll` found.
@@ -226,7 +273,7 @@ fn plain_run(text: &[u8], at: usize, width: usize, due: u64, step: u64) -> Run
         }
         place = place + width + roll / 2;
         digits = moved_on(digits, by);
-        time += step;
+        time += step.ms;
         lines += 1;
     }
     Run { at: place, lines }
@@ -247,14 +294,13 @@ fn looks_plain(text: &[u8], at: usize, width: usize) -> bool
 }
 
 // The same, where the first is looked at before.
-fn plain_lines(text: &[u8], at: usize, width: usize, due: u64, step: u64) -> Run
-    requires { Narrow width due × (step ≤ 10000) }
-    ensures { PlainLines text.now step at due result.at result.lines }
+fn plain_lines(text: &[u8], at: usize, due: Due, step: Step) -> Run
+    ensures { PlainLines text.now step.ms at due.time result.at result.lines }
 {
-    if !looks_plain(text, at, width) {
+    if !looks_plain(text, at, due.width) {
         return no_lines(at);
     }
-    plain_run(text, at, width, due, step)
+    plain_run(text, at, due, step)
 }
 
 // ---- the two passes
@@ -275,22 +321,22 @@ fn carried(sound: u64, count: u64, lines: u64) -> u64
 }
 
 // The plain lines that the text starts with: one run for each width of the times.
-fn plain_front(text: &[u8], step: u64) -> Run
-    requires { step ≤ 10000 }
-    ensures { PlainLines text.now step 0 0 result.at result.lines }
+fn plain_front(text: &[u8], step: Step) -> Run
+    ensures { PlainLines text.now step.ms 0 0 result.at result.lines }
 {
     let mut at = 0;
     let mut passed: u64 = 0;
-    let mut width = 1;
+    let mut due = Due::first(0);
     // No range to go over: a turn's step is the run that `plain_lines` found.
     while at < text.len() {
-        width = width_at(text, at, width, passed * step);
-        let run = plain_lines(text, at, width, passed * step, step);
+        due = due.at(text, at);
+        let run = plain_lines(text, at, due, step);
         if run.lines == 0 {
             return Run { at, lines: passed };
         }
         at = run.at;
         passed += run.lines;
+        due = due.after(run.lines * step.ms);
     }
     Run { at, lines: passed }
 }
@@ -300,32 +346,31 @@ fn plain_front(text: &[u8], step: u64) -> Run
 type LinesFound = Result<(u64, u64), u64>;
 
 // Judges all lines of `text`, those of its front being plain: one that may be of any form, and plain ones together.
-fn survey(text: &[u8], step: u64, front: usize, lines: u64) -> LinesFound
-    requires { (step ≤ 10000) × PlainLines text.now step 0 0 front lines }
-    ensures { result ≡ surveyed step (lines_of text.now) }
+fn survey(text: &[u8], step: Step, front: Run) -> LinesFound
+    requires { PlainLines text.now step.ms 0 0 front.at front.lines }
+    ensures { result ≡ surveyed step.ms (lines_of text.now) }
 {
-    let mut at = front;
-    let mut count = lines;
-    let mut due = lines * step;
-    let mut sound = lines;
-    let mut width = 1;
+    let mut at = front.at;
+    let mut count = front.lines;
+    let mut due = Due::first(front.lines * step.ms);
+    let mut sound = front.lines;
     // No range to go over: a turn's step is a run and the line after it.
     while at < text.len() {
-        width = width_at(text, at, width, due);
-        let run = plain_lines(text, at, width, due, step);
+        due = due.at(text, at);
+        let run = plain_lines(text, at, due, step);
         sound = carried(sound, count, run.lines);
         count += run.lines;
-        due += run.lines * step;
+        due = due.after(run.lines * step.ms);
         at = run.at;
         if text.len() <= at {
             return Ok((count, sound));
         }
-        let Some((_, size, end)) = comma_line::line_at(text, at, due) else {
+        let Some((_, size, end)) = comma_line::line_at(text, at, due.time) else {
             return Err(count);
         };
         sound = tallied(sound, count, size <= comma_line::SAMPLE_LIMIT as u64);
         count += 1;
-        due += step;
+        due = due.after(step.ms);
         at = end;
     }
     Ok((count, sound))
@@ -404,40 +449,37 @@ fn store(x: i32, samples: &mut [i32], i: usize)
 }
 
 // Puts the samples of the front, whose lines are plain.
-fn fill_front(text: &[u8], step: u64, front: usize, lines: u64, samples: &mut [i32])
-    requires { (step ≤ 10000) × AllGood step (lines_of text.now) × PlainLines text.now step 0 0 front lines
-        × (1 ≤ step) × (lines ≤ length samples.old) }
-    ensures { sets samples.new lines (samples_of (lines_of (drop front text.now)))
+fn fill_front(text: &[u8], step: Step, front: Run, samples: &mut [i32])
+    requires { AllGood step.ms (lines_of text.now) × PlainLines text.now step.ms 0 0 front.at front.lines
+        × (front.lines ≤ length samples.old) }
+    ensures { sets samples.new front.lines (samples_of (lines_of (drop front.at text.now)))
         ≡ sets samples.old 0 (samples_of (lines_of text.now)) }
 {
     let mut at = 0;
-    let mut width = 1;
-    for count in 0..lines {
-        width = width_in(text, at, width, count * step);
-        let roll = form_of(text, at + width);
-        store(
-            plain_sample(text, at + width, roll),
-            samples,
-            count as usize,
-        );
-        at = at + width + roll / 2;
+    let mut due = Due::first(0);
+    for count in 0..front.lines {
+        due = due.in_line(text, at);
+        let comma = at + due.width;
+        let roll = form_of(text, comma);
+        store(plain_sample(text, comma, roll), samples, count as usize);
+        at = comma + roll / 2;
+        due = due.after(step.ms);
     }
 }
 
 // Puts the samples of the lines after the front, which are right and in range. Their times are passed over.
-fn fill_rest(text: &[u8], step: u64, front: usize, lines: u64, samples: &mut [i32])
-    requires { (step ≤ 10000) × AllGood step (lines_of text.now) × PlainLines text.now step 0 0 front lines }
+fn fill_rest(text: &[u8], step: Step, front: Run, samples: &mut [i32])
+    requires { AllGood step.ms (lines_of text.now) × PlainLines text.now step.ms 0 0 front.at front.lines }
     ensures { samples.new
-        ≡ sets samples.old lines (samples_of (lines_of (drop front text.now))) }
+        ≡ sets samples.old front.lines (samples_of (lines_of (drop front.at text.now))) }
 {
-    let mut at = front;
-    let mut time = lines * step;
-    let mut width = 1;
-    let mut count = lines as usize;
+    let mut at = front.at;
+    let mut due = Due::first(front.lines * step.ms);
+    let mut count = front.lines as usize;
     // No range to go over: a turn's step is the line whose degrees were found.
     while at < text.len() {
-        width = width_at(text, at, width, time);
-        let roll = at + width + 1;
+        due = due.at(text, at);
+        let roll = at + due.width + 1;
         let from = degrees::past_minus(text, roll);
         let bytes = comma_word::bytes_at(text, from);
         if bytes == 0 {
@@ -446,7 +488,7 @@ fn fill_rest(text: &[u8], step: u64, front: usize, lines: u64, samples: &mut [i3
             };
             text::put(degrees::sample(minus, size), samples, count);
             count += 1;
-            time += step;
+            due = due.after(step.ms);
             at = next + 1;
             continue;
         }
@@ -456,19 +498,19 @@ fn fill_rest(text: &[u8], step: u64, front: usize, lines: u64, samples: &mut [i3
             count,
         );
         count += 1;
-        time += step;
+        due = due.after(step.ms);
         at = from + bytes + 1;
     }
 }
 
 // Puts the samples of a text whose lines are all right and in range.
-fn fill(text: &[u8], step: u64, front: usize, lines: u64, samples: &mut [i32])
-    requires { (step ≤ 10000) × AllGood step (lines_of text.now) × PlainLines text.now step 0 0 front lines
-        × (1 ≤ step) × (lines ≤ length samples.old) }
+fn fill(text: &[u8], step: Step, front: Run, samples: &mut [i32])
+    requires { AllGood step.ms (lines_of text.now) × PlainLines text.now step.ms 0 0 front.at front.lines
+        × (front.lines ≤ length samples.old) }
     ensures { samples.new ≡ sets samples.old 0 (samples_of (lines_of text.now)) }
 {
-    fill_front(text, step, front, lines, samples);
-    fill_rest(text, step, front, lines, samples);
+    fill_front(text, step, front, samples);
+    fill_rest(text, step, front, samples);
 }
 
 // Reads a text into `samples`, thousandths of a degree, whose rest stays, and answers their number; or refusal 1, 10
@@ -482,9 +524,10 @@ pub fn read(text: &[u8], step: u64, samples: &mut [i32]) -> Result<u64, Refusal>
     if !comma_line::step_in_range(step) {
         return Err(Refusal::Item(1));
     }
+    let step = Step { ms: step };
     let front = plain_front(text, step);
     // No `map_err`: a closure would not know that `lines + 1` fits.
-    match survey(text, step, front.at, front.lines) {
+    match survey(text, step, front) {
         Err(lines) => Err(Refusal::CommaLine(lines + 1)),
         Ok((count, sound)) => {
             if sound < count {
@@ -493,7 +536,7 @@ pub fn read(text: &[u8], step: u64, samples: &mut [i32]) -> Result<u64, Refusal>
             if (samples.len() as u64) < count {
                 return Err(Refusal::Room(count));
             }
-            fill(text, step, front.at, front.lines, samples);
+            fill(text, step, front, samples);
             Ok(count)
         }
     }
@@ -501,32 +544,25 @@ pub fn read(text: &[u8], step: u64, samples: &mut [i32]) -> Result<u64, Refusal>
 
 // ---- the right lines of a text, one pass
 // Plain lines as `plain_run` has them, the sample of each put as it is judged, from `from` on: as many as have a place.
-fn plain_put(
-    text: &[u8],
-    at: usize,
-    width: usize,
-    due: u64,
-    step: u64,
-    samples: &mut [i32],
-    from: usize,
-) -> Run
-    requires { (at + 17 ≤ length text.now) × Narrow width due × (width ≤ 8) × (step ≤ 10000)
+fn plain_put(text: &[u8], at: usize, due: Due, step: Step, samples: &mut [i32], from: usize) -> Run
+    requires { (at + 17 ≤ length text.now) × (due.width ≤ 8)
         × (from ≤ length samples.old) }
-    ensures plain_put { PlainPut text.now step at due samples.old from result.at result.lines
+    ensures plain_put { PlainPut text.now step.ms at due.time samples.old from result.at result.lines
         samples.new }
     ensures lines_in_bounds { from + result.lines ≤ length samples.old }
 {
     let last = text.len() - ROOM;
     let places = (samples.len() - from) as u64;
+    let width = due.width;
     let shift = 64 - 8 * width;
     let zeros = 0x3030_3030_3030_3030u64 >> shift;
-    let by = eight_digits(step) + 0xF6F6_F6F6_F6F6_F6F6;
-    let mut digits = eight_digits(due);
-    let mut time = due;
+    let by = eight_digits(step.ms) + 0xF6F6_F6F6_F6F6_F6F6;
+    let mut digits = eight_digits(due.time);
+    let mut time = due.time;
     let mut place = at;
     let mut lines: u64 = 0;
-    // No range to go over: a turn's step is the line that `plain_roll` found. No loop in common with `plain_run`: a trait
-    // for what is done with a line, and its law, are no plainer than the few lines that both have.
+    // No range to go over: a turn's step is the line that `plain_roll` found. No loop in common with `plain_run`: a
+    // trait for what is done with a line, and its law, are no plainer than the few lines that both have.
     while lines < places {
         if !truth::both(time < LATEST, place <= last) {
             break;
@@ -545,7 +581,7 @@ fn plain_put(
         );
         place = place + width + roll / 2;
         digits = moved_on(digits, by);
-        time += step;
+        time += step.ms;
         lines += 1;
     }
     Run { at: place, lines }
@@ -555,21 +591,20 @@ fn plain_put(
 fn plain_taken(
     text: &[u8],
     at: usize,
-    width: usize,
-    due: u64,
-    step: u64,
+    due: Due,
+    step: Step,
     samples: &mut [i32],
     from: usize,
 ) -> Run
-    requires { Narrow width due × (step ≤ 10000) × (from ≤ length samples.old) }
-    ensures plain_put { PlainPut text.now step at due samples.old from result.at result.lines
+    requires { from ≤ length samples.old }
+    ensures plain_put { PlainPut text.now step.ms at due.time samples.old from result.at result.lines
         samples.new }
     ensures lines_in_bounds { from + result.lines ≤ length samples.old }
 {
-    if !looks_plain(text, at, width) {
+    if !looks_plain(text, at, due.width) {
         return no_lines(at);
     }
-    plain_put(text, at, width, due, step, samples, from)
+    plain_put(text, at, due, step, samples, from)
 }
 
 // What taking a text's right lines comes to: their number, their bytes, and the samples before the first out of range;
@@ -577,35 +612,34 @@ fn plain_taken(
 pub type LinesTaken = Result<(u64, usize, u64), Refusal>;
 
 // The right lines at a step in range, the first of them having a time: plain ones together, then one of any form.
-fn right_lines(text: &[u8], step: u64, before: u64, samples: &mut [i32]) -> LinesTaken
-    requires { (step_in_range step ≡ true) × (before ≤ 1000000000000) }
-    ensures value { result ≡ lines_taken step before text.now (length samples.old) }
+fn right_lines(text: &[u8], step: Step, before: u64, samples: &mut [i32]) -> LinesTaken
+    requires { before ≤ 1000000000000 }
+    ensures value { result ≡ lines_taken step.ms before text.now (length samples.old) }
     ensures samples_after { samples.new ≡ put_by result text.now samples.old }
     ensures result_bound { before + taken_of result < 18446744073709551616 }
 {
     let mut at = 0;
     let mut count: u64 = 0;
-    let mut due = before * step;
+    let mut due = Due::first(before * step.ms);
     let mut sound: u64 = 0;
-    let mut width = 1;
     // No range to go over: a turn's step is a run and the line after it.
     while (count as usize) < samples.len() {
-        width = width_at(text, at, width, due);
-        let run = plain_taken(text, at, width, due, step, samples, count as usize);
+        due = due.at(text, at);
+        let run = plain_taken(text, at, due, step, samples, count as usize);
         sound = carried(sound, count, run.lines);
         count += run.lines;
-        due += run.lines * step;
+        due = due.after(run.lines * step.ms);
         at = run.at;
         if samples.len() <= count as usize {
             break;
         }
-        let Some((minus, size, end)) = comma_line::line_at(text, at, due) else {
+        let Some((minus, size, end)) = comma_line::line_at(text, at, due.time) else {
             break;
         };
         store(degrees::sample(minus, size), samples, count as usize);
         sound = tallied(sound, count, size <= comma_line::SAMPLE_LIMIT as u64);
         count += 1;
-        due += step;
+        due = due.after(step.ms);
         at = end;
     }
     Ok((count, at, sound))
@@ -625,5 +659,5 @@ pub fn take(text: &[u8], step: u64, before: u64, samples: &mut [i32]) -> LinesTa
     if before > MOST_LINES {
         return Ok((0, 0, 0));
     }
-    right_lines(text, step, before, samples)
+    right_lines(text, Step { ms: step }, before, samples)
 }

@@ -14,7 +14,7 @@ ghost use Rattle.peak_tail.specs.Fitting.{tail_outside};
 ghost use Rattle.sample_items.specs.Limits.{item_outside};
 ghost use Rattle.reach_files.specs.Files.{items_of, most_timed};
 ghost use Rattle.reach_files.specs.Line.{above_level, rejected_text, letter_text, figures_line, told, low};
-ghost use Rattle.reach_files.specs.Line.{refused_list, figures_of, extrapolated_for, said_by, list_said};
+ghost use Rattle.reach_files.specs.Line.{refused_list, figures_of, extrapolated_for, list_said};
 ghost use Rattle.reach_files.specs.Gathering.{opened, counted_to, put_from, kept_by, list_by, last_sizes, last_one};
 ghost use Rattle.reach_files.specs.Gathering.{grown_by, added_in, is_over, gathered_said, list_left};
 ghost use Rattle.reach_files.specs.Steps.{kept_with, list_with, kept_on, list_on};
@@ -23,7 +23,7 @@ ghost use Rattle.reach_files.specs.Files.{judged_then};
 use comma_peaks::Judged;
 use desk_line::Finished;
 use peak_groups::Peak;
-use peak_reach::{Extrapolated, Letter, Times};
+use peak_reach::{Letter, Times};
 use peak_stream::{Handed, Handing};
 use refusal::Refusal;
 use sample_channels::Levels;
@@ -315,28 +315,6 @@ fn wide(y: u32) -> u64
     y as u64
 }
 
-// What the line tells of peaks that lie downwards.
-fn figures_of(j: Job, files: u64, samples: u64, ys: &[u32], t: Times, l: Letter) -> Figures
-    requires { tail_outside (length ys.now) j.tail ≡ false }
-    ensures { result ≡ figures_of j files samples ys.now t l }
-{
-    let last = (j.tail - 1) as usize;
-    let y = wide(ys[last]);
-    let sum = peak_tail::hill_sum(ys, j.tail);
-    let above = above(j.level, ys);
-    Figures {
-        files,
-        peaks: ys.len() as u64,
-        samples,
-        tail: j.tail,
-        last: y,
-        sum,
-        above,
-        times: t,
-        letter: l,
-    }
-}
-
 // Writes the shortest standard that is rejected, or a dash.
 fn put_rejected(time: u64, out: &mut [u8], at: usize) -> usize
     requires { at + length (rejected_text time) ≤ length out.old }
@@ -384,29 +362,6 @@ fn put_figures(f: Figures, out: &mut [u8]) -> Finished
     }
 }
 
-fn put_found(
-    j: Job,
-    files: u64,
-    samples: u64,
-    ys: &[u32],
-    t: Times,
-    l: Letter,
-    out: &mut [u8],
-) -> Finished
-    requires { extrapolated_for j samples ys.now ≡ Ok (t, l) }
-    ensures value { result ≡ putting (told (figures_of j files samples ys.now t l)) out.old }
-    ensures out_after { out.new ≡ put_left (told (figures_of j files samples ys.now t l)) out.old }
-{
-    if out.len() < desk_line::LONGEST_LINE {
-        return Finished {
-            put: 0,
-            end: desk_line::FAILED,
-        };
-    }
-    let f = figures_of(j, files, samples, ys, t, l);
-    put_figures(f, out)
-}
-
 fn put_low(u: u64, out: &mut [u8]) -> Finished
     requires { longest_said ≤ length out.old }
     ensures { Puts (low u) out.old result out.new }
@@ -438,30 +393,69 @@ fn put_refused(q: Refusal, out: &mut [u8]) -> Finished
     put_low(refusal::carried(q), out)
 }
 
-fn put_answer(
-    j: Job,
+// The files that were taken: what is asked of them, their number, their timed samples, and their peaks, which lie
+// downwards.
+#[derive(Clone, Copy)]
+struct Taken<'a> {
+    job: Job,
     files: u64,
     samples: u64,
-    ys: &[u32],
-    x: Extrapolated,
-    out: &mut [u8],
-) -> Finished
-    requires { x ≡ extrapolated_for j samples ys.now }
-    ensures value { result ≡ putting (said_by j files samples ys.now x) out.old }
-    ensures out_after { out.new ≡ put_left (said_by j files samples ys.now x) out.old }
-{
-    match x {
-        Ok((t, l)) => put_found(j, files, samples, ys, t, l, out),
-        Err(q) => put_refused(q, out),
-    }
+    ys: &'a [u32],
 }
 
-fn put_sorted(j: Job, files: u64, samples: u64, ys: &[u32], out: &mut [u8]) -> Finished
-    ensures value { result ≡ putting (list_said j files samples ys.now) out.old }
-    ensures out_after { out.new ≡ put_left (list_said j files samples ys.now) out.old }
-{
-    let x = peak_reach::extrapolate(ys, j.tail, j.level, j.step, samples, j.standard);
-    put_answer(j, files, samples, ys, x, out)
+impl<'a> Taken<'a> {
+    // What the line tells of them.
+    fn figures(self, t: Times, l: Letter) -> Figures
+        requires { tail_outside (length self.ys.now) self.job.tail ≡ false }
+        ensures { let a = self.entry in result ≡ figures_of a.job a.files a.samples a.ys.now t l }
+    {
+        let last = (self.job.tail - 1) as usize;
+        let y = wide(self.ys[last]);
+        let sum = peak_tail::hill_sum(self.ys, self.job.tail);
+        let above = above(self.job.level, self.ys);
+        Figures {
+            files: self.files,
+            peaks: self.ys.len() as u64,
+            samples: self.samples,
+            tail: self.job.tail,
+            last: y,
+            sum,
+            above,
+            times: t,
+            letter: l,
+        }
+    }
+
+    fn put_found(self, t: Times, l: Letter, out: &mut [u8]) -> Finished
+        requires { extrapolated_for self.job self.samples self.ys.now ≡ Ok (t, l) }
+        ensures value { let a = self.entry in result
+            ≡ putting (told (figures_of a.job a.files a.samples a.ys.now t l)) out.old }
+        ensures out_after { let a = self.entry in out.new
+            ≡ put_left (told (figures_of a.job a.files a.samples a.ys.now t l)) out.old }
+    {
+        if out.len() < desk_line::LONGEST_LINE {
+            return Finished {
+                put: 0,
+                end: desk_line::FAILED,
+            };
+        }
+        let f = self.figures(t, l);
+        put_figures(f, out)
+    }
+
+    // Writes what they come to.
+    fn put(self, out: &mut [u8]) -> Finished
+        ensures value { let a = self.entry in result
+            ≡ putting (list_said a.job a.files a.samples a.ys.now) out.old }
+        ensures out_after { let a = self.entry in out.new
+            ≡ put_left (list_said a.job a.files a.samples a.ys.now) out.old }
+    {
+        let j = self.job;
+        match peak_reach::extrapolate(self.ys, j.tail, j.level, j.step, self.samples, j.standard) {
+            Ok((t, l)) => self.put_found(t, l, out),
+            Err(q) => put_refused(q, out),
+        }
+    }
 }
 
 fn put_list(j: Job, g: Gathered, list: &mut [u32], out: &mut [u8]) -> Finished
@@ -471,7 +465,13 @@ fn put_list(j: Job, g: Gathered, list: &mut [u32], out: &mut [u8]) -> Finished
 {
     let n = least(g.peaks, list.len());
     sorting::sort(&mut list[..n]);
-    put_sorted(j, g.files, g.samples, &list[..n], out)
+    let taken = Taken {
+        job: j,
+        files: g.files,
+        samples: g.samples,
+        ys: &list[..n],
+    };
+    taken.put(out)
 }
 
 // Writes the line of the files to the start of `out`: files, peaks, timed samples, k, the k-th peak, the Hill sum, the

@@ -18,7 +18,9 @@ use record_state::Record;
 use refusal::Refusal;
 use sample_channels::Moment;
 
-// How many samples after a place the decorrelation time has passed.
+// How many samples after a place the decorrelation time has passed. It goes beside the record: a multiplication at each
+// crossing in its place was slower (decision 95), and a struct of both, made anew at each sample, is no plainer. Nor is
+// one for `sound`: `feed` tests it of a record that anyone may hand in, so that it would be a second `Record`.
 fn gap_of(r: Record) -> u64
     requires { sound r ≡ true }
     ensures { Gap r.items.step r.items.decorrelation result }

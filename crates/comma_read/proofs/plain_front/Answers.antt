@@ -1,27 +1,31 @@
-use Rattle.std.proofs.Common.{◌*◌, add-mul, arith}
-use Rattle.decimal.proofs.Text.{digits_some}
-use Rattle.comma_read.specs.Plain.{none}
-use Rattle.comma_read.proofs.Times.{narrow_on}
+use Rattle.std.proofs.Common.{◌+◌, ◌*◌, arith}
+use Rattle.comma_read.specs.Plain.{PlainLines, none}
 use Rattle.comma_read.proofs.Along.{Along, of_front, lines_ahead}
 use Rattle.comma_read.proofs.Front.{run_after_run}
 use Rattle.comma_read.proofs.plain_front.Goals as goal
-use Rattle.comma_read.proofs.plain_front.Goals.{At-loop-at}
+use Rattle.comma_read.proofs.plain_front.Goals.{After-plain_lines-run}
 
-gone : (c : At-loop-at) → let a = c.args in Along a.step a.text.now c.loop-at.at (c.loop-at.passed * a.step) c.loop-at.passed c.loop-at.passed
-gone c = of_front c.loop-at.invariant.0 c.requires
+-- the lines so far, those of the run with them
+module _ (c : After-plain_lines-run) where
+  passed : PlainLines c.args.text.now c.args.step.ms 0 0 c.plain_lines-run.result.at (c.loop-at.passed + c.plain_lines-run.result.lines)
+  passed = run_after_run c.loop-at.invariant.0 (rw (c.at-due.ensures.0, c.loop-at.invariant.1) at c.plain_lines-run.ensures)
+
+  gone : let n = c.loop-at.passed + c.plain_lines-run.result.lines in Along c.args.step.ms c.args.text.now c.plain_lines-run.result.at (n * c.args.step.ms) n n
+  gone = of_front passed c.args.step.few
 
 pub loop-at-init : goal.loop-at-init
-loop-at-init c = (none, record { some = omega arith; few = digits_some _ })
-
-pub overflow_mul-passed : goal.overflow_mul-passed
-overflow_mul-passed c = omega (arith, (gone (goal.at.overflow_mul-passed c).At-loop-at).due)
-
-pub overflow_mul-passed-in-loop-at : goal.overflow_mul-passed-in-loop-at
-overflow_mul-passed-in-loop-at c = let at-loop = (goal.at.overflow_mul-passed-in-loop-at c).At-loop-at in omega (arith, (gone at-loop).due)
+loop-at-init c = (none, omega (arith, c.first-due.ensures))
 
 pub overflow_add-passed : goal.overflow_add-passed
 overflow_add-passed c =
-    let g = of_front (run_after_run c.loop-at.invariant.0 c.plain_lines-run.ensures) c.requires in omega (arith, g.few, g.within)
+    let g = gone (goal.at.overflow_add-passed c).After-plain_lines-run in omega (arith, g.few, g.within)
+
+pub overflow_mul-run : goal.overflow_mul-run
+overflow_mul-run c = omega (arith, (gone (goal.at.overflow_mul-run c).After-plain_lines-run).due)
+
+pub after-due-requires : goal.after-due-requires
+after-due-requires c =
+    omega (arith, (gone (goal.at.after-due-requires c).After-plain_lines-run).due, c.at-due.ensures.0, c.loop-at.invariant.1)
 
 pub loop-at-smaller : goal.loop-at-smaller
 loop-at-smaller c =
@@ -29,6 +33,4 @@ loop-at-smaller c =
 
 pub loop-at-preserved : goal.loop-at-preserved
 loop-at-preserved c =
-    let q = c.plain_lines-run in
-    let d = c.args.step in
-    (run_after_run c.loop-at.invariant.0 q.ensures, rw (add-mul c.loop-at.passed q.result.lines d) (narrow_on (q.result.lines * d) c.width_at-width.ensures.0))
+    (passed (goal.at.loop-at-preserved c).After-plain_lines-run, omega (arith, c.after-due.ensures, c.at-due.ensures.0, c.loop-at.invariant.1))

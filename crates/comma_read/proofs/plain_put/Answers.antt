@@ -20,26 +20,26 @@ module _ (c : Else-roll-eq0) where
   room = omega (arith, early-inside.1, c.requires.0)
 
 module _ (c : Else-roll-eq0) where
-  found : PlainRoll c.args.text.now (c.loop-lines.place + c.args.width) c.plain_roll-roll.result
+  found : PlainRoll c.args.text.now (c.loop-lines.place + c.args.due.width) c.plain_roll-roll.result
   found = c.plain_roll-roll.ensures (omega (arith, c.if-roll-eq0.false))
 
-  ends : c.loop-lines.place + c.args.width + c.plain_roll-roll.result / 2 ≤ length c.args.text.now
-  ends = roll_within c.args.text.now c.loop-lines.place c.args.width found
+  ends : c.loop-lines.place + c.args.due.width + c.plain_roll-roll.result / 2 ≤ length c.args.text.now
+  ends = roll_within c.args.text.now c.loop-lines.place c.args.due.width found
 
   -- the digits that are due stand there
-  stands : word (take 8 (drop c.loop-lines.place c.args.text.now)) / 2 ^ (64 - 8 * c.args.width)
-      ≡ c.loop-lines.digits + 0x3030303030303030 / 2 ^ (64 - 8 * c.args.width)
+  stands : word (take 8 (drop c.loop-lines.place c.args.text.now)) / 2 ^ (64 - 8 * c.args.due.width)
+      ≡ c.loop-lines.digits + 0x3030303030303030 / 2 ^ (64 - 8 * c.args.due.width)
   stands =
-      ap (λ (v : ℕ). v / 2 ^ (64 - 8 * c.args.width)) (sym c.eight.ensures.0) ∙ c.if-eight-shift.false
+      ap (λ (v : ℕ). v / 2 ^ (64 - 8 * c.args.due.width)) (sym c.eight.ensures.0) ∙ c.if-eight-shift.false
 
-  line : RollLine c.args.text.now c.loop-lines.place c.loop-lines.time (c.loop-lines.place + c.args.width + c.plain_roll-roll.result / 2)
+  line : RollLine c.args.text.now c.loop-lines.place c.loop-lines.time (c.loop-lines.place + c.args.due.width + c.plain_roll-roll.result / 2)
   line =
-      due_line c.args.text.now c.args.step c.args.at c.args.due c.args.width c.loop-lines.invariant.0
-      c.requires.2 (room c) c.eight.ensures.1 (early-inside c).0 stands found
+      due_line c.args.text.now c.args.step.ms c.args.at c.args.due.time c.args.due.width c.loop-lines.invariant.0
+      c.requires.1 (room c) c.eight.ensures.1 (early-inside c).0 stands found
 
   place-left : c.args.from + c.loop-lines.lines < length c.args.samples.now
   place-left =
-      omega (arith, c.loop-lines-test.true, c.requires.4)
+      omega (arith, c.loop-lines-test.true, c.requires.2)
 
 zeros-small : (k : ℕ) → 0x3030303030303030 / 2 ^ k ≤ 0x3030303030303030
 zeros-small k = div-le_self 0x3030303030303030 (2 ^ k)
@@ -47,19 +47,19 @@ zeros-small k = div-le_self 0x3030303030303030 (2 ^ k)
 pub overflow_add-by : goal.overflow_add-by
 unfolding each
 overflow_add-by c =
-    omega (arith, c.eight_digits-by.ensures, fits c.args.step)
+    omega (arith, c.eight_digits-by.ensures, fits c.args.step.ms)
 
 pub loop-lines-init : goal.loop-lines-init
 loop-lines-init c = let a = c.args in (
-  set_out a.text.now a.step a.at a.due a.width c.eight_digits-digits.result c.eight_digits-digits.ensures c.requires.1 (omega (arith, c.requires.0)),
+  set_out a.text.now a.step.ms a.at a.due.time a.due.width c.eight_digits-digits.result c.eight_digits-digits.ensures c.args.due.narrow (omega (arith, c.requires.0)),
   as_it_stood,
-  omega (arith, c.requires.4),
+  omega (arith, c.requires.2),
 )
 
 pub overflow_add-digits : goal.overflow_add-digits
 unfolding each
 overflow_add-digits c =
-    let l = c.loop-lines in omega (arith, l.invariant.0.dials, fits l.time, zeros-small (64 - 8 * c.args.width))
+    let l = c.loop-lines in omega (arith, l.invariant.0.dials, fits l.time, zeros-small (64 - 8 * c.args.due.width))
 
 pub loop-lines-preserved : goal.loop-lines-preserved
 unfolding each
@@ -67,10 +67,10 @@ loop-lines-preserved c =
     let e = (goal.at.loop-lines-preserved c).Else-roll-eq0 in
     let a = c.args in
     let fits : SFits w32 c.plain_sample.result = search rules in
-    let said = to_z-of_z fits ∙ c.plain_sample.ensures ∙ roll_sample_lem a.text.now c.loop-lines.place a.width c.loop-lines.time (found e) (line e).line.is c.loop-lines.invariant.0.narrow in (
+    let said = to_z-of_z fits ∙ c.plain_sample.ensures ∙ roll_sample_lem a.text.now c.loop-lines.place a.due.width c.loop-lines.time (found e) (line e).line.is c.loop-lines.invariant.0.narrow in (
       rw (c.moved_on-digits.ensures, c.eight_digits-by.ensures)
-          (on_line a.text.now a.step a.at a.due a.width c.loop-lines.invariant.0 c.requires.2 (room e)
-          c.eight.ensures.1 (early-inside e).0 c.requires.3 (stands e) (found e)),
+          (on_line a.text.now a.step.ms a.at a.due.time a.due.width c.loop-lines.invariant.0 c.requires.1 (room e)
+          c.eight.ensures.1 (early-inside e).0 c.args.step.few (stands e) (found e)),
       rw c.store.ensures (put_on c.loop-lines.invariant.1 c.loop-lines.invariant.0.when (line e) said),
       omega (arith, place-left e),
     )

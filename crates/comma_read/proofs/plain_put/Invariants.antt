@@ -6,7 +6,7 @@ use Rattle.comma_read.proofs.Running.{Running}
 use Rattle.comma_read.proofs.plain_put.Given as goal
 
 abbrev pub invariant-loop-lines : goal.invariant-loop-lines
-invariant-loop-lines l = Running l.text l.step l.at l.due l.width l.digits l.time l.place l.lines × PlainPut l.text l.step l.at l.due l.initial.samples l.from l.place l.lines l.samples × (l.from + l.lines ≤ length l.initial.samples)
+invariant-loop-lines l = Running l.text l.fn.step.ms l.at l.fn.due.time l.width l.digits l.time l.place l.lines × PlainPut l.text l.fn.step.ms l.at l.fn.due.time l.initial.samples l.from l.place l.lines l.samples × (l.from + l.lines ≤ length l.initial.samples)
 
 abbrev pub decreases-loop-lines : goal.decreases-loop-lines
 decreases-loop-lines l = length l.initial.samples - l.from - l.lines

@@ -5,7 +5,7 @@ use Rattle.comma_read.proofs.Running.{Running}
 use Rattle.comma_read.proofs.plain_run.Given as goal
 
 abbrev pub invariant-loop-time : goal.invariant-loop-time
-invariant-loop-time l = Running l.text l.step l.at l.due l.width l.digits l.time l.place l.lines
+invariant-loop-time l = Running l.text l.fn.step.ms l.at l.fn.due.time l.width l.digits l.time l.place l.lines
 
 abbrev pub decreases-loop-time : goal.decreases-loop-time
 decreases-loop-time l = length l.text - l.place

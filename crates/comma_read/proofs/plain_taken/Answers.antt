@@ -6,4 +6,4 @@ use Rattle.comma_read.proofs.plain_taken.Goals as goal
 
 pub returns-then-not-looks_plain : goal.returns-then-not-looks_plain
 returns-then-not-looks_plain c =
-    record { plain_put = rw (c.no_lines.ensures.0, c.no_lines.ensures.1) as_it_stood; lines_in_bounds = omega (arith, c.no_lines.ensures.1, c.requires.2) }
+    record { plain_put = rw (c.no_lines.ensures.0, c.no_lines.ensures.1) as_it_stood; lines_in_bounds = omega (arith, c.no_lines.ensures.1, c.requires) }

@@ -1,8 +1,8 @@
 -- `comma_read::read` meets its contract: the survey decides the answer, and where all is well the samples are put.
 -- Assumes nothing.
-use Rattle.std.proofs.Common.{◌≡◌, ℕ, ◌≤◌, true, leb, List, length, sym, refl, ◌∙◌, arith, leb-true}
-use Rattle.truth.proofs.Laws.{and-true}
+use Rattle.std.proofs.Common.{◌≡◌, ℕ, ◌≤◌, true, List, length, sym, refl, ◌∙◌, arith}
 use Rattle.sample_items.specs.Limits.{step_in_range}
+use Rattle.sample_items.proofs.Ranges.{high}
 use Rattle.decimal.specs.Lines.{lines_of}
 use Rattle.comma_read.specs.Survey.{AllGood}
 use Rattle.comma_read.specs.Answers.{filled_by}
@@ -19,10 +19,7 @@ step₂ : (c : In-Ok) → step_in_range c.args.step ≡ true
 step₂ c = (sym c.step_in_range.ensures ∙ c.if-not-step_in_range.false)
 
 small : (c : In-Ok) → c.args.step ≤ 10000
-small c = let d = c.args.step in leb-true d 10000 (and-true (leb 1 d) (leb d 10000) (step₂ c)).1
-
-some : (c : Else-not-step_in_range) → 1 ≤ c.args.step
-some c = let d = c.args.step in leb-true 1 d (and-true (leb 1 d) (leb d 10000) (step c)).0
+small c = high 1 10000 _ (step₂ c)
 
 -- and this was found
 module _ (c : After-survey) where
@@ -91,10 +88,8 @@ returns-then-samples-count c =
 pub fill-requires : goal.fill-requires
 fill-requires c =
     let k = (goal.at.fill-requires c).In-Ok in (
-      small k,
       all_good k c.if-sound-count.false,
       c.plain_front-front.ensures,
-      some (goal.at.fill-requires c).Else-not-step_in_range,
       omega (arith, fewer k, c.if-samples-count.false),
     )
 

@@ -2,12 +2,11 @@
 -- and where no place is left or no right line stands it has what is promised. The places that are left fall. Assumes
 -- nothing.
 use Rattle.std.proofs.Common.{◌-◌, length}
-use Rattle.comma_read.specs.Plain.{Narrow}
 use Rattle.comma_read.proofs.Way.{Way}
 use Rattle.comma_read.proofs.right_lines.Given as goal
 
 abbrev pub invariant-loop-count : goal.invariant-loop-count
-invariant-loop-count l = Way l.step l.before l.text l.initial.samples l.at l.count l.due l.sound l.samples × Narrow l.width l.due
+invariant-loop-count l = Way l.step.ms l.before l.text l.initial.samples l.at l.count l.due.time l.sound l.samples
 
 abbrev pub decreases-loop-count : goal.decreases-loop-count
 decreases-loop-count l = length l.initial.samples - l.count

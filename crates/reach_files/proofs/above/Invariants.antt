@@ -1,6 +1,6 @@
 -- `reach_files::above` meets its contract. The invariant: what is counted, and what is left to count, make up all of
 -- it. Assumes nothing.
-use Prim.Native.Nat.{◌+◌, ◌-◌, ◌≤◌}
+use Prim.Native.Nat.{◌+◌, ◌≤◌}
 use mathlib.Core.Path.{◌≡◌}
 use lib.ListN.{length, drop}
 use Rattle.reach_files.specs.Line.{above_level}

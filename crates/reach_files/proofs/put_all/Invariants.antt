@@ -1,6 +1,6 @@
 -- `reach_files::put_all` meets its contract. The invariant: putting the peaks that are left into what the list holds
 -- now gives what putting all of them gave. Assumes nothing.
-use Prim.Native.Nat.{◌+◌, ◌-◌, ◌≤◌}
+use Prim.Native.Nat.{◌+◌, ◌≤◌}
 use mathlib.Core.Path.{◌≡◌}
 use lib.ListN.{drop, length}
 use lib.Seq.{sets}

@@ -21,5 +21,5 @@ returns c =
     let h : n ≤ length list = omega (arith, m) in
     let s = sorted_front n list S h c.sort.ensures ∙ ap (λ (k : ℕ). downwards (take k list)) m in
     let e = front_is n list S h c.sort.ensures ∙ s in
-    let f = c.put_sorted.ensures in
+    let f = c.put.ensures in
     record { value = f.value ∙ ap (λ (l : List ℕ). putting (list_said a.j a.g.files a.g.samples l) a.out.now) e; out_after = f.out_after ∙ ap (λ (l : List ℕ). put_left (list_said a.j a.g.files a.g.samples l) a.out.now) e; list_after = ap (λ (l : List ℕ). l ++ drop n list) s ∙ ap (λ (k : ℕ). downwards (take (first_of a.g list) list) ++ drop k list) m }

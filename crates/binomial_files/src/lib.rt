@@ -131,10 +131,7 @@ pub fn finish(a: Added, out: &mut [u8]) -> Finished
     ensures out_after { out.new ≡ put_left (added_said a) out.old }
 {
     if out.len() < desk_line::LONGEST_LINE {
-        return Finished {
-            put: 0,
-            end: desk_line::FAILED,
-        };
+        return desk_line::UNSAID;
     }
     put_added(a, out)
 }

@@ -586,10 +586,7 @@ pub fn finish(w: Watching, out: &mut [u8]) -> Finished
     ensures out_after { out.new ≡ put_left (saying w) out.old }
 {
     if out.len() < desk_line::LONGEST_LINE {
-        return Finished {
-            put: 0,
-            end: desk_line::FAILED,
-        };
+        return desk_line::UNSAID;
     }
     put_end(came_to(w), out)
 }

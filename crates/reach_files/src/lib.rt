@@ -398,10 +398,7 @@ fn put_found(
     ensures out_after { out.new ≡ put_left (told (figures_of j files samples ys.now t l)) out.old }
 {
     if out.len() < desk_line::LONGEST_LINE {
-        return Finished {
-            put: 0,
-            end: desk_line::FAILED,
-        };
+        return desk_line::UNSAID;
     }
     let f = figures_of(j, files, samples, ys, t, l);
     put_figures(f, out)
@@ -430,10 +427,7 @@ fn put_refused(q: Refusal, out: &mut [u8]) -> Finished
         return desk_line::refuse_in(0, 0, q, out);
     }
     if out.len() < desk_line::LONGEST_LINE {
-        return Finished {
-            put: 0,
-            end: desk_line::FAILED,
-        };
+        return desk_line::UNSAID;
     }
     put_low(refusal::carried(q), out)
 }

@@ -50,10 +50,7 @@ pub fn refuse(
     ensures out_after { out.new ≡ put_left (refused_sheet place line number told value) out.old }
 {
     if out.len() < desk_line::LONGEST_LINE {
-        return Finished {
-            put: 0,
-            end: desk_line::FAILED,
-        };
+        return desk_line::UNSAID;
     }
     put_fault(place, line, number, told, value, out)
 }

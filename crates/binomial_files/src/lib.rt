@@ -81,10 +81,7 @@ pub fn add(file: u64, a: Added, c: Counting) -> Added
 pub fn is_over(a: Added) -> bool
     ensures { result ≡ is_over a }
 {
-    match a {
-        Ok(_) => false,
-        Err(_) => true,
-    }
+    a.is_err()
 }
 
 fn put_sum(s: Sum, b: Bounds, out: &mut [u8]) -> Finished

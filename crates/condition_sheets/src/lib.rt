@@ -96,10 +96,7 @@ pub fn place(campaigns: [Campaign; 64], a: Situations, r: Reading) -> [Campaign;
 pub fn is_over(a: Situations) -> bool
     ensures { result ≡ is_over a }
 {
-    match a {
-        Ok(_) => false,
-        Err(_) => true,
-    }
+    a.is_err()
 }
 
 // The refused line: the situation, its sheet's line, the number and, for 9, the column.

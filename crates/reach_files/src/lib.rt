@@ -115,10 +115,7 @@ pub fn open(j: Job) -> Gathering
 pub fn is_over(a: Gathering) -> bool
     ensures { result ≡ is_over a }
 {
-    match a {
-        Ok(_) => false,
-        Err(_) => true,
-    }
+    a.is_err()
 }
 
 // The second reading of a file: where it stands, and how many peaks the list has, those of the files before with it.

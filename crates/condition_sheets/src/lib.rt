@@ -105,7 +105,8 @@ fn refuse(situation: u64, line: u64, column: u64, r: Refusal, out: &mut [u8]) ->
     ensures out_after { out.new ≡ put_left (refused_situation situation line column r) out.old }
 {
     let number = refusal::number(r);
-    sheet_fault::refuse(situation, line, number, number == MALFORMED, column, out)
+    let more = (number == MALFORMED).then_some(column);
+    sheet_fault::refuse(situation, line, number, more, out)
 }
 
 fn put_writing(w: Result<u64, Refusal>, out: &mut [u8]) -> Finished

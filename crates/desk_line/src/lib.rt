@@ -34,7 +34,8 @@ pub struct Finished {
     pub end: u8,
 }
 
-// Without room for a line nothing is written, and the program ends as failed.
+// Without room for a line nothing is written, and the program ends as failed. Each writer asks for room itself: a
+// function that asks and then calls it would have to require that it may be called, and a public function asks nothing.
 pub const UNSAID: Finished = Finished {
     put: 0,
     end: FAILED,

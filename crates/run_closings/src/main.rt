@@ -197,7 +197,7 @@ fn again(
 }
 
 // The campaign that a row starts from.
-fn start(row: [u64; 9]) -> CampaignAnswer {
+fn start(row: [u64; 9]) -> Result<Campaign, Refusal> {
     if row[1] == 0 {
         return campaign_state::open(row[0]);
     }
@@ -211,7 +211,7 @@ fn start(row: [u64; 9]) -> CampaignAnswer {
 }
 
 // One more, after an answer.
-fn more(row: [u64; 9], a: Result<Campaign, Refusal>) -> CampaignAnswer {
+fn more(row: [u64; 9], a: Result<Campaign, Refusal>) -> Result<Campaign, Refusal> {
     if row[7] == 9 {
         return a;
     }

@@ -18,7 +18,8 @@ use Rattle.sheet_files.specs.Files.{sheet_from}
 -- the refused line of the sheet: no record's, 0; its line; the number, after 9 the column, after 1 the item
 abbrev pub refused_old : ℕ → ℕ → Refusal → Said
 refused_old line column r =
-    refused_sheet 0 line (number_of r) (cond (eqb (number_of r) 9) (Some column) (cond (eqb (number_of r) 1) (Some (value_of r)) None))
+    refused_sheet 0 line (number_of r)
+    (cond (eqb (number_of r) 9) (Some column) (cond (eqb (number_of r) 1) (Some (value_of r)) None))
 
 -- a whole text never waits for more
 abbrev pub after_reading : Reading → Items → List ℕ → List (List ℕ) → Said

@@ -150,7 +150,7 @@ letters = refl
 abbrev Taken : List ℕ → ℕ → ℕ → ℕ → ℕ → ℕ → Type 0
 Taken ys k c D P q = extrapolated ys k c D P q ≡ Ok (times ys k c D P, letter_for q (times ys k c D P))
 
-told : (t s : Times) (q : ℕ) → t ≡ s → Ok (t, letter_for q t) ≡ Ok (s, letter_for q s)
+told : (t s : Times) (q : ℕ) → t ≡ s → ◌≡◌ {A = Result (Times × Letter) Refusal} (Ok (t, letter_for q t)) (Ok (s, letter_for q s))
 told t s q e = rw e
 
 passed_40000 : Taken peaks 10 40000 500 1000000 7200000

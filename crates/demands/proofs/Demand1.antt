@@ -52,7 +52,7 @@ use Rattle.sheet_text.specs.Pieces.{feeding}
 use Rattle.sheet_text.specs.Sheet.{meaning}
 use Rattle.sheet_text.proofs.Pieces.{cut_anywhere}
 use Rattle.sheet_line.proofs.Theorems.{result_line}
-use Rattle.std.specs.Prelude.{Some, None, Ok, Err}
+use Rattle.std.specs.Prelude.{Some, None as no_rates, Ok, Err}
 use Rattle.truth.proofs.Answers.{same_err}
 
 -- ---- the statement
@@ -143,7 +143,7 @@ pub record Demand1 : Type 0 where
   pub verdict : (c : Campaign) → Decides Err (not (campaigning.sound c) gives BrokenState ∷ []) (Ok (verdict_of c)) (verdicts.judging c)
   pub rates :
       (c : Campaign)
-      → Decides Err (not (campaigning.sound c) gives BrokenState ∷ []) (Ok (cond (not (eqb c.records 0)) (Some (rates_of c)) None)) (verdicts.rating c)
+      → Decides Err (not (campaigning.sound c) gives BrokenState ∷ []) (Ok (cond (not (eqb c.records 0)) (Some (rates_of c)) no_rates)) (verdicts.rating c)
   pub censored : (c : Campaign) → Decides Err (not (campaigning.sound c) gives BrokenState ∷ []) (Ok (censored c)) (verdicts.counting c)
   -- a job sheet: however the text is cut into pieces, what is written and what the reading ends in are those of its
   -- meaning; of a record that a line tells of, exposure 0 gives 4, above 10,000,000 gives 3, then 5, 6; and the line of
@@ -251,7 +251,7 @@ demand_1 =
           items.decorrelation) (level_in_range items.levels.acceleration) (item_outside items) refl);
       kept = λ items xs ys before after r p. p.leaves;
       verdict = λ c. decided Err (Ok (verdict_of c)) (λ r s. same_err) (λ r e. impossible (cc)) _ (verdicts.judging c) (swapped (campaigning.sound c) _ _);
-      rates = λ c. decided Err (Ok (cond (not (eqb c.records 0)) (Some (rates_of c)) None)) (λ r s. same_err) (λ r e. impossible (cc)) _ (verdicts.rating c) (swapped (campaigning.sound c) _ _);
+      rates = λ c. decided Err (Ok (cond (not (eqb c.records 0)) (Some (rates_of c)) no_rates)) (λ r s. same_err) (λ r e. impossible (cc)) _ (verdicts.rating c) (swapped (campaigning.sound c) _ _);
       sheet = cut_anywhere;
       sheet_record = λ c f t g. decided Err (Ok (entered c f t)) (λ r s. same_err) (λ r e. impossible (cc)) _ (telling c f t) (tells c f t g);
       sheet_line = result_line;

@@ -3,7 +3,7 @@
 -- in q ms, a Poisson stream at the standard rate expects T/q failures.  The proof reads the verdict's two tests off the
 -- answer (verdict: Only); what they say of the chances is said by the rows (poisson: Exposure). Assumes nothing.
 use mathlib.Core.Path.{◌≡◌, refl}
-use mathlib.Core.Bool.{Bool, not, true}
+use mathlib.Core.Bool.{Bool, cond, false, not, true}
 use Prim.Native.Nat.{ℕ, zero, suc, ◌*◌, ◌≤◌, ◌<◌}
 use native.Mathlib.Omega.{arith}
 use lib.Dec.{eqb}
@@ -25,6 +25,7 @@ use Rattle.campaign_state.specs.State.{censored, sound}
 use Rattle.truth.proofs.Laws.{holds}
 use Rattle.campaign_state.proofs.Relations.{censored_row, kept_from}
 use Rattle.std.specs.Prelude.{Some, None, Ok}
+use Rattle.truth.proofs.Answers.{none_not_some, same_ok, same_some}
 
 -- ---- the statement
 -- the failures that a stream at the standard rate expects over the campaign's exposure
@@ -101,9 +102,13 @@ carried c (Reject x) (some, r, e) = rw (three_are c some) e
 carried c (Continue x y) (some, r, a, d, e) = rw (three_are c some) (d, e)
 carried c NoRecord e = tt
 
+-- rates that are there are those that were picked
+picked : (none : Bool) (x : Rates) {r : Rates} → cond (not none) (Some x) None ≡ Some r → x ≡ r
+picked false x e = same_some e
+picked true x e = absurd (none_not_some e)
+
 pub rates_carried : (c : Campaign) → sound c ≡ true → RatesCarried c
 unfolding RatesCarried rating
-rates_carried c kept v some r j q =
-    let f : Ok (cond (not (eqb c.records 0)) (Some (rates_of c)) None) ≡ Ok (cond some (Some r) None) = rw kept at q in
-    let r-is : rates_of c ≡ r = cc in
+rates_carried c kept v r j q =
+    let r-is : rates_of c ≡ r = picked (eqb c.records 0) (rates_of c) (same_ok (rw kept at q)) in
     rw (← r-is) (carried c v (given c kept v j))

@@ -38,7 +38,7 @@ use Rattle.demands.proofs.Demand1.{Decides, First, None, Test, ◌gives◌, deci
 use Rattle.demands.proofs.Refusal9.{Nine, refusal_9, standard_tests, tell_tests}
 use Rattle.demands.proofs.Request10.{request_10}
 use Rattle.std.specs.Prelude.{Result, Ok, Err}
-use Rattle.truth.proofs.Answers.{same_err}
+use Rattle.truth.proofs.Answers.{same_err, same_ok}
 
 -- ---- the statement
 -- what a line says where the reading stands: the tests of what it tells, and where it leads
@@ -416,7 +416,7 @@ module _ (more : Bool) (text : List ℕ) (s : Sheet) (out : List ℕ) where
       by_test (sound_sheet s)
       (λ g.
       by_test room
-      (λ f. let same : length account.text ≡ n = cc (rw (g, f) at e) in rw (g, zero-add, f, ← same))
+      (λ f. let same : length account.text ≡ n = ap (λ (p : Reading × ℕ). p.1) (same_ok (rw (g, f) at e)) in rw (g, zero-add, f, ← same))
       (λ f. impossible (cc (rw (g, f) at e))))
       (λ g. impossible (cc (rw g at e)))
 

@@ -46,6 +46,7 @@ use Rattle.sheet_line.proofs.Forms.{Reads, Told, ToldStandard, good, ill, record
 use Rattle.demands.proofs.Refusal9.{Nine, refusal_9}
 use Rattle.sheet_line.specs.declared.Sheet.{Sheet}
 use Rattle.std.specs.Prelude.{Result, Err}
+use Rattle.truth.proofs.Answers.{same_err}
 
 -- ---- the statement
 -- malformed, on line n, at column k
@@ -102,7 +103,7 @@ pub record Request10 : Type 0 where
 
 -- ---- the proof
 own : {n k m : ℕ} → at n k ≡ at n m → k ≡ m
-own e = cc
+own e = ap (λ (p : ℕ × ℕ × Refusal). p.1) (same_err e)
 
 -- digits are plain
 digits_plain : (text : List ℕ) → all_digits text ≡ true → Plain text

@@ -49,7 +49,7 @@ use Rattle.campaign_state.specs.State as campaigning
 use Rattle.campaign_verdict.specs.declared.Rates.{Rates}
 use Rattle.campaign_verdict.specs.declared.Verdict.{Verdict}
 use Rattle.campaign_verdict.specs.declared.Verdict.TheVariants.{Accept, Continue, NoRecord, Reject}
-use Rattle.campaign_verdict.specs.Figures.{rates_of, verdict_of}
+use Rattle.campaign_verdict.specs.Figures.{rates_of, three, verdict_of, zero64}
 use Rattle.binomial_sum.specs.declared.Sum.{Sum}
 use Rattle.binomial_sum.specs.Answers as adding
 use Rattle.binomial_sum.specs.State as sums
@@ -104,6 +104,7 @@ use Rattle.capi_record.specs.Told.{record_listed, record_opened}
 use Rattle.capi_campaign.specs.Told.{campaign_entered, campaign_opened, campaign_result_entered, outcome}
 use Rattle.capi_verdict.specs.Told.{Judgement, Rating, campaign_censored, campaign_judged, campaign_rated, count_told}
 use Rattle.capi_verdict.specs.Told.{judged_told, rated_told, verdict_told}
+use Rattle.capi_verdict.specs.Told as verdict-told
 use Rattle.capi_binomial.specs.Told.{bounds_numbers, bounds_told, of_bounds, of_sum, sum_added, sum_bounded, sum_kept, sum_numbers}
 use Rattle.capi_binomial.specs.Told.{sum_of, sum_opened, sum_rated, sum_told}
 use Rattle.capi_bureau.specs.Rows as row
@@ -699,6 +700,16 @@ verdict_taken (Accept y) = refl
 verdict_taken (Reject x) = refl
 verdict_taken (Continue x y) = refl
 
+-- rates that are missing are told as 0 each
+abbrev none_rated : Rates
+none_rated = record { estimate = zero64; lower = zero64; upper = zero64 }
+
+rates_taken : (none : Bool) (three y : Rates)
+    → rated (rated_told (Ok (cond (not none) (Some (cond none none_rated three)) None)) y) ≡ taken (flag (not none)) (cond none none_rated three)
+unfolding rated_told verdict-told.told_rates
+rates_taken true three y = refl
+rates_taken false three y = refl
+
 pub verdicts_told : Verdicts
 unfolding count_told judged_told rated_told
 verdicts_told =
@@ -710,7 +721,8 @@ verdicts_told =
           (λ r. refl) refl refl;
       verdict = λ s x y. tells (demand_1.verdict (campaign_of s)) (λ a. judged (judged_told a x y)) (two x y) _ _ _
           (λ r. refl) (verdict_taken (verdict_of (campaign_of s))) refl;
-      rates = λ s y. tells (demand_1.rates (campaign_of s)) (λ a. rated (rated_told a y)) y _ _ _ (λ r. refl) refl refl;
+      rates = λ s y. tells (demand_1.rates (campaign_of s)) (λ a. rated (rated_told a y)) y _ _ _ (λ r. refl)
+          (rates_taken (eqb (campaign_of s).records 0) (three (campaign_of s)) y) refl;
     }
 
 -- ---- sums
@@ -756,7 +768,8 @@ sums_told =
           λ s out.
           in_array out bounds_numbers (λ x. bounds_told x out) (bounding (sum_of s))
           (tells (request_7.bounds (sum_of s)) (λ x. array (bounds_told x out)) out _ _ _ (λ r. refl) refl refl);
-      rates = λ s y. tells (request_7.rates (sum_of s)) (λ a. rated (rated_told a y)) y _ _ _ (λ r. refl) refl refl;
+      rates = λ s y. tells (request_7.rates (sum_of s)) (λ a. rated (rated_told a y)) y _ _ _ (λ r. refl)
+          (rates_taken (eqb (sum_of s).samples 0) (spread.three (sum_of s)) y) refl;
     }
 
 -- ---- a loading condition
@@ -931,6 +944,13 @@ verdict_beside (Accept u) rows x y = refl
 verdict_beside (Reject l) rows x y = refl
 verdict_beside (Continue l u) rows x y = refl
 
+rates_beside : (none : Bool) (three : Rates) (rows : List (List ℕ)) (y : Rates)
+    → say_rates y (Ok (Rated (cond (not none) (Some (cond none none_rated three)) None))) rows
+    ≡ taken (flag (not none)) (beside (cond none none_rated three) rows)
+unfolding say_rates bench-told.rated verdict-told.told_rates
+rates_beside true three rows y = refl
+rates_beside false three rows y = refl
+
 benches_told : (rows : List (List ℕ)) (b : ℕ) → Benches rows b
 unfolding plain bench-told.judged bench-told.rated say_plain say_verdict say_rates
 benches_told rows b =
@@ -951,7 +971,8 @@ benches_told rows b =
           let c = (at (places_of rows) i).campaign in
           bench_tells rows b (On i Rate) (say_rates y) (beside y rows) (order.rates i) (λ r. refl) _ _
           (ap (say_rates y (Ok (Rated (cond (not (eqb c.records 0)) (Some (rates_of c)) None))))
-          ((rows_9.call rows b).rates_leave i));
+          ((rows_9.call rows b).rates_leave i)
+          ∙ rates_beside (eqb c.records 0) (three c) rows y);
     }
 
 pub entries : Entries

@@ -41,7 +41,8 @@ use Rattle.demands_c.proofs.Entries.{array, in_array, other_length}
 use Rattle.demands_c.proofs.Telling.{Left, Tells, left, refusal, tells}
 use Rattle.demands_c.proofs.Telling as telling
 use Rattle.peak_groups.specs.declared.Peak.{Peak}
-use Rattle.std.specs.Prelude.{Option, Some, Result, Ok, Err}
+use Rattle.std.specs.Prelude.{Option, Some, None as no_peak, Result, Ok, Err}
+use Rattle.truth.proofs.Answers.{same_err}
 
 -- ---- the statement
 -- 1, the lowest of items 1 and 2
@@ -233,7 +234,7 @@ module _ (s sizes times figures moments : List ℕ) (L : ℕ) where
 said_zero : (a : Option Peak) → (last_said a).number ≡ 0
 unfolding last_said
 said_zero (Some p) = refl
-said_zero None = refl
+said_zero no_peak = refl
 
 tell_last : LastTold → ℕ → ℕ → Result (Handing × ℕ) Refusal → Left Two
 tell_last a x t (Ok (h, k)) = telling.taken a.carried (two a.size a.time)
@@ -254,8 +255,8 @@ last-is s x t =
 
 last_decides : (h : Handing)
     → let ts = not (ready h) gives BrokenState ∷ [] in
-    Decides Err ts (Ok (h, 0)) (decide Err ts (Ok (h, 0)))
-last_decides h = decided Err (Ok (h, 0)) (λ r s e. cc) (λ r e. impossible (cc)) _ _ refl
+    Decides {A = Result (Handing × ℕ) Refusal} Err ts (Ok (h, 0)) (decide Err ts (Ok (h, 0)))
+last_decides h = decided Err (Ok (h, 0)) (λ r s. same_err) (λ r e. impossible (cc)) _ _ refl
 
 -- ---- each entry
 tells_survey : (D R : ℕ) (s : List ℕ)

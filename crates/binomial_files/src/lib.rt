@@ -81,10 +81,7 @@ pub fn add(file: u64, a: Added, c: Counting) -> Added
 pub fn is_over(a: Added) -> bool
     ensures { result ≡ is_over a }
 {
-    match a {
-        Ok(_) => false,
-        Err(_) => true,
-    }
+    a.is_err()
 }
 
 fn put_sum(s: Sum, b: Bounds, out: &mut [u8]) -> Finished
@@ -131,10 +128,7 @@ pub fn finish(a: Added, out: &mut [u8]) -> Finished
     ensures out_after { out.new ≡ put_left (added_said a) out.old }
 {
     if out.len() < desk_line::LONGEST_LINE {
-        return Finished {
-            put: 0,
-            end: desk_line::FAILED,
-        };
+        return desk_line::UNSAID;
     }
     put_added(a, out)
 }

@@ -4,7 +4,7 @@
 // file has one channel: zeros are lent for the other. The state goes in by value and comes back.
 #![tactic(auto)]
 
-ghost use Rattle.std.specs.Prelude.{◌≡◌, true, false, ◌+◌, ◌-◌, ◌≤◌, ◌<◌, min, length, take};
+ghost use Rattle.std.specs.Prelude.{◌≡◌, true, false, ◌+◌, ◌-◌, ◌≤◌, ◌<◌, length, take};
 ghost use Rattle.text.specs.Write.{written, place_after};
 ghost use Rattle.sample_items.specs.Limits.{step_in_range};
 ghost use Rattle.record_feed.specs.Answers.{fed};
@@ -240,12 +240,6 @@ pub struct Turned {
     pub kept: usize,
 }
 
-fn least(a: usize, b: usize) -> usize
-    ensures { result ≡ min a b }
-{
-    if a < b { a } else { b }
-}
-
 // A turn of a program that reads through a buffer: takes its first `end` bytes, or all of it where it has not so many,
 // and moves those that are left unused to its start.
 pub fn turn(c: Counting, text: &mut [u8], end: usize, more: bool) -> Turned
@@ -253,7 +247,7 @@ pub fn turn(c: Counting, text: &mut [u8], end: usize, more: bool) -> Turned
     ensures text_after { text.new ≡ turn_left c end more text.old }
     ensures kept_bound { result.kept < 31 }
 {
-    let stop = least(end, text.len());
+    let stop = end.min(text.len());
     let took = take(c, &text[..stop], more);
     let used = took.used;
     let kept = stop - used;
@@ -350,10 +344,7 @@ pub fn finish(c: Counting, out: &mut [u8]) -> Finished
     ensures out_after { out.new ≡ put_left (saying c) out.old }
 {
     if out.len() < desk_line::LONGEST_LINE {
-        return Finished {
-            put: 0,
-            end: desk_line::FAILED,
-        };
+        return desk_line::UNSAID;
     }
     put_end(came_to(c), out)
 }

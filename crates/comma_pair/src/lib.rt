@@ -6,14 +6,14 @@
 // comes back.
 #![tactic(auto)]
 
-ghost use Rattle.std.specs.Prelude.{◌≡◌, true, map, ◌+◌, ◌-◌, ◌≤◌, ◌<◌, min, length, take, drop, Ok, Err};
+ghost use Rattle.std.specs.Prelude.{◌≡◌, true, cond, map, ◌+◌, ◌-◌, ◌≤◌, ◌<◌, length, take, drop, Ok, Err};
 ghost use Rattle.text.specs.Write.{written};
 ghost use Rattle.sample_items.specs.Limits.{step_in_range};
 ghost use Rattle.desk_line.specs.Said.{longest_said, Puts, putting, put_left};
 ghost use Rattle.comma_count.specs.Taking as count;
 ghost use Rattle.comma_pair.specs.Line.{refused_of};
 ghost use Rattle.comma_pair.specs.Taking.{opening, onward, side_by_side, shared, agreeing, watched, stopped, ended};
-ghost use Rattle.comma_pair.specs.Taking.{waiting, alone, roll_alone, acceleration_alone};
+ghost use Rattle.comma_pair.specs.Taking.{waiting, alone};
 ghost use Rattle.comma_pair.specs.Taking.{acceleration_behind, roll_behind, taking, left_over, roll_outside, end_by};
 ghost use Rattle.comma_pair.specs.Taking.{end_of, said_end, saying};
 ghost use Rattle.comma_pair.specs.Step.{Some, Both};
@@ -252,19 +252,13 @@ fn side_by_side(
     }
 }
 
-fn least(a: u64, b: u64) -> u64
-    ensures { result ≡ min a b }
-{
-    if a < b { a } else { b }
-}
-
 // The lines that both files have, as those of one.
 fn shared(f: Follow, g: Follow) -> Follow
     ensures { result ≡ shared f g }
 {
     Follow {
         step: f.step,
-        lines: least(f.lines, g.lines),
+        lines: f.lines.min(g.lines),
         outside: 0,
     }
 }
@@ -350,52 +344,18 @@ fn alone(f: Follow, text: &[u8], more: bool) -> comma_count::Took
     )
 }
 
-// The roll goes on alone, or one of its lines is wrong.
-fn roll_alone(t: comma_count::Took, s: Abreast, more: bool, x: usize, y: usize) -> Took
-    requires { s.at + t.used ≤ 18446744073709551615 }
-    ensures { result ≡ roll_alone t s more x y }
+// A file has gone on alone to where `s` stands, or one of its lines is wrong.
+fn gone_on(c: Counting, channel: u64, s: Abreast, next: Next, x: usize, y: usize) -> Took
+    ensures { result ≡ cond c.over (ended (stopped s.roll s.acceleration c.answer channel) x y) (waiting next s) }
 {
-    let c = t.counting;
-    let f = c.follow;
-    let g = s.acceleration;
-    let answer = s.answer;
-    let verdict = c.answer;
     if c.over {
-        return ended(stopped(f, g, verdict, ROLL), x, y);
+        return ended(stopped(s.roll, s.acceleration, c.answer, channel), x, y);
     }
-    Took {
-        watching: watched(f, g, answer),
-        roll: s.at + t.used,
-        acceleration: s.beside,
-        next: if more { Next::Roll } else { Next::Neither },
-    }
+    waiting(next, s)
 }
 
-fn acceleration_alone(t: comma_count::Took, s: Abreast, more: bool, x: usize, y: usize) -> Took
-    requires { s.beside + t.used ≤ 18446744073709551615 }
-    ensures { result ≡ acceleration_alone t s more x y }
-{
-    let c = t.counting;
-    let f = s.roll;
-    let g = c.follow;
-    let answer = s.answer;
-    let verdict = c.answer;
-    if c.over {
-        return ended(stopped(f, g, verdict, ACCELERATION), x, y);
-    }
-    Took {
-        watching: watched(f, g, answer),
-        roll: s.at,
-        acceleration: s.beside + t.used,
-        next: if more {
-            Next::Acceleration
-        } else {
-            Next::Neither
-        },
-    }
-}
-
-// The acceleration has no right line where the roll has one: what is left of it settles how it goes on.
+// The acceleration has no right line where the roll has one: what is left of it settles how it goes on. No one function
+// for it and `roll_behind`: each arm names other fields of `s`, all of which that one would have to be told.
 fn acceleration_behind(s: Abreast, rest: Rest, roll: &[u8], more: bool, y: usize) -> Took
     requires { (s.at ≤ length roll.now) × (s.acceleration.lines < 18446744073709551615) }
     ensures { result ≡ acceleration_behind rest s roll.now more y }
@@ -406,7 +366,16 @@ fn acceleration_behind(s: Abreast, rest: Rest, roll: &[u8], more: bool, y: usize
     let at = s.at;
     match rest {
         Rest::Waits(_) => waiting(Next::Acceleration, s),
-        Rest::Over => roll_alone(alone(f, &roll[at..], more), s, more, x, y),
+        Rest::Over => {
+            let t = alone(f, &roll[at..], more);
+            let on = Abreast {
+                roll: t.counting.follow,
+                at: at + t.used,
+                ..s
+            };
+            let next = if more { Next::Roll } else { Next::Neither };
+            gone_on(t.counting, ROLL, on, next, x, y)
+        }
         Rest::Wrong => ended(
             stopped(f, g, Err(Refusal::CommaLine(g.lines + 1)), ACCELERATION),
             x,
@@ -426,7 +395,20 @@ fn roll_behind(s: Abreast, rest: Rest, x: usize, acceleration: &[u8], more: bool
     let at = s.beside;
     match rest {
         Rest::Waits(_) => waiting(Next::Roll, s),
-        Rest::Over => acceleration_alone(alone(g, &acceleration[at..], more), s, more, x, y),
+        Rest::Over => {
+            let t = alone(g, &acceleration[at..], more);
+            let on = Abreast {
+                acceleration: t.counting.follow,
+                beside: at + t.used,
+                ..s
+            };
+            let next = if more {
+                Next::Acceleration
+            } else {
+                Next::Neither
+            };
+            gone_on(t.counting, ACCELERATION, on, next, x, y)
+        }
         Rest::Wrong => ended(
             stopped(f, g, Err(Refusal::CommaLine(f.lines + 1)), ROLL),
             x,
@@ -586,10 +568,7 @@ pub fn finish(w: Watching, out: &mut [u8]) -> Finished
     ensures out_after { out.new ≡ put_left (saying w) out.old }
 {
     if out.len() < desk_line::LONGEST_LINE {
-        return Finished {
-            put: 0,
-            end: desk_line::FAILED,
-        };
+        return desk_line::UNSAID;
     }
     put_end(came_to(w), out)
 }

@@ -1,6 +1,6 @@
 -- WHAT IS WRITTEN FOR THE SHEETS OF A LOADING CONDITION (document 02, [13]; docs/CLERK.md): the report on their
 -- campaigns, or the refused line of the first sheet at fault, and a digit, over the whole texts. Assumes nothing.
-use Rattle.std.specs.Prelude.{ℕ, ◌+◌, cond, not, List, [], ◌∷◌, ◌++◌, eqb, length}
+use Rattle.std.specs.Prelude.{ℕ, ◌+◌, cond, not, List, [], ◌∷◌, ◌++◌, Some, None, eqb, length}
 use Rattle.refusal.specs.declared.Refusal.{Refusal}
 use Rattle.refusal.specs.declared.Refusal.TheVariants.{BrokenState, Situations}
 use Rattle.refusal.specs.Numbers.{number_of}
@@ -15,7 +15,8 @@ use Rattle.sheet_fault.specs.Fault.{refused_sheet}
 
 -- the refused line names the situation and its sheet's line; for a malformed line alone the column stands after the 9
 abbrev pub refused_situation : ℕ → ℕ → ℕ → Refusal → Said
-refused_situation situation line column r = refused_sheet situation line (number_of r) (eqb (number_of r) 9) column
+refused_situation situation line column r =
+    refused_sheet situation line (number_of r) (cond (eqb (number_of r) 9) (Some column) None)
 
 abbrev pub reported : List Campaign → Said
 reported cs = record { line = report_text cs; end = read_digit }

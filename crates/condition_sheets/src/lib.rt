@@ -96,10 +96,7 @@ pub fn place(campaigns: [Campaign; 64], a: Situations, r: Reading) -> [Campaign;
 pub fn is_over(a: Situations) -> bool
     ensures { result ≡ is_over a }
 {
-    match a {
-        Ok(_) => false,
-        Err(_) => true,
-    }
+    a.is_err()
 }
 
 // The refused line: the situation, its sheet's line, the number and, for 9, the column.
@@ -108,7 +105,8 @@ fn refuse(situation: u64, line: u64, column: u64, r: Refusal, out: &mut [u8]) ->
     ensures out_after { out.new ≡ put_left (refused_situation situation line column r) out.old }
 {
     let number = refusal::number(r);
-    sheet_fault::refuse(situation, line, number, number == MALFORMED, column, out)
+    let more = (number == MALFORMED).then_some(column);
+    sheet_fault::refuse(situation, line, number, more, out)
 }
 
 fn put_writing(w: Result<u64, Refusal>, out: &mut [u8]) -> Finished

@@ -6,7 +6,7 @@ use Prim.Native.Nat.{ℕ}
 use lib.ListN.{replicate}
 use Rattle.poisson.specs.Tables.{l, lower_rows, u, upper_rows}
 use Rattle.decimal.specs.Decimal.{all_digits, digits_of, digits_within, is_number, value_of}
-use Rattle.decimal.specs.Field.{field_text}
+use Rattle.decimal.specs.Field.{ending, field_text}
 use Rattle.decimal.specs.Leading.{leading}
 use Rattle.decimal.specs.Lines.{lines_of}
 use Rattle.campaign_state.specs.Answers.{entering}
@@ -21,7 +21,7 @@ use Rattle.sheet_line.specs.Form.{begins}
 use Rattle.sheet_line.specs.Line.{ended_by, field_then, record_line, standard_line, starts_with, stepping, telling}
 use Rattle.sheet_text.specs.Sheet.{meaning, reading_sheet}
 use Rattle.desk_line.specs.Said.{Said}
-use Rattle.sheet_fault.specs.Fault.{number_then, sheet_fault}
+use Rattle.sheet_fault.specs.Fault.{sheet_fault}
 use Rattle.condition_sheets.specs.Report.{condition_from, condition_said}
 
 abbrev refused : List ℕ → Said
@@ -51,7 +51,7 @@ sheets_fault : condition_said (second ∷ (115 ∷ 116 ∷ 97 ∷ 110 ∷ 100 �
     ≡ refused (114 ∷ 101 ∷ 102 ∷ 117 ∷ 115 ∷ 101 ∷ 100 ∷ 9 ∷ 50 ∷ 9 ∷ 50 ∷ 9 ∷ 57 ∷ 9 ∷ 54 ∷ 10 ∷ [])
 unfolding condition_said condition_from meaning reading_sheet lines_of stepping standard_line record_line standard_column record_column
     record_fields how_many field_then ended_by starts_with begins field_at read_as fault_in leading field_of is_number all_digits
-    value_of telling entering sound censored field_text digits_of digits_within sheet_fault number_then
+    value_of telling entering sound censored field_text digits_of digits_within sheet_fault ending
 sheets_fault = refl
 
 -- only 9 has a column, and 1 no item, as 01 and 02 have them: 1 0 0 gives refused 1 2 4, standard 0 refused 1 1 1
@@ -59,20 +59,20 @@ sheets_short : condition_said ((115 ∷ 116 ∷ 97 ∷ 110 ∷ 100 ∷ 97 ∷ 11
     []) ∷ []) ≡ refused (114 ∷ 101 ∷ 102 ∷ 117 ∷ 115 ∷ 101 ∷ 100 ∷ 9 ∷ 49 ∷ 9 ∷ 50 ∷ 9 ∷ 52 ∷ 10 ∷ [])
 unfolding condition_said condition_from meaning reading_sheet lines_of stepping standard_line record_line standard_column record_column
     record_fields how_many field_then ended_by starts_with begins field_at read_as fault_in leading field_of is_number all_digits
-    value_of telling entering sound censored field_text digits_of digits_within sheet_fault number_then
+    value_of telling entering sound censored field_text digits_of digits_within sheet_fault ending
 sheets_short = refl
 
 sheets_standard : condition_said ((115 ∷ 116 ∷ 97 ∷ 110 ∷ 100 ∷ 97 ∷ 114 ∷ 100 ∷ 9 ∷ 48 ∷ 10 ∷ []) ∷ []) ≡ refused (114 ∷ 101 ∷ 102 ∷ 117 ∷ 115 ∷ 101 ∷ 100 ∷ 9 ∷ 49 ∷ 9 ∷ 49 ∷ 9 ∷ 49 ∷ 10 ∷ [])
 unfolding condition_said condition_from meaning reading_sheet lines_of stepping standard_line record_line standard_column record_column
     record_fields how_many field_then ended_by starts_with begins field_at read_as fault_in leading field_of is_number all_digits
-    value_of telling entering sound censored field_text digits_of digits_within sheet_fault number_then
+    value_of telling entering sound censored field_text digits_of digits_within sheet_fault ending
 sheets_standard = refl
 
 -- none, and more than 64, whatever they are: refused 0 0 18
 sheets_none : condition_said [] ≡ refused (114 ∷ 101 ∷ 102 ∷ 117 ∷ 115 ∷ 101 ∷ 100 ∷ 9 ∷ 48 ∷ 9 ∷ 48 ∷ 9 ∷ 49 ∷ 56 ∷ 10 ∷ [])
-unfolding condition_said sheet_fault number_then field_text digits_of digits_within
+unfolding condition_said sheet_fault ending field_text digits_of digits_within
 sheets_none = refl
 
 sheets_many : condition_said (replicate 65 (120 ∷ [])) ≡ refused (114 ∷ 101 ∷ 102 ∷ 117 ∷ 115 ∷ 101 ∷ 100 ∷ 9 ∷ 48 ∷ 9 ∷ 48 ∷ 9 ∷ 49 ∷ 56 ∷ 10 ∷ [])
-unfolding condition_said sheet_fault number_then field_text digits_of digits_within
+unfolding condition_said sheet_fault ending field_text digits_of digits_within
 sheets_many = refl

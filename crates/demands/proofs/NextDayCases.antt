@@ -4,7 +4,7 @@ use mathlib.Core.Path.{◌≡◌, refl}
 use mathlib.Core.List.{List, [], ◌∷◌, ◌++◌}
 use Prim.Native.Nat.{ℕ}
 use Rattle.decimal.specs.Decimal.{all_digits, digits_of, digits_within, is_number, value_of}
-use Rattle.decimal.specs.Field.{field_text}
+use Rattle.decimal.specs.Field.{ending, field_text}
 use Rattle.decimal.specs.Leading.{leading}
 use Rattle.decimal.specs.Lines.{lines_of}
 use Rattle.degrees.specs.Degrees.{filled, is_size, size, size_length}
@@ -26,7 +26,7 @@ use Rattle.sheet_line.specs.Field.{fault_in, field_at, field_of, read_as}
 use Rattle.sheet_line.specs.Form.{begins}
 use Rattle.sheet_line.specs.Line.{ended_by, field_then, record_line, standard_line, starts_with, stepping, telling}
 use Rattle.sheet_text.specs.Sheet.{meaning, reading_sheet}
-use Rattle.sheet_fault.specs.Fault.{number_then, sheet_fault}
+use Rattle.sheet_fault.specs.Fault.{sheet_fault}
 use Rattle.sheet_records.specs.Ledger.{lines_from, sheet_text}
 use Rattle.sheet_records.specs.Records.{record_in, records_of}
 use Rattle.sheet_files.specs.Files.{failures_in, sheet_from}
@@ -75,18 +75,18 @@ day_fault : sheet_after items (115 ∷ 116 ∷ 97 ∷ 110 ∷ 100 ∷ 97 ∷ 114
     ≡ refused (114 ∷ 101 ∷ 102 ∷ 117 ∷ 115 ∷ 101 ∷ 100 ∷ 9 ∷ 48 ∷ 9 ∷ 50 ∷ 9 ∷ 57 ∷ 9 ∷ 54 ∷ 10 ∷ [])
 unfolding sheet_after meaning reading_sheet lines_of stepping standard_line record_line standard_column record_column record_fields
     how_many field_then ended_by starts_with begins field_at read_as fault_in leading field_of is_number all_digits value_of telling
-    entering sound censored field_text digits_of digits_within item_outside sheet_fault number_then
+    entering sound censored field_text digits_of digits_within item_outside sheet_fault ending
 day_fault = refl
 
 -- a standard out of range is its line 1's, and the item is named: standard 0 gives refused 0 1 1 5
 day_standard : sheet_after items (115 ∷ 116 ∷ 97 ∷ 110 ∷ 100 ∷ 97 ∷ 114 ∷ 100 ∷ 9 ∷ 48 ∷ 10 ∷ []) [] ≡ refused (114 ∷ 101 ∷ 102 ∷ 117 ∷ 115 ∷ 101 ∷ 100 ∷ 9 ∷ 48 ∷ 9 ∷ 49 ∷ 9 ∷ 49 ∷ 9 ∷ 53 ∷ 10 ∷ [])
 unfolding sheet_after meaning reading_sheet lines_of stepping standard_line record_line standard_column record_column record_fields
     how_many field_then ended_by starts_with begins field_at read_as fault_in leading field_of is_number all_digits value_of telling
-    entering sound censored field_text digits_of digits_within item_outside sheet_fault number_then
+    entering sound censored field_text digits_of digits_within item_outside sheet_fault ending
 day_standard = refl
 
 -- an item goes before the sheet and is on no line of it: refused 0 0 1 4
 day_item : sheet_after (record { step = 1; ramp = 0; levels = record { roll = 1; acceleration = 1 }; decorrelation = 10000001 }) (120 ∷ []) []
     ≡ refused (114 ∷ 101 ∷ 102 ∷ 117 ∷ 115 ∷ 101 ∷ 100 ∷ 9 ∷ 48 ∷ 9 ∷ 48 ∷ 9 ∷ 49 ∷ 9 ∷ 52 ∷ 10 ∷ [])
-unfolding sheet_after item_outside sheet_fault number_then field_text digits_of digits_within
+unfolding sheet_after item_outside sheet_fault ending field_text digits_of digits_within
 day_item = refl

@@ -34,6 +34,13 @@ pub struct Finished {
     pub end: u8,
 }
 
+// Without room for a line nothing is written, and the program ends as failed. Each writer asks for room itself: a
+// function that asks and then calls it would have to require that it may be called, and a public function asks nothing.
+pub const UNSAID: Finished = Finished {
+    put: 0,
+    end: FAILED,
+};
+
 // What is written after a refusal's number: the item where it is 1.
 #[tactic(auto, unfolding(decimal::specs::Field::ending, crate::specs::Said::why_text))]
 fn item(number: u64, value: u64) -> Option<u64>
@@ -65,10 +72,7 @@ pub fn refuse(line: u64, r: Refusal, out: &mut [u8]) -> Finished
     ensures out_after { out.new ≡ put_left (refused (line ∷ []) r) out.old }
 {
     if out.len() < LONGEST_LINE {
-        return Finished {
-            put: 0,
-            end: FAILED,
-        };
+        return UNSAID;
     }
     put_refused(&[line], r, out)
 }
@@ -80,10 +84,7 @@ pub fn refuse_in(file: u64, line: u64, r: Refusal, out: &mut [u8]) -> Finished
     ensures out_after { out.new ≡ put_left (refused (file ∷ line ∷ []) r) out.old }
 {
     if out.len() < LONGEST_LINE {
-        return Finished {
-            put: 0,
-            end: FAILED,
-        };
+        return UNSAID;
     }
     put_refused(&[file, line], r, out)
 }

@@ -29,6 +29,12 @@ const LINES: usize = 1024;
 
 pub const ROOM: usize = 49_152;
 
+// Nothing is said of a file that is in order.
+const NOTHING: Finished = Finished {
+    put: 0,
+    end: desk_line::READ,
+};
+
 // Where a reading of a file stands.
 #[derive(Clone, Copy)]
 pub struct Pass {
@@ -61,10 +67,7 @@ pub fn judge_items(step: u64, ramp: u64, decorrelation: u64, out: &mut [u8]) -> 
     ensures out_after { out.new ≡ put_left (items_said step ramp decorrelation) out.old }
 {
     if out.len() < desk_line::LONGEST_LINE {
-        return Finished {
-            put: 0,
-            end: desk_line::FAILED,
-        };
+        return desk_line::UNSAID;
     }
     let item = sample_items::item_outside(Items {
         step,
@@ -76,10 +79,7 @@ pub fn judge_items(step: u64, ramp: u64, decorrelation: u64, out: &mut [u8]) -> 
         decorrelation,
     });
     if item == 0 {
-        return Finished {
-            put: 0,
-            end: desk_line::READ,
-        };
+        return NOTHING;
     }
     desk_line::refuse(0, Refusal::Item(item), out)
 }
@@ -333,10 +333,7 @@ fn put_judged(file: u64, j: Judged, out: &mut [u8]) -> Finished
 {
     match j {
         Err((line, r)) => refuse_at(file, line, r, out),
-        Ok(()) => Finished {
-            put: 0,
-            end: desk_line::READ,
-        },
+        Ok(()) => NOTHING,
     }
 }
 
@@ -348,10 +345,7 @@ pub fn judge(p: Pass, out: &mut [u8]) -> Finished
     ensures out_after { out.new ≡ put_left (judged p) out.old }
 {
     if out.len() < desk_line::LONGEST_LINE {
-        return Finished {
-            put: 0,
-            end: desk_line::FAILED,
-        };
+        return desk_line::UNSAID;
     }
     let f = p.follow;
     put_judged(p.file, comma_peaks::judge(f, p.ramp, p.wrong), out)
@@ -386,10 +380,7 @@ fn put_peak(file: u64, last: Option<Peak>, out: &mut [u8]) -> Finished
 {
     match last {
         Some(p) => put_one(file, p, out),
-        None => Finished {
-            put: 0,
-            end: desk_line::READ,
-        },
+        None => NOTHING,
     }
 }
 
@@ -412,10 +403,7 @@ fn put_last(file: u64, a: Handed, out: &mut [u8]) -> Finished
 {
     match a {
         Ok((h, _)) => put_peak(file, peak_stream::finish(h), out),
-        Err(_) => Finished {
-            put: 0,
-            end: desk_line::READ,
-        },
+        Err(_) => NOTHING,
     }
 }
 
@@ -427,10 +415,7 @@ pub fn finish(a: Pass, b: Pass, out: &mut [u8]) -> Finished
     ensures out_after { out.new ≡ put_left (finishing a b) out.old }
 {
     if out.len() < desk_line::LONGEST_LINE {
-        return Finished {
-            put: 0,
-            end: desk_line::FAILED,
-        };
+        return desk_line::UNSAID;
     }
     let f = a.follow;
     let g = b.follow;
@@ -440,8 +425,5 @@ pub fn finish(a: Pass, b: Pass, out: &mut [u8]) -> Finished
         let handing = b.handing;
         return put_last(b.file, handing, out);
     }
-    Finished {
-        put: 0,
-        end: desk_line::FAILED,
-    }
+    desk_line::UNSAID
 }

@@ -6,7 +6,7 @@
 // the theorem `Anywhere.reach_anywhere`.
 #![tactic(auto)]
 
-ghost use Rattle.std.specs.Prelude.{◌≡◌, cond, false, ◌+◌, ◌-◌, ◌≤◌, min, ltb, length, take, Ok, Err};
+ghost use Rattle.std.specs.Prelude.{◌≡◌, cond, false, ◌+◌, ◌-◌, ◌≤◌, ltb, length, take, Ok, Err};
 ghost use Rattle.std.proofs.lemmas.List.Edits.{sets};
 ghost use Rattle.text.specs.Write.{written, place_after};
 ghost use Rattle.desk_line.specs.Said.{longest_said, Puts, putting, put_left};
@@ -115,10 +115,7 @@ pub fn open(j: Job) -> Gathering
 pub fn is_over(a: Gathering) -> bool
     ensures { result ≡ is_over a }
 {
-    match a {
-        Ok(_) => false,
-        Err(_) => true,
-    }
+    a.is_err()
 }
 
 // The second reading of a file: where it stands, and how many peaks the list has, those of the files before with it.
@@ -151,12 +148,6 @@ fn keep(at: u64, sizes: &[u32], list: &mut [u32]) -> u64
     at + sizes.len() as u64
 }
 
-fn least(a: u64, b: usize) -> usize
-    ensures { result ≡ min a b }
-{
-    if a < b as u64 { a as usize } else { b }
-}
-
 // The peaks of a block that a pass has closed, which are the first of `sizes`.
 fn kept_by(a: Handed, peaks: u64, sizes: &[u32], list: &mut [u32]) -> Kept
     requires { length sizes.now ≤ 1024 }
@@ -166,7 +157,7 @@ fn kept_by(a: Handed, peaks: u64, sizes: &[u32], list: &mut [u32]) -> Kept
 {
     match a {
         Ok((next, k)) => {
-            let n = least(k, sizes.len());
+            let n = k.min(sizes.len() as u64) as usize;
             let kept = keep(peaks, &sizes[..n], list);
             Kept {
                 handed: Ok((next, k)),
@@ -385,10 +376,7 @@ fn put_refused(q: Refusal, out: &mut [u8]) -> Finished
         return desk_line::refuse_in(0, 0, q, out);
     }
     if out.len() < desk_line::LONGEST_LINE {
-        return Finished {
-            put: 0,
-            end: desk_line::FAILED,
-        };
+        return desk_line::UNSAID;
     }
     put_low(refusal::carried(q), out)
 }
@@ -434,10 +422,7 @@ impl<'a> Taken<'a> {
             ≡ put_left (told (figures_of a.job a.files a.samples a.ys.now t l)) out.old }
     {
         if out.len() < desk_line::LONGEST_LINE {
-            return Finished {
-                put: 0,
-                end: desk_line::FAILED,
-            };
+            return desk_line::UNSAID;
         }
         let f = self.figures(t, l);
         put_figures(f, out)
@@ -463,7 +448,7 @@ fn put_list(j: Job, g: Gathered, list: &mut [u32], out: &mut [u8]) -> Finished
     ensures out_after { out.new ≡ put_left (gathered_said j (Ok g) list.old) out.old }
     ensures list_after { list.new ≡ list_left (Ok g) list.old }
 {
-    let n = least(g.peaks, list.len());
+    let n = g.peaks.min(list.len() as u64) as usize;
     sorting::sort(&mut list[..n]);
     let taken = Taken {
         job: j,

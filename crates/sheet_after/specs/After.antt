@@ -1,7 +1,7 @@
 -- WHAT IS WRITTEN FOR YESTERDAY'S SHEET AND TODAY'S FILES (document 01, "The job sheet"; document 02, [2];
 -- docs/CLERK.md, "The next day"): the sheet of its standard, its records and then theirs, or the refused line of what
 -- is first at fault, and a digit, over the whole texts. Assumes nothing.
-use Rattle.std.specs.Prelude.{ℕ, cond, not, ◌||◌, List, eqb}
+use Rattle.std.specs.Prelude.{ℕ, cond, not, List, Some, None, eqb}
 use Rattle.refusal.specs.declared.Refusal.{Refusal}
 use Rattle.refusal.specs.declared.Refusal.TheVariants.{BrokenState, Item}
 use Rattle.refusal.specs.Numbers.{number_of, value_of}
@@ -18,8 +18,8 @@ use Rattle.sheet_files.specs.Files.{sheet_from}
 -- the refused line of the sheet: no record's, 0; its line; the number, after 9 the column, after 1 the item
 abbrev pub refused_old : ℕ → ℕ → Refusal → Said
 refused_old line column r =
-    refused_sheet 0 line (number_of r) (eqb (number_of r) 9 || eqb (number_of r) 1)
-    (cond (eqb (number_of r) 9) column (value_of r))
+    refused_sheet 0 line (number_of r)
+    (cond (eqb (number_of r) 9) (Some column) (cond (eqb (number_of r) 1) (Some (value_of r)) None))
 
 -- a whole text never waits for more
 abbrev pub after_reading : Reading → Items → List ℕ → List (List ℕ) → Said

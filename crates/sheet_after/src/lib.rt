@@ -80,7 +80,10 @@ pub fn refuse(line: u64, column: u64, r: Refusal, out: &mut [u8]) -> Finished
     ensures out_after { out.new ≡ put_left (refused_old line column r) out.old }
 {
     let number = refusal::number(r);
-    let told = truth::either(number == MALFORMED, number == ITEM);
-    let value = truth::pick(number == MALFORMED, column, refusal::carried(r));
-    sheet_fault::refuse(0, line, number, told, value, out)
+    let more = match number {
+        MALFORMED => Some(column),
+        ITEM => Some(refusal::carried(r)),
+        _ => None,
+    };
+    sheet_fault::refuse(0, line, number, more, out)
 }

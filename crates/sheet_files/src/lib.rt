@@ -141,10 +141,7 @@ pub fn add(number: u64, a: Filed, c: Counting, records: &mut [i32]) -> Filed
 pub fn is_over(a: Filed) -> bool
     ensures { result ≡ is_over a }
 {
-    match a {
-        Ok(_) => false,
-        Err(_) => true,
-    }
+    a.is_err()
 }
 
 fn put_writing(w: Result<u64, Refusal>, out: &mut [u8]) -> Finished

@@ -122,10 +122,7 @@ fn refuse_of(number: u64, line: u64, r: Refusal, channel: u64, out: &mut [u8]) -
     ensures out_after { out.new ≡ put_left (refused_record_of number line r channel) out.old }
 {
     if out.len() < desk_line::LONGEST_LINE {
-        return Finished {
-            put: 0,
-            end: desk_line::FAILED,
-        };
+        return desk_line::UNSAID;
     }
     put_channel(number, line, r, channel, out)
 }

@@ -15,9 +15,9 @@ pub returns : goal.returns
 returns c =
     let a = c.args in
     let list = a.list.now in
-    let n = c.least-n.result in
+    let n = c.min-n.result in
     let S = c.sort.new.s in
-    let m = c.least-n.ensures in
+    let m = c.min-n.ensures in
     let h : n ≤ length list = omega (arith, m) in
     let s = sorted_front n list S h c.sort.ensures ∙ ap (λ (k : ℕ). downwards (take k list)) m in
     let e = front_is n list S h c.sort.ensures ∙ s in

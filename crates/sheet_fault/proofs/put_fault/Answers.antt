@@ -3,22 +3,22 @@ use Prim.Native.Nat.{ℕ}
 use mathlib.Core.Path.{refl}
 use mathlib.Core.List.{List, ◌++◌}
 use native.Mathlib.Omega.{arith}
-use Rattle.decimal.specs.Field.{tab, field_text}
+use Rattle.decimal.specs.Field.{tab, ending, field_text}
 use Rattle.text.proofs.Parts.{Left, left_all, left_next, left_last}
 use Rattle.desk_line.specs.Said.{refused_word}
 use Rattle.desk_line.proofs.Few.{Small}
 use Rattle.desk_line.proofs.Put.{puts}
-use Rattle.sheet_fault.specs.Fault.{number_then, refused_sheet, sheet_fault}
-use Rattle.sheet_fault.proofs.Few.{fault_few}
+use Rattle.sheet_fault.specs.Fault.{refused_sheet, sheet_fault}
+use Rattle.sheet_fault.proofs.Few.{SmallIf, fault_few}
 use borrow.Author.Rules.{rules}
 use Rattle.sheet_fault.proofs.put_fault.Goals as goal
 use Rattle.sheet_fault.proofs.put_fault.Goals.{After-write_field-third}
 
 abbrev Why : After-write_field-third → List ℕ
-Why c = let a = c.args in number_then a.number a.told a.value
+Why c = ending c.args.number c.args.more
 
 abbrev Whole : After-write_field-third → List ℕ
-Whole c = let a = c.args in sheet_fault a.place a.line a.number a.told a.value
+Whole c = let a = c.args in sheet_fault a.place a.line a.number a.more
 
 -- of the refused line so much is left, and the lent bytes are these
 abbrev Stands : After-write_field-third → List ℕ → List ℕ → ℕ → Type 0
@@ -30,8 +30,8 @@ room c =
     let place : Small a.place = search rules in
     let line : Small a.line = search rules in
     let number : Small a.number = search rules in
-    let value : Small a.value = search rules in
-    left_all _ 0 _ (omega (arith, c.requires, fault_few a.place a.line a.number a.told a.value place line number value))
+    let more : SmallIf a.more = search rules in
+    left_all _ 0 _ (omega (arith, c.requires, fault_few a.place a.line a.number a.more place line number more))
 
 left1 : (c : After-write_field-third)
     → Stands c (field_text c.args.place tab ++ (field_text c.args.line tab ++ Why c)) c.write_bytes-first.new.out c.write_bytes-first.result
@@ -48,6 +48,4 @@ pub returns : goal.returns
 returns c =
     let d = (goal.at.returns c).After-write_field-third in
     let a = c.args in
-    let value = rw c.more.ensures at c.end_line-put.ensures.value in
-    let bytes = rw c.more.ensures at c.end_line-put.ensures.out_after in
-    puts (refused_sheet a.place a.line a.number a.told a.value) (room d) refl (left_last (left3 d) (value, bytes))
+    puts (refused_sheet a.place a.line a.number a.more) (room d) refl (left_last (left3 d) (c.end_line-put.ensures.value, c.end_line-put.ensures.out_after))

@@ -33,7 +33,7 @@ class Tired(Exception):
 
 
 # ---- text to trees: ("num", n) ("var", name) ("app", f, x) ("get", e, field) ("op", o, a, b) ("lam", names, e)
-# ("let", name, e, body) ("rec", ((field, e), ..)) ("pair", a, b)
+# ("let", name, e, body) ("rec", ((field, e), ..)) ("pair", a, b, ..)
 def tokens(text):
     found = []
     for token in TOKEN.findall(re.sub(r"(^|\s)--.*", "", text)):
@@ -106,11 +106,12 @@ class Reader:
             if self.peek() == ":":
                 self.next()
                 self.expression()
-            if self.peek() == ",":
+            parts = [inside]
+            while self.peek() == ",":
                 self.next()
-                inside = ("pair", inside, self.expression())
+                parts.append(self.expression())
             self.next(")")
-            return inside
+            return ("pair", *parts) if len(parts) > 1 else inside
         if word == "record":
             self.next("{")
             fields = []
@@ -333,6 +334,7 @@ BUILT = {
     "neg_ℤ": Function(1, lambda x: -number(x)),
     "lt_z": Function(2, lambda x, y: number(x) < number(y)),
     "min": Function(2, lambda a, b: min(natural(a), natural(b))),
+    "max": Function(2, lambda a, b: max(natural(a), natural(b))),
     "leb": Function(2, lambda a, b: natural(a) <= natural(b)),
     "ltb": Function(2, lambda a, b: natural(a) < natural(b)),
     "eqb": Function(2, lambda a, b: natural(a) == natural(b)),
@@ -355,6 +357,8 @@ BUILT = {
     "of_bits": Function(2, lambda kind, x: struct.unpack("<d", struct.pack("<Q", natural(x)))[0]),
     "div": Function(3, divided),
 }  # fmt: skip
+# the variants of the library's Option and Result
+LIBRARYS = ("Some", "None", "Ok", "Err")
 QUICKER = {"root/specs/Root first_from": first_root}
 ARITHMETIC = {
     "+": lambda a, b: natural(a) + natural(b),
@@ -426,7 +430,7 @@ class Definition:
         if tree[0] == "op" and tree[1] == "∷":
             return ("cons", self.pattern(tree[2]), self.pattern(tree[3]))
         if tree[0] == "pair":
-            return ("is", ",", (self.pattern(tree[1]), self.pattern(tree[2])))
+            return ("is", ",", tuple(self.pattern(part) for part in tree[1:]))
         if head[0] == "num":
             return ("lit", head[1])
         name = head[1]
@@ -436,7 +440,7 @@ class Definition:
             return (name, self.pattern(given[0]))
         if not given and not self.file.varies(name):
             return ("any", name)
-        return ("is", name.rsplit(".", 1)[-1], tuple(self.pattern(p) for p in given))
+        return ("is", self.file.variant(name), tuple(self.pattern(p) for p in given))
 
     def make(self):
         self.code = [(ps, self.file.compiled(body, self)) for ps, body in zip(self.patterns, self.bodies)]
@@ -491,11 +495,17 @@ class File:
             else:
                 self.opened[m["alias"] or path[-1]] = path
 
+    def variant(self, name):
+        """The variant that a name of a pattern stands for."""
+        return self.uses[name][1] if name in self.uses else name.rsplit(".", 1)[-1]
+
     def varies(self, name):
         """Whether a name of a pattern is a variant, and not one that the pattern binds."""
         if name in self.variants or "." in name:
             return True
-        path = self.uses.get(name, ((), None))[0]
+        path, said = self.uses.get(name, ((), None))
+        if said in LIBRARYS and not is_ours(path):
+            return True
         if path and path[-1] != "TheVariants" and is_ours(path):
             return "declared" not in path and name in self.world.file(*place(path)).variants
         return bool(path) and path[-1] == "TheVariants"
@@ -503,6 +513,8 @@ class File:
     def constant(self, path, name):
         """What a name of a module is."""
         if path[-1] == "TheVariants":
+            return lambda: Is(name)
+        if name in LIBRARYS and not is_ours(path):
             return lambda: Is(name)
         if is_ours(path):
             if name in self.world.file(*place(path)).variants:
@@ -536,6 +548,8 @@ class File:
                 part, _, last = last.partition(".")
                 path = path + [part]
             constant = self.constant(path, last)
+        elif name == "tt":  # in every file without an import
+            constant = lambda: BUILT["tt"]
         else:
             raise Unread(f"{name} in {self.crate}/{self.name}")
         return lambda env: constant()
@@ -566,6 +580,8 @@ class File:
 
             def get(env):
                 x = force(code(env))
+                if x.__class__ is Is and x.name == "," and field.isdigit():
+                    return x.given[int(field)]
                 if x.__class__ is not dict or field not in x:
                     raise Ill(f"no {field}")
                 return x[field]
@@ -589,8 +605,8 @@ class File:
             fields = [(field, lazily(go(x))) for field, x in tree[1]]
             return lambda env: {field: x(env) for field, x in fields}
         if kind == "pair":
-            a, b = lazily(go(tree[1])), lazily(go(tree[2]))
-            return lambda env: Is(",", (a(env), b(env)))
+            parts = [lazily(go(part)) for part in tree[1:]]
+            return lambda env: Is(",", tuple(part(env) for part in parts))
         raise Unread(kind)
 
 

@@ -120,7 +120,7 @@ pub rounded_once : quotient 3 10 ≡ of_bits binary64 4599075939470750515
 unfolding of_bits div of_int
 rounded_once = refl
 
--- with a record they are given with a yes, and without one with a no and as 0
+-- with a record they are given, and without one there are none
 pub rates_without : rating (empty 9) ≡ Ok None
 unfolding rating sound
 rates_without = refl

@@ -1,11 +1,7 @@
 // Document 003's first procedure: Table 1's intervals between failures, read down its columns and cut into records of
 // 1,800 s, entered one by one. After each record a line as in Table 2: M, N, N*, T in ms, the estimate, the upper and
-// the lower rate in 1/s. The rates are the f64s that `rates` answers, printed to four digits by `four_digits`, which
-// would print any rate of any campaign.
+// the lower rate in 1/s. The rates are the f64s that `rates` answers, printed to four digits.
 #![tactic(auto)]
-
-ghost use Rattle.std.specs.Float.Ieee.{is_nan};
-ghost use Rattle.std.specs.Prelude.{T, not, ◌≤◌, ◌<◌};
 
 use campaign_state::Campaign;
 use campaign_verdict::Rates;

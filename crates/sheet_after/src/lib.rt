@@ -15,7 +15,7 @@ ghost use Rattle.sheet_after.specs.Taking.{counted_up, up_by, taking_up, taken_l
 use desk_line::Finished;
 use refusal::Refusal;
 use sample_items::Items;
-use sheet_files::Filed;
+use sheet_records::Resumed;
 
 // The refusals after whose number one more is told: an item, and the column of a malformed line.
 const ITEM: u64 = 1;
@@ -48,7 +48,7 @@ fn counted(q: u64, n: u64, records: &[i32]) -> TakenUp
     Ok((q, n, failures(&records[..k])))
 }
 
-fn by_reading(r: Filed, records: &[i32]) -> TakenUp
+fn by_reading(r: Resumed, records: &[i32]) -> TakenUp
     ensures { result ≡ up_by r records.now }
 {
     match r {

@@ -143,7 +143,9 @@ handed_on b c d false false true = refl
 handed_on b c d false false false = refl
 
 module _ (t : List Place) (b : ℕ) where
-  take_is : (q : ℕ) → (called t b (Take q)).answer ≡ decide Err (call_tests t b (leb most_jobs (jobs b t) gives BureauFull ∷ (not (standard_in_range q) gives Item 5 ∷ []))) (Ok (Placed (lowest_free t)))
+  take_is : (q : ℕ) → (called t b (Take q)).answer ≡
+      decide Err (call_tests t b (leb most_jobs (jobs b t) gives BureauFull ∷
+      (not (standard_in_range q) gives Item 5 ∷ []))) (Ok (Placed (lowest_free t)))
   unfolding called decide
   take_is q =
       by_test (kept t)
@@ -179,7 +181,9 @@ module _ (t : List Place) (b : ℕ) where
   unfolding judging decide
   verdict_is i s = rw s
 
-  rates_is : (i : ℕ) → sound (at t i).campaign ≡ true → (worked b (at t i).campaign Rate).answer ≡ decide Err [] (Ok (Rated (cond (not (eqb (at t i).campaign.records 0)) (Some (rates_of (at t i).campaign)) None)))
+  rates_is : (i : ℕ) → sound (at t i).campaign ≡ true →
+      (worked b (at t i).campaign Rate).answer ≡ decide Err []
+      (Ok (Rated (cond (not (eqb (at t i).campaign.records 0)) (Some (rates_of (at t i).campaign)) None)))
   unfolding rating decide
   rates_is i s = rw s
 

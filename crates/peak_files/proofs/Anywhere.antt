@@ -179,7 +179,9 @@ module _ (D R τ file : ℕ) (step : step_in_range D ≡ true) (late : decorrela
           (counted_is q) ∙ a)
           (ap not (done_right two.pass text q.vs q.end ok).0)
 
-    module _ {h₁ : (Result (Handing × ℕ) Refusal)} {b₁ : List ℕ} {one two : Run} (p : Ran D file R 0 (started D) h₁ b₁ text [] one) (q : Ran D file R 0 (started D) (begun_by D τ one.pass.counted) [] text [] two) where
+    module _ {h₁ : (Result (Handing × ℕ) Refusal)} {b₁ : List ℕ} {one two : Run}
+        (p : Ran D file R 0 (started D) h₁ b₁ text [] one)
+        (q : Ran D file R 0 (started D) (begun_by D τ one.pass.counted) [] text [] two) where
       abbrev N : ℕ
       N = (blocks R 0 (none D) p.cs).number
 
@@ -300,7 +302,9 @@ module _ (D R τ : ℕ) where
   unfolding peaks_said
   file_anywhere t w = after_items _ _ (λ i. file_so D R τ 0 i.0 i.1 t w)
 
-  all_so : (step_in_range D ≡ true) × (decorrelation_in_range τ ≡ true) → (file : ℕ) (ts : List Twice) → AllTwice D R τ file ts → files_wrote D R τ file ts ≡ files_from D R τ file (map (λ t. t.text) ts)
+  all_so : (step_in_range D ≡ true) × (decorrelation_in_range τ ≡ true) → (file : ℕ) (ts : List Twice) →
+      AllTwice D R τ file ts →
+      files_wrote D R τ file ts ≡ files_from D R τ file (map (λ t. t.text) ts)
   unfolding files_wrote files_from
   all_so i file [] w = refl
   all_so i file (t ∷ ts) w =

@@ -188,7 +188,9 @@ module _ (p : Pass) (text : List ℕ) (more : Bool) (out : List ℕ) where
       unfolding taking
       never_taken places s e i = let u : taking p.follow text places ≡ Err (Item 1) = rw s refl in impossible (cc (sym i ∙ e ∙ u))
 
-      pub calls_taken : (slice : List ℤ) → length slice ≡ 1024 → {r : (Result (Follow × ℕ × ℕ) Refusal)} {f : Follow} {bytes n put : ℕ} {later : List ℤ} {q : Pass} {rest : Rest} {t : Took} {outLater : List ℕ}
+      pub calls_taken : (slice : List ℤ) →
+          length slice ≡ 1024 → {r : (Result (Follow × ℕ × ℕ) Refusal)} {f : Follow} {bytes n put : ℕ}
+          {later : List ℤ} {q : Pass} {rest : Rest} {t : Took} {outLater : List ℕ}
           → r ≡ taking p.follow text (length slice) → later ≡ leaving r text slice → r ≡ Ok (f, bytes, n)
           → Passes p f (take n later) out q put outLater → rest ≡ rest_of n (drop bytes text) more → t ≡ took_by rest q bytes (length text) put
           → Calls C out t outLater

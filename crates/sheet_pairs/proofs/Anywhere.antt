@@ -53,12 +53,15 @@ abbrev pub texts_of : Comes → Texts
 texts_of c = record { roll = roll_text c.turns c.rest; acceleration = acceleration_text c.turns c.rest }
 
 -- ---- what was filed stands at the front, and is clean
-well_end : (q number : ℕ) (f : Result (ℕ × ℕ) (ℕ × ℕ × Refusal)) (e : Result Record PairFault) (records : List ℤ) → Well q f records → is_over f ≡ false → Well q (adding_end number f e (length records)).filed (end_left number f e records)
+well_end : (q number : ℕ) (f : Result (ℕ × ℕ) (ℕ × ℕ × Refusal)) (e : Result Record PairFault) (records : List ℤ) →
+    Well q f records → is_over f ≡ false →
+    Well q (adding_end number f e (length records)).filed (end_left number f e records)
 well_end q number f (Ok r) records w o = well_step q number f (Ok r) records w
 well_end q number f (Err (Plain p)) records w o = tt
 well_end q number f (Err (AtLine line p channel)) records w o = tt
 
-well_add : (q number : ℕ) (a : FiledPairs) (e : Result Record PairFault) (records : List ℤ) → Well q a.filed records → Well q (adding number a e (length records)).filed (adding_left number a e records)
+well_add : (q number : ℕ) (a : FiledPairs) (e : Result Record PairFault) (records : List ℤ) →
+    Well q a.filed records → Well q (adding number a e (length records)).filed (adding_left number a e records)
 well_add q number a e records w =
     by_test (is_over a.filed)
     (λ o. rw o w)
@@ -245,7 +248,9 @@ module _ (q : ℕ) (i : Items) (records : List ℤ) where
   desk_well pairs = well_after q i pairs 1 (record { filed = opened_pairs q i; records = records }) opened_well
 
 -- ---- and with room it is written so
-channel_finished : (q : ℕ) (f : Result (ℕ × ℕ) (ℕ × ℕ × Refusal)) (channel : ℕ) (records : List ℤ) (out : List ℕ) → Well q f records → longest_said ≤ length out → length (channel_said q f channel records).line ≤ length out
+channel_finished : (q : ℕ) (f : Result (ℕ × ℕ) (ℕ × ℕ × Refusal)) (channel : ℕ) (records : List ℤ) (out : List ℕ) →
+    Well q f records →
+    longest_said ≤ length out → length (channel_said q f channel records).line ≤ length out
     → Writes (channel_said q f channel records) out (Filing.channel_put q f channel records out) (Filing.channel_left q f channel records out)
 unfolding putting put_left laid_by
 channel_finished q (Ok (n, failures)) channel records out w room h = well_finished q (Ok (n, failures)) records out w room h

@@ -11,4 +11,7 @@ pub returns-in-None : goal.returns-in-None
 returns-in-None c =
     let a = c.args in
     let e = sym c.in-None.is in
-    record { value = counted_none a.at ∙ ap (λ (x : Option Peak). counted_to a.at (length (last_one x))) e; list_after = put_none a.at a.list.now ∙ ap (λ (x : Option Peak). put_from a.at (last_one x) a.list.now) e }
+    record {
+      value = counted_none a.at ∙ ap (λ (x : Option Peak). counted_to a.at (length (last_one x))) e;
+      list_after = put_none a.at a.list.now ∙ ap (λ (x : Option Peak). put_from a.at (last_one x) a.list.now) e;
+    }

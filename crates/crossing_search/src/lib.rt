@@ -38,14 +38,18 @@ pub fn first_crossing(roll: &[i32], acceleration: &[i32], ramp: u64, levels: Lev
         return n;
     }
     let mut i = ramp as usize + 1;
-    // no `chunks`: a block's first sample is compared with the one before the block
-    while i < n {
+    // A `loop` that breaks with the place, as document 01 has it ("List of forms by place"). No `chunks`: a block's
+    // first sample is compared with the one before the block.
+    let place = loop {
+        if i >= n {
+            break n;
+        }
         let end = sample_block::end(i, n);
         let at = rise_in(roll, acceleration, levels, i, end);
         if at < end {
-            return at;
+            break at;
         }
         i = end;
-    }
-    n
+    };
+    place
 }

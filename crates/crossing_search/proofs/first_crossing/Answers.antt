@@ -1,4 +1,4 @@
-use Prim.Native.Nat.{ℕ, ◌≤◌, ◌<◌}
+use Prim.Native.Nat.{ℕ, ◌≤◌, ◌<◌, ◌-◌}
 use mathlib.Core.Path.{◌≡◌, sym, ◌∙◌}
 use mathlib.Core.Bool.{true, false}
 use native.Mathlib.Omega.{arith}
@@ -52,8 +52,8 @@ loop-i-preserved c =
     let w = within after-end in
     (omega (arith, c.loop-i.invariant.0), w.1, λ k h. none c.before k (omega arith))
 
-pub returns : goal.returns
-returns c =
+pub returns-then-i-n : goal.returns-then-i-n
+returns-then-i-n c =
     let b : After-min-n = search rules in
     let g = b.args in
     let p = moments g.roll.now g.acceleration.now in

@@ -121,5 +121,5 @@ fn all(desk: &Desk, text: &mut [u8]) -> Result<Ended, Broken>
 fn main(rt: HostRuntime) {
     let desk = Desk::new(rt);
     let mut text = [0u8; 65536];
-    prog_desk::end(&desk, all(&desk, &mut text));
+    prog_desk::end(&desk, prog_desk::digit(all(&desk, &mut text)));
 }

@@ -23,5 +23,5 @@ fn count(desk: &Desk, items: Items) -> Result<Ended, Broken> {
 fn main(rt: HostRuntime) {
     let desk = Desk::new(rt);
     let items = prog_desk::items(&desk, 1, sample_items::HIGHEST_LEVEL);
-    prog_desk::end(&desk, count(&desk, items));
+    prog_desk::end(&desk, prog_desk::digit(count(&desk, items)));
 }

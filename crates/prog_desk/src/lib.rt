@@ -8,7 +8,8 @@ mod names;
 mod source;
 mod spool;
 
-ghost use Rattle.std.specs.Prelude.{◌≤◌, length, IfOk};
+ghost use Rattle.std.specs.Prelude.{◌≡◌, ◌≤◌, length, IfOk};
+ghost use Rattle.prog_desk.specs.Ending.{digit_of};
 
 use comma_count::Counting;
 use comma_pair::{Next, Watching};
@@ -153,18 +154,26 @@ pub fn answer(desk: &Desk, out: &[u8], f: Finished) -> Result<Ended, Broken> {
     }
 }
 
-// Says how the program ended.
-pub fn end(desk: &Desk, how: Result<Ended, Broken>) {
-    let digit = match how {
+// The digit of how a program ended.
+pub fn digit(how: Result<Ended, Broken>) -> u8
+    ensures { result ≡ digit_of how }
+{
+    match how {
         Ok(Ended::Read) => desk_line::READ,
         Ok(Ended::Refused) => desk_line::REFUSED,
         Err(Broken) => desk_line::FAILED,
-    };
-    tell(desk, &[digit]);
+    }
+}
+
+// Says how the program ended, by its digit.
+pub fn end(desk: &Desk, how: u8) {
+    tell(desk, &[how]);
 }
 
 // Puts an argument into `buffer`, and answers it; nothing where there is none, or none that fits.
-pub fn word<'b>(desk: &Desk, i: usize, buffer: &'b mut [u8]) -> &'b mut [u8] {
+pub fn word<'b>(desk: &Desk, i: usize, buffer: &'b mut [u8]) -> &'b mut [u8]
+    ensures { length result.now ≤ length buffer.old }
+{
     let n = desk.rt.arg(i, buffer).unwrap_or(0);
     &mut buffer[..n]
 }
@@ -346,17 +355,16 @@ fn longer(w: Watching) -> u64 {
 // Counts two files of a record through a buffer for each, to their ends or until nothing changes the answer any more.
 // Only the one that has to be read is waited for, so that one process may write both. The turns are counted as in
 // `serve`.
-pub fn serve_pair<R: Read + Drop, Q: Read + Drop>(
+pub fn serve_pair<R: Read, Q: Read>(
     desk: &Desk,
     start: Watching,
-    from: Pair<R, Q>,
+    from: &mut Pair<R, Q>,
     text: &mut [u8],
     other: &mut [u8],
 ) -> Result<Watching, Broken> {
     let shown = watched(desk);
-    let Pair { roll, acceleration } = from;
-    let mut roll = Source::new(roll, b"the roll", text);
-    let mut acceleration = Source::new(acceleration, b"the acceleration", other);
+    let mut roll = Source::new(&mut from.roll, b"the roll", text);
+    let mut acceleration = Source::new(&mut from.acceleration, b"the acceleration", other);
     let mut watch = start;
     for _ in 0..u64::MAX {
         let t = comma_pair::take(
@@ -398,7 +406,7 @@ pub fn serve_next_pair(
     let roll = open_listed(desk, name)?;
     let name = names.next(desk)?.ok_or(Broken)?;
     let acceleration = open_listed(desk, name)?;
-    let from = Pair { roll, acceleration };
-    let w = serve_pair(desk, start, from, text, other)?;
+    let mut from = Pair { roll, acceleration };
+    let w = serve_pair(desk, start, &mut from, text, other)?;
     Ok(Some(w))
 }

@@ -13,12 +13,12 @@ const BYTES: usize = 65_536;
 fn count(desk: &Desk, items: Items) -> Result<Ended, Broken> {
     let mut roll = [0u8; BYTES];
     let mut acceleration = [0u8; BYTES];
-    let from = Pair {
+    let mut from = Pair {
         roll: desk.input(),
         acceleration: desk.second(),
     };
     let start = comma_pair::open(items);
-    let w = prog_desk::serve_pair(desk, start, from, &mut roll, &mut acceleration)?;
+    let w = prog_desk::serve_pair(desk, start, &mut from, &mut roll, &mut acceleration)?;
     let mut out = [0u8; desk_line::LONGEST_LINE];
     let f = comma_pair::finish(w, &mut out);
     prog_desk::answer(desk, &out, f)
@@ -27,5 +27,5 @@ fn count(desk: &Desk, items: Items) -> Result<Ended, Broken> {
 fn main(rt: HostRuntime) {
     let desk = Desk::with_second(rt);
     let items = prog_desk::items(&desk, 1, prog_desk::item(&desk, 5));
-    prog_desk::end(&desk, count(&desk, items));
+    prog_desk::end(&desk, prog_desk::digit(count(&desk, items)));
 }

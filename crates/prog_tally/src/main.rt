@@ -142,5 +142,5 @@ fn main(rt: HostRuntime) {
     let desk = Desk::new(rt);
     let mut text = [0u8; 16384];
     let mut out = [0u8; 81955];
-    prog_desk::end(&desk, serve(&desk, &mut text, &mut out));
+    prog_desk::end(&desk, prog_desk::digit(serve(&desk, &mut text, &mut out)));
 }

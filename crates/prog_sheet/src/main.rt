@@ -38,6 +38,8 @@ fn room_for_the_sheet() -> [u8; SHEET]
     [0; SHEET]
 }
 
+// Not inlined: where no sheet is written its room would be put on the stack all the same, and filled.
+#[inline(never)]
 fn said(desk: &Desk, q: u64, a: FiledPairs, records: &[i32]) -> Result<Ended, Broken> {
     let mut out = room_for_the_sheet();
     let f = sheet_pairs::finish(q, a, records, &mut out);
@@ -229,5 +231,8 @@ fn main(rt: HostRuntime) {
         other: &mut other,
         records: &mut records,
     };
-    prog_desk::end(&desk, day(&desk, j, &mut names, &mut room));
+    prog_desk::end(
+        &desk,
+        prog_desk::digit(day(&desk, j, &mut names, &mut room)),
+    );
 }

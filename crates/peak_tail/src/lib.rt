@@ -40,7 +40,10 @@ fn copy(peaks: &[u32], to: &mut [u32])
     requires { length peaks.now ≤ length to.old }
     ensures { to.new ≡ peaks.now ++ drop (length peaks.now) to.old }
 {
-    to[..peaks.len()].copy_from_slice(peaks);
+    // by place: std's `copy_from_slice` would have the archive for C ask for `memmove`
+    for i in 0..peaks.len() {
+        to[i] = peaks[i];
+    }
 }
 
 // The logarithms of Y(i) / Y(k) added up. The last, of Y(k) / Y(k), is 0.

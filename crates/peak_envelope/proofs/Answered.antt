@@ -17,7 +17,7 @@ use Rattle.sample_items.specs.Limits.{most_samples}
 use Rattle.sample_range.specs.Range.{first_bad}
 use Rattle.crossing_places.specs.Reading.{too_few}
 use Rattle.record_whole.specs.Tests.{tested}
-use Rattle.record_whole.proofs.Judged.{Fitting}
+use Rattle.record_whole.specs.Tests.{Fitting}
 use Rattle.peak_groups.specs.declared.Peak.{Peak}
 use Rattle.peak_groups.specs.Groups.{tops}
 use Rattle.peak_groups.specs.Runs.{peaks}

@@ -13,7 +13,7 @@ ghost use Rattle.peak_groups.specs.Groups.{tops};
 ghost use Rattle.peak_machine.specs.Step.{size_of, moment_of, stepped, Fits};
 ghost use Rattle.peak_envelope.specs.Step.{chosen, added, noting};
 ghost use Rattle.peak_envelope.specs.Answers.{HandsOut, FindsTo, unlevelled};
-ghost use Rattle.record_whole.proofs.Judged.{Fitting};
+ghost use Rattle.record_whole.specs.Tests.{Fitting};
 
 use peak_groups::{Group, Peak, Run};
 use peak_machine::Envelope;

@@ -19,7 +19,7 @@ use Rattle.sample_range.specs.Range.{first_bad}
 use Rattle.crossing_places.specs.Reading.{time_at, counted, counted_times, too_few, unramped}
 use Rattle.crossing_places.proofs.Timed.{timed_only}
 use Rattle.record_whole.specs.Tests.{tested}
-use Rattle.record_whole.proofs.Judged.{Fitting}
+use Rattle.record_whole.specs.Tests.{Fitting}
 use Rattle.record_list.specs.Answers.{listed, written, WritesTo, ListsTo}
 use Rattle.std.specs.Prelude.{Result, Ok, Err}
 

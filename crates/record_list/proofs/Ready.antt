@@ -7,7 +7,7 @@ use lib.ListN.{length, drop, length-drop}
 use lib.IntN.{ℤ}
 use Rattle.sample_items.specs.declared.Items.{Items}
 use Rattle.sample_items.proofs.Ranges.{within_ranges, in_time}
-use Rattle.record_whole.proofs.Judged.{Fitting}
+use Rattle.record_whole.specs.Tests.{Fitting}
 use Rattle.record_list.specs.Walk.{start, Ready}
 
 pub ready : (items : Items) (xs : List ℤ) {m : ℕ} → Fitting items (length xs) m → Ready items.step items.decorrelation start (length (drop items.ramp xs))

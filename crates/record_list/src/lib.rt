@@ -14,7 +14,7 @@ ghost use Rattle.sample_channels.specs.Channels.{moments, any_above, any_bad, ba
 ghost use Rattle.crossing_places.specs.Reading.{counted_times, unramped};
 ghost use Rattle.sample_range.specs.Range.{first_bad};
 ghost use Rattle.record_list.specs.Pass.{Passes, Heard};
-ghost use Rattle.record_whole.proofs.Judged.{Fitting};
+ghost use Rattle.record_whole.specs.Tests.{Fitting};
 ghost use Rattle.record_list.specs.Answers.{WritesTo, SettlesTo, ListsTo};
 
 use refusal::Refusal;

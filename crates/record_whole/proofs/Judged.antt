@@ -16,14 +16,8 @@ use Rattle.sample_channels.specs.Channels.{any_bad, bad_sample}
 use Rattle.sample_items.specs.Limits.{item_outside, most_samples}
 use Rattle.sample_range.specs.Range.{first_bad}
 use Rattle.crossing_places.specs.Reading.{too_few}
-use Rattle.record_whole.specs.Tests.{tested, in_size, sized}
+use Rattle.record_whole.specs.Tests.{tested, in_size, sized, Fitting}
 use Rattle.std.specs.Prelude.{Ok, Err}
-
-pub record Fitting (items : Items) (n m : ℕ) : Type 0 where
-  pub ranged : item_outside items ≡ 0
-  pub equal : n ≡ m
-  pub most : n ≤ most_samples items.step items.ramp
-  pub few : items.ramp + 2 ≤ n
 
 module _ (items : Items) (xs ys : List ℤ) where
   -- ---- the answers, one law for each

@@ -1,6 +1,6 @@
 -- Document 01, "Refusal numbers", with document 02's [8]: a whole record at once, xs of the roll and ys of the
 -- acceleration, is tested for 1, 12, 2, 3, 4, in that order. Assumes nothing.
-use Rattle.std.specs.Prelude.{ℕ, ◌+◌, Bool, cond, not, ◌&&◌, List, length, ltb, leb, eqb, ℤ, Result, Ok, Err}
+use Rattle.std.specs.Prelude.{ℕ, ◌≡◌, ◌+◌, ◌≤◌, Bool, cond, not, ◌&&◌, List, length, ltb, leb, eqb, ℤ, Result, Ok, Err}
 use Rattle.refusal.specs.declared.Refusal.{Refusal}
 use Rattle.refusal.specs.declared.Refusal.TheVariants.{Item, TooLong, TooShort, Unequal}
 use Rattle.sample_items.specs.declared.Items.{Items}
@@ -39,3 +39,10 @@ in_size items n m =
 -- what is said before the samples are read: that the record fits, or its refusal
 unfoldable pub sized : Items → List ℤ → List ℤ → Result (Unit {0}) Refusal
 sized items xs ys = cond (in_size items (length xs) (length ys)) (Ok tt) (tested items xs ys)
+
+-- what an answer that the record fits tells: items in range, slices of equal length, and so many samples
+pub record Fitting (items : Items) (n m : ℕ) : Type 0 where
+  pub ranged : item_outside items ≡ 0
+  pub equal : n ≡ m
+  pub most : n ≤ most_samples items.step items.ramp
+  pub few : items.ramp + 2 ≤ n

@@ -1,5 +1,5 @@
 -- What an answer tells of the question, and back: a record that was added met every test on the way, and one that meets
--- them all is added. So what is handed out keeps the relations, and a sum grown by adding is err_not_ok refused with 8.
+-- them all is added. So what is handed out keeps the relations, and a sum grown by adding is never refused with 8.
 -- Assumes nothing.
 use mathlib.Core.Path.{◌≡◌, ap, sym}
 use mathlib.Core.Bool.{Bool, cond, false, not, true}
@@ -23,7 +23,6 @@ use Rattle.binomial_sum.proofs.Relations.{brings, kept_from, sound_from}
 use Rattle.std.specs.Prelude.{Ok, Err}
 use Rattle.truth.proofs.Answers.{err_not_ok}
 
--- a refusal is no answer
 -- what adding a record that is taken has met, and what comes out
 pub record Added (s : Sum) (r : Record) (t : Sum) : Type 0 where
   pub sum : T (sound s)

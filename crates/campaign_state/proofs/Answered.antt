@@ -15,7 +15,6 @@ use Rattle.campaign_state.specs.State.{empty, entered, most_records, sound, stan
 use Rattle.std.specs.Prelude.{Ok, Err}
 use Rattle.truth.proofs.Answers.{err_not_ok}
 
--- a refusal is no answer
 -- 5 and 6 were not given
 pub record Room (c : Campaign) (f : Bool) (t : ℕ) (d : Campaign) : Type 0 where
   pub records : ¬ (c.records ≡ most_records)

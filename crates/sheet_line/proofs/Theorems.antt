@@ -1,7 +1,7 @@
 -- A sheet's lines and results do the same. A line that is taken is a record number, a flag and an exposure, and any
 -- result with that failure and that exposure enters to the same campaign (`line_results`); the line of a record that
--- was ended is err_not_ok malformed, and comes to what entering its result answers, refusals and all (`result_line`). So is
--- line 1 of a standard err_not_ok malformed, and comes to what opening answers (`standard_back`). Assumes nothing.
+-- was ended is never malformed, and comes to what entering its result answers, refusals and all (`result_line`). So is
+-- line 1 of a standard never malformed, and comes to what opening answers (`standard_back`). Assumes nothing.
 use Prim.Native.Nat.{ℕ, ◌+◌, ◌-◌, ◌^◌, ◌≤◌, ◌<◌}
 use mathlib.Core.Path.{◌≡◌, refl, ap, ◌∙◌}
 use mathlib.Core.Bool.{Bool, true, false, cond}

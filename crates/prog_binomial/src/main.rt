@@ -41,5 +41,8 @@ fn main(rt: HostRuntime) {
     let mut text = [0u8; BYTES];
     let items = prog_desk::items(&desk, 1, sample_items::HIGHEST_LEVEL);
     let mut names = Names::new(&desk, &mut names);
-    prog_desk::end(&desk, prog_desk::digit(each(&desk, items, &mut names, &mut text)));
+    prog_desk::end(
+        &desk,
+        prog_desk::digit(each(&desk, items, &mut names, &mut text)),
+    );
 }

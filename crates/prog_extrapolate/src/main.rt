@@ -243,5 +243,8 @@ fn main(rt: HostRuntime) {
         standard: prog_desk::item(&desk, 6),
     };
     let mut names = Names::new(&desk, &mut names);
-    prog_desk::end(&desk, prog_desk::digit(each(&desk, j, &mut names, &mut list)));
+    prog_desk::end(
+        &desk,
+        prog_desk::digit(each(&desk, j, &mut names, &mut list)),
+    );
 }

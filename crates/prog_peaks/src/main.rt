@@ -185,5 +185,8 @@ fn main(rt: HostRuntime) {
         text: &mut text,
         out: &mut out,
     };
-    prog_desk::end(&desk, prog_desk::digit(run(&desk, asked, &mut names, &mut room)));
+    prog_desk::end(
+        &desk,
+        prog_desk::digit(run(&desk, asked, &mut names, &mut room)),
+    );
 }
